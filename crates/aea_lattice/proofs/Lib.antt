@@ -1,0 +1,4 @@
+pub mod Residues
+pub mod Neighbours
+pub mod Previous
+pub mod Tables

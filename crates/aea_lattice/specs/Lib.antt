@@ -1,0 +1,6 @@
+pub mod Profile
+pub mod Blocks
+pub mod Strands
+pub mod Equations
+pub mod Data
+pub mod Closure

@@ -4,3 +4,4 @@ pub mod Strands
 pub mod Equations
 pub mod Data
 pub mod Closure
+pub mod Texts

@@ -1,13 +1,15 @@
-//! The lattice of alpha entanglement codes AE(α,s,p): its blocks and equations, and the neighbours of a node on
-//! its strands. The construction is that of "Alpha Entanglement Codes" (Estrada-Galiñanes, Miller, Felber, Pâris,
+//! The lattice of alpha entanglement codes AE(α,s,p): its blocks and equations, the neighbours of a node on its
+//! strands, and the texts of blocks. The construction is that of "Alpha Entanglement Codes" (Estrada-Galiñanes, Miller, Felber, Pâris,
 //! DSN 2018); the strands as residues, and so the tables of neighbours, are this project's own.
 //!
 //! The definitions that the whole archive stands on are in `specs/`: `Profile`, `Blocks`, `Strands`,
-//! `Equations`, `Data` and `Closure`.
+//! `Equations`, `Data`, `Closure` and `Texts`.
 #![tactic(auto)]
 
 pub mod blocks;
 pub mod grid;
+pub mod texts;
 
 pub use blocks::{BlockId, Class, EqId, Equation};
 pub use grid::{Lattice, MAX_NODES};
+pub use texts::{BlockText, parse_block, print_block};

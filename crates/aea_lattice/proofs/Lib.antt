@@ -5,3 +5,6 @@ pub mod Tables
 pub mod Prefixes
 pub mod Equations
 pub mod Derivations
+pub mod Sums
+pub mod Codewords
+pub mod Words

@@ -5,3 +5,4 @@ pub mod Equations
 pub mod Data
 pub mod Closure
 pub mod Texts
+pub mod Facts

@@ -1,14 +1,14 @@
 -- The tables of neighbours, by class and kind of node: each entry is the node just before on the strand, or the
 -- node that has this one just before it.
-use Rattle.std.proofs.Common.{◌≡◌, ◌≢◌, ◌↔◌, ℕ, suc, zero, ◌+◌, ◌-◌, ◌*◌, ◌/◌, ◌%◌, ◌<◌, ◌≤◌, ◌⊎◌, inl, inr, refl, sym, ◌∙◌, ap, arith, Option, Some, None}
+use Rattle.std.proofs.Common.{◌≡◌, ◌≢◌, ℕ, suc, zero, ◌+◌, ◌-◌, ◌*◌, ◌%◌, ◌<◌, ◌≤◌, ◌⊎◌, inl, inr, refl, sym, ◌∙◌, ap, arith, Option, Some, None}
 use Rattle.std.proofs.lemmas.Bool.{cases_lt}
 use Rattle.std.proofs.lemmas.Nat.{mod_below}
 use Rattle.std.proofs.Math.Nat.{mul-le-mul_right, add-mod_right}
 use Rattle.aea_lattice.specs.declared.blocks.Class.{Class}
-use Rattle.aea_lattice.specs.declared.blocks.Class.TheVariants.{Datum, Horiz, Right, Left}
+use Rattle.aea_lattice.specs.declared.blocks.Class.TheVariants.{Horiz, Right, Left}
 use Rattle.aea_lattice.specs.declared.grid.Lattice.{Lattice}
 use Rattle.aea_lattice.specs.Strands.{column, row, previous, IsNext}
-use Rattle.aea_lattice.proofs.Neighbours.{IsWoven, woven, some_rows, node_at, node_at-coordinates, strand_at, horiz-between, horiz-before, right-between, right-between_top, right-before, right-before_top, left-between, left-between_bottom, left-before, left-before_bottom}
+use Rattle.aea_lattice.proofs.Neighbours.{IsWoven, woven, some_rows, node_at, node_at-coordinates, horiz-between, horiz-before, right-between, right-between_top, right-before, right-before_top, left-between, left-between_bottom, left-before, left-before_bottom}
 use Rattle.aea_lattice.proofs.Previous.{previous-node_at, previous-none, previous-unique}
 
 -- the answer is the node d before i, if there is one

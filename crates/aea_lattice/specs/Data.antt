@@ -1,7 +1,7 @@
 -- “Lattice of X” and “Determined”: data lists, the lattice of a data list, and what a set of blocks determines.
-use Rattle.std.specs.Prelude.{◌≡◌, ℕ, ◌-◌, ◌<◌, ◌≤◌, ◌^◌, Bool, List, [], ◌∷◌, map, zip, fold, replicate, length, bit_xor, All, IsTrue, slice_get, unwrap_or}
+use Rattle.std.specs.Prelude.{◌≡◌, ℕ, ◌-◌, ◌<◌, ◌≤◌, ◌^◌, Bool, List, map, zip, fold, replicate, length, bit_xor, All, IsTrue, slice_get, unwrap_or}
 use Rattle.aea_lattice.specs.declared.blocks.Class.{Class}
-use Rattle.aea_lattice.specs.declared.blocks.Class.TheVariants.{Datum, Horiz, Right, Left}
+use Rattle.aea_lattice.specs.declared.blocks.Class.TheVariants.{Datum}
 use Rattle.aea_lattice.specs.declared.blocks.BlockId.{BlockId}
 use Rattle.aea_lattice.specs.declared.grid.Lattice.{Lattice}
 use Rattle.aea_lattice.specs.Blocks.{HasBlock}

@@ -1,12 +1,12 @@
 -- “Equation” and “Codeword”: the equations of a lattice, what sets of equations add up to, and codewords.
-use Rattle.std.specs.Prelude.{◌≡◌, ℕ, suc, zero, ◌+◌, ◌-◌, ◌%◌, ◌≤◌, Bool, ◌&&◌, ◌==◌, List, [], ◌∷◌, ◌++◌, map, count_by, IsTrue, Option, Some, None}
+use Rattle.std.specs.Prelude.{ℕ, suc, zero, ◌%◌, Bool, ◌&&◌, ◌==◌, List, [], ◌∷◌, ◌++◌, map, count_by, Option, Some, None}
 use Rattle.std.specs.List.{list_any}
 use Rattle.aea_lattice.specs.declared.blocks.Class.{Class}
-use Rattle.aea_lattice.specs.declared.blocks.Class.TheVariants.{Datum, Horiz, Right, Left}
+use Rattle.aea_lattice.specs.declared.blocks.Class.TheVariants.{Datum}
 use Rattle.aea_lattice.specs.declared.blocks.BlockId.{BlockId}
 use Rattle.aea_lattice.specs.declared.blocks.EqId.{EqId}
 use Rattle.aea_lattice.specs.declared.grid.Lattice.{Lattice}
-use Rattle.aea_lattice.specs.Blocks.{class_number, block_of, same_block, HasNode, HasParity, HasBlock, classes}
+use Rattle.aea_lattice.specs.Blocks.{block_of, same_block, HasNode, HasParity, classes}
 use Rattle.aea_lattice.specs.Strands.{prefix, previous}
 
 -- whether an odd number of items passes the test

@@ -8,3 +8,4 @@ pub mod Derivations
 pub mod Sums
 pub mod Codewords
 pub mod Words
+pub mod Numbers

@@ -1,4 +1,4 @@
-ghost use Rattle.std.specs.Prelude.{◌≡◌, ◌+◌, ◌-◌, ◌*◌, ◌<◌, ◌≤◌, ◌↔◌, ◌&&◌, IsTrue, IsSome, IfSome, nat_le, option_map};
+ghost use Rattle.std.specs.Prelude.{◌≡◌, ◌+◌, ◌-◌, ◌*◌, ◌<◌, ◌≤◌, ◌↔◌, ◌&&◌, IsTrue, IsSome, IfSome, length, nat_le, option_map, slice_get};
 ghost use Rattle.aea_lattice.specs.Profile.{is_profile, greatest_nodes};
 
 use crate::blocks::{BlockId, Class, EqId, Equation};
@@ -27,7 +27,7 @@ fn earlier(node: u32, back: u32) -> Option<u32>
 }
 
 impl Lattice {
-    ghost use Rattle.aea_lattice.specs.Blocks.{HasNode, HasParity, HasBlock, block_of, blocks_count, number_of};
+    ghost use Rattle.aea_lattice.specs.Blocks.{HasNode, HasParity, HasBlock, block_of, blocks_count, blocks_of, number_of};
     ghost use Rattle.aea_lattice.specs.Strands.{previous, IsNext, strand_of};
     ghost use Rattle.aea_lattice.specs.Equations.{HasEquation};
 
@@ -78,7 +78,8 @@ impl Lattice {
 
     /// The number of blocks, n·(1+α).
     pub fn blocks(&self) -> u32
-        ensures { result ≡ blocks_count self.now }
+        ensures count { result ≡ blocks_count self.now }
+        ensures all { result ≡ length (blocks_of self.now) }
     {
         self.n * (1 + u32::from(self.alpha))
     }
@@ -240,6 +241,15 @@ impl Lattice {
 
     /// The block at this place in number order, counted from 0.
     pub fn block(&self, k: u32) -> BlockId
+        requires { k < blocks_count self.now }
+        ensures block { HasBlock self.now result }
+        ensures number { number_of self.now result ≡ k }
+        ensures place { slice_get (blocks_of self.now) k ≡ Some result }
+    {
+        self.numbered(k)
+    }
+
+    fn numbered(&self, k: u32) -> BlockId
         requires { k < blocks_count self.now }
         ensures block { HasBlock self.now result }
         ensures number { number_of self.now result ≡ k }

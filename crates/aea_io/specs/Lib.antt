@@ -1,0 +1,3 @@
+pub mod Fails
+pub mod Sure
+pub mod Written

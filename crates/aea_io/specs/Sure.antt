@@ -1,0 +1,11 @@
+-- What a sink with a room takes of a piece.
+use Rattle.std.specs.Prelude.{◌≡◌, ℕ, ◌-◌, ◌<◌, min, List, length, vec_len}
+use Rattle.aea_io.specs.declared.sure.SureSink.{SureSink}
+
+-- the piece is not empty, and no room is left
+abbrev pub IsRefused : SureSink → List ℕ → Type 0
+IsRefused sink piece = (0 < length piece) × (vec_len sink.bytes ≡ sink.room)
+
+-- how many bytes of the piece fit into the room that is left
+abbrev pub fitting : SureSink → List ℕ → ℕ
+fitting sink piece = min (length piece) (sink.room - vec_len sink.bytes)

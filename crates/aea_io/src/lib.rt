@@ -3,12 +3,16 @@
 #![tactic(auto)]
 
 mod fails;
+mod memory;
 mod put;
+mod standard;
 mod sure;
 mod traits;
 mod whole;
 
+pub use memory::{MemSink, MemSource};
 pub use put::put_all;
+pub use standard::{StdSink, StdSource};
 pub use sure::{SureSink, SureSource};
 pub use traits::{ReadFault, Sink, Source, WriteFault};
 pub use whole::{WholeFault, read_whole};

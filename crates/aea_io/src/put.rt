@@ -18,3 +18,6 @@ pub fn put_all<O: Sink>(sink: &mut O, bytes: &[u8]) -> Result<(), WriteFault>
     }
     Ok(())
 }
+
+#[cfg(test)]
+mod tests;

@@ -166,3 +166,6 @@ impl Sink for SureSink {
         Ok(())
     }
 }
+
+#[cfg(test)]
+mod tests;

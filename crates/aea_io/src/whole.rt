@@ -61,3 +61,6 @@ pub fn read_whole<S: Source>(
     }
     Ok(whole)
 }
+
+#[cfg(test)]
+mod tests;

@@ -1,0 +1,134 @@
+//! Sources and sinks over std's readers and writers.
+
+ghost use Rattle.std.specs.Prelude.{◌≡◌, ◌<◌, ◌≤◌, length, IfOk, None};
+ghost use Rattle.std.specs.Io.{ReadsAtMost, WritesAtMost};
+ghost use Rattle.std.specs.Io.KnownBytes.{ReadConsumes, WriteAppends};
+ghost use Rattle.aea_faults.specs.Faults.{HasCause};
+
+use crate::traits::{ReadFault, Sink, Source, WriteFault};
+use aea_faults::risen;
+use std::io::{ErrorKind, Read, Write};
+
+// How often a call that was interrupted is made again.
+const RETRIES: u32 = 100;
+
+/// A source over a reader of std. It tells what the reader tells, and counts each Err of the reader. A read that was
+/// interrupted is made again, 100 times at most.
+#[derive(Drop)]
+pub struct StdSource<R> {
+    /// The reader.
+    pub reader: R,
+    /// How often the reader answered Err. The count stops at the greatest u64.
+    pub faults: u64,
+}
+
+impl<R: Read> StdSource<R> {
+    /// The source over this reader.
+    pub fn new(reader: R) -> StdSource<R>
+        ensures reader { result.reader ≡ reader }
+        ensures faults { result.faults ≡ 0 }
+    {
+        StdSource { reader, faults: 0 }
+    }
+
+    // One read of the reader.
+    fn read_once(&mut self, buf: &mut [u8]) -> Result<usize, ErrorKind>
+        ensures bound { ReadsAtMost result buf.new }
+        ensures bytes { ReadConsumes (R.remaining self.old.reader) (R.remaining self.new.reader) result buf.new }
+        ensures cause { HasCause self.old.faults self.new.faults result }
+    {
+        match self.reader.read(buf) {
+            Ok(count) => Ok(count),
+            Err(error) => {
+                self.faults = risen(self.faults);
+                Err(error.kind())
+            }
+        }
+    }
+}
+
+impl<R: Read> Source for StdSource<R> {
+    ghost left = { λ s. R.remaining s.reader };
+
+    ghost faults = { λ s. s.faults };
+
+    fn read(&mut self, buf: &mut [u8]) -> Result<usize, ReadFault> {
+        for _ in 0..RETRIES {
+            match self.read_once(buf) {
+                Ok(count) => return Ok(count),
+                Err(ErrorKind::Interrupted) => {}
+                Err(_) => return Err(ReadFault),
+            }
+        }
+        self.read_once(buf).map_err(|_| ReadFault)
+    }
+}
+
+/// A sink over a writer of std. It tells what the writer tells, holds no bytes of its own, and counts each Err of the
+/// writer, and each write in which the writer takes nothing of a piece that is not empty. A write that was interrupted
+/// is made again, 100 times at most; an interrupted flush is a fault.
+#[derive(Drop)]
+pub struct StdSink<W> {
+    /// The writer.
+    pub writer: W,
+    /// How often the writer answered Err or took nothing. The count stops at the greatest u64.
+    pub faults: u64,
+}
+
+impl<W: Write> StdSink<W> {
+    /// The sink over this writer.
+    pub fn new(writer: W) -> StdSink<W>
+        ensures writer { result.writer ≡ writer }
+        ensures faults { result.faults ≡ 0 }
+    {
+        StdSink { writer, faults: 0 }
+    }
+
+    // One write of the writer.
+    fn write_once(&mut self, bytes: &[u8]) -> Result<usize, ErrorKind>
+        ensures bound { WritesAtMost result bytes.now }
+        ensures progress { IfOk result (λ k. 0 < length bytes.now → 0 < k) }
+        ensures bytes { WriteAppends (W.contents self.old.writer) (W.contents self.new.writer) result bytes.now }
+        ensures cause { HasCause self.old.faults self.new.faults result }
+    {
+        let kind = match self.writer.write(bytes) {
+            Ok(count) if count > 0 || bytes.is_empty() => return Ok(count),
+            Ok(_) => ErrorKind::WriteZero,
+            Err(error) => error.kind(),
+        };
+        self.faults = risen(self.faults);
+        Err(kind)
+    }
+}
+
+impl<W: Write> Sink for StdSink<W> {
+    ghost written = { λ s. W.contents s.writer };
+
+    ghost flushed = { λ _. None };
+
+    ghost faults = { λ s. s.faults };
+
+    fn write(&mut self, bytes: &[u8]) -> Result<usize, WriteFault> {
+        for _ in 0..RETRIES {
+            match self.write_once(bytes) {
+                Ok(count) => return Ok(count),
+                Err(ErrorKind::Interrupted) => {}
+                Err(_) => return Err(WriteFault),
+            }
+        }
+        self.write_once(bytes).map_err(|_| WriteFault)
+    }
+
+    fn flush(&mut self) -> Result<(), WriteFault> {
+        match self.writer.flush() {
+            Ok(()) => Ok(()),
+            Err(_) => {
+                self.faults = risen(self.faults);
+                Err(WriteFault)
+            }
+        }
+    }
+}
+
+#[cfg(test)]
+mod tests;

@@ -25,7 +25,7 @@ impl Fails {
     }
 
     /// Counts one more call, and answers whether it is to fail.
-    pub fn next(&mut self) -> bool
+    pub fn count_call(&mut self) -> bool
         ensures listed { IsTrue result ↔ IsNextListed self.old }
         ensures counted { CountsCall self.old self.new }
     {

@@ -68,7 +68,7 @@ impl Source for MemSource {
         ensures steady { OnOk result (self.new.faults ≡ self.old.faults) }
         ensures same_bytes { self.new.bytes.items ≡ self.old.bytes.items }
     {
-        if self.fails.next() {
+        if self.fails.count_call() {
             self.faults = risen(self.faults);
             return Err(ReadFault);
         }
@@ -136,7 +136,7 @@ impl Sink for MemSink {
         ensures same_room { self.new.sink.room ≡ self.old.sink.room }
         ensures same_flushed { self.new.sink.flushed ≡ self.old.sink.flushed }
     {
-        if self.fails.next() {
+        if self.fails.count_call() {
             self.sink.count_fault();
             return Err(WriteFault);
         }
@@ -160,7 +160,7 @@ impl Sink for MemSink {
         ensures same_room { self.new.sink.room ≡ self.old.sink.room }
         ensures same_flushed { OnErr result (self.new.sink.flushed ≡ self.old.sink.flushed) }
     {
-        if self.fails.next() {
+        if self.fails.count_call() {
             self.sink.count_fault();
             return Err(WriteFault);
         }

@@ -14,7 +14,9 @@ const PIECE: usize = 8192;
 /// Why an input was not read whole.
 #[derive(Clone, Copy, Debug, PartialEq, Eq)]
 pub enum WholeFault {
+    /// A read of the source failed.
     ReadFault,
+    /// Memory ran out.
     NoMemory,
 }
 

@@ -1,0 +1,10 @@
+pub mod Codes
+pub mod Words
+pub mod Lines
+pub mod Marks
+pub mod Pages
+pub mod Counts
+pub mod Reached
+pub mod Drill
+pub mod Streams
+pub mod Failures

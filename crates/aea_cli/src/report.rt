@@ -1,0 +1,68 @@
+//! The line on `err` where a command did not end well.
+
+ghost use Rattle.std.specs.Prelude.{◌≡◌, ◌≤◌, []};
+ghost use Rattle.aea_cli.specs.Drill.{refusal_line};
+ghost use Rattle.aea_cli.specs.Failures.{failure_line, failure_status};
+ghost use Rattle.aea_cli.specs.Pages.{sheet, Prints};
+ghost use Rattle.aea_cli.specs.Streams.{PutsLine};
+
+use crate::outcome::print_number;
+use crate::page::{Page, finish, print};
+use crate::refusal::{Failure, Refusal};
+use crate::status::Status;
+use aea_io::{Sink, WriteFault};
+
+// Prints the line of a refusal.
+fn print_refusal<E: Sink>(err: &mut E, page: &mut Page, why: Refusal) -> Result<(), WriteFault>
+    ensures { Prints (sheet (E.written err.old) (E.room err.old) (E.faults err.old) page.old)
+        (sheet (E.written err.new) (E.room err.new) (E.faults err.new) page.new) result (refusal_line why) }
+{
+    match why {
+        Refusal::InputTooLong => print(err, page, b"refused: input too long\n"),
+        Refusal::BadBlock { line } => {
+            print_number(err, page, b"refused: bad block at line ", line)?;
+            print(err, page, b"\n")
+        }
+    }
+}
+
+// Prints the line of a failure.
+fn print_failure<E: Sink>(err: &mut E, page: &mut Page, failure: Failure) -> Result<(), WriteFault>
+    ensures { Prints (sheet (E.written err.old) (E.room err.old) (E.faults err.old) page.old)
+        (sheet (E.written err.new) (E.room err.new) (E.faults err.new) page.new) result (failure_line failure) }
+{
+    match failure {
+        Failure::Words => print(err, page, b"words: no such command\n"),
+        Failure::Refused { why } => print_refusal(err, page, why),
+        Failure::Input => print(err, page, b"fault: input\n"),
+        Failure::Output => print(err, page, b"fault: output\n"),
+        Failure::Memory => print(err, page, b"fault: memory\n"),
+    }
+}
+
+// Puts the line of a failure, and flushes it.
+fn put_failure<E: Sink>(err: &mut E, failure: Failure) -> Result<(), WriteFault>
+    ensures { Prints (sheet (E.written err.old) (E.room err.old) (E.faults err.old) [])
+        (sheet (E.written err.new) (E.room err.new) (E.faults err.new) []) result (failure_line failure) }
+{
+    let mut page = Page::new();
+    print_failure(err, &mut page, failure)?;
+    finish(err, &mut page)?;
+    Ok(())
+}
+
+/// Puts the line of a failure, as far as `err` takes it, and answers the status. Takes no memory.
+pub fn report<E: Sink>(err: &mut E, failure: Failure) -> Status
+    ensures status { result ≡ failure_status failure }
+    ensures line { PutsLine (E.written err.old) (E.written err.new) (E.faults err.old) (E.faults err.new) (failure_line failure) }
+    ensures kept { E.faults err.old ≤ E.faults err.new }
+{
+    let _ = put_failure(err, failure);
+    match failure {
+        Failure::Words => Status::Words,
+        Failure::Refused { .. } => Status::Refused,
+        Failure::Input => Status::Input,
+        Failure::Output => Status::Output,
+        Failure::Memory => Status::Memory,
+    }
+}

@@ -1,0 +1,5 @@
+pub mod Rows
+pub mod Places
+pub mod Scans
+pub mod Marks
+pub mod Examples

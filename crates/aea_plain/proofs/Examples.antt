@@ -1,14 +1,21 @@
 -- Worked examples, in which the definitions compute.
-use Rattle.std.proofs.Common.{◌≡◌, not, ◌||◌, ◌==◌, inl, inr, List, [], ◌∷◌, filter, Some, refl, lit≤}
+use Rattle.std.proofs.Common.{◌≡◌, ℕ, suc, zero, ◌≤◌, Bool, not, ◌||◌, ◌==◌, inl, inr, List, [], ◌∷◌, ◌++◌, filter, Some, refl, sym, ◌∙◌, ap, arith, lit≤}
+use Rattle.std.specs.Prelude.{◌&&◌, true, nat_le, All}
+use Rattle.std.specs.List.{list_all}
+use Rattle.std.proofs.lemmas.Bool.Decides.{nat_tests}
+use Rattle.aea_lattice.specs.declared.blocks.Class.{Class}
 use Rattle.aea_lattice.specs.declared.blocks.Class.TheVariants.{Datum, Horiz, Right, Left}
 use Rattle.aea_lattice.specs.declared.blocks.BlockId.{BlockId}
 use Rattle.aea_lattice.specs.declared.grid.Lattice.{Lattice}
-use Rattle.aea_lattice.specs.Blocks.{block_of, blocks_of}
+use Rattle.aea_lattice.specs.Blocks.{block_of, blocks_of, class_number, HasBlock}
 use Rattle.aea_lattice.specs.Strands.{prefix, previous}
 use Rattle.aea_lattice.specs.Equations.{HasEquation, equation_of, is_in_codeword, adds_up_to}
 use Rattle.aea_lattice.specs.Closure.{IsReached, is_among}
 use Rattle.aea_lattice.proofs.Equations.{forced_datum, forced_input}
+use Rattle.aea_lattice.specs.Data.{IsDataList, xor_bytes, datum_at, value_of, Determines}
+use Rattle.aea_lattice.proofs.Sums.{length-datum_at, xor_bytes-zeros}
 use Rattle.aea_plain.specs.Sets.{is_listed}
+use Rattle.aea_plain.proofs.Parities.{IsWide, sum_of, sum_of-append, sum_of-odd}
 
 -- ---- AE(3,5,5) of 40 nodes: the nodes just before node 26, and its prefixes
 
@@ -90,3 +97,65 @@ pub nine_equations : filter
     (blocks_of woven)
     ≡ block_of 2 Horiz ∷ block_of 2 Right ∷ block_of 4 Right ∷ block_of 5 Datum ∷ block_of 5 Horiz ∷ block_of 6 Horiz ∷ block_of 6 Right ∷ []
 nine_equations = refl
+
+-- what is lost, and what is left
+abbrev pub lost : List BlockId
+lost =
+    block_of 1 Datum ∷ block_of 3 Datum ∷ block_of 4 Datum ∷ block_of 5 Datum ∷ block_of 6 Datum ∷ block_of 8 Datum ∷ block_of 9 Datum
+    ∷ block_of 10 Datum ∷ block_of 11 Datum ∷ block_of 1 Horiz ∷ block_of 3 Horiz ∷ block_of 4 Horiz ∷ block_of 8 Horiz ∷ block_of 9 Horiz
+    ∷ block_of 1 Right ∷ block_of 3 Right ∷ block_of 5 Right ∷ block_of 8 Right ∷ block_of 10 Right ∷ []
+
+abbrev pub is_left : BlockId → Bool
+is_left b = not (is_among lost b)
+
+-- the sum of h2, h5, h6, r2, r4 and r6
+abbrev six : ℕ → List (List ℕ) → List ℕ
+six w datas =
+    xor_bytes (value_of woven w datas (block_of 2 Horiz))
+    (xor_bytes (value_of woven w datas (block_of 5 Horiz))
+    (xor_bytes (value_of woven w datas (block_of 6 Horiz))
+    (xor_bytes (value_of woven w datas (block_of 2 Right))
+    (xor_bytes (value_of woven w datas (block_of 4 Right)) (value_of woven w datas (block_of 6 Right))))))
+
+within_step : (n k : ℕ) (nodes : List ℕ) → (nat_le 1 k && nat_le k n && list_all (λ j. nat_le 1 j && nat_le j n) nodes) ≡ true → (1 ≤ k) × (k ≤ n)
+within_step n k nodes all = (grind (arith, nat_tests), grind (arith, nat_tests))
+
+within_rest : (n k : ℕ) (rest : Bool) → (nat_le 1 k && nat_le k n && rest) ≡ true → rest ≡ true
+within_rest n k rest all = grind (arith, nat_tests)
+
+are_within : (n : ℕ) (nodes : List ℕ) → list_all (λ k. nat_le 1 k && nat_le k n) nodes ≡ true → All (λ k. (1 ≤ k) × (k ≤ n)) nodes
+are_within n [] all k d below = absurd (omega arith)
+are_within n (j ∷ nodes) all zero d below = within_step n j nodes all
+are_within n (j ∷ nodes) all (suc k) d below = are_within n nodes (within_rest n j (list_all (λ i. nat_le 1 i && nat_le i n) nodes) all) k d (omega arith)
+
+-- d5 is the sum of h2, h5, h6, r2, r4 and r6, whatever the data
+fifth_is_six : (w : ℕ) (datas : List (List ℕ)) → IsDataList woven w datas → six w datas ≡ value_of woven w datas (block_of 5 Datum)
+fifth_is_six w datas is =
+    let datum = datum_at w datas in
+    let wide : IsWide w datum = record { each = λ k. length-datum_at woven w datas k is } in
+    let e : List ℕ = 1 ∷ 4 ∷ [] in
+    let d : List ℕ = 2 ∷ [] in
+    let f : List ℕ = 2 ∷ 3 ∷ 6 ∷ [] in
+    let c : List ℕ = 2 ∷ 4 ∷ 6 ∷ [] in
+    let b : List ℕ = 1 ∷ 3 ∷ 5 ∷ [] in
+    let all : List ℕ = d ++ (b ++ (c ++ (d ++ (e ++ f)))) in
+    sym (sum_of-append w datum d (b ++ (c ++ (d ++ (e ++ f)))) wide
+    ∙ ap (xor_bytes (sum_of w datum d)) (sum_of-append w datum b (c ++ (d ++ (e ++ f))) wide
+    ∙ ap (xor_bytes (sum_of w datum b)) (sum_of-append w datum c (d ++ (e ++ f)) wide
+    ∙ ap (xor_bytes (sum_of w datum c)) (sum_of-append w datum d (e ++ f) wide
+    ∙ ap (xor_bytes (sum_of w datum d)) (sum_of-append w datum e f wide)))))
+    ∙ sum_of-odd w datum all 11 wide (are_within 11 all refl)
+    ∙ xor_bytes-zeros w (datum 5) (wide.each 5)
+
+-- So the blocks that are left determine d5.
+pub fifth_determined : Determines woven is_left (block_of 5 Datum)
+fifth_determined w xs ys xs_are ys_are agree =
+    let inside : (i : ℕ) (c : Class) → 1 ≤ i → i ≤ 11 → class_number c ≤ 2 → HasBlock woven (block_of i c) = λ i c first last used. record { first = first; last = last; used = used } in
+    let h2 = agree (block_of 2 Horiz) (inside 2 Horiz (lit≤ tt) (lit≤ tt) (lit≤ tt)) refl in
+    let h5 = agree (block_of 5 Horiz) (inside 5 Horiz (lit≤ tt) (lit≤ tt) (lit≤ tt)) refl in
+    let h6 = agree (block_of 6 Horiz) (inside 6 Horiz (lit≤ tt) (lit≤ tt) (lit≤ tt)) refl in
+    let r2 = agree (block_of 2 Right) (inside 2 Right (lit≤ tt) (lit≤ tt) (lit≤ tt)) refl in
+    let r4 = agree (block_of 4 Right) (inside 4 Right (lit≤ tt) (lit≤ tt) (lit≤ tt)) refl in
+    let r6 = agree (block_of 6 Right) (inside 6 Right (lit≤ tt) (lit≤ tt) (lit≤ tt)) refl in
+    let same : six w xs ≡ six w ys = cc in
+    sym (fifth_is_six w xs xs_are) ∙ same ∙ fifth_is_six w ys ys_are

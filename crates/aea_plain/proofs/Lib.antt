@@ -3,3 +3,4 @@ pub mod Places
 pub mod Scans
 pub mod Marks
 pub mod Examples
+pub mod Parities

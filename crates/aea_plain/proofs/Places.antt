@@ -3,15 +3,17 @@ use Rattle.std.proofs.Common.{◌≡◌, ℕ, zero, suc, ◌+◌, ◌-◌, ◌*�
 use Rattle.std.proofs.Math.Nat.{mul-le-mul_right}
 use Rattle.std.proofs.lemmas.Bool.Decides.{nat_tests}
 use Rattle.std.proofs.lemmas.List.{take_all}
+use Rattle.std.proofs.lemmas.Option.{get_or_from_slice_get}
 use Rattle.std.proofs.lemmas.List.Elements.{All-nil, All-cons, All-append}
 use Rattle.aea_lattice.specs.declared.blocks.Class.{Class}
 use Rattle.aea_lattice.specs.declared.blocks.Class.TheVariants.{Datum, Horiz, Right, Left}
 use Rattle.aea_lattice.specs.declared.blocks.BlockId.{BlockId}
 use Rattle.aea_lattice.specs.declared.blocks.EqId.{EqId}
 use Rattle.aea_lattice.specs.declared.grid.Lattice.{Lattice}
-use Rattle.aea_lattice.specs.Blocks.{class_number, block_of, HasBlock, number_of, blocks_count, blocks_to, blocks_of}
+use Rattle.aea_lattice.specs.Blocks.{class_number, HasBlock, number_of, blocks_count, blocks_of}
 use Rattle.aea_lattice.specs.Equations.{HasEquation, equation_of, equations_to, equations_of}
 use Rattle.aea_lattice.proofs.Equations.{number_below}
+use Rattle.aea_lattice.proofs.Numbers.{length-blocks_of, slice_get-blocks_of}
 use Rattle.aea_plain.proofs.Rows.{IsRows, length-rows, get_or-rows, filter-take_kept, filter-take_dropped}
 
 few_classes : (l : Lattice) → l.alpha ≤ 3
@@ -21,54 +23,11 @@ few_classes l = let h = l.in_profile in grind (arith, nat_tests)
 abbrev classes_to : ℕ → List Class
 classes_to a = filter (λ c. nat_le (class_number c) a) (Horiz ∷ Right ∷ Left ∷ [])
 
--- ---- the blocks of a node
-
-abbrev blocks_at : ℕ → ℕ → List BlockId
-blocks_at a i = map (block_of i) (Datum ∷ classes_to a)
-
-length-blocks_at : (a i : ℕ) → a ≤ 3 → length (blocks_at a i) ≡ 1 + a
-length-blocks_at zero i few = refl
-length-blocks_at (suc zero) i few = refl
-length-blocks_at (suc (suc zero)) i few = refl
-length-blocks_at (suc (suc (suc zero))) i few = refl
-length-blocks_at (suc (suc (suc (suc a)))) i few = absurd (omega arith)
-
-get_or-blocks_at : (a i : ℕ) (c : Class) (d : BlockId) → a ≤ 3 → class_number c ≤ a
-    → get_or (blocks_at a i) (class_number c) d ≡ block_of i c
-get_or-blocks_at zero i Datum d few used = refl
-get_or-blocks_at zero i Horiz d few used = absurd (omega arith)
-get_or-blocks_at zero i Right d few used = absurd (omega arith)
-get_or-blocks_at zero i Left d few used = absurd (omega arith)
-get_or-blocks_at (suc zero) i Datum d few used = refl
-get_or-blocks_at (suc zero) i Horiz d few used = refl
-get_or-blocks_at (suc zero) i Right d few used = absurd (omega arith)
-get_or-blocks_at (suc zero) i Left d few used = absurd (omega arith)
-get_or-blocks_at (suc (suc zero)) i Datum d few used = refl
-get_or-blocks_at (suc (suc zero)) i Horiz d few used = refl
-get_or-blocks_at (suc (suc zero)) i Right d few used = refl
-get_or-blocks_at (suc (suc zero)) i Left d few used = absurd (omega arith)
-get_or-blocks_at (suc (suc (suc zero))) i Datum d few used = refl
-get_or-blocks_at (suc (suc (suc zero))) i Horiz d few used = refl
-get_or-blocks_at (suc (suc (suc zero))) i Right d few used = refl
-get_or-blocks_at (suc (suc (suc zero))) i Left d few used = refl
-get_or-blocks_at (suc (suc (suc (suc a)))) i c d few used = absurd (omega arith)
-
-blocks_are_rows : (l : Lattice) → IsRows BlockId (blocks_to l) (blocks_at l.alpha) (1 + l.alpha)
-blocks_are_rows l = record {
-  none = refl;
-  more = λ i. refl;
-  wide = λ i. length-blocks_at l.alpha i (few_classes l);
-}
-
-pub length-blocks_of : (l : Lattice) → length (blocks_of l) ≡ blocks_count l
-length-blocks_of l = length-rows (blocks_to l) (blocks_at l.alpha) (1 + l.alpha) (blocks_are_rows l) l.n
+-- ---- the blocks
 
 -- each block stands at its number
 pub get_or-blocks_of : (l : Lattice) (b d : BlockId) → HasBlock l b → get_or (blocks_of l) (number_of l b) d ≡ b
-get_or-blocks_of l b d has =
-    get_or-rows (blocks_to l) (blocks_at l.alpha) (1 + l.alpha) (blocks_are_rows l) l.n b.node (class_number b.class) d
-    has.first has.last (omega (arith, has.used))
-    ∙ get_or-blocks_at l.alpha b.node b.class d (few_classes l) has.used
+get_or-blocks_of l b d has = get_or_from_slice_get (blocks_of l) (number_of l b) b d (slice_get-blocks_of l b has)
 
 pub inside_blocks : (l : Lattice) (b : BlockId) → HasBlock l b → number_of l b < length (blocks_of l)
 inside_blocks l b has = subst (λ n. number_of l b < n) (sym (length-blocks_of l)) (number_below l b has)

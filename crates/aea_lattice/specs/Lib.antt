@@ -6,3 +6,4 @@ pub mod Data
 pub mod Closure
 pub mod Texts
 pub mod Facts
+pub mod Ends

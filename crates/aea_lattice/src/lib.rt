@@ -8,6 +8,7 @@
 #![tactic(auto)]
 
 pub mod blocks;
+pub mod ends;
 pub mod facts;
 pub mod grid;
 pub mod texts;

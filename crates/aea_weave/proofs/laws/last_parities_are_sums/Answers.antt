@@ -1,0 +1,5 @@
+use Rattle.aea_weave.proofs.Lasts.{last-sums}
+use Rattle.aea_weave.proofs.laws.last_parities_are_sums.Goals as goal
+
+pub returns : goal.returns
+returns c = last-sums

@@ -1,0 +1,3 @@
+pub mod Woven
+pub mod Sums
+pub mod Stored

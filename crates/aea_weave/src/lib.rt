@@ -1,0 +1,14 @@
+//! The heads of a lattice's strands: XOR of blocks, and the parities of each next node.
+//!
+//! In the paper "Alpha Entanglement Codes" (Estrada-Galiñanes, Miller, Felber, Pâris, DSN 2018) each new datum is
+//! entangled with the last parity of each of its strands. These last parities are the heads, and a head is the sum by
+//! XOR of its strand's data so far.
+#![tactic(auto)]
+
+pub mod heads;
+pub mod laws;
+pub mod xor;
+
+pub use heads::Heads;
+pub use laws::{last_parities_are_sums, longer_data_keep_values};
+pub use xor::xor_into;

@@ -1,0 +1,2 @@
+mod ListParts
+pub mod CellLemmas

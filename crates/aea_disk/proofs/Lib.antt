@@ -1,0 +1,4 @@
+mod Fresh
+mod Inner
+pub mod Moments
+mod Resized

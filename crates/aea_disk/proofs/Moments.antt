@@ -1,0 +1,221 @@
+-- How what a crash may leave goes on from call to call: the lemmas by which a client composes its calls.
+use Rattle.std.proofs.Common.{◌≡◌, ◌≢◌, ◌⊎◌, ◌↔◌, inl, inr, ⊎_elim, ℕ, ◌+◌, ◌<◌, ◌≤◌, List, length, take, drop, refl, sym, ◌∙◌, ap, subst, arith}
+use Rattle.std.proofs.lemmas.Bool.{cases_eq, cases_lt}
+use Rattle.aea_disk.specs.Files.{Files, ChangesFile, Torn}
+use Rattle.aea_disk.specs.Steps.{torn_range}
+use Rattle.aea_disk.specs.State.{State, Passes, Follows, KeepsImages, Settles, EveryImage, During, AtEachMoment, Stays, IsSynced, IsFixed, KeepsOthers, KeepsWhere, HasRange}
+
+-- a call that adds no moment and no image takes any step that may leave the files
+pub no_time : (step : Files → Files → Type 0) (old new : State) → new.moment ≤ old.moment → ((t : ℕ) (c : Files) → new.image t c → old.image t c) → ((c : Files) → step c c) → Follows step old new
+no_time step old new still same none t c from to here =
+    let is : t ≡ old.moment = omega arith in
+    (c, subst (λ (m : ℕ). old.image m c) is (same t c here), none c)
+
+-- before the first call
+pub during_none : (s : State) (P : Files → Type 0) → EveryImage s P → During s s P
+during_none s P every t c from to here = let is : t ≡ s.moment = omega arith in every c (subst (λ (m : ℕ). s.image m c) is here)
+
+-- one call, by its step
+pub during_step : (step : Files → Files → Type 0) (old new : State) (P : Files → Type 0) → Follows step old new → ((d c : Files) → old.image old.moment d → step d c → P c) → During old new P
+during_step step old new P follows each t c from to here = let was = follows t c from to here in each was.0 c was.1 was.2
+
+-- a call that keeps the images
+pub during_kept : (old new : State) (P : Files → Type 0) → KeepsImages old new → EveryImage old P → During old new P
+during_kept old new P keeps every t c from to here = every c (keeps t c from to here)
+
+-- two runs, one after the other
+pub during_both : (old mid new : State) (P : Files → Type 0) → Passes old mid → Passes mid new → During old mid P → During mid new P → During old new P
+during_both old mid new P first second early late t c from to here =
+    ⊎_elim
+    (λ before. early t c from (omega arith) ((second.keeps t c (omega arith)).0 here))
+    (λ after. late t c (omega arith) to here)
+    (cases_lt t mid.moment)
+
+pub passes_none : (s : State) → Passes s s
+passes_none s = record { later = omega arith; keeps = λ t c early. (λ here. here, λ here. here); room = λ f n has. has }
+
+pub passes_both : (old mid new : State) → Passes old mid → Passes mid new → Passes old new
+passes_both old mid new first second = record {
+  later = omega (arith, first.later, second.later);
+  keeps = λ t c early.
+      let one = first.keeps t c early in
+      let two = second.keeps t c (omega (arith, first.later)) in
+      (λ here. one.0 (two.0 here), λ here. two.1 (one.1 here));
+  room = λ f n has. second.room f n (first.room f n has);
+}
+
+-- a weaker fact at each image
+pub during_more : (old new : State) (P Q : Files → Type 0) → ((c : Files) → P c → Q c) → During old new P → During old new Q
+during_more old new P Q more during t c from to here = more c (during t c from to here)
+
+-- of the images at the end
+pub during_end : (old new : State) (P : Files → Type 0) → old.moment ≤ new.moment → During old new P → EveryImage new P
+during_end old new P later during c here = during new.moment c later (omega arith) here
+
+-- of the images at the start
+pub during_start : (old new : State) (P : Files → Type 0) → Passes old new → During old new P → EveryImage old P
+during_start old new P passes during c here = during old.moment c (omega arith) passes.later ((passes.keeps old.moment c (omega arith)).1 here)
+
+-- a change of a file on which nothing was pending
+pub during_change : (file : ℕ) (step : List ℕ → List ℕ → Type 0) (old new : State) (P : List ℕ → Type 0) → Follows (ChangesFile file step) old new → IsFixed old file → ((xs : List ℕ) → step (old.files file) xs → P xs) → During old new (λ c. P (c file))
+during_change file step old new P follows fixed each t c from to here =
+    let was = follows t c from to here in
+    each (c file) (subst (λ (l : List ℕ). step l (c file)) (fixed was.0 was.1) was.2.here)
+
+-- after a sync nothing is pending on any file
+pub synced_fixed : (s : State) (file : ℕ) → IsSynced s → IsFixed s file
+synced_fixed s file synced c here = synced c here file
+
+-- what a call does to the other files
+pub others_change : (tells : Type 0) (file : ℕ) (step : List ℕ → List ℕ → Type 0) (old new : State) → Follows (ChangesFile file step) old new → (tells → (f : ℕ) → f ≢ file → new.files f ≡ old.files f) → KeepsOthers tells file old new
+others_change tells file step old new follows reads = record {
+  reads = reads;
+  images = λ t c from to here. let was = follows t c from to here in (was.0, was.1, was.2.others);
+}
+
+pub others_kept : (tells : Type 0) (file : ℕ) (old new : State) → KeepsImages old new → (tells → new.files ≡ old.files) → KeepsOthers tells file old new
+others_kept tells file old new keeps same = record {
+  reads = λ told f other. ap (λ (c : Files). c f) (same told);
+  images = λ t c from to here. (c, keeps t c from to here, λ f other. refl);
+}
+
+pub others_none : (tells : Type 0) (file : ℕ) (s : State) → KeepsOthers tells file s s
+others_none tells file s = record {
+  reads = λ told f other. refl;
+  images = λ t c from to here. let is : t ≡ s.moment = omega arith in (c, subst (λ (m : ℕ). s.image m c) is here, λ f other. refl);
+}
+
+pub others_both : (tells : Type 0) (file : ℕ) (old mid new : State) → Passes old mid → Passes mid new → KeepsOthers tells file old mid → KeepsOthers tells file mid new → KeepsOthers tells file old new
+others_both tells file old mid new first second early late = record {
+  reads = λ told f other. late.reads told f other ∙ early.reads told f other;
+  images = λ t c from to here.
+      ⊎_elim
+      (λ before. early.images t c from (omega arith) ((second.keeps t c (omega arith)).0 here))
+      (λ after.
+      let one = late.images t c (omega arith) to here in
+      let two = early.images mid.moment one.0 first.later (omega arith) one.1 in
+      (two.0, two.1, λ f other. one.2 f other ∙ two.2 f other))
+      (cases_lt t mid.moment);
+}
+
+-- a file that the calls don't touch is as it was in every image of every moment
+pub during_others : (tells : Type 0) (file : ℕ) (old new : State) (other : ℕ) → other ≢ file → KeepsOthers tells file old new → IsFixed old other → During old new (λ c. c other ≡ old.files other)
+during_others tells file old new other apart others fixed t c from to here =
+    let was = others.images t c from to here in was.2 other apart ∙ fixed was.0 was.1
+
+-- and nothing is pending on it
+pub fixed_others : (tells : Type 0) (file : ℕ) (old new : State) (other : ℕ) → tells → other ≢ file → old.moment ≤ new.moment → KeepsOthers tells file old new → IsFixed old other → IsFixed new other
+fixed_others tells file old new other told apart later others fixed c here =
+    during_others tells file old new other apart others fixed new.moment c later (omega arith) here ∙ sym (others.reads told other apart)
+
+-- a range of another file stays in every image
+pub held_by_others : (tells : Type 0) (file : ℕ) (old new : State) (other at : ℕ) (bytes : List ℕ) → other ≢ file → KeepsOthers tells file old new → EveryImage old (HasRange other at bytes) → During old new (HasRange other at bytes)
+held_by_others tells file old new other at bytes apart others held t c from to here =
+    let was = others.images t c from to here in
+    subst (λ (l : List ℕ). take (length bytes) (drop at l) ≡ bytes) (sym (was.2 other apart)) (held was.0 was.1)
+
+-- a range that a change of some file doesn't meet
+pub range_kept : (file at n : ℕ) (d e : Files) (f a : ℕ) (kept : List ℕ) → ChangesFile file (Torn at n) d e → (f ≡ file → (a + length kept ≤ at) ⊎ (at + n ≤ a)) → HasRange f a kept d → HasRange f a kept e
+range_kept file at n d e f a kept changes apart has =
+    ⊎_elim
+    (λ is.
+    let here = subst (λ (g : ℕ). Torn at n (d g) (e g)) (sym is) changes.here in
+    torn_range at n (d f) (e f) a kept (apart is) here has)
+    (λ other. subst (λ (l : List ℕ). take (length kept) (drop a l) ≡ kept) (sym (changes.others f other)) has)
+    (cases_eq f file)
+
+-- and so it is held over one more call
+pub held_change : (file at n : ℕ) (old mid new : State) (f a : ℕ) (kept : List ℕ) → (f ≡ file → (a + length kept ≤ at) ⊎ (at + n ≤ a)) → Passes old mid → Passes mid new → Follows (ChangesFile file (Torn at n)) mid new → During old mid (HasRange f a kept) → During old new (HasRange f a kept)
+held_change file at n old mid new f a kept apart first second follows early =
+    during_both old mid new (HasRange f a kept) first second early
+    (during_step (ChangesFile file (Torn at n)) mid new (HasRange f a kept) follows
+    (λ d c was step. range_kept file at n d c f a kept step apart (during_end old mid (HasRange f a kept) first.later early d was)))
+
+-- files that no call so far is on
+pub where_none : (tells : Type 0) (keep : ℕ → Type 0) (s : State) → KeepsWhere tells keep s s
+where_none tells keep s = record {
+  reads = λ told f kept. refl;
+  images = λ t c from to here. let is : t ≡ s.moment = omega arith in (c, subst (λ (m : ℕ). s.image m c) is here, λ f kept. refl);
+}
+
+pub where_both : (tells : Type 0) (keep : ℕ → Type 0) (old mid new : State) → Passes old mid → Passes mid new → KeepsWhere tells keep old mid → KeepsWhere tells keep mid new → KeepsWhere tells keep old new
+where_both tells keep old mid new first second early late = record {
+  reads = λ told f kept. late.reads told f kept ∙ early.reads told f kept;
+  images = λ t c from to here.
+      ⊎_elim
+      (λ before. early.images t c from (omega arith) ((second.keeps t c (omega arith)).0 here))
+      (λ after.
+      let one = late.images t c (omega arith) to here in
+      let two = early.images mid.moment one.0 first.later (omega arith) one.1 in
+      (two.0, two.1, λ f kept. one.2 f kept ∙ two.2 f kept))
+      (cases_lt t mid.moment);
+}
+
+pub where_change : (tells : Type 0) (keep : ℕ → Type 0) (file : ℕ) (step : List ℕ → List ℕ → Type 0) (old mid new : State) → ((f : ℕ) → keep f → f ≢ file) → Passes old mid → Passes mid new → Follows (ChangesFile file step) mid new → (tells → (f : ℕ) → f ≢ file → new.files f ≡ mid.files f)
+    → KeepsWhere tells keep old mid → KeepsWhere tells keep old new
+where_change tells keep file step old mid new apart first second follows reads early =
+    where_both tells keep old mid new first second early
+    (record {
+      reads = λ told f kept. reads told f (apart f kept);
+      images = λ t c from to here. let was = follows t c from to here in (was.0, was.1, λ f kept. was.2.others f (apart f kept));
+    })
+
+pub where_kept : (tells : Type 0) (keep : ℕ → Type 0) (old mid new : State) → Passes old mid → Passes mid new → KeepsImages mid new → (tells → new.files ≡ mid.files) → KeepsWhere tells keep old mid → KeepsWhere tells keep old new
+where_kept tells keep old mid new first second keeps same early =
+    where_both tells keep old mid new first second early
+    (record {
+      reads = λ told f kept. ap (λ (c : Files). c f) (same told);
+      images = λ t c from to here. (c, keeps t c from to here, λ f kept. refl);
+    })
+
+-- the calls on one file keep the files that a test leaves out of it
+pub where_others : (tells : Type 0) (keep : ℕ → Type 0) (file : ℕ) (old new : State) → ((f : ℕ) → keep f → f ≢ file) → KeepsOthers tells file old new → KeepsWhere tells keep old new
+where_others tells keep file old new apart others = record {
+  reads = λ told f kept. others.reads told f (apart f kept);
+  images = λ t c from to here. let was = others.images t c from to here in (was.0, was.1, λ f kept. was.2 f (apart f kept));
+}
+
+-- a fact that every image has at each moment stays
+pub stays_during : (old new : State) (P : Files → Type 0) → During old new P → Stays old new P
+stays_during old new P during t u from later to every c here = during u c (omega arith) to here
+
+-- one call, whose step keeps the fact
+pub stays_step : (step : Files → Files → Type 0) (old new : State) (P : Files → Type 0) → Follows step old new → Settles old new → ((d c : Files) → old.image old.moment d → P d → step d c → P c) → Passes old new → Stays old new P
+stays_step step old new P follows settles keeps passes t u from later to every c here =
+    ⊎_elim
+    (λ after. every c (settles t u c after later to here))
+    (λ entry.
+    let is : t ≡ old.moment = omega arith in
+    let was = follows u c (omega arith) to here in
+    let then = subst (λ (m : ℕ). new.image m was.0) (sym is) ((passes.keeps old.moment was.0 (omega arith)).1 was.1) in
+    keeps was.0 c was.1 (every was.0 then) was.2)
+    (cases_lt old.moment t)
+
+-- one call that keeps the images
+pub stays_kept : (old new : State) (P : Files → Type 0) → KeepsImages old new → Settles old new → Passes old new → Stays old new P
+stays_kept old new P keeps settles passes t u from later to every c here =
+    ⊎_elim
+    (λ after. every c (settles t u c after later to here))
+    (λ entry.
+    let is : t ≡ old.moment = omega arith in
+    every c (subst (λ (m : ℕ). new.image m c) (sym is) ((passes.keeps old.moment c (omega arith)).1 (keeps u c (omega arith) to here))))
+    (cases_lt old.moment t)
+
+-- no call
+pub stays_none : (s : State) (P : Files → Type 0) → Stays s s P
+stays_none s P t u from later to every c here = let is : u ≡ t = omega arith in every c (subst (λ (m : ℕ). s.image m c) is here)
+
+-- two runs, one after the other
+pub stays_both : (old mid new : State) (P : Files → Type 0) → Passes old mid → Passes mid new → Stays old mid P → Stays mid new P → Stays old new P
+stays_both old mid new P first second early late t u from later to every c here =
+    let keeps = second.keeps in
+    let before = first.later in
+    ⊎_elim
+    (λ both. early t u from later (omega arith) (λ d was. every d ((keeps t d (omega arith)).1 was)) c ((keeps u c (omega arith)).0 here))
+    (λ past. ⊎_elim
+        (λ between.
+        let at_middle = early t mid.moment from (omega arith) (omega arith) (λ d was. every d ((keeps t d (omega arith)).1 was)) in
+        late mid.moment u (omega arith) (omega arith) to (λ d was. at_middle d ((keeps mid.moment d (omega arith)).0 was)) c here)
+        (λ after. late t u (omega arith) later to every c here)
+        (cases_lt t mid.moment))
+    (cases_lt u mid.moment)

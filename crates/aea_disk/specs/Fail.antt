@@ -1,0 +1,43 @@
+-- A disk that may fail by a list.
+use Rattle.std.specs.Prelude.{◌≡◌, ℕ, ◌+◌, ◌-◌, ◌^◌, min, List, Result, IsErr, is_ok, if◌then◌else◌, Contains}
+use Rattle.aea_faults.specs.Faults.{HasCause}
+use Rattle.aea_disk.specs.State.{State, IsSure}
+
+-- the inner disk, the numbers of the calls that fail, how many calls there were, and how many of them failed
+pub record Failing (D : Type 0) : Type 0 where
+  pub inner : D
+  pub fails : List ℕ
+  pub calls : ℕ
+  pub faults : ℕ
+
+-- the inner disk's meanings with a count of its own, and no room that is sure
+abbrev pub with_faults : State → ℕ → State
+with_faults s n = record { files = s.files; moment = s.moment; image = s.image; faults = n; room = λ f m. ⊥ }
+
+-- the number of the next call, counted from 1, and the greatest u64 from there on
+abbrev pub next_call : ℕ → ℕ
+next_call calls = min (calls + 1) (2 ^ 64 - 1)
+
+-- the next call is a listed one
+abbrev pub IsListed : {D : Type 0} → Failing D → Type 0
+IsListed d = Contains d.fails (next_call d.calls)
+
+-- the count of faults after a call
+abbrev pub faults_after : {T E : Type 0} → ℕ → Result T E → ℕ
+faults_after faults result = if is_ok result then faults else min (faults + 1) (2 ^ 64 - 1)
+
+-- The call has its number, a fault is counted once, and the list stays.
+pub record Counts {D T E : Type 0} (old new : Failing D) (result : Result T E) : Type 0 where
+  pub calls : new.calls ≡ next_call old.calls
+  pub faults : new.faults ≡ faults_after old.faults result
+  pub fails : new.fails ≡ old.fails
+
+-- the call fails, and the inner disk stays
+pub record FailsAlone {D T E : Type 0} (old new : Failing D) (result : Result T E) : Type 0 where
+  pub failed : IsErr result
+  pub inner : new.inner ≡ old.inner
+
+-- the call fails only where the inner disk fails: its count rose then, and a call within a sure disk's room doesn't fail
+pub record PassesOn {T E : Type 0} (fits : Type 0) (old new : State) (result : Result T E) : Type 0 where
+  pub cause : HasCause old.faults new.faults result
+  pub sure : IsSure fits old new result

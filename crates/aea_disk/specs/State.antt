@@ -1,0 +1,83 @@
+-- What a disk means: its files, its moments, and what a crash may have left at each.
+use Rattle.std.specs.Prelude.{◌≡◌, ◌≢◌, ◌↔◌, ◌<◌, ◌≤◌, ℕ, List, length, take, drop, Result, IsOk}
+use Rattle.aea_disk.specs.Files.{Files}
+
+pub record State : Type 1 where
+  -- what a read gives, where the disk tells it
+  pub files : Files
+  -- the clock
+  pub moment : ℕ
+  -- a crash at this moment may have left these files; none for a disk that tells no images
+  pub image : ℕ → Files → Type 0
+  -- how often a call has failed
+  pub faults : ℕ
+  -- the file has room for so many bytes, and no call fails that stays within; none for a disk that may fail
+  pub room : ℕ → ℕ → Type 0
+
+-- Time goes on, and a call leaves the images of earlier moments and the rooms as they are.
+pub record Passes (old new : State) : Type 0 where
+  pub later : old.moment ≤ new.moment
+  pub keeps : (t : ℕ) (c : Files) → t ≤ old.moment → new.image t c ↔ old.image t c
+  pub room : (f n : ℕ) → old.room f n → new.room f n
+
+-- each image of a moment of the call is an image from before it, after the step
+abbrev pub Follows : (Files → Files → Type 0) → State → State → Type 0
+Follows step old new = (t : ℕ) (c : Files) → old.moment ≤ t → t ≤ new.moment → new.image t c → (d : Files) × old.image old.moment d × step d c
+
+-- each image of a moment of the call was one before it
+abbrev pub KeepsImages : State → State → Type 0
+KeepsImages old new = (t : ℕ) (c : Files) → old.moment ≤ t → t ≤ new.moment → new.image t c → old.image old.moment c
+
+-- within one call no image is new but at its first moment after the entry
+abbrev pub Settles : State → State → Type 0
+Settles old new = (t u : ℕ) (c : Files) → old.moment < t → t ≤ u → u ≤ new.moment → new.image u c → new.image t c
+
+-- every image of now
+abbrev pub EveryImage : State → (Files → Type 0) → Type 0
+EveryImage s P = (c : Files) → s.image s.moment c → P c
+
+-- every image of every moment of a call
+abbrev pub During : State → State → (Files → Type 0) → Type 0
+During old new P = (t : ℕ) (c : Files) → old.moment ≤ t → t ≤ new.moment → new.image t c → P c
+
+-- a fact about the images of one moment, at each moment of a call
+abbrev pub AtEachMoment : State → State → ((Files → Type 0) → Type 0) → Type 0
+AtEachMoment old new Q = (t : ℕ) → old.moment ≤ t → t ≤ new.moment → Q (new.image t)
+
+-- what every image of one moment of a call has, every image of each later moment of the call has too
+abbrev pub Stays : State → State → (Files → Type 0) → Type 0
+Stays old new P = (t u : ℕ) → old.moment ≤ t → t ≤ u → u ≤ new.moment → ((c : Files) → new.image t c → P c) → (c : Files) → new.image u c → P c
+
+-- nothing is pending on any file: a crash now leaves the files as they read
+abbrev pub IsSynced : State → Type 0
+IsSynced s = EveryImage s (λ c. (f : ℕ) → c f ≡ s.files f)
+
+-- the file is fixed, nothing is pending on it: every image has it as it reads
+abbrev pub IsFixed : State → ℕ → Type 0
+IsFixed s file = EveryImage s (λ c. c file ≡ s.files file)
+
+-- these bytes stand at the place
+abbrev pub HasRange : ℕ → ℕ → List ℕ → Files → Type 0
+HasRange file at bytes c = take (length bytes) (drop at (c file)) ≡ bytes
+
+-- the bytes are held: every image of now has them at the place
+abbrev pub IsHeld : State → ℕ → ℕ → List ℕ → Type 0
+IsHeld s file at bytes = EveryImage s (HasRange file at bytes)
+
+-- a call that is within a sure disk's room doesn't fail
+abbrev pub IsSure : {T E : Type 0} → Type 0 → State → State → Result T E → Type 0
+IsSure fits old new result = fits → IsOk result × (new.faults ≡ old.faults)
+
+-- the disk has some room, so it fails only for want of room
+abbrev pub HasRoom : State → Type 0
+HasRoom s = (f : ℕ) × (n : ℕ) × s.room f n
+
+-- Each other file reads as before, and each image of a moment of the call has it as an image from before the call.
+pub record KeepsOthers (tells : Type 0) (file : ℕ) (old new : State) : Type 0 where
+  pub reads : tells → (f : ℕ) → f ≢ file → new.files f ≡ old.files f
+  pub images : (t : ℕ) (c : Files) → old.moment ≤ t → t ≤ new.moment → new.image t c → (d : Files) × old.image old.moment d × ((f : ℕ) → f ≢ file → c f ≡ d f)
+
+-- the same of the files that are to stay, by a test of their own
+pub record KeepsWhere (tells : Type 0) (keep : ℕ → Type 0) (old new : State) : Type 0 where
+  pub reads : tells → (f : ℕ) → keep f → new.files f ≡ old.files f
+  pub images : (t : ℕ) (c : Files) → old.moment ≤ t → t ≤ new.moment → new.image t c → (d : Files) × old.image old.moment d × ((f : ℕ) → keep f → c f ≡ d f)

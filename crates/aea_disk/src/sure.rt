@@ -1,6 +1,6 @@
-ghost use Rattle.std.specs.Prelude.{◌≡◌, ◌↔◌, ◌+◌, ◌-◌, ◌^◌, ◌<◌, ◌≤◌, length, min, vec_len, IfOk, OnOk, OnErr, IsErr};
+ghost use Rattle.std.specs.Prelude.{◌≡◌, ◌↔◌, ◌+◌, ◌-◌, ◌^◌, ◌<◌, ◌≤◌, ℕ, length, take, drop, min, vec_len, IfOk, OnOk, OnErr, IsOk, IsErr, IsOkAnd};
 ghost use Rattle.aea_faults.specs.Faults.{HasCause};
-ghost use Rattle.aea_disk.specs.Files.{ChangesFile, Holds, Torn};
+ghost use Rattle.aea_disk.specs.Files.{ChangesFile, Holds, IsCut};
 ghost use Rattle.aea_disk.specs.Spaces.{files_of, room_of, room_for, sure_state, IsFresh, AreFresh};
 ghost use Rattle.aea_disk.specs.State.{Passes, Follows, Settles};
 
@@ -95,15 +95,34 @@ impl Disk for SureDisk {
 
     ghost smaller_fits = { λ d f m n le has. room_smaller d f m n le has };
 
-    fn len(&mut self, file: u8) -> Result<u64, DiskFault> {
+    fn len(&mut self, file: u8) -> Result<u64, DiskFault>
+        requires { file ≤ 66 }
+        ensures length { IsOkAnd result (λ n. n ≡ length (files_of self.old.spaces file)) }
+        ensures same { self.new ≡ self.old }
+    {
         Ok(self.spaces[file as usize].len() as u64)
     }
 
-    fn read(&mut self, file: u8, at: u64, buf: &mut [u8]) -> Result<usize, DiskFault> {
+    fn read(&mut self, file: u8, at: u64, buf: &mut [u8]) -> Result<usize, DiskFault>
+        requires file { file ≤ 66 }
+        requires range { at + length buf.old ≤ 2 ^ 62 }
+        ensures count { IsOkAnd result (λ k. k ≡ min (length buf.new) (length (files_of self.old.spaces file) - at)) }
+        ensures bytes { IfOk result (λ k. take k buf.new ≡ take k (drop at (files_of self.old.spaces file))) }
+        ensures same { self.new ≡ self.old }
+    {
         Ok(self.spaces[file as usize].read(at as usize, buf))
     }
 
-    fn write(&mut self, file: u8, at: u64, bytes: &[u8]) -> Result<(), DiskFault> {
+    fn write(&mut self, file: u8, at: u64, bytes: &[u8]) -> Result<(), DiskFault>
+        requires file { file ≤ 66 }
+        requires range { at + length bytes.now ≤ 2 ^ 62 }
+        ensures full { IsErr result ↔ (room_of self.old.spaces file < at + length bytes.now) }
+        ensures written { OnOk result (ChangesFile file (Holds at bytes.now) (files_of self.old.spaces) (files_of self.new.spaces)) }
+        ensures refused { OnErr result (self.new ≡ record self.old { faults = min (self.old.faults + 1) (2 ^ 64 - 1) }) }
+        ensures rooms { (f : ℕ) → room_of self.new.spaces f ≡ room_of self.old.spaces f }
+        ensures count { OnOk result (self.new.faults ≡ self.old.faults) }
+        ensures cause { HasCause self.old.faults self.new.faults result }
+    {
         let space = &mut self.spaces[file as usize];
         if at as usize + bytes.len() > space.room() {
             self.faults = risen(self.faults);
@@ -113,12 +132,21 @@ impl Disk for SureDisk {
         Ok(())
     }
 
-    fn cut(&mut self, file: u8, len: u64) -> Result<(), DiskFault> {
+    fn cut(&mut self, file: u8, len: u64) -> Result<(), DiskFault>
+        requires file { file ≤ 66 }
+        requires range { len ≤ 2 ^ 62 }
+        ensures cut { IsOk result × ChangesFile file (IsCut len) (files_of self.old.spaces) (files_of self.new.spaces) }
+        ensures rooms { (f : ℕ) → room_of self.new.spaces f ≡ room_of self.old.spaces f }
+        ensures count { self.new.faults ≡ self.old.faults }
+    {
         self.spaces[file as usize].cut(len as usize);
         Ok(())
     }
 
-    fn sync(&mut self) -> Result<(), DiskFault> {
+    fn sync(&mut self) -> Result<(), DiskFault>
+        ensures ok { IsOk result }
+        ensures same { self.new ≡ self.old }
+    {
         Ok(())
     }
 }

@@ -7,7 +7,7 @@ use Rattle.aea_disk.specs.Space.{Extent, empty_extent}
 use Rattle.aea_disk.specs.Spaces.{room_for, AreFresh}
 
 -- what a list has after one more element
-get_or-push : {X : Type 0} (xs : List X) (x d : X) (f : ℕ) (P : X → Type 0) → (f < length xs → P (get_or xs f d)) → (f ≡ length xs → P x) → (length xs < f → P d) → P (get_or (xs ++ x ∷ []) f d)
+pub get_or-push : {X : Type 0} (xs : List X) (x d : X) (f : ℕ) (P : X → Type 0) → (f < length xs → P (get_or xs f d)) → (f ≡ length xs → P x) → (length xs < f → P d) → P (get_or (xs ++ x ∷ []) f d)
 get_or-push xs x d f P before at past =
     ⊎_elim
     (λ below. subst P (sym (get_or_append_left xs (x ∷ []) d f below)) (before below))

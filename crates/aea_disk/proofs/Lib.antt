@@ -1,4 +1,6 @@
+mod Appends
 mod Fresh
 mod Inner
+mod Losses
 pub mod Moments
 mod Resized

@@ -49,5 +49,5 @@ overwritten-padded old at bytes =
     (cases_lt k at))
 
 -- a vector that was lent as a slice
-pub lent_back : (n : ℕ) (new items : List ℕ) → length new ≡ n → take n (new ++ drop (length new) items) ≡ new
+pub lent_back : {X : Type 0} (n : ℕ) (new items : List X) → length new ≡ n → take n (new ++ drop (length new) items) ≡ new
 lent_back n new items size = take_at new (drop (length new) items) n size

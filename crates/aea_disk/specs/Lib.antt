@@ -1,5 +1,10 @@
+pub mod Events
 pub mod Fail
 pub mod Files
+pub mod Log
+pub mod Logged
+pub mod Loss
+pub mod Replays
 pub mod Space
 pub mod Spaces
 pub mod State

@@ -6,10 +6,13 @@ ghost use Rattle.aea_faults.specs.Faults.{HasCause};
 ghost use Rattle.aea_disk.specs.Files.{Files, ChangesFile, Holds, Torn, IsCut, MayBeCut};
 ghost use Rattle.aea_disk.specs.State.{State, Passes, Follows, KeepsImages, Settles, EveryImage, IsSynced, IsSure, HasRoom};
 mod fail;
+mod mem;
+mod replay;
 mod space;
 mod sure;
 
 pub use fail::FailDisk;
+pub use mem::{Loss, MemDisk};
 pub use sure::SureDisk;
 
 /// A call of a disk failed. The disk has counted it.

@@ -5,6 +5,7 @@ pub mod Log
 pub mod Logged
 pub mod Loss
 pub mod Replays
+pub mod Silent
 pub mod Space
 pub mod Spaces
 pub mod State

@@ -59,9 +59,10 @@ log_state d = record {
 pub log_as_it_reads : (d : Log) (t : ℕ) (c : Files) → (log_state d).image t c → (log_state d).image (log_state d).moment (log_state d).files
 log_as_it_reads d t c here = (le_refl (length d.calls), reads_image (events_of d.calls d.bytes) (length d.calls))
 
--- no call yet, files without bytes
+-- no call yet, so files without bytes
 pub record IsFreshLog (sites ledger site calls bytes : ℕ) (d : Log) : Type 0 where
   pub none : d.calls ≡ []
+  pub no_bytes : d.bytes ≡ []
   pub rooms : (f : ℕ) → f < 67 → room_of d.spaces f ≡ room_for sites ledger site f
   pub calls_room : d.calls_room ≡ calls
   pub bytes_room : d.bytes_room ≡ bytes

@@ -5,12 +5,15 @@ ghost use Rattle.std.specs.Prelude.{◌≡◌, ◌+◌, ◌-◌, ◌^◌, ◌≤
 ghost use Rattle.aea_faults.specs.Faults.{HasCause};
 ghost use Rattle.aea_disk.specs.Files.{Files, ChangesFile, Holds, Torn, IsCut, MayBeCut};
 ghost use Rattle.aea_disk.specs.State.{State, Passes, Follows, KeepsImages, Settles, EveryImage, IsSynced, IsSure, HasRoom};
+mod dir;
 mod fail;
+mod folder;
 mod mem;
 mod replay;
 mod space;
 mod sure;
 
+pub use dir::DirDisk;
 pub use fail::FailDisk;
 pub use mem::{Loss, MemDisk};
 pub use sure::SureDisk;

@@ -70,7 +70,8 @@ impl MemDisk {
         log_calls: usize,
         log_bytes: usize,
     ) -> Result<MemDisk, AllocError>
-        ensures { IfOk result (IsFreshLog sites ledger_room site_room log_calls log_bytes) }
+        ensures fresh { IfOk result (IsFreshLog sites ledger_room site_room log_calls log_bytes) }
+        ensures synced { IfOk result (λ d. IsSynced (log_state d)) }
     {
         Ok(MemDisk {
             spaces: fresh_spaces(alloc, sites, ledger_room, site_room)?,

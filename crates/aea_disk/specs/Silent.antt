@@ -1,0 +1,6 @@
+-- A disk that tells nothing but its count of faults.
+use Rattle.std.specs.Prelude.{ℕ, []}
+use Rattle.aea_disk.specs.State.{State}
+
+abbrev pub silent_state : ℕ → State
+silent_state faults = record { files = λ f. []; moment = 0; image = λ t c. ⊥; faults = faults; room = λ f n. ⊥ }

@@ -1,5 +1,6 @@
 mod Appends
 mod Fresh
+mod Gates
 mod Inner
 mod Losses
 pub mod Moments

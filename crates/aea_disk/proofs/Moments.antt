@@ -175,6 +175,10 @@ where_others tells keep file old new apart others = record {
   images = λ t c from to here. let was = others.images t c from to here in (was.0, was.1, λ f kept. was.2 f (apart f kept));
 }
 
+-- a fact that means the same
+pub stays_same : (old new : State) (P Q : Files → Type 0) → ((c : Files) → P c → Q c) → ((c : Files) → Q c → P c) → Stays old new P → Stays old new Q
+stays_same old new P Q there back stays t u from later to every c here = there c (stays t u from later to (λ d was. back d (every d was)) c here)
+
 -- a fact that every image has at each moment stays
 pub stays_during : (old new : State) (P : Files → Type 0) → During old new P → Stays old new P
 stays_during old new P during t u from later to every c here = during u c (omega arith) to here

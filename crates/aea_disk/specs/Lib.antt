@@ -1,6 +1,7 @@
 pub mod Events
 pub mod Fail
 pub mod Files
+pub mod Gate
 pub mod Log
 pub mod Logged
 pub mod Loss

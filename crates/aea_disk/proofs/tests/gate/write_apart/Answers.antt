@@ -1,0 +1,43 @@
+use Rattle.std.proofs.Common.{ℕ, List, ◌+◌, ◌≤◌, ◌⊎◌, ◌≡◌, length, take, drop, subst, sym, ap, ◌∙◌}
+use Rattle.std.proofs.lemmas.Result.{on_ok_weaker}
+use Rattle.aea_disk.specs.Files.{ChangesFile, Torn, overwritten}
+use Rattle.aea_disk.specs.Steps.{range-overwritten}
+use Rattle.aea_disk.specs.State.{HasRange}
+use Rattle.aea_disk.proofs.Moments.{during_none, during_kept, during_both, during_end, held_change, passes_none, others_change, others_kept, others_both}
+use Rattle.aea_disk.proofs.tests.gate.write_apart.Goals as goal
+
+pub returns-in_err-write-clause-held : goal.returns-in_err-write-clause-held
+returns-in_err-write-clause-held g c a kept apart held =
+    let first = g.D.Disk.state c.args.disk.now in
+    let second = g.D.Disk.state c.write.new.self in
+    held_change c.args.file c.args.at (length c.args.bytes.now) first first second c.args.file a kept (λ same. apart) (passes_none first) c.write.ensures.time c.write.ensures.crash
+    (during_none first (HasRange c.args.file a kept) held)
+
+pub returns-clause-held : goal.returns-clause-held
+returns-clause-held g c a kept apart held =
+    let first = g.D.Disk.state c.args.disk.now in
+    let second = g.D.Disk.state c.write.new.self in
+    let third = g.D.Disk.state c.sync.new.self in
+    let P = HasRange c.args.file a kept in
+    let written = held_change c.args.file c.args.at (length c.args.bytes.now) first first second c.args.file a kept (λ same. apart) (passes_none first) c.write.ensures.time c.write.ensures.crash (during_none first P held) in
+    during_both first second third P c.write.ensures.time c.sync.ensures.time written (during_kept second third P c.sync.ensures.crash (during_end first second P c.write.ensures.time.later written))
+
+pub returns-clause-durable : goal.returns-clause-durable
+returns-clause-durable g c =
+    let first = g.D.Disk.state c.args.disk.now in
+    let bytes = c.args.bytes.now in
+    let file = c.args.file in
+    on_ok_weaker c.sync.result
+    (λ durable told d here.
+    let reads : d file ≡ overwritten (first.files file) c.args.at bytes = durable told d here file ∙ ap (λ (e : ℕ → List ℕ). e file) (c.sync.ensures.contents told) ∙ (c.in_ok-write.ensures.written told).here in
+    ap (λ (l : List ℕ). take (length bytes) (drop c.args.at l)) reads ∙ range-overwritten (first.files file) c.args.at bytes)
+    c.sync.ensures.durable
+
+pub returns-clause-others : goal.returns-clause-others
+returns-clause-others g c =
+    let first = g.D.Disk.state c.args.disk.now in
+    let second = g.D.Disk.state c.write.new.self in
+    let third = g.D.Disk.state c.sync.new.self in
+    others_both g.D.Disk.tells c.args.file first second third c.write.ensures.time c.sync.ensures.time
+    (others_change g.D.Disk.tells c.args.file (Torn c.args.at (length c.args.bytes.now)) first second c.write.ensures.crash (λ told. (c.in_ok-write.ensures.written told).others))
+    (others_kept g.D.Disk.tells c.args.file second third c.sync.ensures.crash c.sync.ensures.contents)

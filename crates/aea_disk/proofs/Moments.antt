@@ -52,6 +52,11 @@ during_more old new P Q more during t c from to here = more c (during t c from t
 pub during_end : (old new : State) (P : Files → Type 0) → old.moment ≤ new.moment → During old new P → EveryImage new P
 during_end old new P later during c here = during new.moment c later (omega arith) here
 
+-- a run, and a call that keeps the images
+pub during_then_kept : (old mid new : State) (P : Files → Type 0) → Passes old mid → Passes mid new → KeepsImages mid new → During old mid P → During old new P
+during_then_kept old mid new P first second keeps early =
+    during_both old mid new P first second early (during_kept mid new P keeps (during_end old mid P first.later early))
+
 -- of the images at the start
 pub during_start : (old new : State) (P : Files → Type 0) → Passes old new → During old new P → EveryImage old P
 during_start old new P passes during c here = during old.moment c (omega arith) passes.later ((passes.keeps old.moment c (omega arith)).1 here)
@@ -97,6 +102,11 @@ others_both tells file old mid new first second early late = record {
       (two.0, two.1, λ f other. one.2 f other ∙ two.2 f other))
       (cases_lt t mid.moment);
 }
+
+-- a run, and a call that keeps the images
+pub others_then_kept : (tells : Type 0) (file : ℕ) (old mid new : State) → Passes old mid → Passes mid new → KeepsImages mid new → (tells → new.files ≡ mid.files) → KeepsOthers tells file old mid → KeepsOthers tells file old new
+others_then_kept tells file old mid new first second keeps same early =
+    others_both tells file old mid new first second early (others_kept tells file mid new keeps same)
 
 -- a file that the calls don't touch is as it was in every image of every moment
 pub during_others : (tells : Type 0) (file : ℕ) (old new : State) (other : ℕ) → other ≢ file → KeepsOthers tells file old new → IsFixed old other → During old new (λ c. c other ≡ old.files other)

@@ -2,7 +2,7 @@
 use Rattle.std.proofs.Common.{◌≡◌, ◌≢◌, ◌⊎◌, inl, inr, ⊎_elim, ℕ, ◌+◌, ◌-◌, ◌<◌, ◌≤◌, List, ◌++◌, length, take, drop, replicate, get_or, max, refl, sym, ◌∙◌, ap, subst, arith, length-append, length-drop, append_assoc}
 use Rattle.std.proofs.lemmas.List.{length-take, get_or-take, get_or-drop, get_or-replicate, length-replicate, get_or_append_left, get_or-append_right, get_or_past, ext_get_or, take_at}
 use Rattle.std.proofs.lemmas.Grind.{common_steps}
-use Rattle.aea_disk.specs.Files.{Files, ChangesFile, overwritten, Torn, Holds}
+use Rattle.aea_disk.specs.Files.{Files, ChangesFile, overwritten, Torn, Holds, MayBeCut}
 
 -- a file that stays went through any step that may leave it
 pub changes_none : (file : ℕ) (step : List ℕ → List ℕ → Type 0) (c : Files) → step (c file) (c file) → ChangesFile file step c c
@@ -90,3 +90,20 @@ torn_range at n old new a kept apart torn has =
         ∙ sym (get_or-drop a old k 0) ∙ sym (get_or-take (length kept) (drop a old) k 0 near) ∙ was))
     (λ after. ap (take (length kept)) (torn_back at n old new a after torn) ∙ has)
     apart
+
+-- a range that a cut doesn't reach
+pub cut_range : (len : ℕ) (old new : List ℕ) (a : ℕ) (kept : List ℕ) → a + length kept ≤ len → MayBeCut len old new → take (length kept) (drop a old) ≡ kept → take (length kept) (drop a new) ≡ kept
+cut_range len old new a kept below step has =
+    ⊎_elim
+    (λ same. subst (λ (l : List ℕ). take (length kept) (drop a l) ≡ kept) (sym same) has)
+    (λ gone.
+    subst (λ (l : List ℕ). take (length kept) (drop a l) ≡ kept) (sym gone)
+    (ext_get_or 0 _ _
+    (let size : length (take (length kept) (drop a old)) ≡ length kept = ap length has in
+    omega (arith, size, length-take (length kept) (drop a (take len old)), length-drop a (take len old), length-take len old, length-take (length kept) (drop a old), length-drop a old))
+    (λ k within.
+    let near : k < length kept = omega (arith, length-take (length kept) (drop a (take len old)), within) in
+    let was : get_or (take (length kept) (drop a old)) k 0 ≡ get_or kept k 0 = ap (λ (l : List ℕ). get_or l k 0) has in
+    get_or-take (length kept) (drop a (take len old)) k 0 near ∙ get_or-drop a (take len old) k 0 ∙ get_or-take len old (a + k) 0 (omega (arith, near, below))
+    ∙ sym (get_or-drop a old k 0) ∙ sym (get_or-take (length kept) (drop a old) k 0 near) ∙ was)))
+    step

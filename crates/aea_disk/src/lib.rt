@@ -1,10 +1,32 @@
-//! The disk.
+//! The disk: 67 files, what a crash may leave of them, and who keeps them.
+//!
+//! A function over any disk gets its clauses from those of its calls by these lemmas of
+//! `Rattle.aea_disk.proofs.Moments`. Each takes the states before, between and after the calls.
+//!
+//! - time: `passes_none`, `passes_both`
+//! - a fact about every image: `during_none` before the first call; `during_step`, `during_change`, `during_kept`
+//!   for one call; `during_both` for two runs, `during_then_kept` where the second keeps the images;
+//!   `during_more` for a weaker fact; `during_start`, `during_end` for the images of the first and the last moment
+//! - what stays once every image has it: `stays_none`, `stays_step`, `stays_kept`, `stays_both`, `stays_same`,
+//!   `stays_during`
+//! - nothing pending: `synced_fixed` after a sync, `fixed_others` on a file that the calls do not touch
+//! - the other files: `others_none`, `others_change`, `others_kept`, `others_both`, `others_then_kept`, and what
+//!   follows of one by `during_others` and `held_by_others`
+//! - several files: `where_none`, `where_change`, `where_kept`, `where_both`, `where_others`
+//! - a range that is held: `range_kept` for one change of a file, `held_change` over one more call
+//! - a call that takes no time: `no_time`
+//!
+//! What a write or a cut does to the bytes of a file follows by the lemmas of `Rattle.aea_disk.specs.Steps`:
+//! `length-overwritten`, `get_or-overwritten_before`, `_gap`, `_at`, `_after` and `range-overwritten` of a write that
+//! was made; `torn_front`, `torn_back`, `torn_range` and `holds_torn` of one that may be torn; `cut_range` of a cut;
+//! `torn_none`, `changes_none` and `changes_wider` of any step.
 #![tactic(auto)]
 
 ghost use Rattle.std.specs.Prelude.{◌≡◌, ◌+◌, ◌-◌, ◌^◌, ◌≤◌, ℕ, length, take, drop, min, IfOk, OnOk, OnErr};
 ghost use Rattle.aea_faults.specs.Faults.{HasCause};
 ghost use Rattle.aea_disk.specs.Files.{Files, ChangesFile, Holds, Torn, IsCut, MayBeCut};
 ghost use Rattle.aea_disk.specs.State.{State, Passes, Follows, KeepsImages, Settles, EveryImage, IsSynced, IsSure, HasRoom};
+
 mod dir;
 mod fail;
 mod folder;
@@ -22,9 +44,9 @@ pub use sure::SureDisk;
 #[derive(Clone, Copy, Debug, PartialEq, Eq)]
 pub struct DiskFault;
 
-/// Files numbered 0 to 66: the ledger, 64 sites and two more.
+/// Files numbered 0 to 66: the ledger, 64 sites and two more ledgers. Places and lengths are in bytes.
 pub trait Disk {
-    /// What the disk means.
+    /// The files as they read, the clock, the images of each moment, the count of faults, and the rooms.
     ghost state: { Self → State };
 
     /// The disk tells the contents of its files.

@@ -1,7 +1,7 @@
 use Rattle.std.proofs.Common.{ℕ, List, [], ◌∷◌, ◌≡◌, length, subst, sym, ap, ◌∙◌}
 use Rattle.std.proofs.lemmas.Result.{on_ok_weaker}
 use Rattle.aea_disk.specs.Files.{Files, ChangesFile, Torn}
-use Rattle.aea_disk.proofs.Moments.{during_change, during_kept, during_both, during_end, stays_step, stays_kept, stays_both, others_change, others_kept, others_both, synced_fixed}
+use Rattle.aea_disk.proofs.Moments.{during_change, during_then_kept, stays_step, stays_kept, stays_both, others_change, others_then_kept, synced_fixed}
 use Rattle.aea_disk.specs.Gate.{HasOldOrNew, HasNew}
 use Rattle.aea_disk.proofs.Gates.{torn_gate, old_same, not_new}
 use Rattle.aea_disk.proofs.tests.gate.open_gate.Goals as goal
@@ -27,7 +27,7 @@ returns-clause-any_moment g c told =
     let P : Files → Type 0 = λ d. HasOldOrNew c.args.gate body (first.files 0) (d 0) in
     let written = during_change 0 (Torn c.args.gate 1) first second (HasOldOrNew c.args.gate body (first.files 0)) c.write.ensures.crash (c.requires.fixed told)
         (λ xs torn. torn_gate c.args.gate body (first.files 0) xs (c.requires.closed told) (c.requires.staged told) torn) in
-    during_both first second third P c.write.ensures.time c.sync.ensures.time written (during_kept second third P c.sync.ensures.crash (during_end first second P c.write.ensures.time.later written))
+    during_then_kept first second third P c.write.ensures.time c.sync.ensures.time c.sync.ensures.crash written
 
 pub returns-clause-stays : goal.returns-clause-stays
 returns-clause-stays g c told =
@@ -51,9 +51,8 @@ returns-clause-others g c =
     let first = g.D.Disk.state c.args.disk.now in
     let second = g.D.Disk.state c.write.new.self in
     let third = g.D.Disk.state c.sync.new.self in
-    others_both g.D.Disk.tells 0 first second third c.write.ensures.time c.sync.ensures.time
+    others_then_kept g.D.Disk.tells 0 first second third c.write.ensures.time c.sync.ensures.time c.sync.ensures.crash c.sync.ensures.contents
     (others_change g.D.Disk.tells 0 (Torn c.args.gate 1) first second c.write.ensures.crash (λ told. (c.in_ok-write.ensures.written told).others))
-    (others_kept g.D.Disk.tells 0 second third c.sync.ensures.crash c.sync.ensures.contents)
 
 pub returns-in_err-write-clause-stays : goal.returns-in_err-write-clause-stays
 returns-in_err-write-clause-stays g c told =

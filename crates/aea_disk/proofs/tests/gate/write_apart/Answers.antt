@@ -3,7 +3,7 @@ use Rattle.std.proofs.lemmas.Result.{on_ok_weaker}
 use Rattle.aea_disk.specs.Files.{ChangesFile, Torn, overwritten}
 use Rattle.aea_disk.specs.Steps.{range-overwritten}
 use Rattle.aea_disk.specs.State.{HasRange}
-use Rattle.aea_disk.proofs.Moments.{during_none, during_kept, during_both, during_end, held_change, passes_none, others_change, others_kept, others_both}
+use Rattle.aea_disk.proofs.Moments.{during_none, during_then_kept, held_change, passes_none, others_change, others_then_kept}
 use Rattle.aea_disk.proofs.tests.gate.write_apart.Goals as goal
 
 pub returns-in_err-write-clause-held : goal.returns-in_err-write-clause-held
@@ -20,7 +20,7 @@ returns-clause-held g c a kept apart held =
     let third = g.D.Disk.state c.sync.new.self in
     let P = HasRange c.args.file a kept in
     let written = held_change c.args.file c.args.at (length c.args.bytes.now) first first second c.args.file a kept (λ same. apart) (passes_none first) c.write.ensures.time c.write.ensures.crash (during_none first P held) in
-    during_both first second third P c.write.ensures.time c.sync.ensures.time written (during_kept second third P c.sync.ensures.crash (during_end first second P c.write.ensures.time.later written))
+    during_then_kept first second third P c.write.ensures.time c.sync.ensures.time c.sync.ensures.crash written
 
 pub returns-clause-durable : goal.returns-clause-durable
 returns-clause-durable g c =
@@ -38,6 +38,5 @@ returns-clause-others g c =
     let first = g.D.Disk.state c.args.disk.now in
     let second = g.D.Disk.state c.write.new.self in
     let third = g.D.Disk.state c.sync.new.self in
-    others_both g.D.Disk.tells c.args.file first second third c.write.ensures.time c.sync.ensures.time
+    others_then_kept g.D.Disk.tells c.args.file first second third c.write.ensures.time c.sync.ensures.time c.sync.ensures.crash c.sync.ensures.contents
     (others_change g.D.Disk.tells c.args.file (Torn c.args.at (length c.args.bytes.now)) first second c.write.ensures.crash (λ told. (c.in_ok-write.ensures.written told).others))
-    (others_kept g.D.Disk.tells c.args.file second third c.sync.ensures.crash c.sync.ensures.contents)

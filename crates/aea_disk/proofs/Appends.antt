@@ -1,5 +1,5 @@
 -- What one more call in the list of a disk in memory means.
-use Rattle.std.proofs.Common.{◌≡◌, ◌⊎◌, ◌↔◌, inl, inr, ⊎_elim, ℕ, zero, suc, ◌+◌, ◌<◌, ◌≤◌, List, [], ◌∷◌, ◌++◌, length, take, drop, get_or, refl, sym, ◌∙◌, ap, subst, arith, add-one, append-nil, le_refl, length-append, length-drop, get_or-set_same, get_or-set_other}
+use Rattle.std.proofs.Common.{◌≡◌, ⊎_elim, ℕ, suc, ◌<◌, ◌≤◌, List, [], ◌∷◌, ◌++◌, length, take, drop, get_or, refl, sym, ◌∙◌, ap, subst, arith, add-one, append-nil, le_refl, length-append, length-drop, get_or-set_same, get_or-set_other}
 use Rattle.std.specs.Prelude.{◌==◌, if◌then◌else◌, true, false}
 use Rattle.std.proofs.Math.ListN.{set}
 use Rattle.std.proofs.lemmas.Bool.{cases_eq, cases_lt}
@@ -10,8 +10,8 @@ use Rattle.std.proofs.lemmas.List.{get_or_default}
 use Rattle.aea_disk.specs.Files.{Files, overwritten}
 use Rattle.aea_disk.specs.Space.{Extent, empty_extent}
 use Rattle.aea_disk.specs.Spaces.{files_of, room_of}
-use Rattle.aea_disk.specs.State.{State, Passes, Settles}
-use Rattle.aea_disk.specs.Events.{Event, Looked, Wrote, Shortened, Synced, after, reads_at, next_images, image_at}
+use Rattle.aea_disk.specs.State.{Passes, Settles}
+use Rattle.aea_disk.specs.Events.{Event, Wrote, Shortened, after, reads_at, next_images, image_at}
 use Rattle.aea_disk.specs.Replays.{same_reads, same_images}
 use Rattle.aea_disk.specs.Log.{Log}
 use Rattle.aea_disk.specs.Logged.{event_of, events_of, end_of, file_of, end_in_file, IsLogged, IsQuiet, Lists, log_state}
@@ -183,13 +183,13 @@ quiet_images bytes Sync reads before c quiet as_reads here = let same : c ≡ re
 pub quiet_logged : (spaces : List Extent) (calls : List Call) (call : Call) (bytes : List ℕ) → IsQuiet call → IsLogged spaces calls bytes → IsLogged spaces (calls ++ call ∷ []) bytes
 quiet_logged spaces calls call bytes quiet logged =
     let small : (x : Call) → IsQuiet x → (end_of x ≡ 0) × (file_of x ≡ 0) × (end_in_file x ≡ 0) =
-        elim [
-          | Len ↦ λ q. (refl, refl, refl)
-          | Read ↦ λ q. (refl, refl, refl)
-          | Write file at from n ↦ λ q. absurd q
-          | Cut file len ↦ λ q. absurd q
-          | Sync ↦ λ q. (refl, refl, refl)
-        ] in
+    elim [
+      | Len ↦ λ q. (refl, refl, refl)
+      | Read ↦ λ q. (refl, refl, refl)
+      | Write file at from n ↦ λ q. absurd q
+      | Cut file len ↦ λ q. absurd q
+      | Sync ↦ λ q. (refl, refl, refl)
+    ] in
     let size = small call quiet in
     subst (λ (l : List ℕ). IsLogged spaces (calls ++ call ∷ []) l) (append-nil bytes)
     (logged_push spaces spaces calls call bytes [] logged (λ f. ap (λ (d : Files). d f) (sym (quiet_after (bytes ++ []) call (files_of spaces) quiet))) (λ f. refl)

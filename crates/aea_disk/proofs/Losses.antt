@@ -1,14 +1,13 @@
 -- What a crash leaves by a loss is among what it may leave.
-use Rattle.std.proofs.Common.{◌≡◌, ◌≢◌, ◌⊎◌, inl, inr, ⊎_elim, ℕ, zero, suc, ◌+◌, ◌-◌, ◌<◌, ◌≤◌, List, [], length, take, replicate, min, refl, subst, arith}
-use Rattle.std.specs.Prelude.{◌==◌, if◌then◌else◌, true, false}
-use Rattle.std.proofs.lemmas.Bool.{cases_lt}
+use Rattle.std.proofs.Common.{◌≡◌, inl, inr, ⊎_elim, ℕ, zero, suc, ◌+◌, ◌-◌, List, length, replicate, min, refl, arith}
+use Rattle.std.specs.Prelude.{◌==◌, if◌then◌else◌, true}
 use Rattle.std.proofs.lemmas.Bool.Decides.{nat_tests}
 use Rattle.std.proofs.lemmas.List.{length-replicate}
-use Rattle.aea_disk.specs.Files.{Files, ChangesFile, overwritten, Torn, MayBeCut}
+use Rattle.aea_disk.specs.Files.{Files, ChangesFile, Torn, MayBeCut}
 use Rattle.aea_disk.specs.Space.{filled}
-use Rattle.aea_disk.specs.Events.{Event, Looked, Wrote, Shortened, Synced, after, reads_at, next_images, image_at}
+use Rattle.aea_disk.specs.Events.{Event, Looked, Wrote, Shortened, Synced, reads_at, next_images, image_at}
 use Rattle.aea_disk.specs.Steps.{overwritten_torn, torn_none}
-use Rattle.aea_disk.specs.Loss.{lost_bytes, lost_cut, pending, lost, lost_at}
+use Rattle.aea_disk.specs.Loss.{lost_bytes, lost_cut, lost, lost_at}
 use Rattle.aea_disk.specs.declared.mem.Loss.{Loss}
 use Rattle.aea_disk.specs.declared.mem.Loss.TheVariants.{Kept, Dropped, Ones, Zeros}
 

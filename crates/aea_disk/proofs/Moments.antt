@@ -1,9 +1,9 @@
 -- How what a crash may leave goes on from call to call: the lemmas by which a client composes its calls.
-use Rattle.std.proofs.Common.{◌≡◌, ◌≢◌, ◌⊎◌, ◌↔◌, inl, inr, ⊎_elim, ℕ, ◌+◌, ◌<◌, ◌≤◌, List, length, take, drop, refl, sym, ◌∙◌, ap, subst, arith}
+use Rattle.std.proofs.Common.{◌≡◌, ◌≢◌, ◌⊎◌, ⊎_elim, ℕ, ◌+◌, ◌≤◌, List, length, take, drop, refl, sym, ◌∙◌, ap, subst, arith}
 use Rattle.std.proofs.lemmas.Bool.{cases_eq, cases_lt}
 use Rattle.aea_disk.specs.Files.{Files, ChangesFile, Torn}
 use Rattle.aea_disk.specs.Steps.{torn_range}
-use Rattle.aea_disk.specs.State.{State, Passes, Follows, KeepsImages, Settles, EveryImage, During, AtEachMoment, Stays, IsSynced, IsFixed, KeepsOthers, KeepsWhere, HasRange}
+use Rattle.aea_disk.specs.State.{State, Passes, Follows, KeepsImages, Settles, EveryImage, During, Stays, IsSynced, IsFixed, KeepsOthers, KeepsWhere, HasRange}
 
 -- a call that adds no moment and no image takes any step that may leave the files
 pub no_time : (step : Files → Files → Type 0) (old new : State) → new.moment ≤ old.moment → ((t : ℕ) (c : Files) → new.image t c → old.image t c) → ((c : Files) → step c c) → Follows step old new
@@ -227,9 +227,9 @@ stays_both old mid new P first second early late t u from later to every c here 
     ⊎_elim
     (λ both. early t u from later (omega arith) (λ d was. every d ((keeps t d (omega arith)).1 was)) c ((keeps u c (omega arith)).0 here))
     (λ past. ⊎_elim
-        (λ between.
-        let at_middle = early t mid.moment from (omega arith) (omega arith) (λ d was. every d ((keeps t d (omega arith)).1 was)) in
-        late mid.moment u (omega arith) (omega arith) to (λ d was. at_middle d ((keeps mid.moment d (omega arith)).0 was)) c here)
-        (λ after. late t u (omega arith) later to every c here)
-        (cases_lt t mid.moment))
+    (λ between.
+    let at_middle = early t mid.moment from (omega arith) (omega arith) (λ d was. every d ((keeps t d (omega arith)).1 was)) in
+    late mid.moment u (omega arith) (omega arith) to (λ d was. at_middle d ((keeps mid.moment d (omega arith)).0 was)) c here)
+    (λ after. late t u (omega arith) later to every c here)
+    (cases_lt t mid.moment))
     (cases_lt u mid.moment)

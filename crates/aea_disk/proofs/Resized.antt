@@ -33,9 +33,9 @@ overwritten-padded old at bytes =
     (λ before.
     get_or-overwritten_before (padded old grown) at bytes k before (omega (arith, size)) ∙ same k
     ∙ ⊎_elim
-      (λ within. sym (get_or-overwritten_before old at bytes k before within))
-      (λ past. get_or_past old k 0 past ∙ sym (get_or-overwritten_gap old at bytes k before past))
-      (cases_lt k (length old)))
+    (λ within. sym (get_or-overwritten_before old at bytes k before within))
+    (λ past. get_or_past old k 0 past ∙ sym (get_or-overwritten_gap old at bytes k before past))
+    (cases_lt k (length old)))
     (λ from.
     ⊎_elim
     (λ inside.

@@ -1,5 +1,5 @@
 -- A disk in memory: its files' bytes and rooms, in the order of their numbers, and its count of faults.
-use Rattle.std.specs.Prelude.{◌≡◌, ℕ, ◌≤◌, ◌<◌, ◌∷◌, List, [], length, slice_index_or, if◌then◌else◌, ◌==◌, nat_le, ◌||◌, ◌&&◌}
+use Rattle.std.specs.Prelude.{◌≡◌, ℕ, ◌≤◌, ◌<◌, List, [], length, slice_index_or, if◌then◌else◌, ◌==◌, nat_le, ◌||◌, ◌&&◌}
 use Rattle.std.proofs.Common.{le_trans}
 use Rattle.aea_disk.specs.Files.{Files}
 use Rattle.aea_disk.specs.Space.{Extent, empty_extent}

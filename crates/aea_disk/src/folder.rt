@@ -1,13 +1,10 @@
 ghost use Rattle.std.specs.Prelude.{◌+◌, ◌<◌, ◌≤◌, ◌^◌, length, IfOk};
 
-use std::array;
-use std::fs;
 use std::fs::{File, OpenOptions};
-use std::io;
 use std::io::ErrorKind;
 use std::os::unix::fs::FileExt;
 use std::rt::Files;
-use std::str;
+use std::{array, fs, io, str};
 
 // What is known of a file.
 #[derive(Drop)]

@@ -1,9 +1,8 @@
 ghost use Rattle.std.specs.Prelude.{◌≤◌};
 
 use crate::{DirDisk, Disk, DiskFault};
-use std::process;
 use std::test::Fail;
-use std::{env, fs};
+use std::{env, fs, process};
 
 // The file has these bytes and no more.
 fn has_bytes<D: Disk>(disk: &mut D, file: u8, want: &[u8]) -> Result<bool, DiskFault>

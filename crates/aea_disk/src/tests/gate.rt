@@ -82,7 +82,12 @@ pub(super) fn commit<D: Disk>(disk: &mut D, gate: u64, body: &[u8]) -> Result<()
 }
 
 // Writes a range of a file. What every crash leaves of another range stays so at each moment of the call.
-pub(super) fn write_apart<D: Disk>(disk: &mut D, file: u8, at: u64, bytes: &[u8]) -> Result<(), DiskFault>
+pub(super) fn write_apart<D: Disk>(
+    disk: &mut D,
+    file: u8,
+    at: u64,
+    bytes: &[u8],
+) -> Result<(), DiskFault>
     requires file { file ≤ 66 }
     requires range { at + length bytes.now ≤ 2 ^ 62 }
 

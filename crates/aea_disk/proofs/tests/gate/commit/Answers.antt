@@ -1,4 +1,4 @@
-use Rattle.std.proofs.Common.{ℕ, List, Result, Ok, Err, sym, subst}
+use Rattle.std.proofs.Common.{Result, Ok, Err, sym, subst}
 use Rattle.std.specs.Prelude.{OnOk}
 use Rattle.aea_disk.specs.Files.{Files}
 use Rattle.aea_disk.proofs.Moments.{others_both, stays_both, stays_same}

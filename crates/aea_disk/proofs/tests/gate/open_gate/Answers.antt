@@ -1,4 +1,3 @@
-use Rattle.std.proofs.Common.{ℕ, List, [], ◌∷◌, ◌≡◌, length, subst, sym, ap, ◌∙◌}
 use Rattle.std.proofs.lemmas.Result.{on_ok_weaker}
 use Rattle.aea_disk.specs.Files.{Files, ChangesFile, Torn}
 use Rattle.aea_disk.proofs.Moments.{during_change, during_then_kept, stays_step, stays_kept, stays_both, others_change, others_then_kept, synced_fixed}
@@ -26,7 +25,7 @@ returns-clause-any_moment g c told =
     let body = c.args.body.now in
     let P : Files → Type 0 = λ d. HasOldOrNew c.args.gate body (first.files 0) (d 0) in
     let written = during_change 0 (Torn c.args.gate 1) first second (HasOldOrNew c.args.gate body (first.files 0)) c.write.ensures.crash (c.requires.fixed told)
-        (λ xs torn. torn_gate c.args.gate body (first.files 0) xs (c.requires.closed told) (c.requires.staged told) torn) in
+    (λ xs torn. torn_gate c.args.gate body (first.files 0) xs (c.requires.closed told) (c.requires.staged told) torn) in
     during_then_kept first second third P c.write.ensures.time c.sync.ensures.time c.sync.ensures.crash written
 
 pub returns-clause-stays : goal.returns-clause-stays

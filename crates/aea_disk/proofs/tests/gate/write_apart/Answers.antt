@@ -1,6 +1,6 @@
-use Rattle.std.proofs.Common.{ℕ, List, ◌+◌, ◌≤◌, ◌⊎◌, ◌≡◌, length, take, drop, subst, sym, ap, ◌∙◌}
+use Rattle.std.proofs.Common.{ℕ, List, ◌≡◌, length, take, drop, ap, ◌∙◌}
 use Rattle.std.proofs.lemmas.Result.{on_ok_weaker}
-use Rattle.aea_disk.specs.Files.{ChangesFile, Torn, overwritten}
+use Rattle.aea_disk.specs.Files.{Torn, overwritten}
 use Rattle.aea_disk.specs.Steps.{range-overwritten}
 use Rattle.aea_disk.specs.State.{HasRange}
 use Rattle.aea_disk.proofs.Moments.{during_none, during_then_kept, held_change, passes_none, others_change, others_then_kept}

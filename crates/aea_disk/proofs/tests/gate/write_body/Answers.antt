@@ -1,4 +1,4 @@
-use Rattle.std.proofs.Common.{ℕ, List, ◌+◌, length}
+use Rattle.std.proofs.Common.{◌+◌, length}
 use Rattle.std.proofs.lemmas.Result.{on_ok_weaker}
 use Rattle.aea_disk.specs.Files.{Files, ChangesFile, Torn}
 use Rattle.aea_disk.proofs.Moments.{during_change, during_then_kept, stays_step, stays_kept, stays_both, others_change, others_then_kept, synced_fixed}
@@ -25,7 +25,7 @@ returns-clause-any_moment g c told =
     let third = g.D.Disk.state c.sync.new.self in
     let n = length c.args.body.now in
     let written = during_change 0 (Torn (c.args.gate + 1) n) first second (HasOld c.args.gate (first.files 0)) c.write.ensures.crash (c.requires.fixed told)
-        (λ xs torn. torn_body c.args.gate n (first.files 0) xs (c.requires.closed told) torn) in
+    (λ xs torn. torn_body c.args.gate n (first.files 0) xs (c.requires.closed told) torn) in
     during_then_kept first second third (λ d. HasOld c.args.gate (first.files 0) (d 0)) c.write.ensures.time c.sync.ensures.time c.sync.ensures.crash written
 
 pub returns-clause-fixed : goal.returns-clause-fixed

@@ -3,7 +3,7 @@ use Rattle.std.proofs.Common.{◌≡◌, ◌≢◌, ◌⊎◌, ⊎_elim, ℕ, �
 use Rattle.std.proofs.lemmas.Bool.{cases_eq, cases_lt}
 use Rattle.aea_disk.specs.Files.{Files, ChangesFile, Torn}
 use Rattle.aea_disk.specs.Steps.{torn_range}
-use Rattle.aea_disk.specs.State.{State, Passes, Follows, KeepsImages, Settles, EveryImage, During, Stays, IsSynced, IsFixed, KeepsOthers, KeepsWhere, HasRange}
+use Rattle.aea_disk.specs.State.{State, Passes, Follows, KeepsImages, Settles, EveryImage, During, Stays, SomeGivesEvery, IsSynced, IsFixed, KeepsOthers, KeepsWhere, HasRange}
 
 -- a call that adds no moment and no image takes any step that may leave the files
 pub no_time : (step : Files → Files → Type 0) (old new : State) → new.moment ≤ old.moment → ((t : ℕ) (c : Files) → new.image t c → old.image t c) → ((c : Files) → step c c) → Follows step old new
@@ -233,3 +233,21 @@ stays_both old mid new P first second early late t u from later to every c here 
     (λ after. late t u (omega arith) later to every c here)
     (cases_lt t mid.moment))
     (cases_lt u mid.moment)
+
+-- every image has B
+pub gives_every : (old new : State) (A B : Files → Type 0) → During old new B → SomeGivesEvery old new A B
+gives_every old new A B every t from to c d here has there = every t d from to there
+
+-- no image has A
+pub gives_none : (old new : State) (A B : Files → Type 0) → During old new (λ c. A c → ⊥) → SomeGivesEvery old new A B
+gives_none old new A B none t from to c d here has there = absurd (none t c from to here has)
+
+-- two runs, one after the other
+pub gives_both : (old mid new : State) (A B : Files → Type 0) → Passes old mid → Passes mid new → SomeGivesEvery old mid A B → SomeGivesEvery mid new A B → SomeGivesEvery old new A B
+gives_both old mid new A B first second early late t from to c d here has there =
+    ⊎_elim
+    (λ before.
+    let same = λ (e : Files). second.keeps t e (omega arith) in
+    early t from (omega arith) c d ((same c).0 here) has ((same d).0 there))
+    (λ after. late t (omega arith) to c d here has there)
+    (cases_lt t mid.moment)

@@ -1,6 +1,7 @@
 -- A disk that may fail by a list.
-use Rattle.std.specs.Prelude.{◌≡◌, ℕ, ◌+◌, ◌-◌, ◌^◌, min, List, Result, IsErr, is_ok, if◌then◌else◌, Contains}
+use Rattle.std.specs.Prelude.{◌≡◌, ℕ, List, Result, IsErr, Contains}
 use Rattle.aea_faults.specs.Faults.{HasCause}
+use Rattle.aea_disk.specs.Count.{one_more, faults_after}
 use Rattle.aea_disk.specs.State.{State, IsSure}
 
 -- the inner disk, the numbers of the calls that fail, how many calls there were, and how many of them failed
@@ -16,15 +17,11 @@ with_faults s n = record { files = s.files; moment = s.moment; image = s.image; 
 
 -- the number of the next call, counted from 1, and the greatest u64 from there on
 abbrev pub next_call : ℕ → ℕ
-next_call calls = min (calls + 1) (2 ^ 64 - 1)
+next_call calls = one_more calls
 
 -- the next call is a listed one
 abbrev pub IsListed : {D : Type 0} → Failing D → Type 0
 IsListed d = Contains d.fails (next_call d.calls)
-
--- the count of faults after a call
-abbrev pub faults_after : {T E : Type 0} → ℕ → Result T E → ℕ
-faults_after faults result = if is_ok result then faults else min (faults + 1) (2 ^ 64 - 1)
 
 -- The call has its number, a fault is counted once, and the list stays.
 pub record Counts {D T E : Type 0} (old new : Failing D) (result : Result T E) : Type 0 where

@@ -1,3 +1,4 @@
+pub mod Count
 pub mod Events
 pub mod Fail
 pub mod Files

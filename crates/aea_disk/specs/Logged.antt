@@ -1,5 +1,5 @@
 -- What the calls of a disk in memory mean.
-use Rattle.std.specs.Prelude.{◌≡◌, ℕ, ◌+◌, ◌≤◌, ◌<◌, ◌-◌, ◌^◌, ◌⊎◌, ◌∷◌, ◌++◌, min, List, [], length, take, drop, slice_index_or}
+use Rattle.std.specs.Prelude.{◌≡◌, ℕ, ◌+◌, ◌≤◌, ◌<◌, ◌⊎◌, ◌∷◌, ◌++◌, List, [], length, take, drop, slice_index_or}
 use Rattle.aea_disk.specs.Files.{Files}
 use Rattle.aea_disk.specs.Space.{Extent}
 use Rattle.aea_disk.specs.Spaces.{files_of, room_of, room_for}
@@ -67,10 +67,6 @@ pub record IsFreshLog (sites ledger site calls bytes : ℕ) (d : Log) : Type 0 w
   pub calls_room : d.calls_room ≡ calls
   pub bytes_room : d.bytes_room ≡ bytes
   pub count : d.faults ≡ 0
-
--- the count of faults after one more
-abbrev pub one_more : ℕ → ℕ
-one_more faults = min (faults + 1) (2 ^ 64 - 1)
 
 -- The call stands at the end of the list, its bytes at the end of theirs, and the rooms and the count are as before.
 pub record Lists (old new : Log) (call : Call) (more : List ℕ) : Type 0 where

@@ -44,6 +44,10 @@ During old new P = (t : ℕ) (c : Files) → old.moment ≤ t → t ≤ new.mome
 abbrev pub AtEachMoment : State → State → ((Files → Type 0) → Type 0) → Type 0
 AtEachMoment old new Q = (t : ℕ) → old.moment ≤ t → t ≤ new.moment → Q (new.image t)
 
+-- at each moment of a call where some image has A, every image has B
+abbrev pub SomeGivesEvery : State → State → (Files → Type 0) → (Files → Type 0) → Type 0
+SomeGivesEvery old new A B = AtEachMoment old new (λ image. (c d : Files) → image c → A c → image d → B d)
+
 -- what every image of one moment of a call has, every image of each later moment of the call has too
 abbrev pub Stays : State → State → (Files → Type 0) → Type 0
 Stays old new P = (t u : ℕ) → old.moment ≤ t → t ≤ u → u ≤ new.moment → ((c : Files) → new.image t c → P c) → (c : Files) → new.image u c → P c

@@ -1,6 +1,6 @@
 ghost use Rattle.std.specs.Prelude.{◌≡◌, ◌+◌, ◌≤◌, length, IfOk};
 ghost use Rattle.aea_faults.specs.Faults.{HasCause};
-ghost use Rattle.aea_disk.specs.Fail.{faults_after};
+ghost use Rattle.aea_disk.specs.Count.{faults_after};
 ghost use Rattle.aea_disk.specs.Silent.{silent_state};
 
 use crate::folder::Folder;

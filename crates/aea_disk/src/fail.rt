@@ -1,6 +1,7 @@
 ghost use Rattle.std.specs.Prelude.{◌≡◌, ◌+◌, ◌-◌, ◌^◌, ◌≤◌, [], ℕ, length, take, drop, min, IfOk, OnOk, OnErr, IsTrue, ◌↔◌};
 ghost use Rattle.aea_faults.specs.Faults.{HasCause};
-ghost use Rattle.aea_disk.specs.Fail.{with_faults, next_call, faults_after, IsListed, Counts, FailsAlone, PassesOn};
+ghost use Rattle.aea_disk.specs.Count.{faults_after};
+ghost use Rattle.aea_disk.specs.Fail.{with_faults, next_call, IsListed, Counts, FailsAlone, PassesOn};
 ghost use Rattle.aea_disk.specs.Files.{ChangesFile, Holds, Torn, IsCut, MayBeCut};
 ghost use Rattle.aea_disk.specs.State.{Passes, Follows, KeepsImages, Settles, IsSynced, IsSure, HasRoom};
 

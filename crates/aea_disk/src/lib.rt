@@ -9,6 +9,7 @@
 //!   `during_more` for a weaker fact; `during_start`, `during_end` for the images of the first and the last moment
 //! - what stays once every image has it: `stays_none`, `stays_step`, `stays_kept`, `stays_both`, `stays_same`,
 //!   `stays_during`
+//! - what every image has where some image has another fact: `gives_every`, `gives_none`, `gives_both`
 //! - nothing pending: `synced_fixed` after a sync, `fixed_others` on a file that the calls do not touch
 //! - the other files: `others_none`, `others_change`, `others_kept`, `others_both`, `others_then_kept`, and what
 //!   follows of one by `during_others` and `held_by_others`

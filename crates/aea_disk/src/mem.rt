@@ -1,9 +1,10 @@
 ghost use Rattle.std.specs.Prelude.{◌≡◌, ◌↔◌, ◌⊎◌, ◌+◌, ◌-◌, ◌^◌, ◌<◌, ◌≤◌, ◌++◌, ◌∷◌, [], ℕ, length, take, drop, min, vec_len, IfOk, OnOk, OnErr, IsErr, IsTrue};
 ghost use Rattle.aea_faults.specs.Faults.{HasCause};
+ghost use Rattle.aea_disk.specs.Count.{one_more};
 ghost use Rattle.aea_disk.specs.Files.{ChangesFile, Holds, Torn, IsCut, MayBeCut};
 ghost use Rattle.aea_disk.specs.State.{Passes, Follows, KeepsImages, Settles, IsSynced};
 ghost use Rattle.aea_disk.specs.Spaces.{files_of, room_of};
-ghost use Rattle.aea_disk.specs.Logged.{log_state, log_as_it_reads, event_of, events_of, IsLogged, Lists, IsListFull, IsWriteRefused, IsQuiet, one_more};
+ghost use Rattle.aea_disk.specs.Logged.{log_state, log_as_it_reads, event_of, events_of, IsLogged, Lists, IsListFull, IsWriteRefused, IsQuiet};
 ghost use Rattle.aea_disk.specs.Loss.{lost_at};
 
 use crate::replay::replay_all;

@@ -1,5 +1,6 @@
 ghost use Rattle.std.specs.Prelude.{◌≡◌, ◌↔◌, ◌+◌, ◌-◌, ◌^◌, ◌<◌, ◌≤◌, ℕ, length, take, drop, min, vec_len, IfOk, OnOk, OnErr, IsOk, IsErr, IsOkAnd};
 ghost use Rattle.aea_faults.specs.Faults.{HasCause};
+ghost use Rattle.aea_disk.specs.Count.{one_more};
 ghost use Rattle.aea_disk.specs.Files.{ChangesFile, Holds, IsCut};
 ghost use Rattle.aea_disk.specs.Spaces.{files_of, room_of, room_for, sure_state, IsFresh, AreFresh};
 ghost use Rattle.aea_disk.specs.State.{Passes, Follows, Settles};
@@ -118,7 +119,7 @@ impl Disk for SureDisk {
         requires range { at + length bytes.now ≤ 2 ^ 62 }
         ensures full { IsErr result ↔ (room_of self.old.spaces file < at + length bytes.now) }
         ensures written { OnOk result (ChangesFile file (Holds at bytes.now) (files_of self.old.spaces) (files_of self.new.spaces)) }
-        ensures refused { OnErr result (self.new ≡ record self.old { faults = min (self.old.faults + 1) (2 ^ 64 - 1) }) }
+        ensures refused { OnErr result (self.new ≡ record self.old { faults = one_more self.old.faults }) }
         ensures rooms { (f : ℕ) → room_of self.new.spaces f ≡ room_of self.old.spaces f }
         ensures count { OnOk result (self.new.faults ≡ self.old.faults) }
         ensures cause { HasCause self.old.faults self.new.faults result }

@@ -7,3 +7,4 @@ pub mod Closure
 pub mod Texts
 pub mod Facts
 pub mod Ends
+pub mod Shapes

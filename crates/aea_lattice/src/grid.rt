@@ -18,6 +18,15 @@ pub struct Lattice {
     ghost in_range: { n ≤ greatest_nodes },
 }
 
+// Whether α, s and p lie in the profile.
+pub(crate) fn in_profile(alpha: u8, s: u8, p: u8) -> bool
+    ensures { IsTrue result ↔ IsTrue (is_profile alpha s p) }
+{
+    let plain = alpha == 1 && s == 1 && p == 0;
+    let woven = 2 <= alpha && alpha <= 3 && 2 <= s && s <= 16 && s <= p && p <= 64;
+    plain || woven
+}
+
 // The node `back` before this one.
 fn earlier(node: u32, back: u32) -> Option<u32>
     ensures found { back < node → result ≡ Some (node - back) }
@@ -39,9 +48,7 @@ impl Lattice {
         ensures p { IfSome result (λ l. l.p ≡ p) }
         ensures n { IfSome result (λ l. l.n ≡ n) }
     {
-        let plain = alpha == 1 && s == 1 && p == 0;
-        let woven = 2 <= alpha && alpha <= 3 && 2 <= s && s <= 16 && s <= p && p <= 64;
-        if (plain || woven) && n <= MAX_NODES {
+        if in_profile(alpha, s, p) && n <= MAX_NODES {
             Some(Lattice { alpha, s, p, n })
         } else {
             None

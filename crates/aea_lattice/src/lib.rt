@@ -4,13 +4,14 @@
 //! own.
 //!
 //! The definitions that the whole archive stands on are in `specs/`: `Profile`, `Blocks`, `Strands`,
-//! `Equations`, `Data`, `Closure`, `Texts` and `Facts`.
+//! `Equations`, `Data`, `Closure`, `Texts`, `Facts`, `Ends` and `Shapes`.
 #![tactic(auto)]
 
 pub mod blocks;
 pub mod ends;
 pub mod facts;
 pub mod grid;
+pub mod shape;
 pub mod texts;
 
 pub use blocks::{BlockId, Class, EqId, Equation};
@@ -18,4 +19,5 @@ pub use facts::{
     changes_are_codewords, codewords_are_even, reached_are_determined, words_miss_determined,
 };
 pub use grid::{Lattice, MAX_NODES};
+pub use shape::Shape;
 pub use texts::{BlockText, parse_block, print_block};

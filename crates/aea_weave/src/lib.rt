@@ -1,6 +1,6 @@
 //! The heads of a lattice's strands: XOR of blocks, and the parities of each next node.
 //!
-//! In the paper "Alpha Entanglement Codes" (Estrada-Galiñanes, Miller, Felber, Pâris, DSN 2018) each new datum is
+//! In the alpha entanglement codes (Estrada-Galiñanes, Miller, Felber, Pâris, DSN 2018) each new datum is
 //! entangled with the last parity of each of its strands. These last parities are the heads, and a head is the sum by
 //! XOR of its strand's data so far.
 #![tactic(auto)]

@@ -1,0 +1,161 @@
+//! Damage by chance, against the plain programs.
+
+ghost use Rattle.std.specs.Prelude.{◌≡◌};
+ghost use Rattle.aea_lattice.specs.Closure.{is_among};
+
+use crate::bench::{add_line, run_line, text_of};
+use aea_cli::Status;
+use aea_lattice::{BlockId, Lattice};
+use aea_peel::{Plan, peel};
+use aea_plain::closure;
+use aea_view::View;
+use std::alloc::{AllocError, Global};
+use std::test::Fail;
+
+// α, s, p and the number of nodes.
+const SHAPES: [(u8, u8, u8, u32); 12] = [
+    (1, 1, 0, 1),
+    (1, 1, 0, 60),
+    (2, 2, 2, 11),
+    (2, 2, 5, 60),
+    (2, 3, 7, 50),
+    (2, 16, 16, 60),
+    (3, 2, 2, 30),
+    (3, 2, 5, 60),
+    (3, 3, 3, 45),
+    (3, 4, 5, 60),
+    (3, 5, 5, 40),
+    (3, 16, 64, 60),
+];
+
+// How many of a hundred blocks are damaged.
+const PERCENTS: [u64; 4] = [1, 10, 25, 50];
+
+// The blocks of a lattice, in number order.
+#[derive(Drop)]
+struct Damage {
+    lost: Vec<BlockId>,
+    left: Vec<BlockId>,
+}
+
+// One step of the linear congruential generator of Knuth's MMIX.
+fn step(x: u64) -> u64 {
+    x.wrapping_mul(6_364_136_223_846_793_005)
+        .wrapping_add(1_442_695_040_888_963_407)
+}
+
+// Loses so many percent of the blocks, by the generator that begins with the seed.
+fn lose_blocks(
+    alloc: Global,
+    lattice: &Lattice,
+    percent: u64,
+    seed: u64,
+) -> Result<Damage, AllocError> {
+    let mut lost = Vec::new(alloc);
+    let mut left = Vec::new(alloc);
+    let mut x = seed;
+    for k in 0..lattice.blocks() {
+        x = step(x);
+        if (x >> 32) % 100 < percent {
+            lost.push(lattice.block(k))?;
+        } else {
+            left.push(lattice.block(k))?;
+        }
+    }
+    Ok(Damage { lost, left })
+}
+
+// Whether the block is one of these.
+fn has_block(blocks: &[BlockId], b: BlockId) -> bool
+    ensures { result ≡ is_among blocks.now b }
+{
+    blocks.iter().any(|d| b == *d)
+}
+
+// The plan where these blocks are left.
+fn plan_repair(alloc: Global, lattice: &Lattice, left: &[BlockId]) -> Result<Plan, AllocError> {
+    let view = View::new(lattice, |b: BlockId| has_block(left, b));
+    peel(alloc, lattice, &view)
+}
+
+// The blocks that the steps give.
+fn given_blocks(alloc: Global, plan: &Plan) -> Result<Vec<BlockId>, AllocError> {
+    let mut blocks = Vec::new(alloc);
+    for k in 0..plan.steps.len() {
+        if let Some(step) = plan.steps.get(k) {
+            blocks.push(step.block)?;
+        }
+    }
+    Ok(blocks)
+}
+
+// The damage list of these blocks.
+fn damage_list(alloc: Global, lost: &[BlockId]) -> Result<String, AllocError> {
+    let mut list = String::new(alloc);
+    for b in lost {
+        add_line(&mut list, "", *b)?;
+    }
+    Ok(list)
+}
+
+// What a drill is to print, where the closure has these blocks.
+fn printed_outcome(
+    alloc: Global,
+    lost: &[BlockId],
+    reached: &[BlockId],
+) -> Result<String, AllocError> {
+    let mut text = String::new(alloc);
+    for b in lost {
+        let word = if reached.contains(b) {
+            "peeled "
+        } else {
+            "stuck "
+        };
+        add_line(&mut text, word, *b)?;
+    }
+    let listed = lost.len();
+    let peeled = lost.iter().filter(|b| reached.contains(*b)).count();
+    let stuck = lost.iter().filter(|b| !reached.contains(*b)).count();
+    writeln!(text, "total {listed} peeled {peeled} stuck {stuck}")?;
+    Ok(text)
+}
+
+// Whether the plan and the blocks that are left are exactly the closure.
+fn is_plan_of(steps: &[BlockId], left: &[BlockId], reached: &[BlockId]) -> bool {
+    let count = steps.iter().chain(left.iter()).count();
+    count == reached.len()
+        && reached
+            .iter()
+            .all(|b| steps.contains(b) || left.contains(b))
+}
+
+#[test]
+fn plans_and_drills_agree_with_the_plain_closure(rt: HostRuntime) -> Result<(), Fail> {
+    let mut seed = 0;
+    for (alpha, s, p, n) in SHAPES {
+        let lattice = Lattice::new(alpha, s, p, n).ok_or("no lattice")?;
+        for percent in PERCENTS {
+            seed = step(seed);
+            let Damage { lost, left } = lose_blocks(rt.alloc(), &lattice, percent, seed)?;
+            let case = format!(in rt.alloc(); "drill {alpha} {s} {p} {n}")?;
+            let reached = closure(rt.alloc(), &lattice, left.as_slice())?;
+            let plan = plan_repair(rt.alloc(), &lattice, left.as_slice())?;
+            let steps = given_blocks(rt.alloc(), &plan)?;
+            assert!(rt;
+                is_plan_of(steps.as_slice(), left.as_slice(), reached.as_slice()),
+                "{case}, {percent} of 100, from {seed}"
+            );
+            let list = damage_list(rt.alloc(), lost.as_slice())?;
+            let want = printed_outcome(rt.alloc(), lost.as_slice(), reached.as_slice())?;
+            let left = run_line(rt.alloc(), case.as_str(), list.as_bytes())?;
+            assert_eq!(rt;
+                text_of(left.out.bytes())?,
+                want.as_str(),
+                "{case}, {percent} of 100, from {seed}"
+            );
+            let is_done = left.status == Status::Done;
+            assert_eq!(rt; is_done, steps.len() == lost.len(), "{case}, from {seed}");
+        }
+    }
+    Ok(())
+}

@@ -1,0 +1,97 @@
+//! Streams that fail.
+
+use crate::bench::{run_line, text_of, words_of};
+use aea_cli::{Status, run};
+use aea_io::{MemSink, MemSource};
+use std::alloc::{AllocError, Global};
+use std::test::Fail;
+
+// Which call of each stream fails, counted from 1 (at 0 none does), and the rooms of the sinks.
+#[derive(Clone, Copy, Debug)]
+struct Faults {
+    read: u32,
+    out_call: u32,
+    out_room: usize,
+    err_call: u32,
+    err_room: usize,
+}
+
+const NONE: Faults = Faults {
+    read: 0,
+    out_call: 0,
+    out_room: 99,
+    err_call: 0,
+    err_room: 99,
+};
+
+// What a run leaves.
+#[derive(Drop)]
+struct Left {
+    status: Status,
+    out: MemSink,
+    err: MemSink,
+}
+
+// Runs the command of a line over streams that fail so.
+fn run_failing(alloc: Global, line: &str, list: &[u8], faults: Faults) -> Result<Left, AllocError> {
+    let words = words_of(alloc, line)?;
+    let mut input = MemSource::new(alloc, list, &[faults.read])?;
+    let mut out = MemSink::new(alloc, faults.out_room, &[faults.out_call])?;
+    let mut err = MemSink::new(alloc, faults.err_room, &[faults.err_call])?;
+    let status = run(alloc, words.as_slice(), &mut input, &mut out, &mut err);
+    Ok(Left { status, out, err })
+}
+
+const DRILL: &str = "drill 1 1 0 3";
+
+const TEXT: &str = "peeled d1\npeeled h1\ntotal 2 peeled 2 stuck 0\n";
+
+#[rattlefmt::skip]
+#[test]
+fn faults_give_their_statuses(rt: HostRuntime) -> Result<(), Fail> {
+    // the words, what fails, the status, and what stands on `out` and on `err`
+    for (line, faults, status, out, err) in [
+        (DRILL, NONE, Status::Done, TEXT, ""),
+        (DRILL, Faults { read: 1, ..NONE }, Status::Input, "", "fault: input\n"),
+        (DRILL, Faults { read: 2, ..NONE }, Status::Input, "", "fault: input\n"),
+        (DRILL, Faults { out_call: 1, ..NONE }, Status::Output, "", "fault: output\n"),
+        (DRILL, Faults { out_call: 2, ..NONE }, Status::Output, TEXT, "fault: output\n"),
+        (DRILL, Faults { out_room: 12, ..NONE }, Status::Output, "peeled d1\npe", "fault: output\n"),
+        (DRILL, Faults { out_room: 0, ..NONE }, Status::Output, "", "fault: output\n"),
+        (DRILL, Faults { out_room: 0, err_room: 5, ..NONE }, Status::Output, "", "fault"),
+        (DRILL, Faults { read: 1, err_call: 1, ..NONE }, Status::Input, "", ""),
+        ("drill 1 1 0 0", Faults { err_room: 8, ..NONE }, Status::Refused, "", "refused:"),
+        ("drill 1 1 0 0", Faults { err_call: 2, ..NONE }, Status::Refused, "", "refused: bad block at line 1\n"),
+        ("drill", Faults { read: 1, out_call: 1, ..NONE }, Status::Words, "", "words: no such command\n"),
+        ("drill", Faults { err_call: 1, ..NONE }, Status::Words, "", ""),
+    ] {
+        let left = run_failing(rt.alloc(), line, b"d1\nh1\n", faults)?;
+        assert_eq!(rt; left.status, status, "{line} {faults:?}");
+        assert_eq!(rt; text_of(left.out.bytes())?, out, "{line} {faults:?}");
+        assert_eq!(rt; text_of(left.err.bytes())?, err, "{line} {faults:?}");
+    }
+    Ok(())
+}
+
+#[test]
+fn a_failed_page_leaves_those_before_it(rt: HostRuntime) -> Result<(), Fail> {
+    let line = "drill 1 1 0 2000";
+    let mut list = String::new(rt.alloc());
+    for node in 1..2001 {
+        writeln!(list, "d{node}")?;
+    }
+    let whole = run_line(rt.alloc(), line, list.as_bytes())?;
+    for (out_call, out_room) in [(2, 99_999), (0, 10_000)] {
+        let faults = Faults {
+            out_call,
+            out_room,
+            ..NONE
+        };
+        let left = run_failing(rt.alloc(), line, list.as_bytes(), faults)?;
+        let out = left.out.bytes();
+        assert_eq!(rt; left.status, Status::Output, "{faults:?}");
+        assert!(rt; !out.is_empty() && out.len() <= 10_000, "{faults:?}");
+        assert!(rt; whole.out.bytes().starts_with(out), "{faults:?}");
+    }
+    Ok(())
+}

@@ -1,0 +1,14 @@
+//! Trials of the whole program and of its plans: the worked examples, streams that fail, damage lists of the greatest
+//! length, and damage by chance against the plain programs.
+#![tactic(auto)]
+
+#[cfg(test)]
+mod bench;
+#[cfg(test)]
+mod chance;
+#[cfg(test)]
+mod examples;
+#[cfg(test)]
+mod faults;
+#[cfg(test)]
+mod sizes;

@@ -21,12 +21,12 @@ use std::alloc::Global;
 // The greatest number of bytes of a damage list.
 const GREATEST_INPUT: usize = 4_194_304;
 
-/// A damage list and its plan, by marks at the numbers of blocks: those that are listed, and those that are reached
-/// from the others.
+// A damage list and its plan, by marks at the numbers of blocks: those that are listed, and those that are reached
+// from the others.
 #[derive(Drop)]
-pub struct Planned {
-    pub listed: Vec<bool>,
-    pub reached: Vec<bool>,
+struct Planned {
+    listed: Vec<bool>,
+    reached: Vec<bool>,
 }
 
 // The damage list, read whole. At most one byte past the greatest list is taken.

@@ -1,19 +1,19 @@
 //! The commands of the program, over any input and output.
 #![tactic(auto)]
 
-pub mod command;
-pub mod counts;
-pub mod damage;
-pub mod drill;
-pub mod lines;
-pub mod outcome;
-pub mod page;
-pub mod plan;
-pub mod refusal;
-pub mod report;
-pub mod status;
-pub mod surely;
-pub mod top;
+mod command;
+mod counts;
+mod damage;
+mod drill;
+mod lines;
+mod outcome;
+mod page;
+mod plan;
+mod refusal;
+mod report;
+mod status;
+mod surely;
+mod top;
 
 pub use command::{Command, parse_words};
 pub use refusal::Refusal;

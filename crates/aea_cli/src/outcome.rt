@@ -55,7 +55,7 @@ fn print_line<O: Sink>(
     print(out, page, b"\n")
 }
 
-// Prints and counts the block of this number, where it is listed.
+// Prints the line of the block and counts it, where it is listed.
 fn print_numbered<O: Sink>(
     out: &mut O,
     page: &mut Page,
@@ -133,7 +133,7 @@ pub fn print_total<O: Sink>(out: &mut O, page: &mut Page, counts: Counts) -> Res
     print(out, page, b"\n")
 }
 
-// Prints all lines.
+// Prints all lines: those of the listed blocks, and the last.
 fn print_lines<O: Sink>(
     out: &mut O,
     page: &mut Page,

@@ -1,0 +1,3 @@
+mod Homes
+mod Cells
+mod Changes

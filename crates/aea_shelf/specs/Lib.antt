@@ -1,0 +1,4 @@
+pub mod Places
+pub mod Intact
+pub mod Honest
+pub mod Writes

@@ -1,0 +1,12 @@
+//! The shelf: the cells of an archive's blocks on its disk. Each cell is read and written at the block's home by one
+//! call of the disk, in a buffer that the caller lends.
+//!
+//! `specs/Places.antt` has the homes on the disk, `specs/Intact.antt` says when a block is intact,
+//! `specs/Honest.antt` what intact blocks are honest and which damage is plain, and `specs/Writes.antt` what a write
+//! leaves of the other blocks.
+#![tactic(auto)]
+
+mod places;
+pub mod shelf;
+
+pub use shelf::{Cell, read_cell, write_cell};

@@ -1,5 +1,5 @@
 -- What a change at one home leaves of the others, in the files as they read and in the images.
-use Rattle.std.proofs.Common.{◌≡◌, ◌≢◌, ⊎_elim, inl, inr, ℕ, ◌+◌, ◌≤◌, List, length, refl, sym, ◌∙◌, ap, subst, arith}
+use Rattle.std.proofs.Common.{◌≡◌, ◌≢◌, ℕ, ◌≤◌, List, length, subst}
 use Rattle.aea_lattice.specs.declared.blocks.BlockId.{BlockId}
 use Rattle.aea_lattice.specs.declared.shape.Shape.{Shape}
 use Rattle.aea_lattice.specs.Shapes.{IsBlockOf}
@@ -9,7 +9,7 @@ use Rattle.aea_disk.specs.Steps.{holds_torn, changes_wider}
 use Rattle.aea_disk.specs.State.{State, Follows, EveryImage, During}
 use Rattle.aea_disk.proofs.Moments.{during_step}
 use Rattle.aea_shelf.specs.Places.{cell_size, home_file, home_place, HasAtHome}
-use Rattle.aea_shelf.specs.Writes.{KeepsHomes, KeepsIntact, KeepsOthersOnShelf}
+use Rattle.aea_shelf.specs.Writes.{KeepsShelf}
 use Rattle.aea_shelf.proofs.Homes.{some_sites, keeps_homes}
 use Rattle.aea_shelf.proofs.Cells.{keeps_intact}
 
@@ -25,15 +25,15 @@ written_home shape b bytes old new size changes =
     (changes_wider (home_file shape b) (Holds (home_place shape b) bytes) (Torn (home_place shape b) (length bytes)) old new (λ xs ys. holds_torn (home_place shape b) bytes xs ys) changes)
 
 pub keeps_shelf : RowsGoOverSites → (tells : Type 0) (shape : Shape) (b : BlockId) (old new : State) → IsBlockOf shape b
-    → Follows (ChangesHome shape b) old new → (tells → ChangesHome shape b old.files new.files) → KeepsOthersOnShelf tells shape b old new
+    → Follows (ChangesHome shape b) old new → (tells → ChangesHome shape b old.files new.files) → KeepsShelf tells shape (λ a. a ≢ b) old new
 keeps_shelf rows tells shape b old new has_b follows changes =
     let homes = λ (d c : Files) (step : ChangesHome shape b d c). keeps_homes rows shape b d c (some_sites shape) has_b step in
     record {
       homes = λ told. homes old.files new.files (changes told);
-      intact = λ told. keeps_intact shape b old.files new.files (homes old.files new.files (changes told));
+      intact = λ told. keeps_intact shape (λ a. a ≢ b) old.files new.files (homes old.files new.files (changes told));
       images = λ t c from to here.
           let was = follows t c from to here in
-          (was.0, was.1, homes was.0 c was.2, keeps_intact shape b was.0 c (homes was.0 c was.2));
+          (was.0, was.1, homes was.0 c was.2, keeps_intact shape (λ a. a ≢ b) was.0 c (homes was.0 c was.2));
     }
 
 pub keeps_held : RowsGoOverSites → (shape : Shape) (b : BlockId) (old new : State) → IsBlockOf shape b → Follows (ChangesHome shape b) old new

@@ -12,11 +12,10 @@ use Rattle.aea_lattice.specs.declared.shape.Shape.{Shape}
 use Rattle.aea_lattice.specs.Blocks.{class_number, block_of}
 use Rattle.aea_lattice.specs.Shapes.{IsBlockOf, number_in}
 use Rattle.aea_place.specs.Facts.{RowsGoOverSites}
-use Rattle.aea_place.specs.Homes.{home_of}
 use Rattle.aea_disk.specs.Files.{Files, ChangesFile, Torn, Holds, overwritten}
-use Rattle.aea_disk.specs.Steps.{length-overwritten, get_or-overwritten_before, get_or-overwritten_gap, get_or-overwritten_after}
+use Rattle.aea_disk.specs.Steps.{get_or-overwritten_before, get_or-overwritten_gap, get_or-overwritten_after}
 use Rattle.aea_disk.proofs.Moments.{range_kept}
-use Rattle.aea_shelf.specs.Places.{cell_size, home_file, home_place, HasAtHome, padded_home}
+use Rattle.aea_shelf.specs.Places.{cell_size, home_file, home_place}
 use Rattle.aea_shelf.specs.Writes.{KeepsHomes, KeepsPadded}
 
 -- an archive has a site, and its blocks at most 65,536 bytes
@@ -72,7 +71,7 @@ homes_apart rows shape a b some has_a has_b other same =
 
 -- a change of one home keeps the others
 pub keeps_homes : RowsGoOverSites → (shape : Shape) (b : BlockId) (old new : Files) → 1 ≤ shape.sites → IsBlockOf shape b
-    → ChangesFile (home_file shape b) (Torn (home_place shape b) (cell_size shape)) old new → KeepsHomes shape b old new
+    → ChangesFile (home_file shape b) (Torn (home_place shape b) (cell_size shape)) old new → KeepsHomes shape (λ a. a ≢ b) old new
 keeps_homes rows shape b old new some has_b changes a bytes has_a other short here =
     range_kept (home_file shape b) (home_place shape b) (cell_size shape) old new (home_file shape a) (home_place shape a) bytes changes
     (λ same. ⊎_elim
@@ -119,7 +118,7 @@ padded_apart n a at old bytes apart =
 
 -- a write at one home leaves the others as they read with zeros past the ends
 pub keeps_padded : RowsGoOverSites → (shape : Shape) (b : BlockId) (bytes : List ℕ) (old new : Files) → 1 ≤ shape.sites → IsBlockOf shape b → length bytes ≡ cell_size shape
-    → ChangesFile (home_file shape b) (Holds (home_place shape b) bytes) old new → KeepsPadded shape b old new
+    → ChangesFile (home_file shape b) (Holds (home_place shape b) bytes) old new → KeepsPadded shape (λ a. a ≢ b) old new
 keeps_padded rows shape b bytes old new some has_b size changes a has_a other =
     ⊎_elim
     (λ same.

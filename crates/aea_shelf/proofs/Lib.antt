@@ -1,3 +1,4 @@
-mod Homes
-mod Cells
+pub mod Cells
 mod Changes
+mod Homes
+pub mod Runs

@@ -4,7 +4,8 @@ use Rattle.aea_lattice.specs.declared.blocks.BlockId.{BlockId}
 use Rattle.aea_lattice.specs.declared.shape.Shape.{Shape}
 use Rattle.aea_envelope.specs.Cells.{block_digest, cell_of}
 use Rattle.aea_disk.specs.Files.{Files}
-use Rattle.aea_shelf.specs.Places.{cell_size, home_file, home_place, home_bytes}
+use Rattle.aea_disk.specs.State.{State, EveryImage}
+use Rattle.aea_shelf.specs.Places.{cell_size, home_file, home_place, home_bytes, HasAtHome}
 
 -- the bytes are a cell of this block, and its digest is the recorded one
 pub record IsRecorded (b : BlockId) (recorded bytes : List ℕ) : Type 0 where
@@ -16,6 +17,11 @@ pub record IsRecorded (b : BlockId) (recorded bytes : List ℕ) : Type 0 where
 pub record IsIntact (shape : Shape) (b : BlockId) (recorded : List ℕ) (c : Files) : Type 0 where
   pub within : home_place shape b + cell_size shape ≤ length (c (home_file shape b))
   pub here : IsRecorded b recorded (home_bytes shape b c)
+
+-- “held”: the block is intact, and every image of now has at its home the bytes that the disk reads there
+pub record IsBlockHeld (shape : Shape) (b : BlockId) (recorded : List ℕ) (s : State) : Type 0 where
+  pub intact : IsIntact shape b recorded s.files
+  pub images : EveryImage s (HasAtHome shape b (home_bytes shape b s.files))
 
 -- the payload in a cell: bytes 16 to 15+B
 abbrev pub payload_in : Shape → List ℕ → List ℕ

@@ -2,3 +2,4 @@ pub mod Places
 pub mod Intact
 pub mod Honest
 pub mod Writes
+pub mod Facts

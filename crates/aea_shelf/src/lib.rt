@@ -6,7 +6,9 @@
 //! leaves of the other blocks.
 #![tactic(auto)]
 
+pub mod facts;
 mod places;
 pub mod shelf;
 
+pub use facts::plain_damage_stays;
 pub use shelf::{Cell, read_cell, write_cell};

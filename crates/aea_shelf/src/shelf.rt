@@ -2,13 +2,17 @@
 
 ghost use Rattle.std.specs.Prelude.{◌≡◌, ◌≢◌, ◌↔◌, ◌+◌, ◌-◌, ◌≤◌, List, ℕ, length, take, drop, IsTrue, IfOk, OnOk, OnErr};
 ghost use Rattle.aea_faults.specs.Faults.{HasCause};
+ghost use Rattle.aea_lattice.specs.declared.grid.Lattice.{Lattice};
+ghost use Rattle.aea_lattice.specs.Blocks.{HasBlock};
+ghost use Rattle.aea_lattice.specs.Data.{value_of};
 ghost use Rattle.aea_lattice.specs.Shapes.{IsBlockOf};
 ghost use Rattle.aea_envelope.specs.Cells.{block_digest, cell_of};
 ghost use Rattle.aea_disk.specs.Files.{ChangesFile, Holds, Torn};
 ghost use Rattle.aea_disk.specs.State.{Passes, Follows, KeepsImages, KeepsOthers, Settles, EveryImage, During, IsSure, HasRoom};
 ghost use Rattle.aea_shelf.specs.Places.{cell_size, home_file, home_place, HasAtHome};
-ghost use Rattle.aea_shelf.specs.Intact.{IsRecorded, IsIntact, payload_in};
-ghost use Rattle.aea_shelf.specs.Writes.{KeepsOthersOnShelf, KeepsPadded};
+ghost use Rattle.aea_shelf.specs.Intact.{IsRecorded, IsIntact, IsBlockHeld, payload_in};
+ghost use Rattle.aea_shelf.specs.Honest.{IsHonest};
+ghost use Rattle.aea_shelf.specs.Writes.{KeepsShelf, KeepsPadded};
 
 use crate::places::home_place;
 use aea_disk::{Disk, DiskFault};
@@ -67,6 +71,9 @@ pub fn read_cell<D: Disk>(
     ensures digest { IfOk result (λ r. r ≡ Cell.Intact → block_digest b (payload_in shape.now cell.new) ≡ want.now) }
     ensures bytes { IfOk result (λ r. r ≡ Cell.Intact → D.tells → HasAtHome shape.now b cell.new (D.state disk.old).files) }
 
+    // Of survivors that are honest for a data list, it is the cell of the block of the list's lattice.
+    ensures honest { IfOk result (λ r. r ≡ Cell.Intact → D.tells → (l : Lattice) (recorded : BlockId → List ℕ) (datas : List (List ℕ)) → HasBlock l b → recorded b ≡ want.now → IsHonest l shape.now recorded datas (D.state disk.old).files → payload_in shape.now cell.new ≡ value_of l shape.now.block datas b) }
+
     ensures contents { D.tells → (D.state disk.new).files ≡ (D.state disk.old).files }
     ensures crash { KeepsImages (D.state disk.old) (D.state disk.new) }
     ensures settled { Settles (D.state disk.old) (D.state disk.new) }
@@ -106,11 +113,12 @@ pub fn write_cell<D: Disk>(
     ensures torn { OnErr result (D.tells → ChangesFile (home_file shape.now b) (Torn (home_place shape.now b) (cell_size shape.now)) (D.state disk.old).files (D.state disk.new).files) }
 
     // The other blocks, the other files, and what a crash leaves of them.
-    ensures padded { OnOk result (D.tells → KeepsPadded shape.now b (D.state disk.old).files (D.state disk.new).files) }
-    ensures shelf { KeepsOthersOnShelf D.tells shape.now b (D.state disk.old) (D.state disk.new) }
+    ensures padded { OnOk result (D.tells → KeepsPadded shape.now (λ a. a ≢ b) (D.state disk.old).files (D.state disk.new).files) }
+    ensures shelf { KeepsShelf D.tells shape.now (λ a. a ≢ b) (D.state disk.old) (D.state disk.new) }
     ensures others { KeepsOthers D.tells (home_file shape.now b) (D.state disk.old) (D.state disk.new) }
     ensures crash { Follows (ChangesFile (home_file shape.now b) (Torn (home_place shape.now b) (cell_size shape.now))) (D.state disk.old) (D.state disk.new) }
-    ensures held { (a : BlockId) (bytes : List ℕ) → IsBlockOf shape.now a → a ≢ b → length bytes ≤ cell_size shape.now → EveryImage (D.state disk.old) (HasAtHome shape.now a bytes) → During (D.state disk.old) (D.state disk.new) (HasAtHome shape.now a bytes) }
+    ensures held { D.tells → (a : BlockId) (recorded : List ℕ) → IsBlockOf shape.now a → a ≢ b → IsBlockHeld shape.now a recorded (D.state disk.old) → IsBlockHeld shape.now a recorded (D.state disk.new) }
+    ensures any_moment { (a : BlockId) (bytes : List ℕ) → IsBlockOf shape.now a → a ≢ b → length bytes ≤ cell_size shape.now → EveryImage (D.state disk.old) (HasAtHome shape.now a bytes) → During (D.state disk.old) (D.state disk.new) (HasAtHome shape.now a bytes) }
 
     ensures settled { Settles (D.state disk.old) (D.state disk.new) }
     ensures time { Passes (D.state disk.old) (D.state disk.new) }

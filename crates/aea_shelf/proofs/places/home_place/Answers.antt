@@ -1,4 +1,4 @@
-use Rattle.std.proofs.Common.{◌≡◌, ◌*◌, ◌+◌, ◌/◌, arith}
+use Rattle.std.proofs.Common.{◌/◌}
 use Rattle.std.proofs.Math.Nat.{div-le_self}
 use Rattle.aea_shelf.proofs.Homes.{few_bytes, place_below}
 use Rattle.aea_shelf.proofs.places.home_place.Goals as goal

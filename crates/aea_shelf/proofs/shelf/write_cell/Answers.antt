@@ -1,4 +1,4 @@
-use Rattle.std.proofs.Common.{◌≡◌, ◌≢◌, ◌*◌, ◌+◌, ◌-◌, ◌≤◌, ℕ, List, length, drop, refl, sym, ◌∙◌, ap, subst, arith}
+use Rattle.std.proofs.Common.{◌≡◌, ◌≢◌, ◌+◌, ◌-◌, ℕ, List, length, drop, refl, sym, ◌∙◌, ap, arith}
 use Rattle.aea_lattice.specs.declared.blocks.BlockId.{BlockId}
 use Rattle.aea_lattice.specs.declared.shape.Shape.{Shape}
 use Rattle.aea_envelope.specs.Cells.{block_digest, cell_of}
@@ -9,6 +9,7 @@ use Rattle.aea_shelf.specs.Places.{cell_size, home_file, home_place}
 use Rattle.aea_shelf.proofs.Homes.{some_sites, keeps_padded}
 use Rattle.aea_shelf.proofs.Cells.{intact_of, written_here}
 use Rattle.aea_shelf.proofs.Changes.{ChangesHome, written_home, keeps_shelf, keeps_held}
+use Rattle.aea_shelf.proofs.Runs.{held_by_shelf}
 use Rattle.aea_shelf.proofs.shelf.write_cell.Goals as goal
 
 -- the last bytes of a cell
@@ -53,8 +54,8 @@ returns-in_err-write-clause-others g c =
     (crash_home shape c.args.b home.result.file home.result.at (length c.encode.new.cell) old new home.ensures.file home.ensures.place size c.write.ensures.crash)
     (λ told. (torn_home shape c.args.b home.result.file home.result.at (length c.encode.new.cell) old.files new.files home.ensures.file home.ensures.place size (c.in_err-write.ensures.torn told)).others)
 
-pub returns-in_err-write-clause-held : goal.returns-in_err-write-clause-held
-returns-in_err-write-clause-held g c =
+pub returns-in_err-write-clause-any_moment : goal.returns-in_err-write-clause-any_moment
+returns-in_err-write-clause-any_moment g c =
     let shape = c.args.shape.now in
     let old = g.D.Disk.state c.args.disk.now in
     let new = g.D.Disk.state c.write.new.self in
@@ -132,8 +133,8 @@ returns-clause-others g c =
     (crash_home shape b home.result.file home.result.at (length c.encode.new.cell) old new home.ensures.file home.ensures.place long c.write.ensures.crash)
     (λ told. (holds_home shape b home.result.file home.result.at c.encode.new.cell whole old.files new.files home.ensures.file home.ensures.place c.encode.ensures.cell (c.in_ok-write.ensures.written told)).others)
 
-pub returns-clause-held : goal.returns-clause-held
-returns-clause-held g c =
+pub returns-clause-any_moment : goal.returns-clause-any_moment
+returns-clause-any_moment g c =
     let shape = c.args.shape.now in
     let b = c.args.b in
     let old = g.D.Disk.state c.args.disk.now in
@@ -144,3 +145,11 @@ returns-clause-held g c =
     let size : length whole ≡ cell_size shape = sym (ap length c.encode.ensures.cell) ∙ long in
     keeps_held c.rows_go_over_sites.ensures shape b old new c.requires.block
     (crash_home shape b home.result.file home.result.at (length c.encode.new.cell) old new home.ensures.file home.ensures.place long c.write.ensures.crash)
+
+pub returns-clause-held : goal.returns-clause-held
+returns-clause-held g c told a recorded has_a other held =
+    held_by_shelf g.D.Disk.tells c.args.shape.now (λ e. e ≢ c.args.b) (g.D.Disk.state c.args.disk.now) (g.D.Disk.state c.write.new.self) a recorded told has_a other c.write.ensures.time.later (returns-clause-shelf g c) held
+
+pub returns-in_err-write-clause-held : goal.returns-in_err-write-clause-held
+returns-in_err-write-clause-held g c told a recorded has_a other held =
+    held_by_shelf g.D.Disk.tells c.args.shape.now (λ e. e ≢ c.args.b) (g.D.Disk.state c.args.disk.now) (g.D.Disk.state c.write.new.self) a recorded told has_a other c.write.ensures.time.later (returns-in_err-write-clause-shelf g c) held

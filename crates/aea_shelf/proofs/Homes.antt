@@ -1,8 +1,8 @@
 -- Homes of two blocks are apart, and what a write at one leaves of the other.
 use Rattle.std.proofs.Common.{◌≡◌, ◌≢◌, ◌⊎◌, ⊎_elim, inl, inr, ℕ, min, ◌+◌, ◌-◌, ◌*◌, ◌/◌, ◌^◌, ◌<◌, ◌≤◌, List, ◌++◌, length, take, drop, replicate, get_or, refl, sym, ◌∙◌, ap, subst, arith, length-append, length-take, length-drop}
 use Rattle.std.proofs.lemmas.Bool.{cases_eq, cases_lt}
-use Rattle.std.proofs.lemmas.Nat.{div-mul-add, mul-le}
-use Rattle.std.proofs.Math.Nat.{mul-le-mul_right}
+use Rattle.std.proofs.lemmas.Nat.{div-mul-add, mul-le, mul-add-lt, le-div}
+use Rattle.std.proofs.Math.Nat.{mul-le-mul_right, div-mul-le_self}
 use Rattle.std.proofs.lemmas.List.{length-replicate, get_or-take, get_or-drop, get_or-replicate, get_or-append_right, get_or_append_left, get_or_past, ext_get_or}
 use Rattle.std.proofs.lemmas.Bool.Decides.{nat_tests}
 use Rattle.aea_lattice.specs.declared.blocks.Class.{Class}
@@ -10,12 +10,13 @@ use Rattle.aea_lattice.specs.declared.blocks.Class.TheVariants.{Datum, Horiz, Ri
 use Rattle.aea_lattice.specs.declared.blocks.BlockId.{BlockId}
 use Rattle.aea_lattice.specs.declared.shape.Shape.{Shape}
 use Rattle.aea_lattice.specs.Blocks.{class_number, block_of}
+use Rattle.aea_lattice.specs.Profile.{greatest_nodes}
 use Rattle.aea_lattice.specs.Shapes.{IsBlockOf, number_in}
 use Rattle.aea_place.specs.Facts.{RowsGoOverSites}
 use Rattle.aea_disk.specs.Files.{Files, ChangesFile, Torn, Holds, overwritten}
 use Rattle.aea_disk.specs.Steps.{get_or-overwritten_before, get_or-overwritten_gap, get_or-overwritten_after}
 use Rattle.aea_disk.proofs.Moments.{range_kept}
-use Rattle.aea_shelf.specs.Places.{cell_size, home_file, home_place}
+use Rattle.aea_shelf.specs.Places.{cell_size, most_rows, home_file, home_place}
 use Rattle.aea_shelf.specs.Writes.{KeepsHomes, KeepsPadded}
 
 -- an archive has a site, and its blocks at most 65,536 bytes
@@ -129,3 +130,20 @@ keeps_padded rows shape b bytes old new some has_b size changes a has_a other =
     (⊎_elim (λ before. inl before) (λ after. inr (omega (arith, after, size))) (homes_apart rows shape a b some has_a has_b other same)))
     (λ apart. ap (λ (xs : List ℕ). take (cell_size shape) (take (cell_size shape) (drop (home_place shape a) xs) ++ replicate (cell_size shape) 0)) (changes.others (home_file shape a) apart))
     (cases_eq (home_file shape a) (home_file shape b))
+
+-- a number below a bound is in one of the rows that the bound gives
+row_below : (k n m : ℕ) → 1 ≤ m → k < n → k / m + 1 ≤ (n + m - 1) / m
+row_below k n m some below =
+    let whole : k / m * m ≤ k = div-mul-le_self k m in
+    le-div (k / m + 1) (n + m - 1) m (omega (arith, some)) (omega (arith, whole, below, some))
+
+-- the number of a block is below that of all blocks
+number_below : (alpha class node most : ℕ) → 1 ≤ node → node ≤ most → class ≤ alpha → (node - 1) * (1 + alpha) + class < (1 + alpha) * most
+number_below alpha class node most first last used = mul-add-lt (node - 1) (1 + alpha) class most (omega (arith, first, last)) (omega (arith, used))
+
+pub home_in_rows : (shape : Shape) (b : BlockId) → IsBlockOf shape b → home_place shape b + cell_size shape ≤ most_rows shape * cell_size shape
+home_in_rows shape b has_b =
+    let below = number_below shape.alpha (class_number b.class) b.node greatest_nodes has_b.first has_b.last has_b.used in
+    let row = row_below (number_in shape b) ((1 + shape.alpha) * greatest_nodes) shape.sites (some_sites shape) below in
+    let more : (number_in shape b / shape.sites + 1) * cell_size shape ≤ most_rows shape * cell_size shape = mul-le-mul_right (cell_size shape) row in
+    omega (arith, more)

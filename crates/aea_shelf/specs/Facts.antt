@@ -1,11 +1,12 @@
--- What follows of intact blocks and plain damage.
-use Rattle.std.specs.Prelude.{◌≡◌, List, ℕ}
+-- What follows of homes, and of plain damage.
+use Rattle.std.specs.Prelude.{◌≡◌, ◌≢◌, ◌⊎◌, ◌+◌, ◌*◌, ◌≤◌, List, ℕ}
 use Rattle.aea_lattice.specs.declared.blocks.BlockId.{BlockId}
 use Rattle.aea_lattice.specs.declared.grid.Lattice.{Lattice}
 use Rattle.aea_lattice.specs.declared.shape.Shape.{Shape}
 use Rattle.aea_lattice.specs.Blocks.{HasBlock}
+use Rattle.aea_lattice.specs.Shapes.{IsBlockOf}
 use Rattle.aea_disk.specs.Files.{Files}
-use Rattle.aea_shelf.specs.Places.{padded_home}
+use Rattle.aea_shelf.specs.Places.{cell_size, home_file, home_place, most_rows, padded_home}
 use Rattle.aea_shelf.specs.Intact.{IsIntact}
 use Rattle.aea_shelf.specs.Honest.{IsPlain}
 
@@ -16,3 +17,14 @@ PlainDamageStays =
     (l : Lattice) (shape : Shape) (recorded : BlockId → List ℕ) (old new : Files) → IsPlain l shape recorded old
     → (b : BlockId) → HasBlock l b → padded_home shape b new ≡ padded_home shape b old
     → IsIntact shape b (recorded b) new → IsIntact shape b (recorded b) old
+
+-- The cells of two blocks in one file have no byte in common.
+abbrev pub CellsAreApart : Type 0
+CellsAreApart =
+    (shape : Shape) (a b : BlockId) → IsBlockOf shape a → IsBlockOf shape b → a ≢ b → home_file shape a ≡ home_file shape b
+    → (home_place shape a + cell_size shape ≤ home_place shape b) ⊎ (home_place shape b + cell_size shape ≤ home_place shape a)
+
+-- A home ends within the rows that the archive can have.
+abbrev pub HomesAreInRows : Type 0
+HomesAreInRows =
+    (shape : Shape) (b : BlockId) → IsBlockOf shape b → home_place shape b + cell_size shape ≤ most_rows shape * cell_size shape

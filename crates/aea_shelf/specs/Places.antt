@@ -1,7 +1,8 @@
 -- Where the cells of an archive's blocks stand on its disk.
-use Rattle.std.specs.Prelude.{ℕ, ◌+◌, ◌*◌, List, ◌++◌, take, drop, replicate}
+use Rattle.std.specs.Prelude.{ℕ, ◌+◌, ◌-◌, ◌*◌, ◌/◌, List, ◌++◌, take, drop, replicate}
 use Rattle.aea_lattice.specs.declared.blocks.BlockId.{BlockId}
 use Rattle.aea_lattice.specs.declared.shape.Shape.{Shape}
+use Rattle.aea_lattice.specs.Profile.{greatest_nodes}
 use Rattle.aea_lattice.specs.Shapes.{number_in}
 use Rattle.aea_place.specs.Homes.{home_of}
 use Rattle.aea_disk.specs.Files.{Files}
@@ -18,6 +19,10 @@ home_file shape b = (home_of shape.sites (number_in shape b)).site
 -- the place in this file at which its cell begins
 abbrev pub home_place : Shape → BlockId → ℕ
 home_place shape b = (home_of shape.sites (number_in shape b)).cell * cell_size shape
+
+-- the most rows that an archive of this shape can have: its blocks, shared out to the sites
+abbrev pub most_rows : Shape → ℕ
+most_rows shape = ((1 + shape.alpha) * greatest_nodes + shape.sites - 1) / shape.sites
 
 -- the home begins with these bytes
 abbrev pub HasAtHome : Shape → BlockId → List ℕ → Files → Type 0

@@ -23,5 +23,5 @@ pub mod facts;
 mod places;
 pub mod shelf;
 
-pub use facts::plain_damage_stays;
+pub use facts::{cells_are_apart, homes_are_in_rows, plain_damage_stays};
 pub use shelf::{Cell, read_cell, write_cell};

@@ -13,48 +13,50 @@ const NINETEEN_STUCK: &str =
     "stuck d1\nstuck h1\nstuck r1\nstuck d3\nstuck h3\nstuck r3\nstuck d4\nstuck h4\nstuck d5\nstuck r5\n\
     stuck d6\nstuck d8\nstuck h8\nstuck r8\nstuck d9\nstuck h9\nstuck d10\nstuck r10\nstuck d11\ntotal 19 peeled 0 stuck 19\n";
 
+// The words, the damage list, the status, and what is printed.
+const OUTCOMES: [(&str, &str, Status, &str); 7] = [
+    (
+        "drill 1 1 0 3",
+        "d1\nh1\n",
+        Status::Done,
+        "peeled d1\npeeled h1\ntotal 2 peeled 2 stuck 0\n",
+    ),
+    ("drill 2 2 2 11", NINETEEN, Status::Damage, NINETEEN_STUCK),
+    (
+        "drill 1 1 0 3",
+        "d3\nh3\n",
+        Status::Damage,
+        "stuck d3\nstuck h3\ntotal 2 peeled 0 stuck 2\n",
+    ),
+    (
+        "drill 1 1 0 3",
+        "d2\nh2\nd3\n",
+        Status::Damage,
+        "stuck d2\nstuck h2\nstuck d3\ntotal 3 peeled 0 stuck 3\n",
+    ),
+    (
+        "drill 3 2 5 0",
+        "",
+        Status::Done,
+        "total 0 peeled 0 stuck 0\n",
+    ),
+    (
+        "drill 2 2 2 11",
+        "d1\nd1",
+        Status::Done,
+        "peeled d1\ntotal 1 peeled 1 stuck 0\n",
+    ),
+    (
+        "drill 1 1 0 65536",
+        "h65536\nd65536\nd65535\nh65536\nd1\n",
+        Status::Damage,
+        "peeled d1\npeeled d65535\nstuck d65536\nstuck h65536\ntotal 4 peeled 2 stuck 2\n",
+    ),
+];
+
 #[test]
 fn drills_print_the_outcome(rt: HostRuntime) -> Result<(), Fail> {
-    // the words, the damage list, the status, and what is printed
-    for (line, list, status, text) in [
-        (
-            "drill 1 1 0 3",
-            "d1\nh1\n",
-            Status::Done,
-            "peeled d1\npeeled h1\ntotal 2 peeled 2 stuck 0\n",
-        ),
-        ("drill 2 2 2 11", NINETEEN, Status::Damage, NINETEEN_STUCK),
-        (
-            "drill 1 1 0 3",
-            "d3\nh3\n",
-            Status::Damage,
-            "stuck d3\nstuck h3\ntotal 2 peeled 0 stuck 2\n",
-        ),
-        (
-            "drill 1 1 0 3",
-            "d2\nh2\nd3\n",
-            Status::Damage,
-            "stuck d2\nstuck h2\nstuck d3\ntotal 3 peeled 0 stuck 3\n",
-        ),
-        (
-            "drill 3 2 5 0",
-            "",
-            Status::Done,
-            "total 0 peeled 0 stuck 0\n",
-        ),
-        (
-            "drill 2 2 2 11",
-            "d1\nd1",
-            Status::Done,
-            "peeled d1\ntotal 1 peeled 1 stuck 0\n",
-        ),
-        (
-            "drill 1 1 0 65536",
-            "h65536\nd65536\nd65535\nh65536\nd1\n",
-            Status::Damage,
-            "peeled d1\npeeled d65535\nstuck d65536\nstuck h65536\ntotal 4 peeled 2 stuck 2\n",
-        ),
-    ] {
+    for (line, list, status, text) in OUTCOMES {
         let left = run_line(rt.alloc(), line, list.as_bytes())?;
         assert_eq!(rt; text_of(left.out.bytes())?, text, "{line}");
         assert_eq!(rt; left.status, status, "{line}");

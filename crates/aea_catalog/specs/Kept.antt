@@ -1,0 +1,58 @@
+-- How a catalogue is kept: its entries in the order in which they came, and the indices of these in the order of the
+-- names' bytes.
+use Rattle.std.specs.Prelude.{◌≡◌, ℕ, ◌-◌, ◌^◌, ◌<◌, ◌≤◌, List, [], map, min, length, slice_index_or, IsTrue, All}
+use Rattle.std.specs.Ordering.{nat_cmp}
+use Rattle.std.specs.Cmp.Lexicographic.{slice_cmp}
+use Rattle.std.specs.declared.cmp.Ordering.{Ordering}
+use Rattle.std.specs.declared.cmp.Ordering.TheVariants.{Less}
+use Rattle.std.specs.FinMap.{is_sorted}
+use Rattle.aea_catalog.specs.declared.objects.ObjectRef.{ObjectRef}
+use Rattle.aea_catalog.specs.Names.{IsName}
+
+-- a name and its object
+abbrev pub Pair : Type 0
+Pair = List ℕ × ObjectRef
+
+-- the order of names: by their bytes, the first that differs, and a name before those that it begins
+abbrev pub name_cmp : List ℕ → List ℕ → Ordering
+name_cmp = slice_cmp nat_cmp
+
+-- stands where there is no entry
+abbrev pub no_pair : Pair
+no_pair = ([], record { first = 0; count = 0; length = 0; digest = [] })
+
+-- the entry with this index
+abbrev pub pair_at : List Pair → ℕ → Pair
+pair_at pairs k = slice_index_or pairs k no_pair
+
+-- the name at this place
+abbrev pub name_at : List Pair → ℕ → List ℕ
+name_at pairs k = let pair = pair_at pairs k in pair.0
+
+-- the entries with these indices
+abbrev pub listed : List Pair → List ℕ → List Pair
+listed pairs order = map (pair_at pairs) order
+
+-- there is one index for each entry, each is the index of an entry, the names of the entries rise in this order, and
+-- they are names
+pub record IsKept (pairs : List Pair) (order : List ℕ) : Type 0 where
+  pub as_many : length order ≡ length pairs
+  pub in_range : All (λ k. k < length pairs) order
+  pub rising : IsTrue (is_sorted name_cmp (listed pairs order))
+  pub named : All (λ pair. IsName pair.0) pairs
+
+-- the entry at place i has the name
+pub record IsAt (list : List Pair) (name : List ℕ) (i : ℕ) : Type 0 where
+  pub in_range : i < length list
+  pub has_name : name_at list i ≡ name
+
+-- the name would go at place i: lesser names stand before it, and greater ones from it on
+pub record IsGapFor (list : List Pair) (name : List ℕ) (i : ℕ) : Type 0 where
+  pub in_range : i ≤ length list
+  pub before : (k : ℕ) → k < i → name_cmp (name_at list k) name ≡ Less
+  pub after : (k : ℕ) → i ≤ k → k < length list → name_cmp name (name_at list k) ≡ Less
+
+-- how many more objects there is room for in vectors of this length with these capacities: what both can take, and
+-- what is left of 2^32 indices
+abbrev pub room_of : ℕ → ℕ → ℕ → ℕ
+room_of len entries order = min (min entries order) (2 ^ 32) - len

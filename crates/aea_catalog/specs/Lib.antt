@@ -1,0 +1,3 @@
+pub mod Names
+pub mod Catalogs
+pub mod Kept

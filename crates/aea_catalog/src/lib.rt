@@ -1,0 +1,19 @@
+//! Names of objects, and the catalogue of an archive: which object each name stands for.
+//!
+//! A name is 1 to 255 bytes of UTF-8 text without control characters (`specs/Names.antt`). An object is told by where its
+//! nodes lie, how long it is and what its SHA-256 (FIPS 180-4) is. The catalogue lists its objects in the order of the
+//! names' bytes, and gives none up: an object under a name stays (`specs/Catalogs.antt`).
+#![tactic(auto)]
+
+pub mod catalog;
+pub mod name_text;
+pub mod names;
+pub mod objects;
+
+pub use catalog::Catalog;
+pub use name_text::NameText;
+pub use names::check_name;
+pub use objects::ObjectRef;
+
+#[cfg(test)]
+mod tests;

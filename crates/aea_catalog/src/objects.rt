@@ -1,0 +1,14 @@
+//! What is kept of an object.
+
+/// An object of an archive: where it lies, how long it is and what its digest is.
+#[derive(Clone, Copy, Debug, PartialEq, Eq)]
+pub struct ObjectRef {
+    /// The first of its nodes, which follow each other.
+    pub first: u32,
+    /// How many nodes it has.
+    pub count: u32,
+    /// Its length in bytes.
+    pub length: u64,
+    /// The SHA-256 of its bytes.
+    pub digest: [u8; 32],
+}

@@ -1,0 +1,130 @@
+use super::*;
+use std::process::Abort;
+use std::test::Fail;
+
+#[test]
+fn names_are_plain_text_of_1_to_255_bytes(rt: HostRuntime) -> Result<(), Fail> {
+    let long = [b'a'; 256];
+    assert!(rt; check_name(&long[..255]));
+    assert!(rt; !check_name(&long));
+    assert!(rt; !check_name(b""));
+    for (byte, want) in [
+        (31, false),
+        (32, true),
+        (126, true),
+        (127, false),
+        (0xff, false),
+    ] {
+        assert_eq!(rt; check_name(&[b'a', byte]), want, "byte {byte}");
+    }
+    assert!(rt; check_name("é".as_bytes()));
+    assert!(rt; !check_name(&[0xc3]));
+    Ok(())
+}
+
+#[test]
+fn a_text_has_the_bytes_that_came(rt: HostRuntime) -> Result<(), Fail> {
+    let mut text = NameText::new(rt.alloc());
+    assert!(rt; text.is_empty());
+    for &byte in b"boat" {
+        text.push(byte)?;
+    }
+    assert_eq!(rt; text.bytes(), b"boat".as_slice());
+    assert_eq!(rt;
+        (text.len(), text.get(1), text.get(4)),
+        (4, Some(b'o'), None)
+    );
+    Ok(())
+}
+
+fn object(first: u32) -> ObjectRef {
+    ObjectRef {
+        first,
+        count: 1,
+        length: 7,
+        digest: [3; 32],
+    }
+}
+
+// Puts an object under a name that is new.
+fn put(catalog: &mut Catalog, name: &[u8], first: u32) -> Result<(), Fail> {
+    if !check_name(name) {
+        return Err("no name".into());
+    }
+    if catalog.find(name).is_some() {
+        return Err("no new name".into());
+    }
+    catalog.insert(name, object(first))?;
+    Ok(())
+}
+
+#[test]
+fn objects_are_found_and_listed_by_name(rt: HostRuntime) -> Result<(), Fail> {
+    let mut catalog = Catalog::new(rt.alloc());
+    assert!(rt; catalog.is_empty());
+    put(&mut catalog, b"pine", 1)?;
+    put(&mut catalog, b"ash", 2)?;
+    put(&mut catalog, b"pin", 3)?;
+    assert_eq!(rt; catalog.find(b"pine"), Some(object(1)));
+    assert_eq!(rt; catalog.find(b"ash"), Some(object(2)));
+    assert_eq!(rt; catalog.find(b"pin"), Some(object(3)));
+    assert_eq!(rt; catalog.find(b"oak"), None);
+    assert_eq!(rt; catalog.entry(0), Some((&b"ash"[..], object(2))));
+    assert_eq!(rt; catalog.entry(1), Some((&b"pin"[..], object(3))));
+    assert_eq!(rt; catalog.entry(2), Some((&b"pine"[..], object(1))));
+    assert_eq!(rt; catalog.entry(3), None);
+    assert_eq!(rt; catalog.len(), 3);
+    Ok(())
+}
+
+#[test]
+fn an_object_is_put_where_there_is_room(rt: HostRuntime) -> Result<(), Fail> {
+    let mut catalog = Catalog::new(rt.alloc());
+    let name = Vec::from_slice(rt.alloc(), b"oak".as_slice())?;
+    catalog.reserve()?;
+    if check_name(&name) && catalog.find(&name).is_none() {
+        catalog.insert_owned(name, object(9));
+    }
+    assert_eq!(rt; catalog.find(b"oak"), Some(object(9)));
+    Ok(())
+}
+
+// The last decimal digit of the number.
+fn digit(number: u32) -> u8 {
+    b'0' + (number % 10) as u8
+}
+
+// The last five decimal digits of the number.
+fn name_of(number: u32) -> [u8; 5] {
+    [
+        digit(number / 10_000),
+        digit(number / 1000),
+        digit(number / 100),
+        digit(number / 10),
+        digit(number),
+    ]
+}
+
+// Puts 65,536 objects under numbers, the k-th under k times the factor less 1, and goes through them in order.
+fn fill(rt: &impl Abort, catalog: &mut Catalog, factor: u32) -> Result<(), Fail> {
+    for k in 0..65_536u32 {
+        let number = k.wrapping_mul(factor).wrapping_sub(1) % 65_536;
+        put(catalog, &name_of(number), number)?;
+    }
+    for k in 0..65_536u32 {
+        let entry = catalog.entry(k as usize);
+        assert_eq!(rt; entry, Some((name_of(k).as_slice(), object(k))));
+    }
+    assert_eq!(rt; catalog.len(), 65_536);
+    Ok(())
+}
+
+#[test]
+fn many_objects_in_no_order(rt: HostRuntime) -> Result<(), Fail> {
+    fill(&rt, &mut Catalog::new(rt.alloc()), 40_503)
+}
+
+#[test]
+fn many_objects_in_falling_order(rt: HostRuntime) -> Result<(), Fail> {
+    fill(&rt, &mut Catalog::new(rt.alloc()), 65_535)
+}

@@ -23,6 +23,7 @@ use Rattle.aea_catalog.proofs.Orders.{picked-insert, All-insert}
 pub T-from_true : (b : Bool) → IsTrue b → T b
 T-from_true b h = subst T (sym h) tt
 
+-- and back
 true-from_T : (b : Bool) → T b → IsTrue b
 true-from_T true h = refl
 true-from_T false h = absurd h
@@ -36,6 +37,7 @@ pub objects_of-nil : objects_of [] [] ≡ finite.empty
 objects_of-nil = finite.empty_of_len (objects_of [] []) (finite.len-entries (objects_of [] []) ∙ ap length (entries-from_sorted name_cmp [] tt))
 
 module _ (pairs : List Pair) (order : List ℕ) (kept : IsKept pairs order) where
+  -- the names rise, in the form that the lemmas on maps take
   rising : T (is_sorted name_cmp (listed pairs order))
   rising = T-from_true _ kept.rising
 

@@ -8,7 +8,7 @@ unreachable-requires c =
     let at = rw (c.deref.ensures.value, c.deref-2.ensures.value, c.deref-3.ensures.value) at c.in_default.ensures.found in
     let there = found c.self.inside.entries.items c.self.inside.order.items c.self.invariant c.args.name.items _ at in
     let here = ap (λ v. map.get v.objects c.args.name.items) c.self.view_is in
-    cc (there, here, c.requires.absent)
+    cc (there, c.requires.absent)
 
 pub invariant_of-self : goal.invariant_of-self
 invariant_of-self c =

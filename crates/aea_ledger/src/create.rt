@@ -1,0 +1,180 @@
+//! A new archive: its ledger.
+
+ghost use Rattle.std.specs.Prelude.{◌≡◌, ◌≢◌, ◌↔◌, ◌+◌, ◌≤◌, [], ◌∷◌, length, drop, max, IsTrue, IfOk, OnOk, ℕ};
+ghost use Rattle.aea_faults.specs.Faults.{HasCause, Rose};
+ghost use Rattle.aea_disk.specs.Files.{Files, ChangesFile, MayBeCut};
+ghost use Rattle.aea_disk.specs.State.{Passes, Follows, KeepsImages, KeepsOthers, During, IsSynced, IsFixed, IsSure, HasRoom};
+ghost use Rattle.aea_ledger.specs.Faults.{HasOpenHeader, IsNoArchive};
+ghost use Rattle.aea_ledger.specs.Stops.{empty_ledger, IsNoneOrEmpty, IsBeingMade, HasOpening};
+
+use crate::commit::write_through;
+use aea_disk::{Disk, DiskFault};
+use aea_lattice::Shape;
+
+/// Why no archive was made.
+#[derive(Clone, Copy, Debug, PartialEq, Eq)]
+pub enum CreateFault {
+    /// There is an archive, or what was one.
+    Occupied,
+    /// The disk failed. It has counted it.
+    DiskFault,
+}
+
+impl From<DiskFault> for CreateFault {
+    ghost use Rattle.aea_ledger.specs.declared.create.CreateFault.TheVariants.{DiskFault};
+
+    ghost from_gives = { λ _ fault. fault ≡ DiskFault };
+
+    fn from(_fault: DiskFault) -> CreateFault {
+        CreateFault::DiskFault
+    }
+}
+
+// Makes all files sure, and looks whether the ledger's file has an open header.
+fn is_occupied<D: Disk>(disk: &mut D) -> Result<bool, DiskFault>
+    ensures occupied { IfOk result (λ found. D.tells → IsTrue found ↔ HasOpenHeader ((D.state disk.old).files 0)) }
+    ensures durable { OnOk result (D.tells → IsSynced (D.state disk.new)) }
+    ensures contents { D.tells → (D.state disk.new).files ≡ (D.state disk.old).files }
+    ensures crash { KeepsImages (D.state disk.old) (D.state disk.new) }
+    ensures time { Passes (D.state disk.old) (D.state disk.new) }
+    ensures cause { HasCause (D.state disk.old).faults (D.state disk.new).faults result }
+    ensures sure { IsSure (HasRoom (D.state disk.old)) (D.state disk.old) (D.state disk.new) result }
+{
+    disk.sync()?;
+    let mut front = [0; 18];
+    let count = disk.read(0, 0, &mut front)?;
+    Ok(count == 18 && front[0] == 1)
+}
+
+// Empties the ledger's file, and makes that sure.
+fn empty<D: Disk>(disk: &mut D) -> Result<(), DiskFault>
+    ensures emptied { OnOk result (D.tells → (D.state disk.new).files 0 ≡ []) }
+    ensures cut { D.tells → ChangesFile 0 (MayBeCut 0) (D.state disk.old).files (D.state disk.new).files }
+    ensures durable { OnOk result (D.tells → IsSynced (D.state disk.new)) }
+    ensures crash { Follows (ChangesFile 0 (MayBeCut 0)) (D.state disk.old) (D.state disk.new) }
+    ensures time { Passes (D.state disk.old) (D.state disk.new) }
+    ensures cause { HasCause (D.state disk.old).faults (D.state disk.new).faults result }
+    ensures sure { IsSure (HasRoom (D.state disk.old)) (D.state disk.old) (D.state disk.new) result }
+{
+    disk.cut(0, 0)?;
+    disk.sync()
+}
+
+// Makes the ledger's file one closed gate. No crash leaves an archive on the way.
+fn begin<D: Disk>(disk: &mut D) -> Result<(), DiskFault>
+    requires none { D.tells → IsNoArchive ((D.state disk.old).files 0) }
+    requires fixed { D.tells → IsFixed (D.state disk.old) 0 }
+    ensures any_moment { D.tells → During (D.state disk.old) (D.state disk.new) (λ c. IsNoArchive (c 0)) }
+    ensures reads { D.tells → IsNoArchive ((D.state disk.new).files 0) }
+    ensures begun { OnOk result (D.tells → (D.state disk.new).files 0 ≡ 0 ∷ []) }
+    ensures durable { OnOk result (D.tells → IsSynced (D.state disk.new)) }
+    ensures length { D.tells → length ((D.state disk.new).files 0) ≤ max (length ((D.state disk.old).files 0)) 1 }
+    ensures others { KeepsOthers D.tells 0 (D.state disk.old) (D.state disk.new) }
+    ensures time { Passes (D.state disk.old) (D.state disk.new) }
+    ensures cause { HasCause (D.state disk.old).faults (D.state disk.new).faults result }
+    ensures sure { IsSure ((D.state disk.old).room 0 1) (D.state disk.old) (D.state disk.new) result }
+{
+    empty(disk)?;
+    write_through(disk, 0, &[0])
+}
+
+// What stands in an empty ledger behind the gate of its header.
+pub(crate) fn behind_gate(shape: &Shape) -> [u8; 17]
+    ensures { result ≡ drop 1 (empty_ledger shape.now) }
+{
+    let [b0, b1, b2, b3] = shape.block().to_be_bytes();
+    [
+        b'A',
+        b'E',
+        b'A',
+        b'L',
+        b'E',
+        b'D',
+        b'G',
+        b'1',
+        shape.alpha(),
+        shape.s(),
+        shape.p(),
+        shape.sites(),
+        b0,
+        b1,
+        b2,
+        b3,
+        0,
+    ]
+}
+
+// Writes what stands behind a closed gate at the start of the ledger's file, and then opens the gate.
+fn finish<D: Disk>(disk: &mut D, shape: &Shape) -> Result<(), DiskFault>
+    requires begun { D.tells → (D.state disk.old).files 0 ≡ 0 ∷ [] }
+    requires fixed { D.tells → IsFixed (D.state disk.old) 0 }
+    ensures any_moment { D.tells → During (D.state disk.old) (D.state disk.new) (λ c. IsNoneOrEmpty shape.now (c 0)) }
+    ensures reads { D.tells → IsNoneOrEmpty shape.now ((D.state disk.new).files 0) }
+    ensures created { OnOk result (D.tells → (D.state disk.new).files 0 ≡ empty_ledger shape.now) }
+    ensures durable { OnOk result (D.tells → IsSynced (D.state disk.new)) }
+    ensures length { D.tells → length ((D.state disk.new).files 0) ≤ 18 }
+    ensures others { KeepsOthers D.tells 0 (D.state disk.old) (D.state disk.new) }
+    ensures time { Passes (D.state disk.old) (D.state disk.new) }
+    ensures cause { HasCause (D.state disk.old).faults (D.state disk.new).faults result }
+    ensures sure { IsSure ((D.state disk.old).room 0 18) (D.state disk.old) (D.state disk.new) result }
+    ensures full { OnOk result (HasRoom (D.state disk.old) → (D.state disk.new).room 0 18) }
+{
+    write_through(disk, 1, &behind_gate(shape))?;
+    write_through(disk, 0, &[1])
+}
+
+// Makes an archive where there is none.
+fn make<D: Disk>(disk: &mut D, shape: &Shape) -> Result<(), DiskFault>
+    requires none { D.tells → IsNoArchive ((D.state disk.old).files 0) }
+    requires fixed { D.tells → IsFixed (D.state disk.old) 0 }
+    ensures any_moment { D.tells → During (D.state disk.old) (D.state disk.new) (λ c. IsNoneOrEmpty shape.now (c 0)) }
+    ensures reads { D.tells → IsNoneOrEmpty shape.now ((D.state disk.new).files 0) }
+    ensures created { OnOk result (D.tells → (D.state disk.new).files 0 ≡ empty_ledger shape.now) }
+    ensures durable { OnOk result (D.tells → IsSynced (D.state disk.new)) }
+    ensures length { D.tells → length ((D.state disk.new).files 0) ≤ max (length ((D.state disk.old).files 0)) 18 }
+    ensures others { KeepsOthers D.tells 0 (D.state disk.old) (D.state disk.new) }
+    ensures time { Passes (D.state disk.old) (D.state disk.new) }
+    ensures cause { HasCause (D.state disk.old).faults (D.state disk.new).faults result }
+    ensures sure { IsSure ((D.state disk.old).room 0 18) (D.state disk.old) (D.state disk.new) result }
+    ensures full { OnOk result (HasRoom (D.state disk.old) → (D.state disk.new).room 0 18) }
+{
+    begin(disk)?;
+    finish(disk, shape)
+}
+
+/// Makes an archive of this shape in file 0, the ledger, of a folder that has none. At `Ok` the file has exactly the
+/// 18 bytes of a ledger without records, and every file is sure. The folder is occupied where the file has at least 18
+/// bytes and the first of them is 1, and is then left as it is. It takes no memory.
+pub fn create_ledger<D: Disk>(disk: &mut D, shape: &Shape) -> Result<(), CreateFault>
+    // When the folder is occupied, and that it is left as it is.
+    ensures occupied { result ≡ Err CreateFault.Occupied → D.tells → HasOpenHeader ((D.state disk.old).files 0) }
+    ensures free { OnOk result (D.tells → IsNoArchive ((D.state disk.old).files 0)) }
+    ensures untouched { result ≡ Err CreateFault.Occupied → KeepsImages (D.state disk.old) (D.state disk.new) × (D.tells → (D.state disk.new).files ≡ (D.state disk.old).files) }
+
+    // What stands at Ok. Nothing is then pending on any file.
+    ensures created { OnOk result (D.tells → (D.state disk.new).files 0 ≡ empty_ledger shape.now) }
+    ensures durable { OnOk result (D.tells → IsSynced (D.state disk.new)) }
+
+    // What a stop at any moment leaves, and what stands after a fault.
+    ensures stops { D.tells → HasOpening (D.state disk.old) (D.state disk.new) (λ c. IsBeingMade shape.now ((D.state disk.old).files 0) (c 0)) }
+    ensures reads { D.tells → IsBeingMade shape.now ((D.state disk.old).files 0) ((D.state disk.new).files 0) }
+    ensures length { D.tells → length ((D.state disk.new).files 0) ≤ max (length ((D.state disk.old).files 0)) 18 }
+    ensures others { KeepsOthers D.tells 0 (D.state disk.old) (D.state disk.new) }
+
+    // When the disk is at fault.
+    ensures time { Passes (D.state disk.old) (D.state disk.new) }
+    ensures kept { (D.state disk.old).faults ≤ (D.state disk.new).faults }
+    ensures cause { result ≡ Err CreateFault.DiskFault → Rose (D.state disk.old).faults (D.state disk.new).faults }
+    ensures sure { (D.state disk.old).room 0 18 → (result ≢ Err CreateFault.DiskFault) × ((D.state disk.new).faults ≡ (D.state disk.old).faults) }
+    ensures full { OnOk result (HasRoom (D.state disk.old) → (D.state disk.new).room 0 18) }
+    ensures refused { HasRoom (D.state disk.old) → D.tells → HasOpenHeader ((D.state disk.old).files 0) → (result ≡ Err CreateFault.Occupied) × ((D.state disk.new).faults ≡ (D.state disk.old).faults) }
+{
+    if is_occupied(disk)? {
+        return Err(CreateFault::Occupied);
+    }
+    make(disk, shape)?;
+    Ok(())
+}
+
+#[cfg(test)]
+mod tests;

@@ -1,0 +1,205 @@
+//! Ledgers byte by byte: what opening answers, beside the plain reader.
+
+use crate::example::{ABC, FRONT, example, first_digest};
+use crate::plain::{Reading, part, read_plainly};
+use aea_disk::{Disk, DiskFault, SureDisk};
+use aea_lattice::{Class, Shape};
+use aea_ledger::{OpenFault, open_ledger};
+use sha2::{Digest, Sha256};
+use std::alloc::{AllocError, Global};
+use std::test::Fail;
+
+/// Makes the file of the ledger these bytes. No disk here has room for 2^40.
+pub fn fill(disk: &mut SureDisk, bytes: &[u8]) -> Result<(), DiskFault> {
+    if bytes.len() > 1 << 40 {
+        return Err(DiskFault);
+    }
+    disk.cut(0, 0)?;
+    disk.write(0, 0, bytes)
+}
+
+/// What opening makes of the bytes. The disk keeps them.
+pub fn open_bytes(alloc: Global, disk: &mut SureDisk, bytes: &[u8]) -> Result<Reading, Fail> {
+    fill(disk, bytes)?;
+    open_disk(alloc, disk)
+}
+
+/// What opening makes of a disk.
+pub fn open_disk<D: Disk>(alloc: Global, disk: &mut D) -> Result<Reading, Fail> {
+    match open_ledger(alloc, disk) {
+        Ok(ledger) => Ok(Reading::Ledger {
+            nodes: u64::from(ledger.lattice().n()),
+            objects: ledger.catalog().len() as u64,
+        }),
+        Err(OpenFault::NoArchive) => Ok(Reading::NoArchive),
+        Err(OpenFault::LedgerBad { at }) => Ok(Reading::Bad { at }),
+        Err(_) => Err(Fail::from(AllocError)),
+    }
+}
+
+#[test]
+fn the_example_is_read_field_by_field(rt: HostRuntime) -> Result<(), Fail> {
+    let bytes = example(rt.alloc())?;
+    assert_eq!(rt; bytes.len(), 203);
+    let mut disk = SureDisk::new(rt.alloc(), 0, 256, 0)?;
+    fill(&mut disk, &bytes)?;
+    let ledger = open_ledger(rt.alloc(), &mut disk)?;
+    assert_eq!(rt; Some(ledger.shape()), Shape::new(3, 2, 5, 64, 4));
+    assert_eq!(rt; ledger.lattice().n(), 1);
+    assert!(rt; ledger.live());
+    assert_eq!(rt; ledger.catalog().len(), 1);
+    let Some(object) = ledger.catalog().find(b"a") else {
+        return Err(Fail::new("no object"));
+    };
+    assert_eq!(rt; (object.first, object.count, object.length), (1, 1, 3));
+    assert_eq!(rt; &object.digest, ABC);
+    for (k, class) in [
+        (0u32, Class::Datum),
+        (1, Class::Horiz),
+        (2, Class::Right),
+        (3, Class::Left),
+    ] {
+        assert_eq!(rt; ledger.digest(k), first_digest(class));
+    }
+    assert_eq!(rt; ledger.seal(), Sha256::digest(part(&bytes, 0, 202)));
+    Ok(())
+}
+
+#[test]
+fn each_cut_and_change_is_as_the_plain_reader_has_it(rt: HostRuntime) -> Result<(), Fail> {
+    let alloc = rt.alloc();
+    let bytes = example(alloc)?;
+    let mut disk = SureDisk::new(alloc, 0, 256, 0)?;
+    for end in 0..=bytes.len() {
+        let front = &bytes[..end];
+        let plain = read_plainly(alloc, front)?;
+        assert_eq!(rt; open_bytes(alloc, &mut disk, front)?, plain, "{end} bytes");
+    }
+    let mut changed = Vec::from_slice(alloc, &bytes)?;
+    for place in 0..bytes.len() {
+        let kept = changed[place];
+        for value in 0..=255u8 {
+            changed[place] = value;
+            let plain = read_plainly(alloc, &changed)?;
+            assert_eq!(rt;
+                open_bytes(alloc, &mut disk, &changed)?,
+                plain,
+                "{value} at {place}"
+            );
+        }
+        changed[place] = kept;
+    }
+    Ok(())
+}
+
+// Some changes of the example, whose places are known.
+#[rattlefmt::skip]
+#[test]
+fn bad_places(rt: HostRuntime) -> Result<(), Fail> {
+    let alloc = rt.alloc();
+    let bytes = example(alloc)?;
+    let mut disk = SureDisk::new(alloc, 0, 256, 0)?;
+    for (end, place, value, want) in [
+        (203u64, 9usize, 4u8, Reading::Bad { at: 9 }),
+        (202, 0, 1, Reading::Bad { at: 202 }),
+        (150, 0, 1, Reading::Bad { at: 74 }),
+        (17, 0, 1, Reading::NoArchive),
+        (203, 0, 7, Reading::NoArchive),
+        // the length of the body is judged last, but whether it is there at its place
+        (203, 22, 0xb4, Reading::Bad { at: 19 }),
+        (202, 22, 0xb4, Reading::Bad { at: 19 }),
+        (150, 22, 0xb4, Reading::Bad { at: 74 }),
+        (21, 0, 1, Reading::Bad { at: 19 }),
+        (203, 69, 2, Reading::Bad { at: 66 }),
+        (203, 73, 2, Reading::Bad { at: 70 }),
+        (203, 24, 0, Reading::Bad { at: 23 }),
+        (203, 25, 31, Reading::Bad { at: 25 }),
+        (203, 25, 127, Reading::Bad { at: 25 }),
+        (203, 25, 0xff, Reading::Bad { at: 25 }),
+        (203, 202, 1, Reading::Bad { at: 203 }),
+        (203, 202, 2, Reading::Ledger { nodes: 1, objects: 1 }),
+        (203, 17, 0, Reading::Ledger { nodes: 0, objects: 0 }),
+    ] {
+        let mut changed = Vec::from_slice(alloc, part(&bytes, 0, end))?;
+        if let Some(byte) = changed.get_mut(place) {
+            *byte = value;
+        }
+        assert_eq!(rt; open_bytes(alloc, &mut disk, &changed)?, want, "{end} {place} {value}");
+        assert_eq!(rt; read_plainly(alloc, &changed)?, want, "{end} {place} {value}");
+    }
+    Ok(())
+}
+
+/// Adds an empty object of this name behind the last gate, which it opens, and closes the next.
+pub fn add_empty(bytes: &mut Vec<u8>, name: &[u8], first: u32) -> Result<(), AllocError> {
+    let _gate = bytes.pop();
+    let long = u16::try_from(name.len()).unwrap_or(u16::MAX);
+    bytes.extend_from_slice(b"\x01\x01")?;
+    bytes.extend_from_slice(&u32::from(long).saturating_add(50).to_be_bytes())?;
+    bytes.extend_from_slice(&long.to_be_bytes())?;
+    bytes.extend_from_slice(name)?;
+    bytes.extend_from_slice(&[0; 40])?;
+    bytes.extend_from_slice(&first.to_be_bytes())?;
+    bytes.extend_from_slice(&[0; 4])?;
+    bytes.push(0)?;
+    Ok(())
+}
+
+#[rattlefmt::skip]
+#[test]
+fn names_at_their_limits(rt: HostRuntime) -> Result<(), Fail> {
+    let alloc = rt.alloc();
+    let mut disk = SureDisk::new(alloc, 0, 512, 0)?;
+    let none = Reading::Bad { at: 25 };
+    let one = Reading::Ledger { nodes: 0, objects: 1 };
+    for (name, want) in [
+        (&[b'a'; 255][..], one),
+        (&[b'a'; 256], Reading::Bad { at: 23 }),
+        (b"", Reading::Bad { at: 23 }),
+        (b"tab\x09", none),
+        (b"\x1f", none),
+        (b"\x20", one),
+        (b"\x7e", one),
+        (b"\x7f", none),
+        (b"\xc3\xa9", one),
+        (b"\xc3", none),
+        (b"\xc0\x80", none),
+        (b"\xff", none),
+    ] {
+        let mut bytes = Vec::from_slice(alloc, FRONT)?;
+        add_empty(&mut bytes, name, 1)?;
+        assert_eq!(rt; open_bytes(alloc, &mut disk, &bytes)?, want, "{name:?}");
+        assert_eq!(rt; read_plainly(alloc, &bytes)?, want, "{name:?}");
+    }
+    // a name that stands twice
+    let mut bytes = Vec::from_slice(alloc, FRONT)?;
+    add_empty(&mut bytes, b"b", 1)?;
+    add_empty(&mut bytes, b"a", 1)?;
+    add_empty(&mut bytes, b"b", 1)?;
+    assert_eq!(rt; open_bytes(alloc, &mut disk, &bytes)?, Reading::Bad { at: 17 + 57 + 57 + 8 });
+    Ok(())
+}
+
+#[test]
+fn as_many_objects_as_there_may_be(rt: HostRuntime) -> Result<(), Fail> {
+    let alloc = rt.alloc();
+    let mut bytes = Vec::from_slice(alloc, FRONT)?;
+    for k in 0..65_536u32 {
+        // names out of order
+        let name = format!(in alloc; "{}", k.wrapping_mul(40_503) % 65_536)?;
+        add_empty(&mut bytes, name.as_bytes(), 1)?;
+    }
+    let mut disk = SureDisk::new(alloc, 0, bytes.len().saturating_add(100), 0)?;
+    let full = Reading::Ledger {
+        nodes: 0,
+        objects: 65_536,
+    };
+    assert_eq!(rt; open_bytes(alloc, &mut disk, &bytes)?, full);
+    let end = (bytes.len() as u64).saturating_sub(1);
+    add_empty(&mut bytes, b"one more", 1)?;
+    assert_eq!(rt;
+        open_bytes(alloc, &mut disk, &bytes)?,
+        Reading::Bad { at: end }
+    );
+    Ok(())
+}

@@ -1,0 +1,171 @@
+//! A plain reader of ledgers, which judges the tables of fields one by one.
+
+use aea_catalog::check_name;
+use std::alloc::{AllocError, Global};
+
+/// What a file is.
+#[derive(Clone, Copy, Debug, PartialEq, Eq)]
+pub enum Reading {
+    NoArchive,
+    Bad { at: u64 },
+    Ledger { nodes: u64, objects: u64 },
+}
+
+/// The bytes from a place on, so many of them, or as many as there are.
+pub fn part(bytes: &[u8], at: u64, count: u64) -> &[u8] {
+    let end = bytes.len() as u64;
+    let start = at.min(end);
+    let stop = start.saturating_add(count).min(end).max(start);
+    &bytes[start as usize..stop as usize]
+}
+
+// The number of so many bytes at a place.
+fn number(bytes: &[u8], at: u64, count: u64) -> u64 {
+    let mut number = 0u64;
+    for byte in part(bytes, at, count) {
+        number = number.wrapping_mul(256).wrapping_add(u64::from(*byte));
+    }
+    number
+}
+
+// The place of the first field that fails its test.
+fn first_bad(fields: &[(u64, bool)]) -> Option<u64> {
+    for (at, valid) in fields {
+        if !*valid {
+            return Some(*at);
+        }
+    }
+    None
+}
+
+// The fields of the header.
+fn header_fields(bytes: &[u8]) -> [(u64, bool); 6] {
+    let alpha = number(bytes, 9, 1);
+    let s = number(bytes, 10, 1);
+    let p = number(bytes, 11, 1);
+    let sites = number(bytes, 12, 1);
+    let block = number(bytes, 13, 4);
+    [
+        (1, part(bytes, 1, 8) == b"AEALEDG1".as_slice()),
+        (9, 1 <= alpha && alpha <= 3),
+        (
+            10,
+            if alpha == 1 {
+                s == 1
+            } else {
+                2 <= s && s <= 16
+            },
+        ),
+        (
+            11,
+            if alpha == 1 {
+                p == 0
+            } else {
+                s <= p && p <= 64
+            },
+        ),
+        (12, 1 <= sites && sites <= 64),
+        (13, 16 <= block && block <= 65_536),
+    ]
+}
+
+// What is known of a ledger so far: α, the block size, the nodes, and the names.
+#[derive(Drop)]
+struct SoFar {
+    alpha: u64,
+    block: u64,
+    nodes: u64,
+    names: Vec<Vec<u8>>,
+}
+
+// The fields of the record behind an open gate, with which the bytes begin.
+fn record_fields(far: &SoFar, bytes: &[u8]) -> [(u64, bool); 10] {
+    let has = |end: u64| end <= bytes.len() as u64;
+    let long = number(bytes, 6, 2);
+    let name = part(bytes, 8, long);
+    let after = long.saturating_add(8);
+    let length = number(bytes, after, 8);
+    let first = number(bytes, after.saturating_add(40), 4);
+    let count = number(bytes, after.saturating_add(44), 4);
+    let digests = count
+        .saturating_mul(far.alpha.saturating_add(1))
+        .saturating_mul(32);
+    let nodes = length.div_ceil(far.block.max(1));
+    let taken = far.names.iter().any(|known| known.as_slice() == name);
+    [
+        (1, has(2) && number(bytes, 1, 1) == 1),
+        (2, has(6)),
+        (6, has(8) && 1 <= long && long <= 255),
+        (8, has(after) && check_name(name) && !taken),
+        (after, has(after.saturating_add(8))),
+        (after.saturating_add(8), has(after.saturating_add(40))),
+        (
+            after.saturating_add(40),
+            has(after.saturating_add(44)) && first == far.nodes.saturating_add(1),
+        ),
+        (
+            after.saturating_add(44),
+            has(after.saturating_add(48))
+                && count == nodes
+                && far.nodes.saturating_add(count) <= 65_536,
+        ),
+        (
+            after.saturating_add(48),
+            has(after.saturating_add(48).saturating_add(digests)),
+        ),
+        (
+            2,
+            number(bytes, 2, 4) == long.saturating_add(50).saturating_add(digests),
+        ),
+    ]
+}
+
+// What the bytes behind the header are.
+fn read_records(alloc: Global, far: &mut SoFar, bytes: &[u8]) -> Result<Reading, AllocError> {
+    let mut gate = 17u64;
+    for objects in 0..70_000u64 {
+        let rest = part(bytes, gate, u64::MAX);
+        if rest.is_empty() {
+            return Ok(Reading::Bad { at: gate });
+        }
+        if rest[0] != 1 {
+            return Ok(Reading::Ledger {
+                nodes: far.nodes,
+                objects,
+            });
+        }
+        if objects == 65_536 {
+            return Ok(Reading::Bad { at: gate });
+        }
+        if let Some(at) = first_bad(&record_fields(far, rest)) {
+            return Ok(Reading::Bad {
+                at: gate.saturating_add(at),
+            });
+        }
+        let long = number(rest, 6, 2);
+        far.nodes = far
+            .nodes
+            .saturating_add(number(rest, long.saturating_add(52), 4));
+        far.names
+            .push(Vec::from_slice(alloc, part(rest, 8, long))?)?;
+        gate = gate.saturating_add(number(rest, 2, 4)).saturating_add(6);
+    }
+    Ok(Reading::NoArchive)
+}
+
+/// What the bytes are, by the tables.
+pub fn read_plainly(alloc: Global, bytes: &[u8]) -> Result<Reading, AllocError> {
+    if bytes.len() < 18 || bytes[0] != 1 {
+        return Ok(Reading::NoArchive);
+    }
+    if let Some(at) = first_bad(&header_fields(bytes)) {
+        return Ok(Reading::Bad { at });
+    }
+    let mut far = SoFar {
+        alpha: number(bytes, 9, 1),
+        block: number(bytes, 13, 4),
+        nodes: 0,
+        names: Vec::new(alloc),
+    };
+    read_records(alloc, &mut far, bytes)
+}

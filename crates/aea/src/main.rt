@@ -1,7 +1,8 @@
-//! The program: the words and standard streams of the process, handed to `run`.
+//! The program: the words and standard streams of the process and the files of the current folder, handed to `run`.
 #![tactic(auto)]
 
 use aea_cli::{Status, run};
+use aea_disk::DirDisk;
 use aea_io::{StdSink, StdSource};
 use std::process::ExitCode;
 use std::{env, io};
@@ -17,12 +18,13 @@ fn words(rt: &HostRuntime) -> io::Result<Vec<String>> {
     Ok(words)
 }
 
-// Runs the command that the words mean over the standard streams.
+// Runs the command that the words mean over the current folder and the standard streams.
 fn run_words(rt: &HostRuntime, words: &[String]) -> Status {
+    let mut disk = DirDisk::new(rt);
     let mut input = StdSource::new(rt.stdin());
     let mut out = StdSink::new(rt.stdout());
     let mut err = StdSink::new(rt.stderr());
-    run(rt.alloc(), words, &mut input, &mut out, &mut err)
+    run(rt.alloc(), words, &mut disk, &mut input, &mut out, &mut err)
 }
 
 // The exit code where the system does not hand over the words.

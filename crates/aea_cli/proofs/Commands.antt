@@ -1,15 +1,17 @@
 -- Which lists of words mean no command.
-use Rattle.std.proofs.Common.{◌≡◌, ℕ, ◌<◌, ◌≤◌, get_or, ◌^◌, List, [], ◌∷◌, decimal, arith, sym, ◌∙◌, ap, subst, length, IsTrue, Option, Some, None}
-use Rattle.std.specs.Prelude.{IfNone, IfSome, option_map}
+use Rattle.std.proofs.Common.{◌≡◌, ℕ, ◌<◌, ◌≤◌, get_or, ◌^◌, List, [], ◌∷◌, decimal, arith, refl, sym, ◌∙◌, ap, subst, length, IsTrue, true, Option, Some, None}
+use Rattle.std.specs.Prelude.{IfNone}
 use Rattle.std.proofs.lemmas.Bool.Decides.{nat_tests}
 use Rattle.std.proofs.lemmas.Fmt.{decimal_injective}
 use Rattle.std.proofs.Math.Bridge.{le_prop}
-use Rattle.std.proofs.Math.Bool.{Bool-set}
-use Rattle.aea_lattice.specs.Profile.{is_profile, greatest_nodes}
+use mathlib.Core.HLevel.{is_prop→PathP}
+use mathlib.Core.Bool.{Bool-set}
+use Rattle.aea_lattice.specs.Profile.{is_profile, is_shape, greatest_nodes}
 use Rattle.aea_lattice.specs.declared.grid.Lattice.{Lattice}
+use Rattle.aea_lattice.specs.declared.shape.Shape.{Shape}
 use Rattle.aea_cli.specs.declared.command.Command.{Command}
-use Rattle.aea_cli.specs.declared.command.Command.TheVariants.{Drill}
-use Rattle.aea_cli.specs.Words.{Means, AreNoCommand, lattice_of}
+use Rattle.aea_cli.specs.declared.command.Command.TheVariants.{Drill, Create, Stat}
+use Rattle.aea_cli.specs.Words.{Means, AreNoDrill, AreNoCreate, AreNoCommand}
 
 -- the numbers of a lattice fit 32 bits
 pub record AreSmall (l : Lattice) : Type 0 where
@@ -29,17 +31,14 @@ are_small l =
       n = omega arith;
     }
 
-pub none_by : (words : List (List ℕ)) → ((l : Lattice) → Means words (Drill l) → ⊥) → AreNoCommand words
-none_by words never (Drill l) means = never l means
-
 pub if_none_weaker : {A : Type 0} → (o : Option A) (P Q : Type 0) → (P → Q) → IfNone o P → IfNone o Q
 if_none_weaker None P Q f h = f h
 if_none_weaker (Some x) P Q f h = tt
 
 -- the numbers that the words name are those of no lattice
 pub no_lattice : (w : List ℕ) (a s p n : ℕ) → a < 2 ^ 32 → s < 2 ^ 32 → p < 2 ^ 32 → n < 2 ^ 32 → ((l : Lattice) → l.alpha ≡ a → l.s ≡ s → l.p ≡ p → l.n ≡ n → ⊥)
-    → AreNoCommand (w ∷ decimal a ∷ decimal s ∷ decimal p ∷ decimal n ∷ [])
-no_lattice w a s p n fa fs fp fn never = none_by (w ∷ decimal a ∷ decimal s ∷ decimal p ∷ decimal n ∷ []) (λ l means.
+    → AreNoDrill (w ∷ decimal a ∷ decimal s ∷ decimal p ∷ decimal n ∷ [])
+no_lattice w a s p n fa fs fp fn never = λ l means.
     let small = are_small l in
     let ea : decimal l.alpha ≡ decimal a = cc in
     let es : decimal l.s ≡ decimal s = cc in
@@ -49,7 +48,7 @@ no_lattice w a s p n fa fs fp fn never = none_by (w ∷ decimal a ∷ decimal s 
     (decimal_injective l.alpha a (omega arith) (omega arith) ea)
     (decimal_injective l.s s (omega arith) (omega arith) es)
     (decimal_injective l.p p (omega arith) (omega arith) ep)
-    (decimal_injective l.n n (omega arith) (omega arith) en))
+    (decimal_injective l.n n (omega arith) (omega arith) en)
 
 -- a list of five items is its five items
 pub five_items : {X : Type 0} → (xs : List X) (a b c d e : X) → 5 ≤ length xs → length xs < 6 → a ≡ get_or xs 0 a → b ≡ get_or xs 1 b → c ≡ get_or xs 2 c → d ≡ get_or xs 3 d → e ≡ get_or xs 4 e
@@ -104,7 +103,102 @@ drills_equal words a b ea eb =
     (decimal_injective a.p b.p (omega arith) (omega arith) dp)
     (decimal_injective a.n b.n (omega arith) (omega arith) dn)
 
--- the lattice of the drill that words were read as is that of every drill that they mean
-pub lattice_meant : (words : List (List ℕ)) (parsed : Option Command) (a l : Lattice) → Some a ≡ option_map lattice_of parsed → IfSome parsed (Means words) → Means words (Drill l) → a ≡ l
-lattice_meant words None a l is means drills = let h : Some a ≡ None = is in cc
-lattice_meant words (Some (Drill b)) a l is means drills = let h : Some a ≡ Some b = is in let e : a ≡ b = cc in e ∙ drills_equal words b l means drills
+-- the numbers of the shape of an archive fit 32 bits
+pub record AreSmallNumbers (shape : Shape) : Type 0 where
+  pub alpha : shape.alpha < 2 ^ 32
+  pub s : shape.s < 2 ^ 32
+  pub p : shape.p < 2 ^ 32
+  pub block : shape.block < 2 ^ 32
+  pub sites : shape.sites < 2 ^ 32
+
+pub are_small_numbers : (shape : Shape) → AreSmallNumbers shape
+are_small_numbers shape =
+    let fits = shape.in_profile in
+    record {
+      alpha = grind (arith, nat_tests);
+      s = grind (arith, nat_tests);
+      p = grind (arith, nat_tests);
+      block = grind (arith, nat_tests);
+      sites = grind (arith, nat_tests);
+    }
+
+-- the numbers that the words name are those of no shape
+pub no_shape : (w : List ℕ) (a s p b m : ℕ) → a < 2 ^ 32 → s < 2 ^ 32 → p < 2 ^ 32 → b < 2 ^ 32 → m < 2 ^ 32
+    → ((shape : Shape) → shape.alpha ≡ a → shape.s ≡ s → shape.p ≡ p → shape.block ≡ b → shape.sites ≡ m → ⊥)
+    → AreNoCreate (w ∷ decimal a ∷ decimal s ∷ decimal p ∷ decimal b ∷ decimal m ∷ [])
+no_shape w a s p b m fa fs fp fb fm never = λ shape means.
+    let small = are_small_numbers shape in
+    let ea : decimal shape.alpha ≡ decimal a = cc in
+    let es : decimal shape.s ≡ decimal s = cc in
+    let ep : decimal shape.p ≡ decimal p = cc in
+    let eb : decimal shape.block ≡ decimal b = cc in
+    let em : decimal shape.sites ≡ decimal m = cc in
+    never shape
+    (decimal_injective shape.alpha a (omega arith) (omega arith) ea)
+    (decimal_injective shape.s s (omega arith) (omega arith) es)
+    (decimal_injective shape.p p (omega arith) (omega arith) ep)
+    (decimal_injective shape.block b (omega arith) (omega arith) eb)
+    (decimal_injective shape.sites m (omega arith) (omega arith) em)
+
+-- a list of six items is its six items
+pub six_items : {X : Type 0} → (xs : List X) (a b c d e f : X) → 6 ≤ length xs → length xs < 7 → a ≡ get_or xs 0 a → b ≡ get_or xs 1 b → c ≡ get_or xs 2 c → d ≡ get_or xs 3 d → e ≡ get_or xs 4 e → f ≡ get_or xs 5 f
+    → xs ≡ a ∷ b ∷ c ∷ d ∷ e ∷ f ∷ []
+six_items [] a b c d e f least most ea eb ec ed ee ef = absurd (omega arith)
+six_items (v ∷ vs) a b c d e f least most ea eb ec ed ee ef =
+    let va : a ≡ v = ea in
+    let rest = five_items vs b c d e f (omega arith) (omega arith) eb ec ed ee ef in
+    cc
+
+-- a list of one item is that item
+pub one_item : {X : Type 0} → (xs : List X) (a : X) → 1 ≤ length xs → length xs < 2 → a ≡ get_or xs 0 a → xs ≡ a ∷ []
+one_item [] a least most ea = absurd (omega arith)
+one_item (v ∷ []) a least most ea = let va : a ≡ v = ea in cc
+one_item (v ∷ w ∷ xs) a least most ea = absurd (omega arith)
+
+-- two shapes of the same numbers are the same
+pub shape_equal : (a b : Shape) → a.alpha ≡ b.alpha → a.s ≡ b.s → a.p ≡ b.p → a.block ≡ b.block → a.sites ≡ b.sites → a ≡ b
+shape_equal a b alpha s p block sites = λ i. record {
+  alpha = alpha i;
+  s = s i;
+  p = p i;
+  block = block i;
+  sites = sites i;
+  in_profile = is_prop→PathP (λ j. is_shape (alpha j) (s j) (p j) (block j) (sites j) ≡ true)
+      (λ j. Bool-set (is_shape (alpha j) (s j) (p j) (block j) (sites j)) true) a.in_profile b.in_profile i;
+}
+
+-- the words of a new archive have one shape
+pub shapes_equal : (words : List (List ℕ)) (a b : Shape) → Means words (Create a) → Means words (Create b) → a ≡ b
+shapes_equal words a b ea eb =
+    let same = sym ea ∙ eb in
+    let sa = are_small_numbers a in
+    let sb = are_small_numbers b in
+    let dalpha : decimal a.alpha ≡ decimal b.alpha = cc in
+    let ds : decimal a.s ≡ decimal b.s = cc in
+    let dp : decimal a.p ≡ decimal b.p = cc in
+    let dblock : decimal a.block ≡ decimal b.block = cc in
+    let dsites : decimal a.sites ≡ decimal b.sites = cc in
+    shape_equal a b
+    (decimal_injective a.alpha b.alpha (omega arith) (omega arith) dalpha)
+    (decimal_injective a.s b.s (omega arith) (omega arith) ds)
+    (decimal_injective a.p b.p (omega arith) (omega arith) dp)
+    (decimal_injective a.block b.block (omega arith) (omega arith) dblock)
+    (decimal_injective a.sites b.sites (omega arith) (omega arith) dsites)
+
+-- words mean one command at most
+pub one_command : (words : List (List ℕ)) (a b : Command) → Means words a → Means words b → a ≡ b
+one_command words (Drill a) (Drill b) ea eb = ap Drill (drills_equal words a b ea eb)
+one_command words (Drill a) (Create b) ea eb = let same = sym ea ∙ eb in cc
+one_command words (Drill a) Stat ea eb = let same = sym ea ∙ eb in cc
+one_command words (Create a) (Drill b) ea eb = let same = sym ea ∙ eb in cc
+one_command words (Create a) (Create b) ea eb = ap Create (shapes_equal words a b ea eb)
+one_command words (Create a) Stat ea eb = let same = sym ea ∙ eb in cc
+one_command words Stat (Drill b) ea eb = let same = sym ea ∙ eb in cc
+one_command words Stat (Create b) ea eb = let same = sym ea ∙ eb in cc
+one_command words Stat Stat ea eb = refl
+
+-- words that are none of the commands
+pub none_of_all : (words : List (List ℕ)) → AreNoDrill words → AreNoCreate words → (Means words Stat → ⊥) → AreNoCommand words
+none_of_all words drill create stat (Drill l) means = drill l means
+none_of_all words drill create stat (Create shape) means = create shape means
+none_of_all words drill create stat Stat means = stat means

@@ -6,3 +6,7 @@ pub mod BlockLines
 pub mod StepMarks
 pub mod Outcomes
 pub mod FailureCases
+pub mod StatTexts
+pub mod OpeningCases
+pub mod Creating
+pub mod Stating

@@ -1,5 +1,5 @@
 -- The outcome of a drill: what is refused, what is printed, and the status.
-use Rattle.std.specs.Prelude.{◌≡◌, ℕ, ◌-◌, ◌<◌, ◌≤◌, ◌↔◌, ◌⊎◌, Bool, not, cond, List, [], ◌∷◌, ◌++◌, filter, length, count_by, All, slice_get, Option, Some, codes, decimal, IsTrue, take}
+use Rattle.std.specs.Prelude.{◌≡◌, ℕ, ◌-◌, ◌<◌, ◌≤◌, ◌↔◌, Bool, not, cond, List, ◌++◌, filter, length, count_by, All, slice_get, Option, Some, codes, decimal, IsTrue, take}
 use Rattle.std.specs.List.{list_any, flat_map}
 use Rattle.std.specs.Str.{bytes_eq}
 use Rattle.aea_lattice.specs.declared.blocks.BlockId.{BlockId}
@@ -7,12 +7,13 @@ use Rattle.aea_lattice.specs.declared.grid.Lattice.{Lattice}
 use Rattle.aea_lattice.specs.Blocks.{HasBlock, blocks_of}
 use Rattle.aea_lattice.specs.Closure.{IsReached}
 use Rattle.aea_lattice.specs.Texts.{text_of}
+use Rattle.aea_cli.specs.declared.command.Command.{Command}
 use Rattle.aea_cli.specs.declared.command.Command.TheVariants.{Drill}
 use Rattle.aea_cli.specs.declared.refusal.Refusal.{Refusal}
-use Rattle.aea_cli.specs.declared.refusal.Refusal.TheVariants.{InputTooLong, BadBlock}
+use Rattle.aea_cli.specs.declared.refusal.Refusal.TheVariants.{InputTooLong, BadBlock, NoArchive, LedgerBad, Occupied}
 use Rattle.aea_cli.specs.declared.status.Status.{Status}
 use Rattle.aea_cli.specs.declared.status.Status.TheVariants.{Done, Damage}
-use Rattle.aea_cli.specs.Lines.{lines_of}
+use Rattle.aea_cli.specs.Lines.{lines_of, newline}
 use Rattle.aea_cli.specs.Marks.{AreMarks}
 use Rattle.aea_cli.specs.Reached.{AreReached}
 use Rattle.aea_cli.specs.Words.{Means}
@@ -35,6 +36,9 @@ pub record IsFirstBad (l : Lattice) (text : List ℕ) (k : ℕ) : Type 0 where
 abbrev pub IsRefused : Lattice → List ℕ → Refusal → Type 0
 IsRefused l input InputTooLong = greatest_input < length input
 IsRefused l input (BadBlock k) = (length input ≤ greatest_input) × IsFirstBad l input k
+IsRefused l input NoArchive = ⊥
+IsRefused l input (LedgerBad at) = ⊥
+IsRefused l input Occupied = ⊥
 
 -- the damage list is not refused
 abbrev pub IsAccepted : Lattice → List ℕ → Type 0
@@ -55,9 +59,6 @@ listed_blocks l input = filter (is_listed input) (blocks_of l)
 -- a test for the closure of the blocks that are left
 abbrev pub IsClosureTest : Lattice → List ℕ → (BlockId → Bool) → Type 0
 IsClosureTest l input reached = (b : BlockId) → HasBlock l b → IsTrue (reached b) ↔ IsReached l (is_left input) b
-
-abbrev pub newline : List ℕ
-newline = 10 ∷ []
 
 -- `peeled B` for a block that is peeled, `stuck B` for another
 abbrev pub block_line : Bool → BlockId → List ℕ
@@ -90,10 +91,6 @@ pub record IsPlanned (l : Lattice) (input : List ℕ) (listed reached : List Boo
   pub listed_marks : AreMarks l listed (is_listed input)
   pub reached_marks : AreReached l (is_left input) reached
 
--- a status that says that the command did all its work
-abbrev pub IsWell : Status → Type 0
-IsWell status = (status ≡ Done) ⊎ (status ≡ Damage)
-
 -- “Outcome” of a drill that is not refused: the text on `out`, and the status.
 pub record IsOutcome (l : Lattice) (input : List ℕ) (printed : List ℕ) (answer : Status) : Type 0 where
   pub reached : BlockId → Bool
@@ -101,27 +98,10 @@ pub record IsOutcome (l : Lattice) (input : List ℕ) (printed : List ℕ) (answ
   pub text : printed ≡ printed_text reached (listed_blocks l input)
   pub status : answer ≡ status_of reached (listed_blocks l input)
 
+-- a fact of the lattice of a drill, and of the bytes that the input tells
+abbrev pub OnLattice : Command → Option (List ℕ) → (Lattice → List ℕ → Type 0) → Type 0
+OnLattice command told fact = (l : Lattice) (input : List ℕ) → command ≡ Drill l → told ≡ Some input → fact l input
+
 -- a fact of the lattice that the words of a drill name, and of the bytes that the input tells
 abbrev pub OnDrill : List (List ℕ) → Option (List ℕ) → (Lattice → List ℕ → Type 0) → Type 0
 OnDrill words told fact = (l : Lattice) (input : List ℕ) → Means words (Drill l) → told ≡ Some input → fact l input
-
--- The lines on `err`: of a refusal,
-abbrev pub refusal_line : Refusal → List ℕ
-refusal_line InputTooLong = codes "refused: input too long" ++ newline
-refusal_line (BadBlock k) = codes "refused: bad block at line " ++ decimal k ++ newline
-
--- of words that are no command,
-abbrev pub words_line : List ℕ
-words_line = codes "words: no such command" ++ newline
-
--- of a fault of the input,
-abbrev pub input_line : List ℕ
-input_line = codes "fault: input" ++ newline
-
--- of a fault of the output,
-abbrev pub output_line : List ℕ
-output_line = codes "fault: output" ++ newline
-
--- and of want of memory
-abbrev pub memory_line : List ℕ
-memory_line = codes "fault: memory" ++ newline

@@ -1,15 +1,21 @@
--- What stands on `err`, and the status, where a command did not end well.
-use Rattle.std.specs.Prelude.{ℕ, List}
+-- What stands on `err`, and the status, where a command did not end well; and the failures that the ledger's faults are.
+use Rattle.std.specs.Prelude.{◌≡◌, ◌⊎◌, ℕ, List, Result, Ok, Err}
+use Rattle.aea_ledger.specs.declared.create.CreateFault.{CreateFault}
+use Rattle.aea_ledger.specs.declared.create.CreateFault.TheVariants as create
+use Rattle.aea_ledger.specs.declared.open.OpenFault.{OpenFault}
+use Rattle.aea_ledger.specs.declared.open.OpenFault.TheVariants as opening
+use Rattle.aea_cli.specs.declared.refusal.Refusal.TheVariants as refusal
 use Rattle.aea_cli.specs.declared.refusal.Failure.{Failure}
 use Rattle.aea_cli.specs.declared.refusal.Failure.TheVariants as failure
 use Rattle.aea_cli.specs.declared.status.Status.{Status}
 use Rattle.aea_cli.specs.declared.status.Status.TheVariants as status
-use Rattle.aea_cli.specs.Drill.{refusal_line, words_line, input_line, output_line, memory_line}
+use Rattle.aea_cli.specs.Refusals.{refusal_line, words_line, disk_line, input_line, output_line, memory_line}
 
 -- the line of a failure
 abbrev pub failure_line : Failure → List ℕ
 failure_line failure.Words = words_line
 failure_line (failure.Refused why) = refusal_line why
+failure_line failure.Disk = disk_line
 failure_line failure.Input = input_line
 failure_line failure.Output = output_line
 failure_line failure.Memory = memory_line
@@ -18,6 +24,28 @@ failure_line failure.Memory = memory_line
 abbrev pub failure_status : Failure → Status
 failure_status failure.Words = status.Words
 failure_status (failure.Refused why) = status.Refused
+failure_status failure.Disk = status.Disk
 failure_status failure.Input = status.Input
 failure_status failure.Output = status.Output
 failure_status failure.Memory = status.Memory
+
+-- the status that a command ends with
+abbrev pub answer_status : Result Status Failure → Status
+answer_status (Ok s) = s
+answer_status (Err f) = failure_status f
+
+-- a status that says that the command did all its work
+abbrev pub IsWell : Status → Type 0
+IsWell s = (s ≡ status.Done) ⊎ (s ≡ status.Damage)
+
+-- the failure where no archive was made
+abbrev pub creation_failure : CreateFault → Failure
+creation_failure create.Occupied = failure.Refused refusal.Occupied
+creation_failure create.DiskFault = failure.Disk
+
+-- the failure where the archive was not opened
+abbrev pub opening_failure : OpenFault → Failure
+opening_failure opening.NoArchive = failure.Refused refusal.NoArchive
+opening_failure (opening.LedgerBad at) = failure.Refused (refusal.LedgerBad at)
+opening_failure opening.DiskFault = failure.Disk
+opening_failure opening.NoMemory = failure.Memory

@@ -7,4 +7,8 @@ pub mod Counts
 pub mod Reached
 pub mod Drill
 pub mod Streams
+pub mod Refusals
 pub mod Failures
+pub mod Openings
+pub mod Create
+pub mod Stat

@@ -1,20 +1,28 @@
 -- “Words”: the command that a list of words means, or none.
 use Rattle.std.specs.Prelude.{◌≡◌, ℕ, List, [], ◌∷◌, codes, decimal}
 use Rattle.aea_lattice.specs.declared.grid.Lattice.{Lattice}
+use Rattle.aea_lattice.specs.declared.shape.Shape.{Shape}
 use Rattle.aea_cli.specs.declared.command.Command.{Command}
-use Rattle.aea_cli.specs.declared.command.Command.TheVariants.{Drill}
+use Rattle.aea_cli.specs.declared.command.Command.TheVariants.{Drill, Create, Stat}
 
--- The words of a command, each number in decimal: `drill A S P N`.
+-- The words of a command, each number in decimal: `drill A S P N`, `create A S P B M` and `stat`.
 abbrev pub words_of : Command → List (List ℕ)
 words_of (Drill l) = codes "drill" ∷ decimal l.alpha ∷ decimal l.s ∷ decimal l.p ∷ decimal l.n ∷ []
-
--- the lattice of a drill
-abbrev pub lattice_of : Command → Lattice
-lattice_of (Drill l) = l
+words_of (Create shape) =
+    codes "create" ∷ decimal shape.alpha ∷ decimal shape.s ∷ decimal shape.p ∷ decimal shape.block ∷ decimal shape.sites ∷ []
+words_of Stat = codes "stat" ∷ []
 
 -- the words mean this command
 abbrev pub Means : List (List ℕ) → Command → Type 0
 Means words command = words ≡ words_of command
+
+-- the words mean no drill
+abbrev pub AreNoDrill : List (List ℕ) → Type 0
+AreNoDrill words = (l : Lattice) → Means words (Drill l) → ⊥
+
+-- the words mean no making of an archive
+abbrev pub AreNoCreate : List (List ℕ) → Type 0
+AreNoCreate words = (shape : Shape) → Means words (Create shape) → ⊥
 
 -- the words mean no command
 abbrev pub AreNoCommand : List (List ℕ) → Type 0

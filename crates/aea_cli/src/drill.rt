@@ -106,6 +106,7 @@ pub fn drill<S: Source, O: Sink>(
     // One that does not.
     ensures refused { (why : Refusal) → result ≡ Err (Failure.Refused why) → (bytes : List ℕ) → S.left input.old ≡ Some bytes → IsRefused lattice.now bytes why }
     ensures never_words { result ≢ Err Failure.Words }
+    ensures never_disk { result ≢ Err Failure.Disk }
     ensures input_cause { result ≡ Err Failure.Input → Rose (S.faults input.old) (S.faults input.new) }
     ensures output_cause { result ≡ Err Failure.Output → Rose (O.faults out.old) (O.faults out.new) }
     ensures output_part { result ≡ Err Failure.Output → (bytes : List ℕ) → S.left input.old ≡ Some bytes

@@ -1,8 +1,10 @@
-//! The commands of the program, over any input and output.
+//! The commands of the program, over any disk, input and output.
 #![tactic(auto)]
 
+mod archive;
 mod command;
 mod counts;
+mod create;
 mod damage;
 mod drill;
 mod lines;
@@ -11,6 +13,7 @@ mod page;
 mod plan;
 mod refusal;
 mod report;
+mod stat;
 mod status;
 mod surely;
 mod top;

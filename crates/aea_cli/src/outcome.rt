@@ -32,6 +32,21 @@ pub fn print_number<O: Sink>(
     print(out, page, buffer.format(number).as_bytes())
 }
 
+/// Prints the word and the place.
+pub fn print_place<O: Sink>(
+    out: &mut O,
+    page: &mut Page,
+    word: &[u8],
+    place: u64,
+) -> Result<(), WriteFault>
+    ensures { Prints (sheet (O.written out.old) (O.room out.old) (O.faults out.old) page.old)
+        (sheet (O.written out.new) (O.room out.new) (O.faults out.new) page.new) result (word.now ++ decimal place) }
+{
+    print(out, page, word)?;
+    let mut buffer = Buffer::new();
+    print(out, page, buffer.format(place).as_bytes())
+}
+
 // The word before a block.
 fn kind_word(peeled: bool) -> &'static [u8]
     ensures { result.now ≡ cond peeled (codes "peeled ") (codes "stuck ") }

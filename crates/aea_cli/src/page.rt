@@ -103,3 +103,15 @@ pub fn finish<O: Sink>(out: &mut O, page: &mut Page) -> Result<(), WriteFault>
     out.flush()?;
     Ok(())
 }
+
+/// Prints the text through a page of its own, and flushes all.
+pub fn put_text<O: Sink>(out: &mut O, text: &[u8]) -> Result<(), WriteFault>
+    ensures flushed { OnOk result (IsFlushed (O.written out.new) (O.flushed out.new)) }
+    ensures prints { Prints (sheet (O.written out.old) (O.room out.old) (O.faults out.old) [])
+        (sheet (O.written out.new) (O.room out.new) (O.faults out.new) []) result text.now }
+{
+    let mut page = Page::new();
+    print(out, &mut page, text)?;
+    finish(out, &mut page)?;
+    Ok(())
+}

@@ -1,5 +1,11 @@
 //! Why a command was not carried out.
 
+ghost use Rattle.std.specs.Prelude.{◌≡◌};
+
+use aea_io::WriteFault;
+use aea_ledger::{CreateFault, OpenFault};
+use std::alloc::AllocError;
+
 /// Why a command is refused.
 #[derive(Clone, Copy, Debug, PartialEq, Eq)]
 pub enum Refusal {
@@ -7,6 +13,12 @@ pub enum Refusal {
     InputTooLong,
     /// This line of the damage list, counted from 1, is not the text of a block of the lattice.
     BadBlock { line: u32 },
+    /// There is no archive in the folder.
+    NoArchive,
+    /// The ledger of the archive is bad at this byte, counted from 0.
+    LedgerBad { at: u64 },
+    /// There is an archive in the folder, or what was one.
+    Occupied,
 }
 
 /// Why a command did not end well.
@@ -16,10 +28,66 @@ pub enum Failure {
     Words,
     /// The command is refused.
     Refused { why: Refusal },
+    /// The disk failed.
+    Disk,
     /// The input failed.
     Input,
     /// The output failed.
     Output,
     /// Memory was wanting.
     Memory,
+}
+
+impl From<CreateFault> for Failure {
+    ghost use Rattle.aea_cli.specs.Failures.{creation_failure};
+
+    ghost from_gives = { λ fault failure. failure ≡ creation_failure fault };
+
+    fn from(fault: CreateFault) -> Failure {
+        match fault {
+            CreateFault::Occupied => Failure::Refused {
+                why: Refusal::Occupied,
+            },
+            CreateFault::DiskFault => Failure::Disk,
+        }
+    }
+}
+
+impl From<OpenFault> for Failure {
+    ghost use Rattle.aea_cli.specs.Failures.{opening_failure};
+
+    ghost from_gives = { λ fault failure. failure ≡ opening_failure fault };
+
+    fn from(fault: OpenFault) -> Failure {
+        match fault {
+            OpenFault::NoArchive => Failure::Refused {
+                why: Refusal::NoArchive,
+            },
+            OpenFault::LedgerBad { at } => Failure::Refused {
+                why: Refusal::LedgerBad { at },
+            },
+            OpenFault::DiskFault => Failure::Disk,
+            OpenFault::NoMemory => Failure::Memory,
+        }
+    }
+}
+
+impl From<WriteFault> for Failure {
+    ghost use Rattle.aea_cli.specs.declared.refusal.Failure.TheVariants.{Output};
+
+    ghost from_gives = { λ _ failure. failure ≡ Output };
+
+    fn from(_fault: WriteFault) -> Failure {
+        Failure::Output
+    }
+}
+
+impl From<AllocError> for Failure {
+    ghost use Rattle.aea_cli.specs.declared.refusal.Failure.TheVariants.{Memory};
+
+    ghost from_gives = { λ _ failure. failure ≡ Memory };
+
+    fn from(_fault: AllocError) -> Failure {
+        Failure::Memory
+    }
 }

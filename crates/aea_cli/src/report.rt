@@ -1,12 +1,12 @@
 //! The line on `err` where a command did not end well.
 
 ghost use Rattle.std.specs.Prelude.{◌≡◌, ◌≤◌, []};
-ghost use Rattle.aea_cli.specs.Drill.{refusal_line};
+ghost use Rattle.aea_cli.specs.Refusals.{refusal_line};
 ghost use Rattle.aea_cli.specs.Failures.{failure_line, failure_status};
 ghost use Rattle.aea_cli.specs.Pages.{sheet, Prints};
 ghost use Rattle.aea_cli.specs.Streams.{PutsLine};
 
-use crate::outcome::print_number;
+use crate::outcome::{print_number, print_place};
 use crate::page::{Page, finish, print};
 use crate::refusal::{Failure, Refusal};
 use crate::status::Status;
@@ -23,6 +23,12 @@ fn print_refusal<E: Sink>(err: &mut E, page: &mut Page, why: Refusal) -> Result<
             print_number(err, page, b"refused: bad block at line ", line)?;
             print(err, page, b"\n")
         }
+        Refusal::NoArchive => print(err, page, b"refused: no archive\n"),
+        Refusal::LedgerBad { at } => {
+            print_place(err, page, b"refused: ledger bad at ", at)?;
+            print(err, page, b"\n")
+        }
+        Refusal::Occupied => print(err, page, b"refused: occupied\n"),
     }
 }
 
@@ -34,6 +40,7 @@ fn print_failure<E: Sink>(err: &mut E, page: &mut Page, failure: Failure) -> Res
     match failure {
         Failure::Words => print(err, page, b"words: no such command\n"),
         Failure::Refused { why } => print_refusal(err, page, why),
+        Failure::Disk => print(err, page, b"fault: disk\n"),
         Failure::Input => print(err, page, b"fault: input\n"),
         Failure::Output => print(err, page, b"fault: output\n"),
         Failure::Memory => print(err, page, b"fault: memory\n"),
@@ -61,6 +68,7 @@ pub fn report<E: Sink>(err: &mut E, failure: Failure) -> Status
     match failure {
         Failure::Words => Status::Words,
         Failure::Refused { .. } => Status::Refused,
+        Failure::Disk => Status::Disk,
         Failure::Input => Status::Input,
         Failure::Output => Status::Output,
         Failure::Memory => Status::Memory,

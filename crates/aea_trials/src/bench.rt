@@ -1,6 +1,7 @@
 //! What the trials share.
 
 use aea_cli::{Status, run_surely};
+use aea_disk::SureDisk;
 use aea_io::{SureSink, SureSource};
 use aea_lattice::{BlockId, Class};
 use std::alloc::{AllocError, Global};
@@ -31,13 +32,21 @@ pub fn text_of(bytes: &[u8]) -> Result<&str, Fail> {
     Ok(str::from_utf8(bytes)?)
 }
 
-/// Runs the command of a line over streams that do not fail.
+/// Runs the command of a line over a disk without room and streams that do not fail.
 pub fn run_line(alloc: Global, line: &str, list: &[u8]) -> Result<Left, AllocError> {
     let words = words_of(alloc, line)?;
+    let mut disk = SureDisk::new(alloc, 0, 0, 0)?;
     let mut input = SureSource::new(list);
     let mut out = SureSink::new(alloc, 4_194_304)?;
     let mut err = SureSink::new(alloc, 64)?;
-    let status = run_surely(alloc, words.as_slice(), &mut input, &mut out, &mut err);
+    let status = run_surely(
+        alloc,
+        words.as_slice(),
+        &mut disk,
+        &mut input,
+        &mut out,
+        &mut err,
+    );
     let unread = input.rest.len();
     Ok(Left {
         status,

@@ -83,6 +83,16 @@ fn words_that_are_no_command_read_nothing(rt: HostRuntime) -> Result<(), Fail> {
         "drill 1 1 0 3 4",
         "drill 4 2 5 3",
         "drill 3 2 65 3",
+        "create 3 2 5 64",
+        "create 3 2 5 64 4 4",
+        "create 3 2 5 15 4",
+        "create 3 2 5 65537 4",
+        "create 3 2 5 64 0",
+        "create 3 2 5 64 65",
+        "create 3 2 5 064 4",
+        "create 2 3 2 64 4",
+        "stat x",
+        "Stat",
     ] {
         let left = run_line(rt.alloc(), line, b"d1\n")?;
         assert_eq!(rt; left.status, Status::Words, "{line}");

@@ -2,6 +2,7 @@
 
 use crate::bench::{run_line, text_of, words_of};
 use aea_cli::{Status, run};
+use aea_disk::SureDisk;
 use aea_io::{MemSink, MemSource};
 use std::alloc::{AllocError, Global};
 use std::test::Fail;
@@ -35,10 +36,18 @@ struct Left {
 // Runs the command of a line over streams that fail so.
 fn run_failing(alloc: Global, line: &str, list: &[u8], faults: Faults) -> Result<Left, AllocError> {
     let words = words_of(alloc, line)?;
+    let mut disk = SureDisk::new(alloc, 0, 0, 0)?;
     let mut input = MemSource::new(alloc, list, &[faults.read])?;
     let mut out = MemSink::new(alloc, faults.out_room, &[faults.out_call])?;
     let mut err = MemSink::new(alloc, faults.err_room, &[faults.err_call])?;
-    let status = run(alloc, words.as_slice(), &mut input, &mut out, &mut err);
+    let status = run(
+        alloc,
+        words.as_slice(),
+        &mut disk,
+        &mut input,
+        &mut out,
+        &mut err,
+    );
     Ok(Left { status, out, err })
 }
 

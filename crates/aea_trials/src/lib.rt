@@ -1,7 +1,9 @@
-//! Trials of the whole program and of its plans: the worked examples, streams that fail, damage lists of the greatest
-//! length, and damage by chance against the plain programs.
+//! Trials of the whole program and of its plans: the worked examples, archives, disks and streams that fail, damage
+//! lists of the greatest length, and damage by chance against the plain programs.
 #![tactic(auto)]
 
+#[cfg(test)]
+mod archive;
 #[cfg(test)]
 mod bench;
 #[cfg(test)]

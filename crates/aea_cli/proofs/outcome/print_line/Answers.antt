@@ -1,7 +1,7 @@
 use Rattle.std.proofs.Common.{◌++◌, cond, codes, Ok, Err, refl}
 use Rattle.aea_lattice.specs.Texts.{text_of}
 use Rattle.aea_cli.specs.Pages.{sheet}
-use Rattle.aea_cli.specs.Drill.{newline}
+use Rattle.aea_cli.specs.Lines.{newline}
 use Rattle.aea_cli.proofs.Printing.{prints_then, prints_stopped}
 use Rattle.aea_cli.proofs.outcome.print_line.Goals as goal
 

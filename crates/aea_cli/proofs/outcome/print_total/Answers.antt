@@ -1,6 +1,6 @@
 use Rattle.std.proofs.Common.{◌++◌, codes, decimal, Ok, Err, refl}
 use Rattle.aea_cli.specs.Pages.{sheet}
-use Rattle.aea_cli.specs.Drill.{newline}
+use Rattle.aea_cli.specs.Lines.{newline}
 use Rattle.aea_cli.proofs.Printing.{prints_then, prints_stopped}
 use Rattle.aea_cli.proofs.outcome.print_total.Goals as goal
 

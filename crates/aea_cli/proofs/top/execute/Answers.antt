@@ -1,42 +1,48 @@
-use Rattle.std.proofs.Common.{◌≡◌, ℕ, ◌≤◌, List, length, map, string_bytes, subst, Some, Ok, Err, Result}
-use Rattle.std.specs.Prelude.{IfOk}
-use Rattle.std.specs.Io.KnownBytes.{Appends}
-use Rattle.aea_lattice.specs.declared.grid.Lattice.{Lattice}
-use Rattle.aea_io.specs.Written.{AppendsPart}
-use Rattle.aea_cli.specs.declared.status.Status.{Status}
-use Rattle.aea_cli.specs.Drill.{IsAccepted, IsRefused, IsOutcome}
-use Rattle.aea_cli.proofs.Commands.{lattice_meant}
+use Rattle.std.proofs.Common.{map, string_bytes}
+use Rattle.aea_disk.proofs.Moments.{others_none}
+use Rattle.aea_cli.specs.declared.command.Command.TheVariants.{Drill, Create, Stat}
+use Rattle.aea_cli.specs.Words.{AreNoCommand, Means}
+use Rattle.aea_cli.proofs.Commands.{one_command}
 use Rattle.aea_cli.proofs.top.execute.Goals as goal
 
-if_ok_map : {T E : Type 0} (r : Result T E) (P Q : T → Type 0) → ((v : T) → P v → Q v) → IfOk r P → IfOk r Q
-if_ok_map (Ok v) P Q f h = f v h
-if_ok_map (Err e) P Q f h = tt
+pub returns-in_default-clause-others : goal.returns-in_default-clause-others
+returns-in_default-clause-others g c = others_none g.D.Disk.tells 0 (g.D.Disk.state c.args.disk.now)
+
+pub returns-in_default-parsed-clause-create : goal.returns-in_default-parsed-clause-create
+returns-in_default-parsed-clause-create g c shape means = let none : AreNoCommand (map string_bytes c.args.words.now) = rw c.in_default-parsed.is at c.in-Ok.ensures.none in absurd (none (Create shape) means)
+
+pub returns-in_default-parsed-clause-stat : goal.returns-in_default-parsed-clause-stat
+returns-in_default-parsed-clause-stat g c means = let none : AreNoCommand (map string_bytes c.args.words.now) = rw c.in_default-parsed.is at c.in-Ok.ensures.none in absurd (none Stat means)
+
+pub returns-in_default-parsed-clause-others : goal.returns-in_default-parsed-clause-others
+returns-in_default-parsed-clause-others g c = others_none g.D.Disk.tells 0 (g.D.Disk.state c.args.disk.now)
 
 pub returns-clause-outcome : goal.returns-clause-outcome
-returns-clause-outcome g c l bytes means told =
-    let O = g.O.Sink in
-    let same = lattice_meant (map string_bytes c.args.words.now) c.in-Ok.parsed c.in-Some.lattice l c.in-Some.ensures c.in-Ok.ensures.found means in
-    subst (λ (x : Lattice). IfOk c.drill.result (λ status. IsAccepted x bytes × ((text : List ℕ) × IsOutcome x bytes text status × Appends (O.written c.args.out.now) (O.written c.drill.new.out) text))) same
-    (if_ok_map c.drill.result
-    (λ status. (b : List ℕ) → g.S.Source.left c.args.input.now ≡ Some b → IsAccepted c.in-Some.lattice b × ((text : List ℕ) × IsOutcome c.in-Some.lattice b text status × Appends (O.written c.args.out.now) (O.written c.drill.new.out) text))
-    (λ status. IsAccepted c.in-Some.lattice bytes × ((text : List ℕ) × IsOutcome c.in-Some.lattice bytes text status × Appends (O.written c.args.out.now) (O.written c.drill.new.out) text))
-    (λ status h. h bytes told) c.drill.ensures.outcome)
+returns-clause-outcome g c l bytes means =
+    c.carry_out.ensures.outcome l bytes (one_command (map string_bytes c.args.words.now) c.in-Some.command (Drill l) (rw c.in-Some.is at c.in-Ok.ensures.found) means)
 
 pub returns-clause-refused : goal.returns-clause-refused
-returns-clause-refused g c l bytes means told why is =
-    let same = lattice_meant (map string_bytes c.args.words.now) c.in-Ok.parsed c.in-Some.lattice l c.in-Some.ensures c.in-Ok.ensures.found means in
-    subst (λ (x : Lattice). IsRefused x bytes why) same (c.drill.ensures.refused why is bytes told)
+returns-clause-refused g c l bytes means =
+    c.carry_out.ensures.refused l bytes (one_command (map string_bytes c.args.words.now) c.in-Some.command (Drill l) (rw c.in-Some.is at c.in-Ok.ensures.found) means)
 
 pub returns-clause-output_part : goal.returns-clause-output_part
-returns-clause-output_part g c l bytes means told is =
-    let O = g.O.Sink in
-    let same = lattice_meant (map string_bytes c.args.words.now) c.in-Ok.parsed c.in-Some.lattice l c.in-Some.ensures c.in-Ok.ensures.found means in
-    subst (λ (x : Lattice). IsAccepted x bytes × ((text : List ℕ) (status : Status) → IsOutcome x bytes text status → AppendsPart (O.written c.args.out.now) (O.written c.drill.new.out) text)) same
-    (c.drill.ensures.output_part is bytes told)
+returns-clause-output_part g c l bytes means =
+    c.carry_out.ensures.output_part l bytes (one_command (map string_bytes c.args.words.now) c.in-Some.command (Drill l) (rw c.in-Some.is at c.in-Ok.ensures.found) means)
 
 pub returns-clause-in_room : goal.returns-clause-in_room
-returns-clause-in_room g c l bytes means told =
-    let O = g.O.Sink in
-    let same = lattice_meant (map string_bytes c.args.words.now) c.in-Ok.parsed c.in-Some.lattice l c.in-Some.ensures c.in-Ok.ensures.found means in
-    subst (λ (x : Lattice). (text : List ℕ) (status : Status) (room : ℕ) → IsOutcome x bytes text status → O.room c.args.out.now ≡ Some room → length text ≤ room → O.faults c.drill.new.out ≡ O.faults c.args.out.now) same
-    (λ text status room. c.drill.ensures.in_room bytes text status room told)
+returns-clause-in_room g c l bytes means =
+    c.carry_out.ensures.in_room l bytes (one_command (map string_bytes c.args.words.now) c.in-Some.command (Drill l) (rw c.in-Some.is at c.in-Ok.ensures.found) means)
+
+pub returns-clause-create : goal.returns-clause-create
+returns-clause-create g c shape means =
+    c.carry_out.ensures.create shape (one_command (map string_bytes c.args.words.now) c.in-Some.command (Create shape) (rw c.in-Some.is at c.in-Ok.ensures.found) means)
+
+pub returns-clause-create_refused : goal.returns-clause-create_refused
+returns-clause-create_refused g c shape means =
+    c.carry_out.ensures.create_refused shape (one_command (map string_bytes c.args.words.now) c.in-Some.command (Create shape) (rw c.in-Some.is at c.in-Ok.ensures.found) means)
+
+pub returns-clause-damage_cause : goal.returns-clause-damage_cause
+returns-clause-damage_cause g c is =
+    let by = c.carry_out.ensures.damage_cause is in
+    let meant : Means (map string_bytes c.args.words.now) c.in-Some.command = rw c.in-Some.is at c.in-Ok.ensures.found in
+    (by.0, rw by.1 at meant)

@@ -1,0 +1,33 @@
+-- The lines on `err` where a command did not end well.
+use Rattle.std.specs.Prelude.{ℕ, List, ◌++◌, codes, decimal}
+use Rattle.aea_cli.specs.declared.refusal.Refusal.{Refusal}
+use Rattle.aea_cli.specs.declared.refusal.Refusal.TheVariants.{InputTooLong, BadBlock, NoArchive, LedgerBad, Occupied}
+use Rattle.aea_cli.specs.Lines.{newline}
+
+-- of a refusal
+abbrev pub refusal_line : Refusal → List ℕ
+refusal_line InputTooLong = codes "refused: input too long" ++ newline
+refusal_line (BadBlock k) = codes "refused: bad block at line " ++ decimal k ++ newline
+refusal_line NoArchive = codes "refused: no archive" ++ newline
+refusal_line (LedgerBad at) = codes "refused: ledger bad at " ++ decimal at ++ newline
+refusal_line Occupied = codes "refused: occupied" ++ newline
+
+-- of words that are no command
+abbrev pub words_line : List ℕ
+words_line = codes "words: no such command" ++ newline
+
+-- of a fault of the disk
+abbrev pub disk_line : List ℕ
+disk_line = codes "fault: disk" ++ newline
+
+-- of a fault of the input
+abbrev pub input_line : List ℕ
+input_line = codes "fault: input" ++ newline
+
+-- of a fault of the output
+abbrev pub output_line : List ℕ
+output_line = codes "fault: output" ++ newline
+
+-- of want of memory
+abbrev pub memory_line : List ℕ
+memory_line = codes "fault: memory" ++ newline

@@ -64,6 +64,11 @@ pub record HasRecords (v : Opened) (records : List Record) : Type 0 where
   pub seal : v.seal ≡ sha256 (spelled v.shape records)
   pub end : v.end ≡ length (spelled v.shape records)
 
+-- the opened ledger has some records, so that its objects have the nodes of its lattice, and its digests are those of its
+-- blocks
+abbrev pub HasSomeRecords : Opened → Type 0
+HasSomeRecords v = (records : List Record) × HasRecords v records
+
 -- the bytes are this ledger: they are in the grammar with the records that it has, and end where it does
 pub record IsThisOne (v : Opened) (bytes : List ℕ) : Type 0 where
   pub records : List Record

@@ -5,7 +5,7 @@ ghost use Rattle.aea_faults.specs.Faults.{Rose};
 ghost use Rattle.aea_disk.specs.State.{Passes, KeepsImages, IsSynced, HasRoom};
 ghost use Rattle.aea_ledger.specs.Format.{Record, header};
 ghost use Rattle.aea_ledger.specs.Openings.{Answers, IsAnswered};
-ghost use Rattle.aea_ledger.specs.Values.{HasRecords};
+ghost use Rattle.aea_ledger.specs.Values.{HasRecords, HasSomeRecords};
 ghost use Rattle.aea_ledger.specs.Reads.{OnlyReads};
 ghost use Rattle.aea_ledger.specs.Readings.{IsReading, HasRead};
 
@@ -132,6 +132,7 @@ fn finish(reader: Reader) -> Result<Ledger, OpenFault>
 // Makes all files sure, and reads the ledger.
 fn read_ledger<D: Disk>(alloc: Global, disk: &mut D) -> Result<Ledger, OpenFault>
     ensures answers { D.tells → Answers ((D.state disk.old).files 0) result }
+    ensures records { IfOk result HasSomeRecords }
     ensures live { IfOk result (λ v. v.live ≡ true) }
     ensures synced { result ≢ Err OpenFault.DiskFault → D.tells → IsSynced (D.state disk.new) }
     ensures reads { OnlyReads D.tells (result ≡ Err OpenFault.DiskFault) (D.state disk.old) (D.state disk.new) }
@@ -149,6 +150,9 @@ pub fn open_ledger<D: Disk>(alloc: Global, disk: &mut D) -> Result<Ledger, OpenF
     // Each answer has its cause in the bytes, and the bytes have that answer alone.
     ensures answers { D.tells → Answers ((D.state disk.old).files 0) result }
     ensures exactly { D.tells → IsAnswered ((D.state disk.old).files 0) result }
+
+    // Over any disk, also one that tells nothing, it is the ledger of some records.
+    ensures records { IfOk result HasSomeRecords }
     ensures live { IfOk result (λ v. v.live ≡ true) }
 
     // Nothing is pending then, but after a fault of the disk.

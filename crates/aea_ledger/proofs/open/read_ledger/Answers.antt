@@ -1,5 +1,5 @@
 use Rattle.std.proofs.Common.{◌≡◌}
-use Rattle.std.proofs.lemmas.Result.{err_from_is_err_and, IfErr-at_err}
+use Rattle.std.proofs.lemmas.Result.{err_from_is_err_and, IfErr-at_err, IfOk-weaker}
 use Rattle.aea_ledger.specs.declared.open.OpenFault.TheVariants.{NoMemory}
 use Rattle.aea_ledger.proofs.Quiet.{reads_ok, reads_both, reads_as}
 use Rattle.aea_ledger.proofs.open.read_ledger.Goals as goal
@@ -26,3 +26,8 @@ returns-clause-reads g c =
     let four = g.D.Disk.state c.read_all.new.disk in
     reads_both tells _ _ one three four (reads_both tells ⊥ _ one two three (reads_ok tells one two e.contents e.crash e.time e.cause.kept (λ room. (e.sure room).1)) c.in_ok-reader.ensures.reads)
     (reads_as tells _ _ three four (λ e. let other = IfErr-at_err (λ fault. fault ≡ NoMemory) e c.finish.ensures.memory in absurd (cc)) c.in_ok-read_all.ensures.reads)
+
+pub returns-clause-records : goal.returns-clause-records
+returns-clause-records g c =
+    let whole = c.in_ok-read_all.ensures.whole in
+    IfOk-weaker c.finish.result _ _ (λ v has. (whole.records, has whole.records whole.read)) c.finish.ensures.records

@@ -4,7 +4,7 @@ use crate::example::{ABC, FRONT, example, first_digest};
 use crate::plain::{Reading, part, read_plainly};
 use aea_disk::{Disk, DiskFault, SureDisk};
 use aea_lattice::{Class, Shape};
-use aea_ledger::{OpenFault, open_ledger};
+use aea_ledger::{Ledger, OpenFault, open_ledger};
 use sha2::{Digest, Sha256};
 use std::alloc::{AllocError, Global};
 use std::test::Fail;
@@ -37,6 +37,15 @@ pub fn open_disk<D: Disk>(alloc: Global, disk: &mut D) -> Result<Reading, Fail> 
     }
 }
 
+// The digest of the block with this number, None past the last block.
+fn recorded(ledger: &Ledger, k: u32) -> Option<[u8; 32]> {
+    if k < ledger.lattice().blocks() {
+        Some(ledger.digest(k))
+    } else {
+        None
+    }
+}
+
 #[test]
 fn the_example_is_read_field_by_field(rt: HostRuntime) -> Result<(), Fail> {
     let bytes = example(rt.alloc())?;
@@ -59,7 +68,7 @@ fn the_example_is_read_field_by_field(rt: HostRuntime) -> Result<(), Fail> {
         (2, Class::Right),
         (3, Class::Left),
     ] {
-        assert_eq!(rt; ledger.digest(k), first_digest(class));
+        assert_eq!(rt; recorded(&ledger, k), Some(first_digest(class)));
     }
     assert_eq!(rt; ledger.seal(), Sha256::digest(part(&bytes, 0, 202)));
     Ok(())

@@ -1,7 +1,6 @@
 -- Codewords are the sets of blocks that meet every equation evenly.
-use Rattle.std.proofs.Common.{◌≡◌, ℕ, zero, suc, ◌+◌, ◌%◌, ◌<◌, ◌≤◌, ◌↔◌, Bool, true, false, not, ◌==◌, cond, count_by, List, [], ◌∷◌, ◌++◌, Option, Some, None, refl, sym, ◌∙◌, ap, arith, inl, inr}
-use Rattle.std.proofs.lemmas.Bool.{cases_eq, eq-eqb, ne_eqb, false≢true, true≢false}
-use Rattle.std.proofs.lemmas.List.Sums.{sum_by_push}
+use Rattle.std.proofs.Common.{◌≡◌, ℕ, zero, suc, ◌+◌, ◌%◌, ◌<◌, ◌≤◌, ◌↔◌, Bool, true, false, ◌==◌, cond, List, [], ◌∷◌, ◌++◌, Option, Some, None, refl, sym, ◌∙◌, ap, arith}
+use Rattle.std.proofs.lemmas.Bool.{false≢true, true≢false}
 use Rattle.aea_lattice.specs.declared.blocks.Class.{Class}
 use Rattle.aea_lattice.specs.declared.blocks.Class.TheVariants.{Datum, Horiz, Right, Left}
 use Rattle.aea_lattice.specs.declared.blocks.BlockId.{BlockId}
@@ -10,44 +9,16 @@ use Rattle.aea_lattice.specs.declared.grid.Lattice.{Lattice}
 use Rattle.aea_lattice.specs.Blocks.{class_number, block_of}
 use Rattle.aea_lattice.specs.Strands.{prefix, previous}
 use Rattle.aea_lattice.specs.Equations.{HasEquation, equation_of, input_blocks, is_odd_count, codeword_at}
+use Rattle.aea_lattice.specs.Parity.{differ}
 use Rattle.aea_lattice.specs.Facts.{IsCodewordOf, MeetsEvenly}
+use Rattle.aea_lattice.proofs.Odd.{odd-snoc}
 use Rattle.aea_lattice.proofs.Prefixes.{prefix-after, prefix-begin, previous-first, previous-before}
 
--- whether the two differ
-abbrev pub differ : Bool → Bool → Bool
-differ true b = not b
-differ false b = b
-
--- ---- odd counts
-
-odd-more : (n : ℕ) → ((n + 1) % 2 == 1) ≡ not (n % 2 == 1)
-odd-more n =
-    elim (cases_eq (n % 2) 1) [
-      | inl odd ↦ ne_eqb ((n + 1) % 2) 1 (λ h. omega arith) ∙ ap not (sym (eq-eqb (n % 2) 1 odd))
-      | inr even ↦ eq-eqb ((n + 1) % 2) 1 (omega arith) ∙ ap not (sym (ne_eqb (n % 2) 1 even))
-    ]
-
-not-differ : (a : Bool) → not a ≡ differ a true
-not-differ true = refl
-not-differ false = refl
-
-differ-false : (a : Bool) → a ≡ differ a false
-differ-false true = refl
-differ-false false = refl
-
-odd-plus : (n : ℕ) (b : Bool) → ((n + cond b 1 0) % 2 == 1) ≡ differ (n % 2 == 1) b
-odd-plus n true = odd-more n ∙ not-differ (n % 2 == 1)
-odd-plus n false = let same : n + 0 ≡ n = omega arith in ap (λ k. k % 2 == 1) same ∙ differ-false (n % 2 == 1)
-
-pub odd-snoc : {A : Type 0} → (p : A → Bool) (xs : List A) (x : A) → is_odd_count p (xs ++ x ∷ []) ≡ differ (is_odd_count p xs) (p x)
-odd-snoc p xs x =
-    ap (λ n. n % 2 == 1) (sum_by_push (λ y. cond (p y) 1 0) xs x) ∙ odd-plus (count_by p xs) (p x)
+-- ---- codewords along a strand
 
 odd-one : (b : Bool) → ((0 + cond b 1 0) % 2 == 1) ≡ b
 odd-one true = refl
 odd-one false = refl
-
--- ---- codewords along a strand
 
 pub codeword-parity : (l : Lattice) (nodes : ℕ → Bool) (i : ℕ) (c : Class) → 1 ≤ class_number c
     → codeword_at l nodes i c ≡ is_odd_count nodes (prefix l c i)

@@ -1,5 +1,5 @@
 -- The blocks of the lattice of a data list, one from the others of an equation.
-use Rattle.std.proofs.Common.{◌≡◌, ℕ, zero, suc, ◌-◌, ◌≤◌, Bool, true, List, [], ◌∷◌, map, fold, replicate, length, bit_xor, unwrap_or, Option, Some, None, IsTrue, refl, sym, ◌∙◌, ap, subst, arith, inl, inr}
+use Rattle.std.proofs.Common.{◌≡◌, ℕ, zero, suc, ◌-◌, ◌≤◌, Bool, true, List, [], ◌∷◌, ◌++◌, map, fold, replicate, length, bit_xor, unwrap_or, Option, Some, None, IsTrue, refl, sym, ◌∙◌, ap, subst, arith, inl, inr}
 use Rattle.std.specs.Int.Bits.{xor_assoc, xor_self, xor_zero_r}
 use Rattle.std.proofs.lemmas.Nat.{xor_comm}
 use Rattle.std.proofs.lemmas.Bool.{cases_lt, false≢true}
@@ -14,7 +14,7 @@ use Rattle.aea_lattice.specs.declared.blocks.EqId.{EqId}
 use Rattle.aea_lattice.specs.declared.grid.Lattice.{Lattice}
 use Rattle.aea_lattice.specs.Blocks.{class_number, block_of, HasBlock}
 use Rattle.aea_lattice.specs.Strands.{prefix, previous}
-use Rattle.aea_lattice.specs.Equations.{HasEquation, is_in_equation}
+use Rattle.aea_lattice.specs.Equations.{HasEquation, is_in_equation, equation_blocks, input_blocks}
 use Rattle.aea_lattice.specs.Data.{IsBytes, IsDataList, xor_bytes, xor_all, datum_at, value_at, value_of, Agree, Determines}
 use Rattle.aea_lattice.specs.Closure.{IsForcedBy, IsDerivation, IsReached, is_among}
 use Rattle.aea_lattice.proofs.Prefixes.{prefix-after, prefix-begin}
@@ -71,7 +71,7 @@ length-datum_at l w datas i is =
           ap (λ o. length (unwrap_or o (replicate w 0))) (slice_get_past datas (i - 1) past) ∙ length-replicate w 0
     ]
 
-length-fold : (w : ℕ) (blocks : List ℕ) (f : ℕ → List ℕ) (start : List ℕ) → length start ≡ w → ((k : ℕ) → length (f k) ≡ w)
+pub length-fold : {A : Type 0} → (w : ℕ) (blocks : List A) (f : A → List ℕ) (start : List ℕ) → length start ≡ w → ((k : A) → length (f k) ≡ w)
     → length (fold xor_bytes start (map f blocks)) ≡ w
 length-fold w [] f start h each = h
 length-fold w (x ∷ xs) f start h each =
@@ -223,3 +223,30 @@ derivation-agrees l w xs ys known hx hy agree (b ∷ rest) h d inside k =
 pub reached-determined : (l : Lattice) (known : BlockId → Bool) (b : BlockId) → HasBlock l b → IsReached l known b → Determines l known b
 reached-determined l known b inside reached w xs ys hx hy agree =
     derivation-agrees l w xs ys known hx hy agree (b ∷ reached.0) reached.1 b inside (among-first reached.0 b)
+
+-- ---- the blocks of an equation add up to zero
+
+xor_bytes-self : (xs : List ℕ) → xor_bytes xs xs ≡ replicate (length xs) 0
+xor_bytes-self [] = refl
+xor_bytes-self (x ∷ xs) = ap (λ a. a ∷ xor_bytes xs xs) (xor_self x) ∙ ap (λ rest. 0 ∷ rest) (xor_bytes-self xs)
+
+sum_to_zero : (l : Lattice) (w : ℕ) (datas : List (List ℕ)) (e : EqId) → IsDataList l w datas → HasEquation l e → (p : Option ℕ) → previous l e.class e.node ≡ p
+    → xor_all w (map (value_of l w datas) (input_blocks p e.class ++ block_of e.node Datum ∷ block_of e.node e.class ∷ [])) ≡ replicate w 0
+sum_to_zero l w datas e is has None was =
+    let d = datum_at w datas e.node in
+    ap (λ v. xor_bytes v (value_at l w datas e.node e.class)) (xor_bytes-zeros w d (length-datum_at l w datas e.node is))
+    ∙ ap (xor_bytes d) (value-begin l w datas e.node e.class has.class.parity is has.node.first was)
+    ∙ xor_bytes-self d
+    ∙ ap (λ n. replicate n 0) (length-datum_at l w datas e.node is)
+sum_to_zero l w datas e is has (Some g) was =
+    let d = datum_at w datas e.node in
+    let i = value_at l w datas g e.class in
+    let o = value_at l w datas e.node e.class in
+    ap (λ v. xor_bytes (xor_bytes v d) o) (xor_bytes-zeros w i (length-value_at l w datas g e.class is))
+    ∙ ap (xor_bytes (xor_bytes i d)) (value-after l w datas e.node g e.class has.class.parity was)
+    ∙ xor_bytes-self (xor_bytes i d)
+    ∙ ap (λ n. replicate n 0) (sym (ap length (value-after l w datas e.node g e.class has.class.parity was)) ∙ length-value_at l w datas e.node e.class is)
+
+pub equations-add_up : (l : Lattice) (w : ℕ) (datas : List (List ℕ)) (e : EqId) → IsDataList l w datas → HasEquation l e
+    → xor_all w (map (value_of l w datas) (equation_blocks l e)) ≡ replicate w 0
+equations-add_up l w datas e is has = sum_to_zero l w datas e is has (previous l e.class e.node) refl

@@ -17,7 +17,8 @@ use Rattle.aea_lattice.specs.Data.{IsBytes, IsDataList, xor_bytes, datum_at, val
 use Rattle.aea_lattice.specs.Facts.{Misses, changed_from}
 use Rattle.aea_lattice.proofs.Prefixes.{previous-first, previous-before}
 use Rattle.aea_lattice.proofs.Sums.{xor_bytes-cancel, xor_bytes-comm, xor_bytes-assoc, length-xor_bytes, length-datum_at, length-value_at, value-after, value-begin}
-use Rattle.aea_lattice.proofs.Codewords.{differ, codeword-after, codeword-begin}
+use Rattle.aea_lattice.specs.Parity.{differ}
+use Rattle.aea_lattice.proofs.Codewords.{codeword-after, codeword-begin}
 
 -- the block, with the bytes added where it is said
 abbrev pub shifted : Bool → List ℕ → List ℕ → List ℕ
@@ -160,6 +161,7 @@ pub changes-words : (l : Lattice) (nodes : ℕ → Bool) (w : ℕ) (datas : List
     → IsDataList l w (changed_from 1 nodes bytes datas)
     × ((b : BlockId) → HasBlock l b
     → IsTrue (is_in_codeword l nodes b) ↔ (value_of l w (changed_from 1 nodes bytes datas) b ≢ value_of l w datas b))
+    × ((b : BlockId) → HasBlock l b → is_in_codeword l nodes b ≡ false → value_of l w (changed_from 1 nodes bytes datas) b ≡ value_of l w datas b)
 changes-words l nodes w datas bytes is hb some = (
   IsDataList-changed l nodes w datas bytes is hb,
   λ b inside. (
@@ -175,6 +177,7 @@ changes-words l nodes w datas bytes is hb some = (
               absurd (other (value-changed l nodes w datas bytes is hb b inside ∙ ap (λ x. shifted x bytes (value_of l w datas b)) missed))
         ],
   ),
+  λ b inside missed. value-changed l nodes w datas bytes is hb b inside ∙ ap (λ x. shifted x bytes (value_of l w datas b)) missed,
 )
 
 -- ---- a codeword that misses a set misses what it determines

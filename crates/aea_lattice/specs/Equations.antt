@@ -1,12 +1,13 @@
 -- “Equation” and “Codeword”: the equations of a lattice, what sets of equations add up to, and codewords.
-use Rattle.std.specs.Prelude.{ℕ, suc, zero, ◌%◌, Bool, ◌&&◌, ◌==◌, List, [], ◌∷◌, ◌++◌, map, count_by, Option, Some, None}
+use Rattle.std.specs.Prelude.{◌≢◌, ℕ, suc, zero, ◌%◌, Bool, ◌&&◌, ◌==◌, List, [], ◌∷◌, ◌++◌, map, count_by, Option, Some, None, IfSome, option_to_list}
 use Rattle.std.specs.List.{list_any}
 use Rattle.aea_lattice.specs.declared.blocks.Class.{Class}
 use Rattle.aea_lattice.specs.declared.blocks.Class.TheVariants.{Datum}
 use Rattle.aea_lattice.specs.declared.blocks.BlockId.{BlockId}
 use Rattle.aea_lattice.specs.declared.blocks.EqId.{EqId}
+use Rattle.aea_lattice.specs.declared.blocks.Equation.{Equation}
 use Rattle.aea_lattice.specs.declared.grid.Lattice.{Lattice}
-use Rattle.aea_lattice.specs.Blocks.{block_of, same_block, HasNode, HasParity, classes}
+use Rattle.aea_lattice.specs.Blocks.{block_of, same_block, HasNode, HasParity, HasBlock, classes}
 use Rattle.aea_lattice.specs.Strands.{prefix, previous}
 
 -- whether an odd number of items passes the test
@@ -24,6 +25,22 @@ abbrev pub equation_blocks : Lattice → EqId → List BlockId
 equation_blocks l e =
     input_blocks (previous l e.class e.node) e.class
     ++ block_of e.node Datum ∷ block_of e.node e.class ∷ []
+
+-- the blocks of an equation as a program has them, in the same order
+abbrev pub blocks_in : Equation → List BlockId
+blocks_in q = option_to_list q.input ++ q.datum ∷ q.output ∷ []
+
+-- each block of an equation is one of the lattice
+pub record LiesInside (l : Lattice) (q : Equation) : Type 0 where
+  pub input : IfSome q.input (HasBlock l)
+  pub datum : HasBlock l q.datum
+  pub output : HasBlock l q.output
+
+-- no two blocks of an equation are one
+pub record AreDistinct (q : Equation) : Type 0 where
+  pub ends : q.datum ≢ q.output
+  pub input_datum : IfSome q.input (λ g. g ≢ q.datum)
+  pub input_output : IfSome q.input (λ g. g ≢ q.output)
 
 -- the equation is one of the lattice: it has a node and a parity class of it
 pub record HasEquation (l : Lattice) (e : EqId) : Type 0 where

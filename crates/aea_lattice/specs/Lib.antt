@@ -1,4 +1,5 @@
 pub mod Profile
+pub mod Fences
 pub mod Blocks
 pub mod Strands
 pub mod Equations
@@ -6,5 +7,10 @@ pub mod Data
 pub mod Closure
 pub mod Texts
 pub mod Facts
+pub mod Neighbours
 pub mod Ends
+pub mod Growth
 pub mod Shapes
+pub mod Lists
+pub mod Parity
+pub mod LeastWord

@@ -16,4 +16,4 @@ is_shape alpha s p block sites =
 
 -- The greatest number of nodes.
 abbrev pub greatest_nodes : ℕ
-greatest_nodes = 65536
+greatest_nodes = 1048576

@@ -1,8 +1,9 @@
--- “Strand” and “Prefix”: the strands of a lattice as residues, and the nodes along a strand.
-use Rattle.std.specs.Prelude.{◌≡◌, ◌↔◌, ℕ, suc, zero, ◌+◌, ◌-◌, ◌/◌, ◌%◌, ◌≤◌, Bool, ◌==◌, List, [], ◌∷◌, ◌++◌, filter, Option, Some, None}
+-- “Strand” and “Prefix”: the strands of a lattice as residues, and the nodes along a strand between fences.
+use Rattle.std.specs.Prelude.{◌≡◌, ◌↔◌, ℕ, suc, zero, ◌+◌, ◌-◌, ◌/◌, ◌%◌, ◌≤◌, Bool, not, ◌&&◌, ◌==◌, List, [], ◌∷◌, ◌++◌, filter, Option, Some, None}
 use Rattle.aea_lattice.specs.declared.blocks.Class.{Class}
 use Rattle.aea_lattice.specs.declared.blocks.Class.TheVariants.{Datum, Horiz, Right, Left}
 use Rattle.aea_lattice.specs.declared.grid.Lattice.{Lattice}
+use Rattle.aea_lattice.specs.Fences.{is_parted}
 
 -- the column of node i, where the nodes fill columns of s rows
 abbrev pub column : Lattice → ℕ → ℕ
@@ -25,14 +26,18 @@ abbrev pub nodes_to : ℕ → List ℕ
 nodes_to zero = []
 nodes_to (suc i) = nodes_to i ++ suc i ∷ []
 
--- whether node k lies on the strand of node i
-abbrev pub same_strand : Lattice → Class → ℕ → ℕ → Bool
-same_strand l c i k = strand_of l c k == strand_of l c i
+-- whether node k lies on the strand, and no fence parts it from node i
+abbrev pub is_on : Lattice → Class → ℕ → ℕ → ℕ → Bool
+is_on l c strand i k = strand_of l c k == strand && not (is_parted l.fences k i)
 
--- The prefix pre(i,c): the nodes up to i on the strand of i, in order. It ends in i. All that speaks of the
--- nodes of a strand does so by this definition.
+-- The nodes up to m on a strand that no fence parts from node i, in order. All that speaks of the nodes of a strand
+-- does so by this definition.
+abbrev pub nodes_on : Lattice → Class → ℕ → ℕ → ℕ → List ℕ
+nodes_on l c strand i m = filter (is_on l c strand i) (nodes_to m)
+
+-- The prefix pre(i,c): the nodes up to i on the strand of i that no fence parts from i, in order. It ends in i.
 abbrev pub prefix : Lattice → Class → ℕ → List ℕ
-prefix l c i = filter (same_strand l c i) (nodes_to i)
+prefix l c i = nodes_on l c (strand_of l c i) i i
 
 -- the item just before the last one of a list, if there are two
 abbrev pub next_to_last : List ℕ → Option ℕ
@@ -41,7 +46,7 @@ next_to_last (x ∷ []) = None
 next_to_last (x ∷ y ∷ []) = Some x
 next_to_last (x ∷ y ∷ z ∷ zs) = next_to_last (y ∷ z ∷ zs)
 
--- the node just before i on its strand, if the strand does not begin at i
+-- the node just before i in its prefix, if the strand does not begin at i
 abbrev pub previous : Lattice → Class → ℕ → Option ℕ
 previous l c i = next_to_last (prefix l c i)
 

@@ -1,21 +1,25 @@
-ghost use Rattle.std.specs.Prelude.{◌≡◌, ◌+◌, ◌-◌, ◌*◌, ◌<◌, ◌≤◌, ◌↔◌, ◌&&◌, IsTrue, IsSome, IfSome, length, nat_le, option_map, slice_get};
+ghost use Rattle.std.specs.Prelude.{◌≡◌, ◌+◌, ◌-◌, ◌*◌, ◌<◌, ◌≤◌, ◌↔◌, ◌&&◌, IsTrue, IsSome, IfSome, Some, [], length, nat_le, option_map, slice_get};
 ghost use Rattle.aea_lattice.specs.Profile.{is_profile, greatest_nodes};
+ghost use Rattle.aea_lattice.specs.Fences.{are_fences, last_fence, greatest_fences};
 
 use crate::blocks::{BlockId, Class, EqId, Equation};
+use crate::fences::{Fences, MAX_FENCES};
 
 /// The greatest number of nodes of a lattice.
-pub const MAX_NODES: u32 = 65_536;
+pub const MAX_NODES: u32 = 1_048_576;
 
 /// The shape AE(α,s,p) of a lattice and its number n of nodes: α classes of strands, s rows, p strands of the
-/// class Right and of the class Left.
+/// class Right and of the class Left. After each of its fences every strand begins anew.
 #[derive(Clone, Copy, Debug, PartialEq, Eq)]
 pub struct Lattice {
     pub alpha: u8,
     pub s: u8,
     pub p: u8,
     pub n: u32,
+    pub fences: Fences,
     ghost in_profile: { IsTrue (is_profile alpha s p) },
     ghost in_range: { n ≤ greatest_nodes },
+    ghost fenced: { IsTrue (are_fences n fences) },
 }
 
 // Whether α, s and p lie in the profile.
@@ -38,21 +42,85 @@ fn earlier(node: u32, back: u32) -> Option<u32>
 impl Lattice {
     ghost use Rattle.aea_lattice.specs.Blocks.{HasNode, HasParity, HasBlock, block_of, blocks_count, blocks_of, number_of};
     ghost use Rattle.aea_lattice.specs.Strands.{previous, IsNext, strand_of};
-    ghost use Rattle.aea_lattice.specs.Equations.{HasEquation};
+    ghost use Rattle.aea_lattice.specs.Neighbours.{neighbour, IsNextNeighbour};
+    ghost use Rattle.aea_lattice.specs.Growth.{IsGrown, IsFenced, Continues};
+    ghost use Rattle.aea_lattice.specs.Equations.{HasEquation, equation_blocks, blocks_in, LiesInside, AreDistinct};
 
-    /// A lattice of this shape and number of nodes, None outside the profile of shapes or above `MAX_NODES`.
+    /// A lattice of this shape and number of nodes without fences, None outside the profile of shapes or above
+    /// `MAX_NODES`.
     pub fn new(alpha: u8, s: u8, p: u8, n: u32) -> Option<Lattice>
         ensures valid { IsSome result ↔ IsTrue (is_profile alpha s p && nat_le n greatest_nodes) }
         ensures alpha { IfSome result (λ l. l.alpha ≡ alpha) }
         ensures s { IfSome result (λ l. l.s ≡ s) }
         ensures p { IfSome result (λ l. l.p ≡ p) }
         ensures n { IfSome result (λ l. l.n ≡ n) }
+        ensures fences { IfSome result (λ l. l.fences ≡ []) }
     {
         if in_profile(alpha, s, p) && n <= MAX_NODES {
-            Some(Lattice { alpha, s, p, n })
+            Some(Lattice {
+                alpha,
+                s,
+                p,
+                n,
+                fences: Fences::none(),
+            })
         } else {
             None
         }
+    }
+
+    /// This lattice with n nodes, None where it has more or n is above `MAX_NODES`.
+    pub fn grown(&self, n: u32) -> Option<Lattice>
+        ensures valid { IsSome result ↔ ((self.now.n ≤ n) × (n ≤ greatest_nodes)) }
+        ensures grown { IfSome result (IsGrown self.now n) }
+        ensures continues { IfSome result (Continues self.now) }
+    {
+        if self.n <= n && n <= MAX_NODES {
+            Some(Lattice {
+                alpha: self.alpha,
+                s: self.s,
+                p: self.p,
+                n,
+                fences: self.fences,
+            })
+        } else {
+            None
+        }
+    }
+
+    /// This lattice with a fence after its last node, None where it has no node, a fence stands there, or it has
+    /// `MAX_FENCES` fences.
+    pub fn fenced(&self) -> Option<Lattice>
+        ensures valid { IsSome result ↔ ((last_fence self.now.fences < self.now.n) × (length self.now.fences < greatest_fences)) }
+        ensures fenced { IfSome result (IsFenced self.now) }
+        ensures continues { IfSome result (Continues self.now) }
+    {
+        if self.fences.last() < self.n && self.fences.count() < MAX_FENCES {
+            Some(Lattice {
+                alpha: self.alpha,
+                s: self.s,
+                p: self.p,
+                n: self.n,
+                fences: self.fences.with(self.n),
+            })
+        } else {
+            None
+        }
+    }
+
+    /// How many fences it has.
+    pub fn fence_count(&self) -> u8
+        ensures { result ≡ length self.now.fences }
+    {
+        self.fences.count()
+    }
+
+    /// The fence at this place, in rising order from 0.
+    pub fn fence(&self, k: u8) -> u32
+        requires { k < length self.now.fences }
+        ensures { slice_get self.now.fences k ≡ Some result }
+    {
+        self.fences.at(k)
     }
 
     /// The number α of classes of strands, 1 to 3.
@@ -98,11 +166,26 @@ impl Lattice {
         1 <= b.node && b.node <= self.n && b.class as u8 <= self.alpha
     }
 
-    /// The node just before this one on its strand of the class, None where the strand begins here.
+    /// The node just before this one on its strand of the class, None where the strand begins here, also after a fence.
     pub fn input(&self, node: u32, class: Class) -> Option<u32>
         requires node { HasNode self.now node }
         requires class { HasParity self.now class }
-        ensures { result ≡ previous self.now class node }
+        ensures input { result ≡ previous self.now class node }
+        ensures earlier { IfSome result (λ g. (1 ≤ g) × (g < node)) }
+    {
+        let before = self.neighbour_before(node, class)?;
+        if self.fences.parts(before, node) {
+            None
+        } else {
+            Some(before)
+        }
+    }
+
+    // The node just before this one on its strand, with no regard to fences.
+    fn neighbour_before(&self, node: u32, class: Class) -> Option<u32>
+        requires node { HasNode self.now node }
+        requires class { HasParity self.now class }
+        ensures { result ≡ neighbour self.now class node }
     {
         match class {
             Class::Datum => unreachable!(),
@@ -114,7 +197,7 @@ impl Lattice {
 
     fn horiz_input(&self, node: u32) -> Option<u32>
         requires { HasNode self.now node }
-        ensures { result ≡ previous self.now Class.Horiz node }
+        ensures { result ≡ neighbour self.now Class.Horiz node }
     {
         earlier(node, u32::from(self.s))
     }
@@ -122,7 +205,7 @@ impl Lattice {
     fn right_input(&self, node: u32) -> Option<u32>
         requires node { HasNode self.now node }
         requires woven { 2 ≤ self.now.alpha }
-        ensures { result ≡ previous self.now Class.Right node }
+        ensures { result ≡ neighbour self.now Class.Right node }
     {
         let s = u32::from(self.s);
         if (node - 1) % s == 0 {
@@ -134,7 +217,7 @@ impl Lattice {
     fn left_input(&self, node: u32) -> Option<u32>
         requires node { HasNode self.now node }
         requires woven { 2 ≤ self.now.alpha }
-        ensures { result ≡ previous self.now Class.Left node }
+        ensures { result ≡ neighbour self.now Class.Left node }
     {
         let s = u32::from(self.s);
         if (node - 1) % s == s - 1 {
@@ -147,7 +230,22 @@ impl Lattice {
     pub fn next(&self, node: u32, class: Class) -> Option<u32>
         requires node { HasNode self.now node }
         requires class { HasParity self.now class }
-        ensures { IsNext self.now class node result }
+        ensures next { IsNext self.now class node result }
+        ensures later { IfSome result (λ j. (node < j) × (j ≤ self.now.n)) }
+    {
+        let after = self.neighbour_after(node, class)?;
+        if self.fences.parts(node, after) {
+            None
+        } else {
+            Some(after)
+        }
+    }
+
+    // The node of the lattice that has this one just before it on the strand, with no regard to fences.
+    fn neighbour_after(&self, node: u32, class: Class) -> Option<u32>
+        requires node { HasNode self.now node }
+        requires class { HasParity self.now class }
+        ensures { IsNextNeighbour self.now class node result }
     {
         match class {
             Class::Datum => unreachable!(),
@@ -167,7 +265,7 @@ impl Lattice {
 
     fn horiz_output(&self, node: u32) -> Option<u32>
         requires { HasNode self.now node }
-        ensures { IsNext self.now Class.Horiz node result }
+        ensures { IsNextNeighbour self.now Class.Horiz node result }
     {
         self.later(node + u32::from(self.s))
     }
@@ -175,7 +273,7 @@ impl Lattice {
     fn right_output(&self, node: u32) -> Option<u32>
         requires node { HasNode self.now node }
         requires woven { 2 ≤ self.now.alpha }
-        ensures { IsNext self.now Class.Right node result }
+        ensures { IsNextNeighbour self.now Class.Right node result }
     {
         let s = u32::from(self.s);
         if (node - 1) % s == s - 1 {
@@ -187,7 +285,7 @@ impl Lattice {
     fn left_output(&self, node: u32) -> Option<u32>
         requires node { HasNode self.now node }
         requires woven { 2 ≤ self.now.alpha }
-        ensures { IsNext self.now Class.Left node result }
+        ensures { IsNextNeighbour self.now Class.Left node result }
     {
         let s = u32::from(self.s);
         if (node - 1) % s == 0 {
@@ -214,12 +312,16 @@ impl Lattice {
         }
     }
 
-    /// The blocks of an equation.
+    /// The blocks of an equation, which lie in the lattice and are distinct.
     pub fn equation(&self, e: EqId) -> Equation
         requires { HasEquation self.now e }
         ensures datum { result.datum ≡ block_of e.node Class.Datum }
         ensures output { result.output ≡ block_of e.node e.class }
         ensures input { result.input ≡ option_map (λ g. block_of g e.class) (previous self.now e.class e.node) }
+        ensures listed { blocks_in result ≡ equation_blocks self.now e }
+        ensures earlier { IfSome result.input (λ g. g.node < e.node) }
+        ensures inside { LiesInside self.now result }
+        ensures distinct { AreDistinct result }
     {
         Equation {
             input: self.input(e.node, e.class).map(|node| BlockId {
@@ -274,3 +376,6 @@ impl Lattice {
         }
     }
 }
+
+#[cfg(test)]
+mod tests;

@@ -4,20 +4,26 @@
 //! own.
 //!
 //! The definitions that the whole archive stands on are in `specs/`: `Profile`, `Blocks`, `Strands`,
-//! `Equations`, `Data`, `Closure`, `Texts`, `Facts`, `Ends` and `Shapes`.
+//! `Fences`, `Equations`, `Lists`, `Data`, `Closure`, `Texts`, `Facts`, `Ends`, `Growth` and `Shapes`.
 #![tactic(auto)]
 
 pub mod blocks;
 pub mod ends;
 pub mod facts;
+pub mod fences;
 pub mod grid;
+pub mod lists;
 pub mod shape;
 pub mod texts;
 
 pub use blocks::{BlockId, Class, EqId, Equation};
 pub use facts::{
-    changes_are_codewords, codewords_are_even, reached_are_determined, words_miss_determined,
+    blocks_are_inside, changes_are_codewords, codewords_are_even, equations_add_up,
+    joined_stand_after_the_fence, lasts_enter, numbers_tell_blocks, passing_are_among,
+    reached_are_determined, sets_add_up, sums_are_listed, words_miss_determined,
 };
+pub use fences::{Fences, MAX_FENCES};
 pub use grid::{Lattice, MAX_NODES};
+pub use lists::{EqList, Items, NodeList};
 pub use shape::Shape;
 pub use texts::{BlockText, parse_block, print_block};

@@ -7,7 +7,7 @@ fn texts_of_blocks_go_there_and_back(rt: HostRuntime) {
         (b"h12", 12, Class::Horiz),
         (b"r4294967295", 4_294_967_295, Class::Right),
         (b"l2", 2, Class::Left),
-        (b"d65536", 65_536, Class::Datum),
+        (b"d1048576", 1_048_576, Class::Datum),
     ];
     for (text, node, class) in table {
         let block = BlockId { node, class };

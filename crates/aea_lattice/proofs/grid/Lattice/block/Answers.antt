@@ -1,4 +1,4 @@
-use Rattle.std.proofs.Common.{◌≡◌, Some, sym, ◌∙◌, ap}
+use Rattle.std.proofs.Common.{sym, ◌∙◌, ap}
 use Rattle.std.specs.Prelude.{slice_get}
 use Rattle.aea_lattice.specs.Blocks.{blocks_of}
 use Rattle.aea_lattice.proofs.Numbers.{slice_get-blocks_of}

@@ -1,4 +1,4 @@
--- The node just before a node on its strand: the last of the earlier nodes that lie on it.
+-- The node just before a node on its strand, with no regard to fences: the last of the earlier nodes that lie on it.
 use Rattle.std.proofs.Common.{◌≡◌, ◌≢◌, ℕ, suc, zero, ◌-◌, ◌<◌, ◌≤◌, ◌⊎◌, inl, inr, refl, sym, ◌∙◌, ap, arith, Bool, true, false, cond, List, [], ◌∷◌, ◌++◌, filter, Option, Some, None}
 use Rattle.std.proofs.Common.{eq-eqb}
 use Rattle.std.specs.Prelude.{◌==◌}
@@ -9,7 +9,9 @@ use Rattle.std.proofs.lemmas.Bool.{cases_lt}
 use Rattle.std.proofs.lemmas.Bool.Decides.{nat_tests}
 use Rattle.aea_lattice.specs.declared.blocks.Class.{Class}
 use Rattle.aea_lattice.specs.declared.grid.Lattice.{Lattice}
-use Rattle.aea_lattice.specs.Strands.{column, row, strand_of, same_strand, nodes_to, prefix, next_to_last, previous}
+use Rattle.aea_lattice.specs.Strands.{column, row, strand_of, nodes_to, next_to_last}
+use Rattle.aea_lattice.specs.Neighbours.{same_strand, neighbour}
+use Rattle.aea_lattice.specs.Ends.{last_of}
 use Rattle.aea_lattice.proofs.Neighbours.{node_at, node_at-coordinates, strand_at, strand_of-node_at, strand_of-coordinates, NoneBetween, NoneBefore, some_rows}
 
 -- the last of the nodes 1 to m that passes the test
@@ -17,18 +19,12 @@ abbrev pub last_node : (ℕ → Bool) → ℕ → Option ℕ
 last_node p zero = None
 last_node p (suc i) = cond (p (suc i)) (Some (suc i)) (last_node p i)
 
--- the last item of a list
-abbrev pub last_item : List ℕ → Option ℕ
-last_item [] = None
-last_item (x ∷ []) = Some x
-last_item (x ∷ y ∷ ys) = last_item (y ∷ ys)
+pub last_of-snoc : (xs : List ℕ) (x : ℕ) → last_of (xs ++ x ∷ []) ≡ Some x
+last_of-snoc [] x = refl
+last_of-snoc (y ∷ []) x = refl
+last_of-snoc (y ∷ z ∷ zs) x = last_of-snoc (z ∷ zs) x
 
-pub last_item-snoc : (xs : List ℕ) (x : ℕ) → last_item (xs ++ x ∷ []) ≡ Some x
-last_item-snoc [] x = refl
-last_item-snoc (y ∷ []) x = refl
-last_item-snoc (y ∷ z ∷ zs) x = last_item-snoc (z ∷ zs) x
-
-pub next_to_last-snoc : (xs : List ℕ) (x : ℕ) → next_to_last (xs ++ x ∷ []) ≡ last_item xs
+pub next_to_last-snoc : (xs : List ℕ) (x : ℕ) → next_to_last (xs ++ x ∷ []) ≡ last_of xs
 next_to_last-snoc [] x = refl
 next_to_last-snoc (y ∷ []) x = refl
 next_to_last-snoc (y ∷ z ∷ []) x = refl
@@ -40,34 +36,34 @@ filter-snoc_true p xs x e = filter-append p xs (x ∷ []) ∙ (rw e)
 pub filter-snoc_false : (p : ℕ → Bool) (xs : List ℕ) (x : ℕ) → p x ≡ false → filter p (xs ++ x ∷ []) ≡ filter p xs
 filter-snoc_false p xs x e = filter-append p xs (x ∷ []) ∙ (rw e (append-nil (filter p xs)))
 
-last_node-step : (p : ℕ → Bool) (m : ℕ) → last_item (filter p (nodes_to m)) ≡ last_node p m → (b : Bool) → p (suc m) ≡ b → last_item (filter p (nodes_to (suc m))) ≡ last_node p (suc m)
+last_node-step : (p : ℕ → Bool) (m : ℕ) → last_of (filter p (nodes_to m)) ≡ last_node p m → (b : Bool) → p (suc m) ≡ b → last_of (filter p (nodes_to (suc m))) ≡ last_node p (suc m)
 last_node-step p m same true e =
-    ap last_item (filter-snoc_true p (nodes_to m) (suc m) e) ∙ last_item-snoc (filter p (nodes_to m)) (suc m) ∙ (rw e)
+    ap last_of (filter-snoc_true p (nodes_to m) (suc m) e) ∙ last_of-snoc (filter p (nodes_to m)) (suc m) ∙ (rw e)
 last_node-step p m same false e =
-    ap last_item (filter-snoc_false p (nodes_to m) (suc m) e) ∙ same ∙ (rw e)
+    ap last_of (filter-snoc_false p (nodes_to m) (suc m) e) ∙ same ∙ (rw e)
 
 -- the last node that passes a test is the last item of those that pass it
-pub last_item-filter : (p : ℕ → Bool) (m : ℕ) → last_item (filter p (nodes_to m)) ≡ last_node p m
-last_item-filter p zero = refl
-last_item-filter p (suc m) = last_node-step p m (last_item-filter p m) (p (suc m)) refl
+pub last_of-filter : (p : ℕ → Bool) (m : ℕ) → last_of (filter p (nodes_to m)) ≡ last_node p m
+last_of-filter p zero = refl
+last_of-filter p (suc m) = last_node-step p m (last_of-filter p m) (p (suc m)) refl
 
 pub same_strand-refl : (l : Lattice) (c : Class) (i : ℕ) → same_strand l c i i ≡ true
 same_strand-refl l c i = eq-eqb (strand_of l c i) (strand_of l c i) refl
 
--- a prefix ends in its node
-pub prefix-suc : (l : Lattice) (c : Class) (m : ℕ) → prefix l c (suc m) ≡ filter (same_strand l c (suc m)) (nodes_to m) ++ suc m ∷ []
-prefix-suc l c m = filter-snoc_true (same_strand l c (suc m)) (nodes_to m) (suc m) (same_strand-refl l c (suc m))
+-- the nodes up to one on its strand end in it
+strand-suc : (l : Lattice) (c : Class) (m : ℕ) → filter (same_strand l c (suc m)) (nodes_to (suc m)) ≡ filter (same_strand l c (suc m)) (nodes_to m) ++ suc m ∷ []
+strand-suc l c m = filter-snoc_true (same_strand l c (suc m)) (nodes_to m) (suc m) (same_strand-refl l c (suc m))
 
 sub_one : (m : ℕ) → m ≡ suc m - 1
 sub_one m = omega arith
 
 -- the node just before i is the last of the nodes 1 to i - 1 that lie on its strand
-pub previous-last_node : (l : Lattice) (c : Class) (i : ℕ) → previous l c i ≡ last_node (same_strand l c i) (i - 1)
-previous-last_node l c zero = refl
-previous-last_node l c (suc m) =
-    ap next_to_last (prefix-suc l c m)
+pub neighbour-last_node : (l : Lattice) (c : Class) (i : ℕ) → neighbour l c i ≡ last_node (same_strand l c i) (i - 1)
+neighbour-last_node l c zero = refl
+neighbour-last_node l c (suc m) =
+    ap next_to_last (strand-suc l c m)
     ∙ next_to_last-snoc (filter (same_strand l c (suc m)) (nodes_to m)) (suc m)
-    ∙ last_item-filter (same_strand l c (suc m)) m
+    ∙ last_of-filter (same_strand l c (suc m)) m
     ∙ ap (last_node (same_strand l c (suc m))) (sub_one m)
 
 found-step : (p : ℕ → Bool) (m g : ℕ) → g ≤ suc m → p g ≡ true → ((k : ℕ) → g < k → k ≤ suc m → p k ≡ false) → (g ≤ m → last_node p m ≡ Some g) → (g ≡ suc m) ⊎ (g ≤ m) → last_node p (suc m) ≡ Some g
@@ -134,9 +130,9 @@ pub record IsJustBefore (l : Lattice) (c : Class) (g i : ℕ) : Type 0 where
 is_same : (a b : ℕ) → (a == b) ≡ true → a ≡ b
 is_same a b e = grind (arith, nat_tests)
 
-pub IsJustBefore-previous : (l : Lattice) (c : Class) (i g : ℕ) → previous l c i ≡ Some g → IsJustBefore l c g i
-IsJustBefore-previous l c i g found =
-    let last : IsLastNode (same_strand l c i) (i - 1) g = IsLastNode-last_node (same_strand l c i) (i - 1) g (sym (previous-last_node l c i) ∙ found) in
+pub IsJustBefore-neighbour : (l : Lattice) (c : Class) (i g : ℕ) → neighbour l c i ≡ Some g → IsJustBefore l c g i
+IsJustBefore-neighbour l c i g found =
+    let last : IsLastNode (same_strand l c i) (i - 1) g = IsLastNode-last_node (same_strand l c i) (i - 1) g (sym (neighbour-last_node l c i) ∙ found) in
     record {
       first = last.first;
       before = let a = last.first in let b = last.most in omega arith;
@@ -147,24 +143,24 @@ IsJustBefore-previous l c i g found =
 not_same : (a b : ℕ) → (a ≡ b → ⊥) → (a == b) ≡ false
 not_same a b differ = grind (arith, nat_tests)
 
-pub previous-IsJustBefore : (l : Lattice) (c : Class) (i g : ℕ) → IsJustBefore l c g i → previous l c i ≡ Some g
-previous-IsJustBefore l c i g just =
-    previous-last_node l c i
+pub neighbour-IsJustBefore : (l : Lattice) (c : Class) (i g : ℕ) → IsJustBefore l c g i → neighbour l c i ≡ Some g
+neighbour-IsJustBefore l c i g just =
+    neighbour-last_node l c i
     ∙ last_node-found (same_strand l c i) (i - 1) g just.first (let b = just.before in omega arith)
     (eq-eqb (strand_of l c g) (strand_of l c i) just.same)
     (λ k gt le. not_same (strand_of l c k) (strand_of l c i) (just.none_between k gt (let b = just.before in omega arith)))
 
-pub previous-none_before : (l : Lattice) (c : Class) (i : ℕ) → ((k : ℕ) → 1 ≤ k → k < i → strand_of l c k ≢ strand_of l c i) → previous l c i ≡ None
-previous-none_before l c i none =
-    previous-last_node l c i
+pub neighbour-none_before : (l : Lattice) (c : Class) (i : ℕ) → ((k : ℕ) → 1 ≤ k → k < i → strand_of l c k ≢ strand_of l c i) → neighbour l c i ≡ None
+neighbour-none_before l c i none =
+    neighbour-last_node l c i
     ∙ last_node-none (same_strand l c i) (i - 1)
     (λ k first le. not_same (strand_of l c k) (strand_of l c i) (none k first (omega arith)))
 
 -- two nodes that have the same node just before them are one
-pub previous-unique : (l : Lattice) (c : Class) (i j k : ℕ) → previous l c j ≡ Some i → previous l c k ≡ Some i → j ≡ k
-previous-unique l c i j k ej ek =
-    let a = IsJustBefore-previous l c j i ej in
-    let b = IsJustBefore-previous l c k i ek in
+pub neighbour-unique : (l : Lattice) (c : Class) (i j k : ℕ) → neighbour l c j ≡ Some i → neighbour l c k ≡ Some i → j ≡ k
+neighbour-unique l c i j k ej ek =
+    let a = IsJustBefore-neighbour l c j i ej in
+    let b = IsJustBefore-neighbour l c k i ek in
     let af = a.before in let bf = b.before in
     elim (cases_lt j k) [
       | inl lt ↦ absurd (b.none_between j a.before lt (sym a.same ∙ b.same))
@@ -175,11 +171,11 @@ previous-unique l c i j k ej ek =
     ]
 
 -- from places to nodes
-pub previous-node_at : (l : Lattice) (c : Class) (i g a r b t : ℕ) → i ≡ node_at l.s b t → g ≡ node_at l.s a r → r < l.s → t < l.s → g < i → strand_at c l.p a r ≡ strand_at c l.p b t → NoneBetween c l.s l.p a r b t → previous l c i ≡ Some g
-previous-node_at l c i g a r b t ei eg hr ht lt same none =
+pub neighbour-node_at : (l : Lattice) (c : Class) (i g a r b t : ℕ) → i ≡ node_at l.s b t → g ≡ node_at l.s a r → r < l.s → t < l.s → g < i → strand_at c l.p a r ≡ strand_at c l.p b t → NoneBetween c l.s l.p a r b t → neighbour l c i ≡ Some g
+neighbour-node_at l c i g a r b t ei eg hr ht lt same none =
     let si : strand_of l c i ≡ strand_at c l.p b t = ap (strand_of l c) ei ∙ strand_of-node_at l c b t ht in
     let sg : strand_of l c g ≡ strand_at c l.p a r = ap (strand_of l c) eg ∙ strand_of-node_at l c a r hr in
-    previous-IsJustBefore l c i g (record {
+    neighbour-IsJustBefore l c i g (record {
       first = omega arith;
       before = lt;
       same = sg ∙ same ∙ sym si;
@@ -189,10 +185,10 @@ previous-node_at l c i g a r b t ei eg hr ht lt same none =
           (sym (strand_of-coordinates l c k) ∙ same_k ∙ si);
     })
 
-pub previous-none : (l : Lattice) (c : Class) (i b t : ℕ) → i ≡ node_at l.s b t → t < l.s → NoneBefore c l.s l.p b t → previous l c i ≡ None
-previous-none l c i b t ei ht none =
+pub neighbour-none : (l : Lattice) (c : Class) (i b t : ℕ) → i ≡ node_at l.s b t → t < l.s → NoneBefore c l.s l.p b t → neighbour l c i ≡ None
+neighbour-none l c i b t ei ht none =
     let si : strand_of l c i ≡ strand_at c l.p b t = ap (strand_of l c) ei ∙ strand_of-node_at l c b t ht in
-    previous-none_before l c i
+    neighbour-none_before l c i
     (λ k first below same_k.
     let place : node_at l.s (column l k) (row l k) ≡ k = node_at-coordinates l.s k first in
     none (column l k) (row l k) (mod_below (k - 1) l.s (some_rows l)) (omega arith)

@@ -1,1 +1,3 @@
 pub mod Presence
+pub mod Bits
+pub mod Marked

@@ -1,0 +1,3 @@
+pub mod Filling
+pub mod Forcing
+pub mod Packed

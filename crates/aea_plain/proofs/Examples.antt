@@ -1,5 +1,5 @@
 -- Worked examples, in which the definitions compute.
-use Rattle.std.proofs.Common.{◌≡◌, ℕ, suc, zero, ◌≤◌, Bool, not, ◌||◌, ◌==◌, inl, inr, List, [], ◌∷◌, ◌++◌, filter, Some, refl, sym, ◌∙◌, ap, arith, lit≤}
+use Rattle.std.proofs.Common.{◌≡◌, ℕ, suc, zero, ◌≤◌, Bool, not, ◌||◌, ◌==◌, inl, inr, List, [], ◌∷◌, ◌++◌, filter, Some, None, refl, sym, ◌∙◌, ap, arith, lit≤}
 use Rattle.std.specs.Prelude.{◌&&◌, true, nat_le, All}
 use Rattle.std.specs.List.{list_all}
 use Rattle.std.proofs.lemmas.Bool.Decides.{nat_tests}
@@ -14,13 +14,13 @@ use Rattle.aea_lattice.specs.Closure.{IsReached, is_among}
 use Rattle.aea_lattice.proofs.Equations.{forced_datum, forced_input}
 use Rattle.aea_lattice.specs.Data.{IsDataList, xor_bytes, datum_at, value_of, Determines}
 use Rattle.aea_lattice.proofs.Sums.{length-datum_at, xor_bytes-zeros}
-use Rattle.aea_plain.specs.Sets.{is_listed}
+use Rattle.aea_lattice.specs.Lists.{is_listed}
 use Rattle.aea_plain.proofs.Parities.{IsWide, sum_of, sum_of-append, sum_of-odd}
 
 -- ---- AE(3,5,5) of 40 nodes: the nodes just before node 26, and its prefixes
 
 abbrev wide : Lattice
-wide = record { alpha = 3; s = 5; p = 5; n = 40; in_profile = refl; in_range = lit≤ tt }
+wide = record { alpha = 3; s = 5; p = 5; n = 40; fences = []; in_profile = refl; in_range = lit≤ tt; fenced = refl }
 
 pub horiz_before : previous wide Horiz 26 ≡ Some 21
 horiz_before = refl
@@ -40,10 +40,21 @@ right_prefix = refl
 pub left_prefix : prefix wide Left 26 ≡ 1 ∷ 10 ∷ 14 ∷ 18 ∷ 22 ∷ 26 ∷ []
 left_prefix = refl
 
+-- ---- the same with fences after nodes 13 and 25
+
+abbrev fenced : Lattice
+fenced = record { alpha = 3; s = 5; p = 5; n = 40; fences = 13 ∷ 25 ∷ []; in_profile = refl; in_range = lit≤ tt; fenced = refl }
+
+pub fenced_begins : previous fenced Horiz 26 ≡ None
+fenced_begins = refl
+
+pub fenced_prefix : prefix fenced Horiz 25 ≡ 15 ∷ 20 ∷ 25 ∷ []
+fenced_prefix = refl
+
 -- ---- one strand of 3 nodes
 
 abbrev chain : Lattice
-chain = record { alpha = 1; s = 1; p = 0; n = 3; in_profile = refl; in_range = lit≤ tt }
+chain = record { alpha = 1; s = 1; p = 0; n = 3; fences = []; in_profile = refl; in_range = lit≤ tt; fenced = refl }
 
 -- the codeword of node 3, which the last parity does not leave
 pub last_codeword : filter (is_in_codeword chain (λ i. i == 3)) (blocks_of chain) ≡ block_of 3 Datum ∷ block_of 3 Horiz ∷ []
@@ -77,7 +88,7 @@ first_reached =
 -- ---- AE(2,2,2) of 11 nodes
 
 abbrev woven : Lattice
-woven = record { alpha = 2; s = 2; p = 2; n = 11; in_profile = refl; in_range = lit≤ tt }
+woven = record { alpha = 2; s = 2; p = 2; n = 11; fences = []; in_profile = refl; in_range = lit≤ tt; fenced = refl }
 
 pub early_codeword : filter (is_in_codeword woven (λ i. i == 1 || i == 3 || i == 4 || i == 6)) (blocks_of woven)
     ≡ block_of 1 Datum ∷ block_of 1 Horiz ∷ block_of 1 Right ∷ block_of 3 Datum ∷ block_of 3 Right ∷ block_of 4 Datum ∷ block_of 4 Horiz ∷ block_of 6 Datum ∷ []

@@ -1,8 +1,7 @@
 -- Marks of blocks: what sweeps keep, and that they end in the closure.
-use Rattle.std.proofs.Common.{◌≡◌, ◌≢◌, ℕ, ◌+◌, ◌<◌, inl, inr, Bool, true, false, ◌&&◌, ◌||◌, nat_le, List, [], ◌∷◌, ◌++◌, filter, length, get_or, set, refl, sym, ◌∙◌, ap, subst, arith}
-use Rattle.std.proofs.lemmas.Bool.{and_parts, and_from, or_cases, or_left, or_right, cases_Bool, cases_eq, cases_lt, cond-true, cond-false, false≢true, leb-true, le-leb}
-use Rattle.std.proofs.Math.Seq.{get_or-append_seam}
-use Rattle.std.proofs.lemmas.List.{get_or-set_same, get_or-set_other, get_or_append_left}
+use Rattle.std.proofs.Common.{◌≡◌, ◌≢◌, ℕ, ◌+◌, ◌<◌, inl, inr, Bool, true, false, ◌&&◌, ◌||◌, nat_le, List, [], ◌∷◌, filter, length, get_or, set, refl, sym, ◌∙◌, ap, subst, arith}
+use Rattle.std.proofs.lemmas.Bool.{and_parts, and_from, or_cases, or_left, or_right, cases_Bool, cases_eq, cond-true, cond-false, false≢true, leb-true, le-leb}
+use Rattle.std.proofs.lemmas.List.{get_or-set_same, get_or-set_other}
 use Rattle.std.proofs.lemmas.List.Folds.{list_any_at}
 use Rattle.aea_lattice.specs.declared.blocks.BlockId.{BlockId}
 use Rattle.aea_lattice.specs.declared.blocks.EqId.{EqId}
@@ -12,6 +11,8 @@ use Rattle.aea_lattice.specs.Equations.{HasEquation}
 use Rattle.aea_lattice.specs.Closure.{IsForcedBy, IsReached, is_among}
 use Rattle.aea_lattice.proofs.Equations.{same_block-refl, number_below, number_equal, member_inside}
 use Rattle.aea_lattice.proofs.Derivations.{among_cases, among-first, among-rest, among-filter, forced-more, reached-known, reached-forced, reached-within}
+use Rattle.aea_view.specs.Marked as marked
+use Rattle.aea_view.specs.Marked.{Marked}
 use Rattle.aea_plain.specs.Sets.{IsClosure}
 use Rattle.aea_plain.specs.Marks.{is_inside, is_marked, IsState, IsSpent}
 use Rattle.aea_plain.proofs.Places.{get_or-blocks_of, inside_blocks}
@@ -165,20 +166,36 @@ closure-end l known marks blocks state spent are =
 
 -- ---- the first marks
 
-pub marks-push : (l : Lattice) (known : BlockId → Bool) (marks : List Bool) (k : ℕ) (b : BlockId) (x : Bool) → length marks ≡ k
+-- the block of this number has got its mark
+pub marks-set : (l : Lattice) (known : BlockId → Bool) (marks : List Bool) (k : ℕ) (b : BlockId) (x : Bool) → k < length marks
     → HasBlock l b → number_of l b ≡ k → x ≡ known b
     → ((d : BlockId) → HasBlock l d → number_of l d < k → get_or marks (number_of l d) false ≡ known d)
-    → (d : BlockId) → HasBlock l d → number_of l d < k + 1 → get_or (marks ++ x ∷ []) (number_of l d) false ≡ known d
-marks-push l known marks k b x long has_b at is before d has_d below =
-    elim (cases_lt (number_of l d) k) [
-      | inl earlier ↦
-          let inside : number_of l d < length marks = omega arith in
-          get_or_append_left marks (x ∷ []) false (number_of l d) inside ∙ before d has_d earlier
-      | inr last ↦
-          let here : number_of l d ≡ length marks = omega arith in
-          let one : d ≡ b = (let same : number_of l d ≡ number_of l b = omega arith in number_equal l d b has_d has_b same) in
-          ap (λ n. get_or (marks ++ x ∷ []) n false) here
-          ∙ get_or-append_seam marks x [] false
-          ∙ is
-          ∙ ap known (sym one)
+    → (d : BlockId) → HasBlock l d → number_of l d < k + 1 → get_or (set marks k x) (number_of l d) false ≡ known d
+marks-set l known marks k b x within has_b at is before d has_d below =
+    elim (cases_eq (number_of l d) k) [
+      | inl last ↦
+          let one : d ≡ b = number_equal l d b has_d has_b (last ∙ sym at) in
+          ap (λ n. get_or (set marks k x) n false) last ∙ get_or-set_same marks k x false within ∙ is ∙ ap known (sym one)
+      | inr other ↦
+          let earlier : number_of l d < k = omega (arith, other) in
+          get_or-set_other marks k (number_of l d) x false other ∙ before d has_d earlier
     ]
+
+-- marks of a lattice are those of their list in it
+pub marks-of : (m : Marked) (l : Lattice) → m.lattice ≡ l → m ≡ record { lattice = l; marks = m.marks }
+marks-of m l same = ap (λ (x : Lattice). let y : Marked = record { lattice = x; marks = m.marks } in y) same
+
+-- ---- what marks force, in the lattice and wherever
+
+pub forced-inside : (l : Lattice) (marks : List Bool) (b : BlockId) (e : EqId)
+    → IsForcedBy l (marked.is_marked (record { lattice = l; marks = marks })) b e → IsForcedBy l (is_marked l marks) b e
+forced-inside l marks b e forced =
+    forced-more l (marked.is_marked (record { lattice = l; marks = marks })) (is_marked l marks) b e
+    (λ d member h. marked-at l marks d (member_inside l e d forced.equation member) ∙ h) forced
+
+pub spent-inside : (l : Lattice) (marks : List Bool) (e : EqId) → marked.IsSpent (record { lattice = l; marks = marks }) e → IsSpent l marks e
+spent-inside l marks e spent b forced =
+    marked-at l marks b (member_inside l e b forced.equation forced.contains)
+    ∙ spent b
+    (forced-more l (is_marked l marks) (marked.is_marked (record { lattice = l; marks = marks })) b e
+    (λ d member h. sym (marked-at l marks d (member_inside l e d forced.equation member)) ∙ h) forced)

@@ -8,7 +8,7 @@ use Rattle.std.proofs.lemmas.List.{length-replicate}
 use Rattle.std.proofs.lemmas.List.Elements.{filter-append}
 use Rattle.aea_lattice.specs.Data.{xor_bytes, xor_all}
 use Rattle.aea_lattice.specs.Strands.{nodes_to}
-use Rattle.aea_lattice.proofs.Sums.{xor_bytes-cancel, xor_bytes-comm, xor_bytes-assoc, xor_bytes-zeros, length-xor_bytes}
+use Rattle.aea_lattice.proofs.Sums.{xor_bytes-cancel, xor_bytes-comm, xor_bytes-assoc, xor_bytes-zeros, length-xor_bytes, length-fold}
 
 -- the sum of the data of some nodes
 abbrev pub sum_of : ℕ → (ℕ → List ℕ) → List ℕ → List ℕ
@@ -18,13 +18,8 @@ sum_of w datum nodes = xor_all w (map datum nodes)
 pub record IsWide (w : ℕ) (datum : ℕ → List ℕ) : Type 0 where
   pub each : (k : ℕ) → length (datum k) ≡ w
 
-length-fold : (w : ℕ) (datum : ℕ → List ℕ) → IsWide w datum → (nodes : List ℕ) (start : List ℕ) → length start ≡ w → length (fold xor_bytes start (map datum nodes)) ≡ w
-length-fold w datum wide [] start long = long
-length-fold w datum wide (k ∷ nodes) start long =
-    length-fold w datum wide nodes (xor_bytes start (datum k)) (length-xor_bytes start (datum k) (long ∙ sym (wide.each k)) ∙ wide.each k)
-
 pub length-sum_of : (w : ℕ) (datum : ℕ → List ℕ) (nodes : List ℕ) → IsWide w datum → length (sum_of w datum nodes) ≡ w
-length-sum_of w datum nodes wide = length-fold w datum wide nodes (replicate w 0) (length-replicate w 0)
+length-sum_of w datum nodes wide = length-fold w nodes datum (replicate w 0) (length-replicate w 0) wide.each
 
 zeros_behind : (w : ℕ) (ys : List ℕ) → length ys ≡ w → xor_bytes ys (replicate w 0) ≡ ys
 zeros_behind w ys long = xor_bytes-comm ys (replicate w 0) ∙ xor_bytes-zeros w ys long

@@ -1,17 +1,19 @@
--- Scans of nodes and of equations, one item after another.
-use Rattle.std.proofs.Common.{◌≡◌, ◌≢◌, ℕ, suc, ◌+◌, ◌-◌, ◌<◌, ◌≤◌, Bool, true, false, not, ◌||◌, List, [], ◌∷◌, ◌++◌, filter, length, get_or, take, Some, None, refl, sym, ◌∙◌, ap, subst, arith}
+-- Scans of nodes, one after another.
+use Rattle.std.proofs.Common.{◌≡◌, ℕ, suc, ◌+◌, ◌-◌, ◌<◌, ◌≤◌, Bool, true, false, not, ◌==◌, eq-eqb, inl, inr, List, [], ◌∷◌, ◌++◌, filter, length, get_or, take, Some, None, refl, sym, ◌∙◌, ap, subst, arith}
 use Rattle.std.proofs.lemmas.List.{take_more}
 use Rattle.aea_lattice.specs.declared.blocks.Class.{Class}
-use Rattle.aea_lattice.specs.declared.blocks.Class.TheVariants.{Datum}
-use Rattle.aea_lattice.specs.declared.blocks.BlockId.{BlockId}
-use Rattle.aea_lattice.specs.declared.blocks.EqId.{EqId}
 use Rattle.aea_lattice.specs.declared.grid.Lattice.{Lattice}
-use Rattle.aea_lattice.specs.Blocks.{block_of, same_block}
-use Rattle.aea_lattice.specs.Strands.{strand_of, nodes_to, previous, IsNext}
-use Rattle.aea_lattice.specs.Equations.{is_odd_count, is_in_equation, input_blocks}
-use Rattle.std.specs.List.{list_any}
-use Rattle.aea_lattice.proofs.Previous.{filter-snoc_true, filter-snoc_false, IsJustBefore-previous, previous-IsJustBefore, previous-unique}
-use Rattle.aea_lattice.proofs.Codewords.{differ, odd-snoc}
+use Rattle.aea_lattice.specs.Fences.{is_parted}
+use Rattle.aea_lattice.specs.Strands.{strand_of, is_on, nodes_to, previous, IsNext}
+use Rattle.aea_lattice.specs.Neighbours.{neighbour}
+use Rattle.aea_lattice.specs.Equations.{is_odd_count}
+use Rattle.std.proofs.lemmas.Bool.{cases_Bool, and_from, false≢true}
+use Rattle.aea_lattice.proofs.Parted.{parted-nearer}
+use Rattle.aea_lattice.proofs.Strands.{filter-snoc_true, filter-snoc_false, last_node-found, IsLastNode-last_node, neighbour-unique}
+use Rattle.aea_lattice.proofs.Runs.{previous-last, previous-neighbour, joined_is}
+use Rattle.aea_lattice.proofs.Prefixes.{on_strand, previous-before}
+use Rattle.aea_lattice.specs.Parity.{differ}
+use Rattle.aea_lattice.proofs.Odd.{odd-snoc}
 
 -- ---- the nodes 1 to k
 
@@ -77,34 +79,35 @@ odd-take_false f xs i d inside other =
 
 -- ---- the next node
 
--- the first node after i on its strand has i just before it
-pub next-found : (l : Lattice) (c : Class) (i k : ℕ) → 1 ≤ i → i < k → k ≤ l.n → strand_of l c k ≡ strand_of l c i
-    → ((j : ℕ) → i < j → j < k → strand_of l c j ≢ strand_of l c i) → IsNext l c i (Some k)
+-- the first node after i that has i on its strand has i just before it
+pub next-found : (l : Lattice) (c : Class) (i k : ℕ) → 1 ≤ i → i < k → k ≤ l.n → is_on l c (strand_of l c k) k i ≡ true
+    → ((j : ℕ) → i < j → j < k → is_on l c (strand_of l c j) j i ≡ false) → IsNext l c i (Some k)
 next-found l c i k first after most on none =
+    let here = on_strand l c (strand_of l c k) k i on in
+    let p = is_on l c (strand_of l c k) k in
     let before : previous l c k ≡ Some i =
-    previous-IsJustBefore l c k i
-    (record { first = first; before = after; same = sym on; none_between = λ j gt lt is. none j gt lt (is ∙ on) }) in
+    previous-last l c k
+    ∙ last_node-found p (k - 1) i first (omega arith) on
+    (λ j gt le. elim (cases_Bool (p j)) [
+      | inl yes' ↦
+          let there = on_strand l c (strand_of l c k) k j yes' in
+          absurd (false≢true (sym (none j gt (omega arith))
+          ∙ and_from (strand_of l c i == strand_of l c j) (not (is_parted l.fences i j))
+          (eq-eqb (strand_of l c i) (strand_of l c j) (here.0 ∙ sym there.0))
+          (ap not (parted-nearer l.fences i j k (omega arith) here.1))))
+      | inr no' ↦ no'
+    ]) in
     λ j. (
       λ found. let is : k ≡ j = cc in (subst (λ n. n ≤ l.n) is most, subst (λ n. previous l c n ≡ Some i) is before),
-      λ h. ap Some (previous-unique l c i k j before h.1),
+      λ h. ap Some (neighbour-unique l c i k j (joined_is l k i (neighbour l c k) (sym (previous-neighbour l c k) ∙ before)).0
+          (joined_is l j i (neighbour l c j) (sym (previous-neighbour l c j) ∙ h.1)).0),
     )
 
 pub next-none : (l : Lattice) (c : Class) (i : ℕ)
-    → ((j : ℕ) → i < j → j ≤ l.n → strand_of l c j ≢ strand_of l c i) → IsNext l c i None
+    → ((j : ℕ) → i < j → j ≤ l.n → is_on l c (strand_of l c j) j i ≡ false) → IsNext l c i None
 next-none l c i none =
     λ j. (
       λ found. absurd (cc),
-      λ h. let just = IsJustBefore-previous l c j i h.1 in absurd (none j just.before h.0 (sym just.same)),
+      λ h. absurd (false≢true (sym (none j (previous-before l c j i h.1) h.0)
+          ∙ (IsLastNode-last_node (is_on l c (strand_of l c j) j) (j - 1) i (sym (previous-last l c j) ∙ h.1)).passes)),
     )
-
--- ---- the blocks of an equation
-
-pub in_equation-some : (l : Lattice) (e : EqId) (b : BlockId) (g : ℕ) → previous l e.class e.node ≡ Some g
-    → is_in_equation l e b ≡ (same_block b (block_of g e.class) || (same_block b (block_of e.node Datum) || (same_block b (block_of e.node e.class) || false)))
-in_equation-some l e b g was =
-    ap (λ p. list_any (same_block b) (input_blocks p e.class ++ block_of e.node Datum ∷ block_of e.node e.class ∷ [])) was
-
-pub in_equation-none : (l : Lattice) (e : EqId) (b : BlockId) → previous l e.class e.node ≡ None
-    → is_in_equation l e b ≡ (same_block b (block_of e.node Datum) || (same_block b (block_of e.node e.class) || false))
-in_equation-none l e b was =
-    ap (λ p. list_any (same_block b) (input_blocks p e.class ++ block_of e.node Datum ∷ block_of e.node e.class ∷ [])) was

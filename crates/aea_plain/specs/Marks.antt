@@ -1,18 +1,19 @@
 -- Marks of the blocks of a lattice, and what sweeps of its equations keep.
-use Rattle.std.specs.Prelude.{◌≡◌, Bool, true, false, ◌&&◌, nat_le, List, get_or, IsTrue}
+use Rattle.std.specs.Prelude.{◌≡◌, Bool, true, ◌&&◌, nat_le, List, IsTrue}
 use Rattle.aea_lattice.specs.declared.blocks.BlockId.{BlockId}
 use Rattle.aea_lattice.specs.declared.blocks.EqId.{EqId}
 use Rattle.aea_lattice.specs.declared.grid.Lattice.{Lattice}
-use Rattle.aea_lattice.specs.Blocks.{class_number, HasBlock, number_of}
+use Rattle.aea_lattice.specs.Blocks.{class_number, HasBlock}
 use Rattle.aea_lattice.specs.Closure.{IsForcedBy, IsReached}
+use Rattle.aea_view.specs.Marked as marked
 
 -- whether the block is one of the lattice
 abbrev pub is_inside : Lattice → BlockId → Bool
 is_inside l b = nat_le 1 b.node && nat_le b.node l.n && nat_le (class_number b.class) l.alpha
 
--- whether the lattice has the block, and there is a mark at its number
+-- whether the lattice has the block, and it is marked, by marks of this lattice
 abbrev pub is_marked : Lattice → List Bool → BlockId → Bool
-is_marked l marks b = is_inside l b && get_or marks (number_of l b) false
+is_marked l marks b = is_inside l b && marked.is_marked (record { lattice = l; marks = marks }) b
 
 -- known blocks have marks, and blocks with marks are in the closure
 pub record IsState (l : Lattice) (known : BlockId → Bool) (marks : List Bool) : Type 0 where

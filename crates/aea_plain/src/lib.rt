@@ -1,4 +1,5 @@
-//! The plain programs of the definitions of a lattice that can be computed: prefixes and the neighbours on a strand,
+//! The plain programs of the definitions of a lattice that can be computed: prefixes, the neighbours on a strand
+//! and its last node,
 //! codewords, what sets of equations add up to, and closures. Each scans nodes, blocks or equations as its
 //! definition reads, and is slow. The tables of neighbours, and the faster programs of the crates above, are tested
 //! against these.
@@ -10,7 +11,7 @@ pub mod sums;
 pub mod sweeps;
 
 pub use codewords::codeword;
-pub use strands::{next, prefix, previous};
+pub use strands::{last_on, next, prefix, previous};
 pub use sums::sum;
 pub use sweeps::closure;
 

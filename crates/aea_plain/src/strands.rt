@@ -1,11 +1,22 @@
 ghost use Rattle.std.specs.Prelude.{◌≡◌, IfOk};
 ghost use Rattle.aea_lattice.specs.Blocks.{HasNode, HasParity};
-ghost use Rattle.aea_lattice.specs.Strands.{prefix, previous, IsNext};
+ghost use Rattle.aea_lattice.specs.Strands.{is_on, prefix, previous, IsNext};
+ghost use Rattle.aea_lattice.specs.Ends.{last_open};
 
 use aea_lattice::{Class, Lattice};
 use std::alloc::{AllocError, Global};
 
-/// The nodes up to this one on its strand of the class, in order, by a scan of the nodes from 1 on.
+// Whether the node lies on this strand of the class, with no fence at it or later and before `last`.
+pub(crate) fn is_on(lattice: &Lattice, class: Class, strand: u32, last: u32, node: u32) -> bool
+    requires node { HasNode lattice.now node }
+    requires class { HasParity lattice.now class }
+    ensures { result ≡ is_on lattice.now class strand last node }
+{
+    lattice.strand(node, class) == strand && !lattice.fences.parts(node, last)
+}
+
+/// The nodes up to this one on its strand of the class that no fence parts from it, in order, by a scan of the nodes
+/// from 1 on.
 pub fn prefix(
     alloc: Global,
     lattice: &Lattice,
@@ -19,7 +30,7 @@ pub fn prefix(
     let strand = lattice.strand(node, class);
     let mut nodes = Vec::new(alloc);
     for k in 1..node + 1 {
-        if strand == lattice.strand(k, class) {
+        if is_on(lattice, class, strand, node, k) {
             nodes.push(k)?;
         }
     }
@@ -34,7 +45,7 @@ pub fn previous(lattice: &Lattice, node: u32, class: Class) -> Option<u32>
 {
     let strand = lattice.strand(node, class);
     for k in (1..node).rev() {
-        if lattice.strand(k, class) == strand {
+        if is_on(lattice, class, strand, node, k) {
             return Some(k);
         }
     }
@@ -48,9 +59,22 @@ pub fn next(lattice: &Lattice, node: u32, class: Class) -> Option<u32>
     requires class { HasParity lattice.now class }
     ensures { IsNext lattice.now class node result }
 {
-    let strand = lattice.strand(node, class);
     for k in node + 1..lattice.n + 1 {
-        if lattice.strand(k, class) == strand {
+        if is_on(lattice, class, lattice.strand(k, class), k, node) {
+            return Some(k);
+        }
+    }
+    None
+}
+
+/// The last node up to n on this strand of the class that no fence parts from a node after n, None where there is none,
+/// by a scan down.
+pub fn last_on(lattice: &Lattice, class: Class, strand: u32) -> Option<u32>
+    requires { HasParity lattice.now class }
+    ensures { result ≡ last_open lattice.now class strand }
+{
+    for k in (1..lattice.n + 1).rev() {
+        if is_on(lattice, class, strand, lattice.n + 1, k) {
             return Some(k);
         }
     }

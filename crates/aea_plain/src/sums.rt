@@ -2,7 +2,7 @@ ghost use Rattle.std.specs.Prelude.{◌≡◌, [], ◌∷◌, ◌++◌, ◌&&◌
 ghost use Rattle.std.specs.List.{list_any};
 ghost use Rattle.aea_lattice.specs.Blocks.{same_block, blocks_of, classes};
 ghost use Rattle.aea_lattice.specs.Equations.{HasEquation, is_in_equation, is_odd_count, adds_up_to, equation_of, equations_of};
-ghost use Rattle.aea_plain.specs.Sets.{is_listed};
+ghost use Rattle.aea_lattice.specs.Lists.{is_listed};
 
 use aea_lattice::{BlockId, Class, EqId, Lattice};
 use std::alloc::{AllocError, Global};
@@ -45,6 +45,13 @@ fn has_equation(equations: &[EqId], e: EqId) -> bool
     equations.iter().any(|d| e == *d)
 }
 
+// Whether the two are one block.
+fn is_same(b: BlockId, g: BlockId) -> bool
+    ensures { result ≡ same_block b g }
+{
+    b == g
+}
+
 // Whether the block is one of the two.
 fn is_either(b: BlockId, first: BlockId, second: BlockId) -> bool
     ensures { result ≡ list_any (same_block b) (first ∷ second ∷ []) }
@@ -59,7 +66,7 @@ fn is_in_equation(lattice: &Lattice, e: EqId, b: BlockId) -> bool
 {
     let q = lattice.equation(e);
     match q.input {
-        Some(g) => b == g || is_either(b, q.datum, q.output),
+        Some(g) => is_same(b, g) || is_either(b, q.datum, q.output),
         None => is_either(b, q.datum, q.output),
     }
 }

@@ -1,8 +1,9 @@
+ghost use Rattle.aea_lattice.specs.Blocks.{HasBlock, HasParity};
 ghost use Rattle.aea_lattice.specs.Equations.{HasEquation};
 
 use crate::sums::all_equations;
-use crate::{closure, codeword, next, prefix, previous, sum};
-use aea_lattice::{BlockId, Class, EqId, Lattice, parse_block};
+use crate::{closure, codeword, last_on, next, prefix, previous, sum};
+use aea_lattice::{BlockId, Class, EqId, Equation, Lattice, parse_block};
 use std::alloc::{AllocError, Global};
 use std::test::Fail;
 
@@ -25,6 +26,59 @@ const SHAPES: [(u8, u8, u8, u32); 15] = [
     (3, 16, 64, 2100),
 ];
 
+// α, s, p, the fences and the number of nodes.
+const FENCED: [(u8, u8, u8, &[u32], u32); 16] = [
+    (1, 1, 0, &[1], 1),
+    (1, 1, 0, &[1, 2, 30], 60),
+    (1, 1, 0, &[40], 40),
+    (2, 2, 2, &[11], 30),
+    (2, 2, 5, &[13, 14], 60),
+    (2, 3, 7, &[1, 40, 80], 80),
+    (2, 16, 16, &[100], 200),
+    (2, 5, 64, &[320, 321], 400),
+    (3, 2, 2, &[1, 2, 3], 60),
+    (3, 2, 5, &[39, 40], 40),
+    (3, 3, 3, &[7, 20, 21, 50], 60),
+    (3, 3, 7, &[90], 90),
+    (3, 4, 5, &[1, 90], 90),
+    (3, 5, 5, &[13, 25], 40),
+    (
+        3,
+        5,
+        5,
+        &[1, 2, 4, 8, 9, 15, 21, 22, 30, 31, 47, 48, 50, 60, 77, 100],
+        100,
+    ),
+    (3, 16, 64, &[500, 1023], 1100),
+];
+
+// The lattice of this shape with these fences and n nodes.
+fn fenced(alpha: u8, s: u8, p: u8, fences: &[u32], n: u32) -> Option<Lattice> {
+    let mut lattice = Lattice::new(alpha, s, p, 0)?;
+    for fence in fences {
+        lattice = lattice.grown(*fence)?.fenced()?;
+    }
+    lattice.grown(n)
+}
+
+// The blocks of an equation, with the input that a scan finds.
+fn scanned(lattice: &Lattice, e: EqId) -> Equation
+    requires { HasEquation lattice.now e }
+{
+    let EqId { node, class } = e;
+    let output = BlockId { node, class };
+    let datum = BlockId {
+        class: Class::Datum,
+        ..output
+    };
+    let input = previous(lattice, node, class).map(|node| BlockId { node, class });
+    Equation {
+        input,
+        datum,
+        output,
+    }
+}
+
 // Whether the inputs from the node on, one after another, are its prefix from the end on, and all on its strand.
 fn has_inputs(alloc: Global, lattice: &Lattice, e: EqId) -> Result<bool, AllocError>
     requires { HasEquation lattice.now e }
@@ -44,7 +98,7 @@ fn has_inputs(alloc: Global, lattice: &Lattice, e: EqId) -> Result<bool, AllocEr
     Ok(input.is_none())
 }
 
-// The first node and class whose neighbours by the tables are not those of the plain definitions.
+// The first node and class whose neighbours and equation by the tables are not those of the plain definitions.
 fn first_difference(alloc: Global, lattice: &Lattice) -> Result<Option<EqId>, AllocError> {
     for e in &all_equations(alloc, lattice)? {
         if lattice.input(e.node, e.class) != previous(lattice, e.node, e.class) {
@@ -53,11 +107,68 @@ fn first_difference(alloc: Global, lattice: &Lattice) -> Result<Option<EqId>, Al
         if lattice.next(e.node, e.class) != next(lattice, e.node, e.class) {
             return Ok(Some(*e));
         }
-        if !has_inputs(alloc, lattice, *e)? {
+        if lattice.equation(*e) != scanned(lattice, *e) || !has_inputs(alloc, lattice, *e)? {
             return Ok(Some(*e));
         }
     }
     Ok(None)
+}
+
+// Whether each strand of the class has the last node that a scan finds.
+fn has_lasts(lattice: &Lattice, class: Class) -> bool
+    requires { HasParity lattice.now class }
+{
+    for strand in 0..lattice.strands(class) {
+        if lattice.last_on(class, strand) != last_on(lattice, class, strand) {
+            return false;
+        }
+    }
+    true
+}
+
+// Whether all strands of all classes do.
+fn has_all_lasts(lattice: &Lattice) -> bool {
+    has_lasts(lattice, Class::Horiz)
+        && (lattice.alpha < 2 || has_lasts(lattice, Class::Right))
+        && (lattice.alpha < 3 || has_lasts(lattice, Class::Left))
+}
+
+// Whether the codeword has the block, where it has these of the blocks before: a datum by its node, and a parity where
+// it has one of its input and the datum of its node, but not both.
+fn is_next_of_codeword(lattice: &Lattice, nodes: &[u32], before: &[bool], b: BlockId) -> bool
+    requires { HasBlock lattice.now b }
+{
+    let BlockId { node, class } = b;
+    let is_member = nodes.contains(&node);
+    if class == Class::Datum {
+        return is_member;
+    }
+    match lattice.input(node, class) {
+        None => is_member,
+        Some(node) => {
+            let number = lattice.number(BlockId { node, class }) as usize;
+            before.get(number).copied().unwrap_or(false) != is_member
+        }
+    }
+}
+
+// The codeword of the nodes, block by block along the inputs.
+fn codeword_by_inputs(
+    alloc: Global,
+    lattice: &Lattice,
+    nodes: &[u32],
+) -> Result<Vec<BlockId>, AllocError> {
+    let mut blocks = Vec::new(alloc);
+    let mut marks = Vec::new(alloc);
+    for k in 0..lattice.blocks() {
+        let b = lattice.block(k);
+        let is_in = is_next_of_codeword(lattice, nodes, marks.as_slice(), b);
+        marks.push(is_in)?;
+        if is_in {
+            blocks.push(b)?;
+        }
+    }
+    Ok(blocks)
 }
 
 #[test]
@@ -69,6 +180,49 @@ fn tables_agree_with_the_definitions(rt: HostRuntime) -> Result<(), Fail> {
             difference.is_none(),
             "AE({alpha},{s},{p}) of {n}: {difference:?}"
         );
+        assert!(rt; has_all_lasts(&lattice), "AE({alpha},{s},{p}) of {n}");
+    }
+    Ok(())
+}
+
+#[test]
+fn tables_agree_with_the_definitions_over_fences(rt: HostRuntime) -> Result<(), Fail> {
+    for (alpha, s, p, fences, n) in FENCED {
+        let lattice = fenced(alpha, s, p, fences, n).expect(&rt, "a shape");
+        assert_eq!(rt; usize::from(lattice.fence_count()), fences.len());
+        let difference = first_difference(rt.alloc(), &lattice)?;
+        assert!(rt; difference.is_none(), "{lattice:?}: {difference:?}");
+        assert!(rt; has_all_lasts(&lattice), "{lattice:?}");
+    }
+    Ok(())
+}
+
+#[test]
+fn codewords_end_at_fences(rt: HostRuntime) -> Result<(), Fail> {
+    for (alpha, s, p, fences, n) in FENCED {
+        if n > 100 {
+            continue;
+        }
+        let lattice = fenced(alpha, s, p, fences, n).expect(&rt, "a shape");
+        for nodes in [[1, 2, 40], [1, 14, 21], [30, 31, 50]] {
+            let word = codeword(rt.alloc(), &lattice, &nodes)?;
+            let want = codeword_by_inputs(rt.alloc(), &lattice, &nodes)?;
+            assert_eq!(rt;
+                word.as_slice(),
+                want.as_slice(),
+                "{nodes:?} in {lattice:?}"
+            );
+        }
+    }
+    Ok(())
+}
+
+#[test]
+fn the_codeword_of_the_node_before_a_fence_is_the_node(rt: HostRuntime) -> Result<(), Fail> {
+    let lattice = fenced(2, 2, 2, &[4, 7], 11).expect(&rt, "a shape");
+    for (node, has) in [(4, "d4 h4 r4"), (3, "d3 h3 r3"), (5, "d5 h5 r5 h7")] {
+        let word = codeword(rt.alloc(), &lattice, &[node])?;
+        assert_eq!(rt; word.as_slice(), blocks(rt.alloc(), has)?.as_slice());
     }
     Ok(())
 }

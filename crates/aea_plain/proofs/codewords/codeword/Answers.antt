@@ -1,5 +1,5 @@
-use Rattle.std.proofs.Common.{◌≤◌, ◌∷◌, [], ◌++◌, filter, Bool, sym, ◌∙◌, ap, arith, ◌==◌}
-use Rattle.std.specs.List.{list_any}
+use Rattle.std.proofs.Common.{◌≤◌, ◌∷◌, [], ◌++◌, filter, Bool, sym, ◌∙◌, ap, arith}
+use Rattle.aea_lattice.specs.Lists.{has_node}
 use Rattle.aea_lattice.specs.Equations.{is_in_codeword}
 use Rattle.aea_lattice.specs.declared.blocks.BlockId.{BlockId}
 use Rattle.aea_lattice.specs.Blocks.{blocks_count}
@@ -9,7 +9,7 @@ use Rattle.aea_plain.proofs.codewords.codeword.Goals.{then-is_in_codeword+in_ok-
 
 pub loop-k-preserved : goal.loop-k-preserved
 loop-k-preserved c =
-    let p : BlockId → Bool = is_in_codeword c.args.lattice.now (λ i. list_any (λ k. k == i) c.args.nodes.now) in
+    let p : BlockId → Bool = is_in_codeword c.args.lattice.now (has_node c.args.nodes.now) in
     elim c.if-is_in_codeword.branch [
       | then-is_in_codeword+in_ok-push w ↦
           rw w.blocks-is
@@ -29,4 +29,4 @@ loop-k-preserved c =
 pub returns : goal.returns
 returns c =
     let all : blocks_count c.args.lattice.now ≤ c.loop-k.k = omega arith in
-    c.loop-k.invariant ∙ ap (filter (is_in_codeword c.args.lattice.now (λ i. list_any (λ k. k == i) c.args.nodes.now))) (take-blocks_of c.args.lattice.now c.loop-k.k all)
+    c.loop-k.invariant ∙ ap (filter (is_in_codeword c.args.lattice.now (has_node c.args.nodes.now))) (take-blocks_of c.args.lattice.now c.loop-k.k all)

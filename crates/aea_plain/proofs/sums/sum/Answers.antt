@@ -1,7 +1,7 @@
 use Rattle.std.proofs.Common.{◌≡◌, ◌≤◌, ◌∷◌, [], ◌++◌, ◌&&◌, filter, Bool, sym, ◌∙◌, ap, arith}
 use Rattle.aea_lattice.specs.declared.blocks.EqId.{EqId}
 use Rattle.aea_lattice.specs.Equations.{is_in_equation, is_odd_count, adds_up_to}
-use Rattle.aea_plain.specs.Sets.{is_listed}
+use Rattle.aea_lattice.specs.Lists.{is_listed}
 use Rattle.aea_lattice.specs.declared.blocks.BlockId.{BlockId}
 use Rattle.aea_lattice.specs.Blocks.{blocks_count}
 use Rattle.aea_plain.proofs.Places.{filter-block_kept, filter-block_dropped, take-blocks_of}

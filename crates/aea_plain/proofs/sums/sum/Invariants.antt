@@ -1,7 +1,7 @@
 use Rattle.std.proofs.Common.{◌≡◌, filter, take}
 use Rattle.aea_lattice.specs.Blocks.{blocks_of}
 use Rattle.aea_lattice.specs.Equations.{adds_up_to}
-use Rattle.aea_plain.specs.Sets.{is_listed}
+use Rattle.aea_lattice.specs.Lists.{is_listed}
 use Rattle.aea_plain.proofs.sums.sum.Given as goal
 
 abbrev pub invariant-loop-k : goal.invariant-loop-k

@@ -14,7 +14,7 @@ use Rattle.aea_lattice.specs.Closure.{IsForcedBy}
 use Rattle.aea_lattice.proofs.Equations.{member, datum, output, input, member_inside}
 use Rattle.aea_lattice.proofs.Prefixes.{previous-before}
 use Rattle.aea_lattice.proofs.Derivations.{forced-more}
-use Rattle.aea_peel.specs.Marks.{is_marked, IsSpent, WaitsOrIsSpent, IsQueue, Adds}
+use Rattle.aea_peel.specs.Queue.{is_marked, IsSpent, WaitsOrIsSpent, IsQueue, Adds}
 use Rattle.aea_peel.proofs.States.{mark_elsewhere}
 
 -- ---- more equations

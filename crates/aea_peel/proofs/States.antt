@@ -1,14 +1,13 @@
 -- The steps taken so far, and the marks of what they gave.
-use Rattle.std.proofs.Common.{◌≡◌, ◌≢◌, ℕ, zero, suc, ◌+◌, ◌<◌, inl, inr, ◌⊎◌, Bool, true, false, ◌||◌, List, [], ◌∷◌, ◌++◌, take, length, get_or, set, slice_get, None, Some, refl, sym, ◌∙◌, ap, subst, arith}
+use Rattle.std.proofs.Common.{◌≡◌, ◌≢◌, ℕ, zero, suc, ◌<◌, inl, inr, ◌⊎◌, Bool, true, false, ◌||◌, List, [], ◌∷◌, ◌++◌, take, length, set, slice_get, None, Some, refl, sym, ◌∙◌, ap, subst, arith}
 use Rattle.std.specs.List.{IsDistinct}
 use Rattle.std.specs.Cmp.{IsEquivalence}
-use Rattle.std.proofs.lemmas.Bool.{or_cases, or_left, or_right, or_parts, cases_Bool, cases_lt, false≢true, false_from_ne_true}
+use Rattle.std.proofs.lemmas.Bool.{or_cases, or_left, or_right, or_parts, cases_Bool, false≢true, false_from_ne_true}
 use Rattle.std.proofs.lemmas.List.{map-append, get_or-set_same, get_or-set_other, take-append-le}
 use Rattle.std.proofs.lemmas.List.Folds.{list_any-append}
 use Rattle.std.proofs.lemmas.Map.Keys.{IsDistinct-push}
 use Rattle.std.proofs.lemmas.Option.{slice_get_past}
-use Rattle.std.proofs.Math.Seq.{take-append_seam, get_or-append_seam}
-use Rattle.std.proofs.Math.ListN.{get_or-append}
+use Rattle.std.proofs.Math.Seq.{take-append_seam}
 use Rattle.aea_lattice.specs.declared.blocks.BlockId.{BlockId}
 use Rattle.aea_lattice.specs.declared.blocks.EqId.{EqId}
 use Rattle.aea_lattice.specs.declared.grid.Lattice.{Lattice}
@@ -17,9 +16,10 @@ use Rattle.aea_lattice.specs.Equations.{HasEquation}
 use Rattle.aea_lattice.specs.Closure.{IsForcedBy, IsReached, is_among}
 use Rattle.aea_lattice.proofs.Equations.{same_block-equal, same_block-refl, number_below, number_equal, member_inside}
 use Rattle.aea_lattice.proofs.Derivations.{reached-known, reached-forced, reached-within, forced-more}
+use Rattle.aea_view.specs.Marked.{Marked}
 use Rattle.aea_peel.specs.declared.plan.Step.{Step}
 use Rattle.aea_peel.specs.Plans.{blocks_given, is_had, IsPlan}
-use Rattle.aea_peel.specs.Marks.{is_marked, IsState, IsSpent}
+use Rattle.aea_peel.specs.Queue.{is_marked, IsState, IsSpent}
 
 -- ---- blocks in lists of steps
 
@@ -198,18 +198,6 @@ IsPlan-end l known steps marks spent state = record {
   forced = state.forced;
 }
 
--- ---- the marks at first
-
--- one more mark, for the block of this number
-pub marks-push : (l : Lattice) (known : BlockId → Bool) (marks : List Bool) (new : BlockId) (k : ℕ) (r : Bool)
-    → length marks ≡ k → HasBlock l new → number_of l new ≡ k → r ≡ known new
-    → ((b : BlockId) → HasBlock l b → number_of l b < k → is_marked l marks b ≡ known b)
-    → (b : BlockId) → HasBlock l b → number_of l b < k + 1 → is_marked l (marks ++ r ∷ []) b ≡ known b
-marks-push l known marks new k r long inside at same before b hb below =
-    elim (cases_lt (number_of l b) k) [
-      | inl lt ↦ get_or-append marks (r ∷ []) false (number_of l b) (omega arith) ∙ before b hb lt
-      | inr ge ↦
-          let here : b ≡ new = number_equal l b new hb inside (omega arith) in
-          ap (λ n. get_or (marks ++ r ∷ []) n false) (let e : number_of l b ≡ length marks = omega arith in e)
-          ∙ get_or-append_seam marks r [] false ∙ same ∙ ap known (sym here)
-    ]
+-- marks of a lattice are those of their list in it
+pub marks-of : (m : Marked) (l : Lattice) → m.lattice ≡ l → m ≡ record { lattice = l; marks = m.marks }
+marks-of m l same = ap (λ (x : Lattice). let y : Marked = record { lattice = x; marks = m.marks } in y) same

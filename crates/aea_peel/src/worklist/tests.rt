@@ -60,19 +60,3 @@ fn a_datum_follows_from_a_parity_that_a_step_gives(rt: HostRuntime) -> Result<()
     assert_eq!(rt; plan.steps.get(2), None);
     Ok(())
 }
-
-#[test]
-fn a_list_of_steps_grows(rt: HostRuntime) -> Result<(), Fail> {
-    let block = BlockId {
-        node: 1,
-        class: Class::Horiz,
-    };
-    let by = EqId {
-        node: 2,
-        class: Class::Horiz,
-    };
-    let mut steps = StepList::new(rt.alloc());
-    steps.push(Step { block, by })?;
-    assert_eq!(rt; steps.len(), 1);
-    Ok(())
-}

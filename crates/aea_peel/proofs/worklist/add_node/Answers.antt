@@ -14,13 +14,13 @@ pub returns-clause-added : goal.returns-clause-added
 returns-clause-added c = λ e has node.
     elim (parity_classes e.class has.class.parity) [
       | inl horiz ↦
-          still c.args.lattice.now c.args.marks.now 1 c.add-2.new.waiting.items c.add-3.new.waiting.items e c.in_ok-add-3.ensures.adds
-          (still c.args.lattice.now c.args.marks.now 1 c.add.new.waiting.items c.add-2.new.waiting.items e c.in_ok-add-2.ensures.adds
-          (waits_as c.args.lattice.now c.args.marks.now c.add.new.waiting.items c.args.node Horiz e node horiz c.in_ok-add.ensures.added has))
+          still c.args.lattice.now c.args.marks.now.marks 1 c.add-2.new.waiting.items c.add-3.new.waiting.items e c.in_ok-add-3.ensures.adds
+          (still c.args.lattice.now c.args.marks.now.marks 1 c.add.new.waiting.items c.add-2.new.waiting.items e c.in_ok-add-2.ensures.adds
+          (waits_as c.args.lattice.now c.args.marks.now.marks c.add.new.waiting.items c.args.node Horiz e node horiz c.in_ok-add.ensures.added has))
       | inr other ↦ elim other [
         | inl right ↦
-            still c.args.lattice.now c.args.marks.now 1 c.add-2.new.waiting.items c.add-3.new.waiting.items e c.in_ok-add-3.ensures.adds
-            (waits_as c.args.lattice.now c.args.marks.now c.add-2.new.waiting.items c.args.node Right e node right c.in_ok-add-2.ensures.added has)
-        | inr left ↦ waits_as c.args.lattice.now c.args.marks.now c.add-3.new.waiting.items c.args.node Left e node left c.in_ok-add-3.ensures.added has
+            still c.args.lattice.now c.args.marks.now.marks 1 c.add-2.new.waiting.items c.add-3.new.waiting.items e c.in_ok-add-3.ensures.adds
+            (waits_as c.args.lattice.now c.args.marks.now.marks c.add-2.new.waiting.items c.args.node Right e node right c.in_ok-add-2.ensures.added has)
+        | inr left ↦ waits_as c.args.lattice.now c.args.marks.now.marks c.add-3.new.waiting.items c.args.node Left e node left c.in_ok-add-3.ensures.added has
       ]
     ]

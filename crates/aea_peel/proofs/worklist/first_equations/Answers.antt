@@ -19,7 +19,7 @@ loop-node-preserved c = record {
   ];
   rest = λ e has below. elim (cases_lt e.node c.loop-node.node) [
     | inl earlier ↦
-        still c.args.lattice.now c.args.marks.now 3 c.loop-node.waiting.items c.add_node.new.waiting.items e c.in_ok-add_node.ensures.adds
+        still c.args.lattice.now c.args.marks.now.marks 3 c.loop-node.waiting.items c.add_node.new.waiting.items e c.in_ok-add_node.ensures.adds
         (c.loop-node.invariant.rest e has earlier)
     | inr here ↦ c.in_ok-add_node.ensures.added e has (omega arith)
   ];

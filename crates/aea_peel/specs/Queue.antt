@@ -1,22 +1,19 @@
 -- The state of the loop that plans: marks, and equations that wait. No public contract cites these.
-use Rattle.std.specs.Prelude.{◌≡◌, ◌≤◌, ◌⊎◌, Contains, ℕ, ◌+◌, Bool, false, true, List, take, length, get_or, slice_get, Some, IsTrue, count_by, not}
+use Rattle.std.specs.Prelude.{◌≡◌, ◌≤◌, ◌⊎◌, Contains, ℕ, ◌+◌, Bool, false, List, take, length, slice_get, Some, IsTrue}
 use Rattle.std.specs.List.{IsDistinct}
 use Rattle.aea_lattice.specs.declared.blocks.BlockId.{BlockId}
 use Rattle.aea_lattice.specs.declared.blocks.EqId.{EqId}
 use Rattle.aea_lattice.specs.declared.grid.Lattice.{Lattice}
-use Rattle.aea_lattice.specs.Blocks.{HasBlock, number_of, same_block}
+use Rattle.aea_lattice.specs.Blocks.{HasBlock, same_block}
 use Rattle.aea_lattice.specs.Equations.{HasEquation}
 use Rattle.aea_lattice.specs.Closure.{IsForcedBy, IsReached, is_among}
+use Rattle.aea_view.specs.Marked as marked
 use Rattle.aea_peel.specs.declared.plan.Step.{Step}
 use Rattle.aea_peel.specs.Plans.{blocks_given, is_had}
 
--- whether the block has a mark, at its number
+-- whether the block is marked, by marks of this lattice
 abbrev pub is_marked : Lattice → List Bool → BlockId → Bool
-is_marked l marks b = get_or marks (number_of l b) false
-
--- the number of blocks without a mark
-abbrev pub unmarked : List Bool → ℕ
-unmarked marks = count_by not marks
+is_marked l marks = marked.is_marked (record { lattice = l; marks = marks })
 
 -- what is marked is known or given by a step so far, and the steps so far are the beginning of a plan
 pub record IsState (l : Lattice) (known : BlockId → Bool) (steps : List Step) (marks : List Bool) : Type 0 where
@@ -25,9 +22,9 @@ pub record IsState (l : Lattice) (known : BlockId → Bool) (steps : List Step) 
   pub given : (b : BlockId) → IsTrue (is_among (blocks_given steps) b) → HasBlock l b × (known b ≡ false) × IsReached l known b
   pub forced : (k : ℕ) (s : Step) → slice_get steps k ≡ Some s → IsForcedBy l (is_had known (take k steps)) s.block s.by
 
--- the equation forces no block that has no mark
+-- the equation forces no block that is not marked, by marks of this lattice
 abbrev pub IsSpent : Lattice → List Bool → EqId → Type 0
-IsSpent l marks e = (b : BlockId) → IsForcedBy l (is_marked l marks) b e → is_marked l marks b ≡ true
+IsSpent l marks = marked.IsSpent (record { lattice = l; marks = marks })
 
 -- the equation waits, or it forces no unmarked block
 abbrev pub WaitsOrIsSpent : Lattice → List Bool → List EqId → EqId → Type 0

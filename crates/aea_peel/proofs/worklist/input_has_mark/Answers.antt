@@ -1,4 +1,0 @@
-use Rattle.aea_peel.proofs.worklist.input_has_mark.Goals as goal
-
-pub has_mark-requires-clause-block : goal.has_mark-requires-clause-block
-has_mark-requires-clause-block c = c.requires.block c.in-Some.g c.in-Some.is

@@ -13,7 +13,8 @@ use Rattle.aea_lattice.specs.Strands.{column, row, strand_of}
 use Rattle.aea_lattice.specs.Data.{xor_bytes}
 use Rattle.aea_lattice.specs.Ends.{strands_of}
 use Rattle.aea_lattice.proofs.Neighbours.{some_rows, woven}
-use Rattle.aea_weave.specs.Woven.{Woven, strands_before, IsGrown, Weaves, Sets}
+use Rattle.aea_lattice.specs.Growth.{IsGrown}
+use Rattle.aea_weave.specs.Woven.{Woven, strands_before, Weaves, Sets}
 use Rattle.aea_weave.specs.Stored.{all_strands, last_place, IsAdded}
 
 -- two strands with one place are one
@@ -135,14 +136,14 @@ other-place l c d strand has below other e =
     let same = same_place l c d strand (strand_of l d l.n) below (strand-below l d l.n has) e in
     other (same.1 ∙ ap (λ b. strand_of l b l.n) (sym same.0))
 
-before-same : (l m : Lattice) → IsGrown l m → (c : Class) → strands_before m c ≡ strands_before l c
+before-same : (l m : Lattice) → IsGrown l (l.n + 1) m → (c : Class) → strands_before m c ≡ strands_before l c
 before-same l m grown Datum = refl
 before-same l m grown Horiz = refl
-before-same l m grown Right = grown.s
-before-same l m grown Left = let s = grown.s in let p = grown.p in omega arith
+before-same l m grown Right = grown.shape.s
+before-same l m grown Left = let s = grown.shape.s in let p = grown.shape.p in omega arith
 
 -- what a step does to the heads
-pub weaves : (old new : Woven) (x : List ℕ) → IsGrown old.lattice new.lattice → new.size ≡ old.size → AreAdded new.lattice x old.heads new.heads → Weaves old new x
+pub weaves : (old new : Woven) (x : List ℕ) → IsGrown old.lattice (old.lattice.n + 1) new.lattice → new.size ≡ old.size → AreAdded new.lattice x old.heads new.heads → Weaves old new x
 weaves old new x grown size is = record {
   grown = grown;
   size = size;
@@ -176,13 +177,13 @@ pub record Adds (c : Class) (x : List ℕ) (old new : Woven) : Type 0 where
   pub heads : IsAdded old.lattice c x old.heads new.heads
 
 -- what the parts of a step make together
-pub weaves-parts : (old grown first second new : Woven) (x : List ℕ) → IsGrown old.lattice grown.lattice → grown.size ≡ old.size → grown.heads ≡ old.heads → length grown.heads ≡ all_strands grown.lattice
+pub weaves-parts : (old grown first second new : Woven) (x : List ℕ) → IsGrown old.lattice (old.lattice.n + 1) grown.lattice → grown.size ≡ old.size → grown.heads ≡ old.heads → length grown.heads ≡ all_strands grown.lattice
     → Adds Horiz x grown first → Adds Right x first second → Adds Left x second new → Weaves old new x
 weaves-parts old grown first second new x is size heads long horiz right left =
     let at_second : new.lattice ≡ second.lattice = left.lattice in
     let at_first : new.lattice ≡ first.lattice = left.lattice ∙ right.lattice in
     let at_grown : new.lattice ≡ grown.lattice = left.lattice ∙ right.lattice ∙ horiz.lattice in
-    weaves old new x (subst (λ l. IsGrown old.lattice l) (sym at_grown) is) (left.size ∙ right.size ∙ horiz.size ∙ size)
+    weaves old new x (subst (λ l. IsGrown old.lattice (old.lattice.n + 1) l) (sym at_grown) is) (left.size ∙ right.size ∙ horiz.size ∙ size)
     (record {
       first = first.heads;
       second = second.heads;

@@ -1,23 +1,27 @@
--- A step makes the strand sums of a data list those of the list with one block more.
-use Rattle.std.proofs.Common.{◌≡◌, ◌≢◌, ℕ, zero, suc, ◌-◌, ◌^◌, ◌%◌, ◌<◌, ◌≤◌, Bool, true, false, inl, inr, List, [], ◌∷◌, ◌++◌, map, filter, cond, length, replicate, get_or, Option, Some, None, All, refl, sym, ◌∙◌, ap, subst, arith, length-append}
+-- The strand sums of a data list: after a step, from the last parities, and at the beginning.
+use Rattle.std.proofs.Common.{◌≡◌, ◌≢◌, ℕ, zero, suc, ◌+◌, ◌-◌, ◌^◌, ◌<◌, ◌≤◌, Bool, true, false, inl, inr, List, [], ◌∷◌, ◌++◌, map, filter, cond, length, replicate, get_or, Option, Some, None, All, refl, sym, ◌∙◌, ap, subst, arith, length-append}
 use Rattle.std.proofs.Math.Seq.{get_or-append_seam}
-use Rattle.std.proofs.lemmas.Bool.{cases_lt}
+use Rattle.std.proofs.lemmas.Bool.{cases_eq}
 use Rattle.std.proofs.lemmas.List.{map-append, get_or_append_left}
 use Rattle.std.proofs.lemmas.List.Elements.{filter-append, All-append}
+use Rattle.std.proofs.lemmas.List.Sums.{fold-append}
 use Rattle.std.proofs.lemmas.Option.{unwrap_or-slice_get}
 use Rattle.aea_lattice.specs.declared.blocks.Class.{Class}
 use Rattle.aea_lattice.specs.declared.blocks.Class.TheVariants.{Datum, Horiz, Right, Left}
 use Rattle.aea_lattice.specs.declared.grid.Lattice.{Lattice}
 use Rattle.aea_lattice.specs.Blocks.{class_number, HasParity}
-use Rattle.aea_lattice.specs.Strands.{strand_of, same_strand, nodes_to}
+use Rattle.aea_lattice.specs.Fences.{last_fence}
+use Rattle.aea_lattice.specs.Strands.{strand_of, is_on, nodes_to}
 use Rattle.aea_lattice.specs.Data.{IsBytes, IsDataList, xor_bytes, xor_all, datum_at, value_at}
-use Rattle.aea_lattice.specs.Ends.{strands_of, LiesOn, IsLastOn}
-use Rattle.aea_lattice.proofs.Previous.{previous-IsJustBefore, previous-none_before}
-use Rattle.aea_lattice.proofs.Sums.{xor_bytes-zeros, value-parity, value-after, value-begin}
-use Rattle.aea_weave.specs.Woven.{Woven, head_of, IsGrown, Weaves}
-use Rattle.aea_weave.specs.Sums.{sum_to, AreStrandSums, LongerDataKeepValues}
+use Rattle.aea_lattice.specs.Ends.{strands_of, open_nodes, last_open}
+use Rattle.aea_lattice.specs.Growth.{IsGrown, Continues}
+use Rattle.aea_lattice.proofs.Parted.{last_fence-within}
+use Rattle.aea_lattice.proofs.Prefixes.{run-prefix, last_of-none}
+use Rattle.aea_lattice.proofs.Opens.{on-continued, open-own, open-other, open-anew, open-last}
+use Rattle.aea_lattice.proofs.Sums.{value-parity}
+use Rattle.aea_weave.specs.Woven.{Woven, head_of, Weaves}
+use Rattle.aea_weave.specs.Sums.{strand_sum, parity_to, AreStrandSums, LastParitiesAreSums, LongerDataKeepValues}
 use Rattle.aea_weave.proofs.Places.{strand-below}
-use Rattle.aea_weave.proofs.Lasts.{last-unique, cases_eq, IsLastTo, find-last}
 
 -- ---- a data list with one block more
 
@@ -54,33 +58,25 @@ data-same p q same w datas more (suc i) most =
     ∙ sym (map-append g (filter q (nodes_to i)) (filter q (suc i ∷ [])))
     ∙ sym (ap (map g) (filter-append q (nodes_to i) (suc i ∷ [])))
 
--- ---- two lattices of one shape
+-- ---- a lattice that continues another
 
-module _ (l m : Lattice) (same_s : m.s ≡ l.s) (same_p : m.p ≡ l.p) where
-  strand-same : (c : Class) (i : ℕ) → strand_of m c i ≡ strand_of l c i
-  strand-same Datum i = refl
-  strand-same Horiz i = ap (λ s. (i - 1) % s) same_s
-  strand-same Right i = cc
-  strand-same Left i = cc
+module _ (l m : Lattice) (more : Continues l m) (w : ℕ) (datas tail : List (List ℕ)) (long : length datas ≡ l.n) (i : ℕ) (first : 1 ≤ i) (last : i ≤ l.n) where
+  parity-kept : (c : Class) → 1 ≤ class_number c → value_at m w (datas ++ tail) i c ≡ value_at l w datas i c
+  parity-kept c parity =
+      value-parity m w (datas ++ tail) i c parity
+      ∙ ap (xor_all w)
+      (data-same (is_on m c (strand_of m c i) i) (is_on l c (strand_of l c i) i) (λ k. on-continued l m more c i k last)
+      w datas tail i (omega arith))
+      ∙ sym (value-parity l w datas i c parity)
 
-  module _ (w : ℕ) (datas more : List (List ℕ)) (i : ℕ) (first : 1 ≤ i) (last : i ≤ length datas) where
-    parity-kept : (c : Class) → 1 ≤ class_number c → value_at m w (datas ++ more) i c ≡ value_at l w datas i c
-    parity-kept c parity =
-        value-parity m w (datas ++ more) i c parity
-        ∙ ap (xor_all w)
-        (data-same (same_strand m c i) (same_strand l c i) (λ k. let a = strand-same c k in let b = strand-same c i in cc)
-        w datas more i last)
-        ∙ sym (value-parity l w datas i c parity)
-
-    value-kept : (c : Class) → value_at m w (datas ++ more) i c ≡ value_at l w datas i c
-    value-kept Datum = datum-old w datas more i (omega arith)
-    value-kept Horiz = parity-kept Horiz (omega arith)
-    value-kept Right = parity-kept Right (omega arith)
-    value-kept Left = parity-kept Left (omega arith)
+  value-kept : (c : Class) → value_at m w (datas ++ tail) i c ≡ value_at l w datas i c
+  value-kept Datum = datum-old w datas tail i (omega arith)
+  value-kept Horiz = parity-kept Horiz (omega arith)
+  value-kept Right = parity-kept Right (omega arith)
+  value-kept Left = parity-kept Left (omega arith)
 
 pub longer-keep : LongerDataKeepValues
-longer-keep l m same_s same_p w datas more long b has =
-    value-kept l m same_s same_p w datas more b.node has.first (let last = has.last in omega arith) b.class
+longer-keep l m more w datas tail long b has = value-kept l m more w datas tail long b.node has.first has.last b.class
 
 All-single : (P : List ℕ → Type 0) (x : List ℕ) → P x → All P (x ∷ [])
 All-single P x h zero d inside = h
@@ -88,143 +84,115 @@ All-single P x h (suc k) d inside = absurd (omega arith)
 
 -- ---- a lattice with one node more
 
-module _ (l m : Lattice) (grown : IsGrown l m) where
-  grown-strand : (c : Class) (i : ℕ) → strand_of m c i ≡ strand_of l c i
-  grown-strand c i = strand-same l m grown.s grown.p c i
-
-  strands-same : (c : Class) → strands_of m c ≡ strands_of l c
-  strands-same Datum = refl
-  strands-same Horiz = grown.s
-  strands-same Right = grown.p
-  strands-same Left = grown.p
-
-  pub parity-old : (c : Class) → HasParity m c → HasParity l c
-  parity-old c h = record { parity = h.parity; used = let u = h.used in let e = grown.alpha in omega arith }
-
-  lies-old : (c : Class) (strand i : ℕ) → strand ≢ strand_of m c m.n → LiesOn m c strand i → LiesOn l c strand i
-  lies-old c strand i other lies = record {
-    node = record {
-      first = lies.node.first;
-      last = elim (cases_lt l.n i) [
-        | inl gt ↦
-            let e : i ≡ m.n = let last = lies.node.last in let nodes = grown.nodes in omega arith in
-            absurd (other (sym lies.on ∙ ap (strand_of m c) e))
-        | inr le ↦ le
-      ];
-    };
-    on = sym (grown-strand c i) ∙ lies.on;
+module _ (l m : Lattice) (grown : IsGrown l (l.n + 1) m) (w : ℕ) (datas : List (List ℕ)) (x : List ℕ) (is : IsDataList l w datas) (wide : length x ≡ w) (each : All (λ b. b < 2 ^ 8) x) where
+  pub data-new : IsDataList m w (datas ++ x ∷ [])
+  data-new = record {
+    some_bytes = is.some_bytes;
+    long = length-append datas (x ∷ []) ∙ (let long = is.long in let nodes = grown.nodes in omega arith);
+    each = All-append (IsBytes w) datas (x ∷ []) is.each (All-single (IsBytes w) x (record { wide = wide; each = each }));
   }
 
-  lies-new : (c : Class) (strand i : ℕ) → LiesOn l c strand i → LiesOn m c strand i
-  lies-new c strand i lies = record {
-    node = record { first = lies.node.first; last = let last = lies.node.last in let nodes = grown.nodes in omega arith };
-    on = grown-strand c i ∙ lies.on;
-  }
+  -- the sum over nodes of the shorter lattice
+  sum-old : (c : Class) (strand : ℕ) → xor_all w (map (datum_at w (datas ++ x ∷ [])) (open_nodes l c strand)) ≡ strand_sum l w datas c strand
+  sum-old c strand =
+      ap (xor_all w)
+      (data-same (is_on l c strand (l.n + 1)) (is_on l c strand (l.n + 1)) (λ k. refl) w datas (x ∷ []) l.n (let long = is.long in omega arith))
 
-  last-old : (c : Class) (strand : ℕ) (last : Option ℕ) → strand ≢ strand_of m c m.n → IsLastOn m c strand last → IsLastOn l c strand last
-  last-old c strand None other is = λ i lies. is i (lies-new c strand i lies)
-  last-old c strand (Some g) other is = (lies-old c strand g other is.0, λ i lies. is.1 i (lies-new c strand i lies))
+  pub sum-own : (c : Class) → strand_sum m w (datas ++ x ∷ []) c (strand_of m c m.n) ≡ xor_bytes (strand_sum l w datas c (strand_of m c m.n)) x
+  sum-own c =
+      let strand = strand_of m c m.n in
+      let f = datum_at w (datas ++ x ∷ []) in
+      ap (λ nodes. xor_all w (map f nodes)) (open-own l m grown c)
+      ∙ ap (xor_all w) (map-append f (open_nodes l c strand) (suc l.n ∷ []))
+      ∙ fold-append xor_bytes (replicate w 0) (map f (open_nodes l c strand)) (f (suc l.n) ∷ [])
+      ∙ ap (λ v. xor_bytes v (f (suc l.n))) (sum-old c strand)
+      ∙ ap (xor_bytes (strand_sum l w datas c strand)) (datum-new w datas x (suc l.n) (let long = is.long in omega arith))
 
-  -- the new node is the last of its strands
-  last-new : (c : Class) → IsLastOn m c (strand_of m c m.n) (Some m.n)
-  last-new c = (
-    record { node = record { first = let nodes = grown.nodes in omega arith; last = omega arith }; on = refl },
-    λ i lies. lies.node.last,
-  )
+  pub sum-other : (c : Class) (strand : ℕ) → strand ≢ strand_of m c m.n → strand_sum m w (datas ++ x ∷ []) c strand ≡ strand_sum l w datas c strand
+  sum-other c strand other =
+      ap (λ nodes. xor_all w (map (datum_at w (datas ++ x ∷ [])) nodes)) (open-other l m grown c strand other)
+      ∙ sum-old c strand
 
-  -- from the nodes up to n of a strand to the lattice's
-  last-found : (c : Class) (strand : ℕ) (last : Option ℕ) → IsLastTo l c strand l.n last → IsLastOn l c strand last
-  last-found c strand None is = λ i lies. is i lies.node.first lies.node.last lies.on
-  last-found c strand (Some g) is = (
-    record { node = record { first = is.first; last = is.most }; on = is.on },
-    λ i lies. elim (cases_lt g i) [ inl gt ↦ absurd (is.rest i gt lies.node.last lies.on) | inr le ↦ le ],
-  )
+strands-same : (l m : Lattice) (n : ℕ) → IsGrown l n m → (c : Class) → strands_of m c ≡ strands_of l c
+strands-same l m n grown Datum = refl
+strands-same l m n grown Horiz = grown.shape.s
+strands-same l m n grown Right = grown.shape.p
+strands-same l m n grown Left = grown.shape.p
 
-  module _ (w : ℕ) (datas : List (List ℕ)) (x : List ℕ) (is : IsDataList l w datas) (wide : length x ≡ w) (each : All (λ b. b < 2 ^ 8) x) where
-    pub data-new : IsDataList m w (datas ++ x ∷ [])
-    data-new = record {
-      some_bytes = is.some_bytes;
-      long = length-append datas (x ∷ []) ∙ (let long = is.long in let nodes = grown.nodes in omega arith);
-      each = All-append (IsBytes w) datas (x ∷ []) is.each (All-single (IsBytes w) x (record { wide = wide; each = each }));
-    }
-
-    value-old : (c : Class) (g : ℕ) → 1 ≤ g → g ≤ l.n → value_at m w (datas ++ x ∷ []) g c ≡ value_at l w datas g c
-    value-old c g first most = value-kept l m grown.s grown.p w datas (x ∷ []) g first (let long = is.long in omega arith) c
-
-    sum-old : (c : Class) (strand : ℕ) (last : Option ℕ) → IsLastOn l c strand last
-        → sum_to l w datas c last ≡ sum_to m w (datas ++ x ∷ []) c last
-    sum-old c strand None is_last = refl
-    sum-old c strand (Some g) is_last = sym (value-old c g is_last.0.node.first is_last.0.node.last)
-
-    node-new : 1 ≤ m.n
-    node-new = let nodes = grown.nodes in omega arith
-
-    datum-last : datum_at w (datas ++ x ∷ []) m.n ≡ x
-    datum-last = datum-new w datas x m.n (let long = is.long in let nodes = grown.nodes in omega arith)
-
-    -- the parity of the new node is the sum of its strand so far and the payload
-    parity-new : (c : Class) (last : Option ℕ) → 1 ≤ class_number c → IsLastTo l c (strand_of m c m.n) l.n last
-        → value_at m w (datas ++ x ∷ []) m.n c ≡ xor_bytes (sum_to l w datas c last) x
-    parity-new c None parity none =
-        value-begin m w (datas ++ x ∷ []) m.n c parity data-new node-new
-        (previous-none_before m c m.n
-        (λ k first before same. none k first (let nodes = grown.nodes in omega arith) (sym (grown-strand c k) ∙ same)))
-        ∙ datum-last
-        ∙ sym (xor_bytes-zeros w x wide)
-    parity-new c (Some g) parity is_last =
-        value-after m w (datas ++ x ∷ []) m.n g c parity
-        (previous-IsJustBefore m c m.n g (record {
-          first = is_last.first;
-          before = let most = is_last.most in let nodes = grown.nodes in omega arith;
-          same = grown-strand c g ∙ is_last.on;
-          none_between = λ k gt before same.
-              is_last.rest k gt (let nodes = grown.nodes in omega arith) (sym (grown-strand c k) ∙ same);
-        }))
-        ∙ ap (λ v. xor_bytes v (datum_at w (datas ++ x ∷ []) m.n)) (value-old c g is_last.first is_last.most)
-        ∙ ap (xor_bytes (value_at l w datas g c)) datum-last
-
-    -- new heads of the strands, from those that are the sums so far
-    module _ (old new : Class → ℕ → List ℕ)
-        (sums : (c : Class) (strand : ℕ) (last : Option ℕ) → HasParity l c → strand < strands_of l c → IsLastOn l c strand last → old c strand ≡ sum_to l w datas c last)
-        (own : (c : Class) → HasParity m c → new c (strand_of m c m.n) ≡ xor_bytes (old c (strand_of m c m.n)) x)
-        (others : (c : Class) (strand : ℕ) → HasParity m c → strand < strands_of m c → strand ≢ strand_of m c m.n → new c strand ≡ old c strand) where
-      own-sum : (c : Class) → HasParity m c → strand_of m c m.n < strands_of m c → new c (strand_of m c m.n) ≡ value_at m w (datas ++ x ∷ []) m.n c
-      own-sum c parity below =
-          let found = find-last l c (strand_of m c m.n) l.n in
-          let within : strand_of m c m.n < strands_of l c = let same = strands-same c in omega arith in
-          own c parity
-          ∙ ap (λ v. xor_bytes v x) (sums c (strand_of m c m.n) found.0 (parity-old c parity) within (last-found c (strand_of m c m.n) found.0 found.1))
-          ∙ sym (parity-new c found.0 parity.parity found.1)
-
-      pub sums-new : (c : Class) (strand : ℕ) (last : Option ℕ) → HasParity m c → strand < strands_of m c → IsLastOn m c strand last
-          → new c strand ≡ sum_to m w (datas ++ x ∷ []) c last
-      sums-new c strand last parity below is_last = elim (cases_eq strand (strand_of m c m.n)) [
-        | inl e ↦
-            let here : IsLastOn m c (strand_of m c m.n) last = subst (λ s. IsLastOn m c s last) e is_last in
-            ap (new c) e
-            ∙ own-sum c parity (rw (← e) below)
-            ∙ ap (sum_to m w (datas ++ x ∷ []) c) (last-unique m c (strand_of m c m.n) (Some m.n) last (last-new c) here)
-        | inr other ↦
-            let before : IsLastOn l c strand last = last-old c strand last other is_last in
-            others c strand parity below other
-            ∙ sums c strand last (parity-old c parity) (let same = strands-same c in omega arith) before
-            ∙ sum-old c strand last before
-      ]
+parity-old : (l m : Lattice) (n : ℕ) → IsGrown l n m → (c : Class) → HasParity m c → HasParity l c
+parity-old l m n grown c h = record { parity = h.parity; used = let u = h.used in let e = grown.shape.alpha in omega arith }
 
 -- a step of heads
 pub sums-step : (old new : Woven) (x : List ℕ) (datas : List (List ℕ)) → length x ≡ old.size → All (λ b. b < 2 ^ 8) x → Weaves old new x → AreStrandSums old datas
     → AreStrandSums new (datas ++ x ∷ [])
-sums-step old new x datas wide each weaves sums = record {
-  is_data = subst (λ w. IsDataList new.lattice w (datas ++ x ∷ [])) (sym weaves.size) (data-new old.lattice new.lattice weaves.grown old.size datas x sums.is_data wide each);
-  sums = λ c strand last parity below is_last.
-      sums-new old.lattice new.lattice weaves.grown old.size datas x sums.is_data wide each (head_of old) (head_of new) sums.sums weaves.own weaves.others
-      c strand last parity below is_last
-      ∙ ap (λ w. sum_to new.lattice w (datas ++ x ∷ []) c last) (sym weaves.size);
-}
+sums-step old new x datas wide each weaves sums =
+    let l = old.lattice in
+    let m = new.lattice in
+    let grown : IsGrown l (l.n + 1) m = weaves.grown in
+    record {
+      is_data = subst (λ w. IsDataList m w (datas ++ x ∷ [])) (sym weaves.size) (data-new l m grown old.size datas x sums.is_data wide each);
+      sums = λ c strand parity below.
+          let has : HasParity l c = parity-old l m (l.n + 1) grown c parity in
+          let same = strands-same l m (l.n + 1) grown c in
+          let within : strand < strands_of l c = omega arith in
+          elim (cases_eq strand (strand_of m c m.n)) [
+            | inl e ↦
+                let here : strand_of m c m.n < strands_of l c = rw (← e) within in
+                ap (head_of new c) e
+                ∙ weaves.own c parity
+                ∙ ap (λ v. xor_bytes v x) (sums.sums c (strand_of m c m.n) has here)
+                ∙ sym (sum-own l m grown old.size datas x sums.is_data wide each c)
+                ∙ ap (strand_sum m old.size (datas ++ x ∷ []) c) (sym e)
+            | inr other ↦
+                weaves.others c strand parity below other
+                ∙ sums.sums c strand has within
+                ∙ sym (sum-other l m grown old.size datas x sums.is_data wide each c strand other)
+          ]
+          ∙ ap (λ w. strand_sum m w (datas ++ x ∷ []) c strand) (sym weaves.size);
+    }
+
+-- after a step the last node stands after the last fence
+pub step-joined : (l m : Lattice) → IsGrown l (l.n + 1) m → last_fence m.fences < m.n
+step-joined l m grown =
+    let nodes = grown.nodes in
+    let within = last_fence-within l.n l.fences l.fenced in
+    let same : last_fence m.fences ≡ last_fence l.fences = ap last_fence grown.fences in
+    omega arith
 
 -- the head of the last node's strand is its parity
-pub parity-value : (v : Woven) (datas : List (List ℕ)) (c : Class) → 1 ≤ v.lattice.n → HasParity v.lattice c → AreStrandSums v datas
+pub parity-value : (v : Woven) (datas : List (List ℕ)) (c : Class) → HasParity v.lattice c → last_fence v.lattice.fences < v.lattice.n → AreStrandSums v datas
     → head_of v c (strand_of v.lattice c v.lattice.n) ≡ value_at v.lattice v.size datas v.lattice.n c
-parity-value v datas c some parity sums =
-    sums.sums c (strand_of v.lattice c v.lattice.n) (Some v.lattice.n) parity (strand-below v.lattice c v.lattice.n parity)
-    (record { node = record { first = some; last = omega arith }; on = refl }, λ i lies. lies.node.last)
+parity-value v datas c parity after sums =
+    let l = v.lattice in
+    sums.sums c (strand_of l c l.n) parity (strand-below l c l.n parity)
+    ∙ ap (λ nodes. xor_all v.size (map (datum_at v.size datas) nodes)) (open-last l c after)
+    ∙ sym (value-parity l v.size datas l.n c parity.parity)
+
+-- ---- the last parities, and no data
+
+sum-last : (l : Lattice) (w : ℕ) (datas : List (List ℕ)) (c : Class) (strand : ℕ) (o : Option ℕ) → 1 ≤ class_number c → last_open l c strand ≡ o
+    → parity_to l w datas c o ≡ strand_sum l w datas c strand
+sum-last l w datas c strand None parity is =
+    sym (ap (λ nodes. xor_all w (map (datum_at w datas) nodes)) (last_of-none (open_nodes l c strand) is))
+sum-last l w datas c strand (Some g) parity is =
+    value-parity l w datas g c parity
+    ∙ sym (ap (λ nodes. xor_all w (map (datum_at w datas) nodes)) (run-prefix l c strand (l.n + 1) l.n g (omega arith) is))
+
+pub last-sums : LastParitiesAreSums
+last-sums v datas is each = record {
+  is_data = is;
+  sums = λ c strand parity below.
+      each c strand parity below
+      ∙ sum-last v.lattice v.size datas c strand (last_open v.lattice c strand) parity.parity refl;
+}
+
+-- where every strand begins anew, zeros are the strand sums of any data
+pub sums-anew : (v : Woven) (datas : List (List ℕ)) → last_fence v.lattice.fences ≡ v.lattice.n → IsDataList v.lattice v.size datas
+    → ((c : Class) (strand : ℕ) → HasParity v.lattice c → strand < strands_of v.lattice c → head_of v c strand ≡ replicate v.size 0)
+    → AreStrandSums v datas
+sums-anew v datas at is zeros = record {
+  is_data = is;
+  sums = λ c strand parity below.
+      zeros c strand parity below
+      ∙ sym (ap (λ nodes. xor_all v.size (map (datum_at v.size datas) nodes)) (open-anew v.lattice c strand at));
+}

@@ -7,6 +7,7 @@ use Rattle.aea_lattice.specs.Blocks.{HasParity}
 use Rattle.aea_lattice.specs.Strands.{strand_of}
 use Rattle.aea_lattice.specs.Data.{xor_bytes}
 use Rattle.aea_lattice.specs.Ends.{strands_of}
+use Rattle.aea_lattice.specs.Growth.{IsGrown}
 
 -- A block of `size` bytes for each strand of a lattice, whose nodes are those that were woven so far. The blocks are
 -- in strand order: first those of Horiz, then those of Right and of Left.
@@ -26,16 +27,9 @@ strands_before l Left = l.s + l.p
 abbrev pub head_of : Woven → Class → ℕ → List ℕ
 head_of v c strand = slice_index_or v.heads (strands_before v.lattice c + strand) []
 
--- the second lattice has the shape of the first and one node more
-pub record IsGrown (l m : Lattice) : Type 0 where
-  pub alpha : m.alpha ≡ l.alpha
-  pub s : m.s ≡ l.s
-  pub p : m.p ≡ l.p
-  pub nodes : m.n ≡ l.n + 1
-
 -- One node was woven: the head of each of its strands has the payload added by XOR, and each other head is as before.
 pub record Weaves (old new : Woven) (payload : List ℕ) : Type 0 where
-  pub grown : IsGrown old.lattice new.lattice
+  pub grown : IsGrown old.lattice (old.lattice.n + 1) new.lattice
   pub size : new.size ≡ old.size
   pub own : (c : Class) → HasParity new.lattice c
       → head_of new c (strand_of new.lattice c new.lattice.n)

@@ -5,10 +5,12 @@ ghost use Rattle.aea_lattice.specs.Profile.{greatest_nodes};
 ghost use Rattle.aea_lattice.specs.Blocks.{HasParity, class_number};
 ghost use Rattle.aea_lattice.specs.Strands.{strand_of};
 ghost use Rattle.aea_lattice.specs.Ends.{strands_of};
-ghost use Rattle.aea_lattice.specs.Data.{xor_bytes, value_at};
+ghost use Rattle.aea_lattice.specs.Data.{IsDataList, xor_bytes, value_at};
+ghost use Rattle.aea_lattice.specs.Fences.{last_fence};
+ghost use Rattle.aea_lattice.specs.Growth.{IsGrown};
 ghost use Rattle.aea_lattice.specs.declared.blocks.Class.{Class};
 ghost use Rattle.aea_weave.specs.Stored.{pieces, all_strands, IsAdded};
-ghost use Rattle.aea_weave.specs.Woven.{strands_before, head_of, IsGrown, Weaves, Sets};
+ghost use Rattle.aea_weave.specs.Woven.{strands_before, head_of, Weaves, Sets};
 ghost use Rattle.aea_weave.specs.Sums.{AreStrandSums};
 
 use crate::xor::xor_into;
@@ -64,7 +66,8 @@ fn place(lattice: &Lattice, class: Class, strand: u32) -> usize
 // The block at this place among blocks of `size` bytes.
 fn block_at(blocks: &[u8], size: usize, place: usize) -> &[u8]
     requires within { place * size + size ≤ length blocks.now }
-    ensures { (n : ℕ) → place < n → result.now ≡ slice_index_or (pieces size n blocks.now) place [] }
+    ensures block { (n : ℕ) → place < n → result.now ≡ slice_index_or (pieces size n blocks.now) place [] }
+    ensures wide { length result.now ≡ size }
 {
     let start = place * size;
     &blocks[start..start + size]
@@ -91,14 +94,15 @@ fn xor_at(blocks: &mut [u8], place: usize, block: &[u8])
 }
 
 impl Heads {
-    /// Zero blocks of `size` bytes, 16 to 65,536, as the heads of a lattice. Each next node comes after its nodes.
+    /// Zero blocks of `size` bytes, 16 to 65,536, as the heads of a lattice. Each next node comes after its nodes. They
+    /// are the strand sums where the lattice has no node or a fence after its last one.
     pub fn new(alloc: Global, lattice: &Lattice, size: usize) -> Result<Heads, AllocError>
         requires least { 16 ≤ size }
         requires most { size ≤ 65536 }
         ensures lattice { IfOk result (λ h. h.lattice ≡ lattice.now) }
         ensures size { IfOk result (λ h. h.size ≡ size) }
         ensures zeros { IfOk result (λ h. (c : Class) (strand : ℕ) → HasParity lattice.now c → strand < strands_of lattice.now c → head_of h c strand ≡ replicate size 0) }
-        ensures empty { IfOk result (λ h. lattice.now.n ≡ 0 → AreStrandSums h []) }
+        ensures anew { IfOk result (λ h. last_fence lattice.now.fences ≡ lattice.now.n → (datas : List (List ℕ)) → IsDataList lattice.now size datas → AreStrandSums h datas) }
     {
         let bytes = vec![in alloc; 0; all_strands(lattice) * size]?;
         Ok(Heads {
@@ -132,6 +136,7 @@ impl Heads {
         requires node { self.old.lattice.n + 1 ≤ greatest_nodes }
         requires payload { length payload.now ≡ self.old.size }
         ensures weaves { Weaves self.old self.new payload.now }
+        ensures joined { last_fence self.new.lattice.fences < self.new.lattice.n }
         ensures sums { (datas : List (List ℕ)) → AreStrandSums self.old datas → AreStrandSums self.new (datas ++ payload.now ∷ []) }
     {
         self.grow();
@@ -143,12 +148,15 @@ impl Heads {
     // Counts one node more.
     fn grow(&mut self)
         requires { self.old.lattice.n + 1 ≤ greatest_nodes }
-        ensures grown { IsGrown self.old.lattice self.new.lattice }
+        ensures grown { IsGrown self.old.lattice (self.old.lattice.n + 1) self.new.lattice }
         ensures size { self.new.size ≡ self.old.size }
         ensures heads { self.new.heads ≡ self.old.heads }
         ensures all { length self.new.heads ≡ all_strands self.new.lattice }
     {
-        self.lattice.n += 1;
+        match self.lattice.grown(self.lattice.n + 1) {
+            Some(lattice) => self.lattice = lattice,
+            None => unreachable!(),
+        }
     }
 
     // Adds the payload by XOR to the head of the last node's strand of the class, where the lattice has parities of
@@ -169,12 +177,13 @@ impl Heads {
         }
     }
 
-    /// The parity of the last node on the class: the head of its strand.
+    /// The head of the last node's strand of the class: the parity of the node, where no fence stands at it.
     pub fn parity(&self, class: Class) -> &[u8]
         requires node { 1 ≤ self.now.lattice.n }
         requires class { HasParity self.now.lattice class }
         ensures head { result.now ≡ head_of self.now class (strand_of self.now.lattice class self.now.lattice.n) }
-        ensures value { (datas : List (List ℕ)) → AreStrandSums self.now datas → result.now ≡ value_at self.now.lattice self.now.size datas self.now.lattice.n class }
+        ensures wide { length result.now ≡ self.now.size }
+        ensures value { last_fence self.now.lattice.fences < self.now.lattice.n → (datas : List (List ℕ)) → AreStrandSums self.now datas → result.now ≡ value_at self.now.lattice self.now.size datas self.now.lattice.n class }
     {
         let strand = self.lattice.strand(self.lattice.n, class);
         let place = place(&self.lattice, class, strand);

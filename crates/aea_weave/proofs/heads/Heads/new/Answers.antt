@@ -1,9 +1,9 @@
-use Rattle.std.proofs.Common.{◌≡◌, ◌+◌, ◌*◌, [], get_or, replicate, ◌∙◌, ap, arith}
+use Rattle.std.proofs.Common.{◌≡◌, ◌+◌, ◌*◌, [], get_or, replicate, ◌∙◌, ap}
 use Rattle.aea_weave.specs.Woven.{strands_before}
 use Rattle.aea_weave.specs.Stored.{pieces, all_strands}
 use Rattle.aea_weave.proofs.Pieces.{pieces-zeros}
 use Rattle.aea_weave.proofs.Places.{place-within}
-use Rattle.aea_weave.proofs.Lasts.{sums-empty}
+use Rattle.aea_weave.proofs.Weaving.{sums-anew}
 use Rattle.aea_weave.proofs.heads.Heads.new.Goals as goal
 
 pub returns-clause-zeros : goal.returns-clause-zeros
@@ -16,7 +16,7 @@ returns-clause-zeros c = λ class strand parity below.
     ap (λ bytes. get_or (pieces w n bytes) (strands_before l class + strand) []) zeros
     ∙ pieces-zeros w n (strands_before l class + strand) (place-within l class strand parity below)
 
-pub returns-clause-empty : goal.returns-clause-empty
-returns-clause-empty c = λ none.
-    sums-empty (record { lattice = c.args.lattice.now; size = c.args.size; heads = pieces c.args.size (all_strands c.args.lattice.now) c.in_ok-bytes.bytes.items })
-    (let h = c.requires.least in omega arith) none (returns-clause-zeros c)
+pub returns-clause-anew : goal.returns-clause-anew
+returns-clause-anew c = λ at datas is.
+    sums-anew (record { lattice = c.args.lattice.now; size = c.args.size; heads = pieces c.args.size (all_strands c.args.lattice.now) c.in_ok-bytes.bytes.items })
+    datas at is (returns-clause-zeros c)

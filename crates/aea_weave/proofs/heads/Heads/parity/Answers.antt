@@ -1,4 +1,4 @@
-use Rattle.std.proofs.Common.{◌≡◌, ◌∙◌, subst}
+use Rattle.std.proofs.Common.{◌≡◌, ◌∙◌, length, subst}
 use Rattle.aea_lattice.specs.Strands.{strand_of}
 use Rattle.aea_weave.specs.Woven.{head_of}
 use Rattle.aea_weave.specs.Stored.{all_strands}
@@ -14,10 +14,11 @@ block_at-requires c = record {
 
 pub returns : goal.returns
 returns c =
-    let at = rw (c.as_slice.ensures.value, c.place-place.ensures.place, c.strand-strand.ensures) at (c.block_at.ensures (all_strands c.self.inside.lattice) c.place-place.ensures.within) in
+    let at = rw (c.as_slice.ensures.value, c.place-place.ensures.place, c.strand-strand.ensures) at (c.block_at.ensures.block (all_strands c.self.inside.lattice) c.place-place.ensures.within) in
     let head : c.block_at.result.now ≡ head_of c.args.self.now c.args.class (strand_of c.args.self.now.lattice c.args.class c.args.self.now.lattice.n) =
     subst (λ v. c.block_at.result.now ≡ head_of v c.args.class (strand_of v.lattice c.args.class v.lattice.n)) c.self.view_is at in
     record {
       head = head;
-      value = λ datas sums. head ∙ parity-value c.args.self.now datas c.args.class c.requires.node c.requires.class sums;
+      wide = subst (λ v. length c.block_at.result.now ≡ v.size) c.self.view_is c.block_at.ensures.wide;
+      value = λ after datas sums. head ∙ parity-value c.args.self.now datas c.args.class c.requires.class after sums;
     }

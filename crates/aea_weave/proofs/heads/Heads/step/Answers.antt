@@ -2,7 +2,7 @@ use Rattle.std.proofs.Common.{All, arith, ◌<◌, ◌^◌}
 use Rattle.std.proofs.lemmas.List.Elements.{All-from_get_or}
 use Rattle.aea_weave.specs.Woven.{Weaves}
 use Rattle.aea_weave.proofs.Places.{weaves-parts}
-use Rattle.aea_weave.proofs.Weaving.{sums-step}
+use Rattle.aea_weave.proofs.Weaving.{sums-step, step-joined}
 use Rattle.aea_weave.proofs.heads.Heads.step.Goals as goal
 
 pub returns : goal.returns
@@ -16,5 +16,6 @@ returns c =
     let each : All (λ b. b < 2 ^ 8) c.args.payload.now = All-from_get_or (λ b. b < 2 ^ 8) c.args.payload.now 0 (λ i inside. omega (arith, c.type_inv.payload i)) in
     record {
       weaves = woven;
+      joined = step-joined c.args.self.now.lattice c.add-3.new.self.lattice woven.grown;
       sums = λ datas sums. sums-step c.args.self.now c.add-3.new.self c.args.payload.now datas c.requires.payload each woven sums;
     }

@@ -2,7 +2,7 @@
 use Rattle.std.proofs.Common.{ℕ, ◌+◌, ◌≤◌, List, [], ◌++◌, Option, arith}
 use Rattle.std.proofs.lemmas.List.{length-append}
 use Rattle.std.proofs.KnownBytes.{Consumes-nil, Consumes-trans}
-use Rattle.aea_io.specs.Written.{TakesAtMost}
+use Rattle.aea_io.specs.Taken.{TakesAtMost}
 
 -- nothing was taken
 pub TakesAtMost-none : (a : Option (List ℕ)) (n : ℕ) → TakesAtMost a a n

@@ -1,6 +1,11 @@
--- What a sink with a room takes of a piece.
-use Rattle.std.specs.Prelude.{◌≡◌, ℕ, ◌-◌, ◌<◌, min, List, length, vec_len}
+-- A sink with a room as it tells itself, and what it takes of a piece.
+use Rattle.std.specs.Prelude.{◌≡◌, ℕ, ◌-◌, ◌<◌, min, List, length, Some, vec_len}
 use Rattle.aea_io.specs.declared.sure.SureSink.{SureSink}
+use Rattle.aea_io.specs.Streams.{SinkState}
+
+-- it tells all
+abbrev pub sure_sink_state : SureSink → SinkState
+sure_sink_state s = record { written = Some s.bytes.items; flushed = Some s.flushed; room = Some (s.room - vec_len s.bytes); faults = s.faults }
 
 -- the piece is not empty, and no room is left
 abbrev pub IsRefused : SureSink → List ℕ → Type 0

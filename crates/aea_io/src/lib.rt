@@ -3,14 +3,18 @@
 #![tactic(auto)]
 
 mod fails;
+mod full;
 mod memory;
+mod page;
 mod put;
 mod standard;
 mod sure;
 mod traits;
 mod whole;
 
+pub use full::read_full;
 pub use memory::{MemSink, MemSource};
+pub use page::{Page, finish, print, print_number, put_text, send};
 pub use put::put_all;
 pub use standard::{StdSink, StdSource};
 pub use sure::{SureSink, SureSource};

@@ -1,6 +1,6 @@
 //! A source and a sink in memory that also fail at listed calls.
 
-ghost use Rattle.std.specs.Prelude.{◌≡◌, ◌↔◌, ◌⊎◌, ◌+◌, ◌-◌, ◌^◌, ◌<◌, ◌≤◌, [], length, drop, min, None, Some, IfOk, IsErr, OnOk, OnErr, vec_len};
+ghost use Rattle.std.specs.Prelude.{◌≡◌, ◌↔◌, ◌⊎◌, ◌+◌, ◌-◌, ◌^◌, ◌<◌, ◌≤◌, [], length, drop, min, Some, IfOk, IsErr, OnOk, OnErr, vec_len};
 ghost use Rattle.std.specs.Io.{ReadsAtMost, WritesAtMost};
 ghost use Rattle.std.specs.Io.KnownBytes.{Keeps, ReadConsumes, WriteAppends};
 ghost use Rattle.aea_faults.specs.Faults.{HasCause};
@@ -49,9 +49,7 @@ impl MemSource {
 }
 
 impl Source for MemSource {
-    ghost left = { λ s. Some (drop s.taken s.bytes.items) };
-
-    ghost faults = { λ s. s.faults };
+    ghost state = { λ s. record { left = Some (drop s.taken s.bytes.items); faults = s.faults } };
 
     fn read(&mut self, buf: &mut [u8]) -> Result<usize, ReadFault>
         ensures bound { ReadsAtMost result buf.new }
@@ -111,18 +109,16 @@ impl MemSink {
 }
 
 impl Sink for MemSink {
-    ghost written = { λ s. Some s.sink.bytes.items };
+    ghost use Rattle.aea_io.specs.Listed.{listed_state};
 
-    ghost flushed = { λ s. Some s.sink.flushed };
-
-    ghost faults = { λ s. s.sink.faults };
+    ghost state = { listed_state };
 
     fn write(&mut self, bytes: &[u8]) -> Result<usize, WriteFault>
         ensures bound { WritesAtMost result bytes.now }
         ensures progress { IfOk result (λ k. 0 < length bytes.now → 0 < k) }
         ensures bytes { WriteAppends (Some self.old.sink.bytes.items) (Some self.new.sink.bytes.items) result bytes.now }
-        ensures flushed { StaysFlushed (Some self.old.sink.flushed) (Some self.new.sink.flushed) }
-        ensures in_room { WritesInRoom None None self.old.sink.faults self.new.sink.faults result bytes.now }
+        ensures flushed { StaysFlushed (listed_state self.old) (listed_state self.new) }
+        ensures in_room { WritesInRoom (listed_state self.old) (listed_state self.new) result bytes.now }
         ensures cause { HasCause self.old.sink.faults self.new.sink.faults result }
 
         // It fails exactly at the listed calls and where no room is left for a piece that is not empty, and counts that.
@@ -144,10 +140,10 @@ impl Sink for MemSink {
     }
 
     fn flush(&mut self) -> Result<(), WriteFault>
-        ensures all { OnOk result (IsFlushed (Some self.new.sink.bytes.items) (Some self.new.sink.flushed)) }
-        ensures flushed { StaysFlushed (Some self.old.sink.flushed) (Some self.new.sink.flushed) }
+        ensures all { OnOk result (IsFlushed (listed_state self.new)) }
+        ensures flushed { StaysFlushed (listed_state self.old) (listed_state self.new) }
         ensures bytes { Keeps (Some self.old.sink.bytes.items) (Some self.new.sink.bytes.items) }
-        ensures in_room { FlushesInRoom None None self.old.sink.faults self.new.sink.faults result }
+        ensures in_room { FlushesInRoom (listed_state self.old) (listed_state self.new) result }
         ensures cause { HasCause self.old.sink.faults self.new.sink.faults result }
 
         // It fails exactly at the listed calls, and counts that.

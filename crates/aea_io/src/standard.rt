@@ -1,8 +1,8 @@
 //! Sources and sinks over std's readers and writers.
 
-ghost use Rattle.std.specs.Prelude.{◌≡◌, ◌<◌, ◌≤◌, length, IfOk, None};
+ghost use Rattle.std.specs.Prelude.{◌≡◌, ◌+◌, ◌-◌, ◌^◌, ◌<◌, ◌≤◌, length, min, IfOk, OnOk, OnErr, None};
 ghost use Rattle.std.specs.Io.{ReadsAtMost, WritesAtMost};
-ghost use Rattle.std.specs.Io.KnownBytes.{ReadConsumes, WriteAppends};
+ghost use Rattle.std.specs.Io.KnownBytes.{Keeps, ReadConsumes, WriteAppends};
 ghost use Rattle.aea_faults.specs.Faults.{HasCause};
 
 use crate::traits::{ReadFault, Sink, Source, WriteFault};
@@ -35,6 +35,8 @@ impl<R: Read> StdSource<R> {
     fn read_once(&mut self, buf: &mut [u8]) -> Result<usize, ErrorKind>
         ensures bound { ReadsAtMost result buf.new }
         ensures bytes { ReadConsumes (R.remaining self.old.reader) (R.remaining self.new.reader) result buf.new }
+        ensures steady { OnOk result (self.new.faults ≡ self.old.faults) }
+        ensures counted { OnErr result (self.new.faults ≡ min (self.old.faults + 1) (2 ^ 64 - 1)) }
         ensures cause { HasCause self.old.faults self.new.faults result }
     {
         match self.reader.read(buf) {
@@ -48,9 +50,7 @@ impl<R: Read> StdSource<R> {
 }
 
 impl<R: Read> Source for StdSource<R> {
-    ghost left = { λ s. R.remaining s.reader };
-
-    ghost faults = { λ s. s.faults };
+    ghost state = { λ s. record { left = R.remaining s.reader; faults = s.faults } };
 
     fn read(&mut self, buf: &mut [u8]) -> Result<usize, ReadFault> {
         for _ in 0..RETRIES {
@@ -89,6 +89,8 @@ impl<W: Write> StdSink<W> {
         ensures bound { WritesAtMost result bytes.now }
         ensures progress { IfOk result (λ k. 0 < length bytes.now → 0 < k) }
         ensures bytes { WriteAppends (W.contents self.old.writer) (W.contents self.new.writer) result bytes.now }
+        ensures steady { OnOk result (self.new.faults ≡ self.old.faults) }
+        ensures counted { OnErr result (self.new.faults ≡ min (self.old.faults + 1) (2 ^ 64 - 1)) }
         ensures cause { HasCause self.old.faults self.new.faults result }
     {
         let kind = match self.writer.write(bytes) {
@@ -99,14 +101,26 @@ impl<W: Write> StdSink<W> {
         self.faults = risen(self.faults);
         Err(kind)
     }
+
+    // One flush of the writer.
+    fn flush_once(&mut self) -> Result<(), WriteFault>
+        ensures bytes { Keeps (W.contents self.old.writer) (W.contents self.new.writer) }
+        ensures steady { OnOk result (self.new.faults ≡ self.old.faults) }
+        ensures counted { OnErr result (self.new.faults ≡ min (self.old.faults + 1) (2 ^ 64 - 1)) }
+        ensures cause { HasCause self.old.faults self.new.faults result }
+    {
+        match self.writer.flush() {
+            Ok(()) => Ok(()),
+            Err(_) => {
+                self.faults = risen(self.faults);
+                Err(WriteFault)
+            }
+        }
+    }
 }
 
 impl<W: Write> Sink for StdSink<W> {
-    ghost written = { λ s. W.contents s.writer };
-
-    ghost flushed = { λ _. None };
-
-    ghost faults = { λ s. s.faults };
+    ghost state = { λ s. record { written = W.contents s.writer; flushed = None; room = None; faults = s.faults } };
 
     fn write(&mut self, bytes: &[u8]) -> Result<usize, WriteFault> {
         for _ in 0..RETRIES {
@@ -120,13 +134,7 @@ impl<W: Write> Sink for StdSink<W> {
     }
 
     fn flush(&mut self) -> Result<(), WriteFault> {
-        match self.writer.flush() {
-            Ok(()) => Ok(()),
-            Err(_) => {
-                self.faults = risen(self.faults);
-                Err(WriteFault)
-            }
-        }
+        self.flush_once()
     }
 }
 

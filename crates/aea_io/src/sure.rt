@@ -37,9 +37,7 @@ impl<'a> SureSource<'a> {
 }
 
 impl Source for SureSource<'_> {
-    ghost left = { λ s. Some s.rest.now };
-
-    ghost faults = { λ _. 0 };
+    ghost state = { λ s. record { left = Some s.rest.now; faults = 0 } };
 
     fn read(&mut self, buf: &mut [u8]) -> Result<usize, ReadFault>
         ensures bound { ReadsAtMost result buf.new }
@@ -109,23 +107,16 @@ impl SureSink {
 }
 
 impl Sink for SureSink {
-    ghost use Rattle.aea_io.specs.Sure.{IsRefused, fitting};
+    ghost use Rattle.aea_io.specs.Sure.{sure_sink_state, IsRefused, fitting};
 
-    ghost written = { λ s. Some s.bytes.items };
-
-    ghost flushed = { λ s. Some s.flushed };
-
-    ghost room = { λ s. Some (s.room - vec_len s.bytes) };
-
-    ghost faults = { λ s. s.faults };
+    ghost state = { sure_sink_state };
 
     fn write(&mut self, bytes: &[u8]) -> Result<usize, WriteFault>
         ensures bound { WritesAtMost result bytes.now }
         ensures progress { IfOk result (λ k. 0 < length bytes.now → 0 < k) }
         ensures bytes { WriteAppends (Some self.old.bytes.items) (Some self.new.bytes.items) result bytes.now }
-        ensures flushed { StaysFlushed (Some self.old.flushed) (Some self.new.flushed) }
-        ensures in_room { WritesInRoom (Some (self.old.room - vec_len self.old.bytes)) (Some (self.new.room - vec_len self.new.bytes))
-            self.old.faults self.new.faults result bytes.now }
+        ensures flushed { StaysFlushed (sure_sink_state self.old) (sure_sink_state self.new) }
+        ensures in_room { WritesInRoom (sure_sink_state self.old) (sure_sink_state self.new) result bytes.now }
         ensures cause { HasCause self.old.faults self.new.faults result }
 
         // It fails exactly where no room is left for a piece that is not empty, and counts that.
@@ -150,11 +141,10 @@ impl Sink for SureSink {
     }
 
     fn flush(&mut self) -> Result<(), WriteFault>
-        ensures all { OnOk result (IsFlushed (Some self.new.bytes.items) (Some self.new.flushed)) }
-        ensures flushed { StaysFlushed (Some self.old.flushed) (Some self.new.flushed) }
+        ensures all { OnOk result (IsFlushed (sure_sink_state self.new)) }
+        ensures flushed { StaysFlushed (sure_sink_state self.old) (sure_sink_state self.new) }
         ensures bytes { Keeps (Some self.old.bytes.items) (Some self.new.bytes.items) }
-        ensures in_room { FlushesInRoom (Some (self.old.room - vec_len self.old.bytes)) (Some (self.new.room - vec_len self.new.bytes))
-            self.old.faults self.new.faults result }
+        ensures in_room { FlushesInRoom (sure_sink_state self.old) (sure_sink_state self.new) result }
         ensures cause { HasCause self.old.faults self.new.faults result }
 
         // It never fails.

@@ -3,7 +3,7 @@
 ghost use Rattle.std.specs.Prelude.{◌≡◌, ◌+◌, ◌++◌, ◌<◌, ◌≤◌, length, IfOk, OnOk, vec_len};
 ghost use Rattle.std.specs.Io.KnownBytes.{Consumes, IsAtEnd};
 ghost use Rattle.aea_faults.specs.Faults.{Rose};
-ghost use Rattle.aea_io.specs.Written.{TakesAtMost};
+ghost use Rattle.aea_io.specs.Taken.{TakesAtMost};
 
 use crate::traits::Source;
 use std::alloc::{AllocError, Global};
@@ -40,12 +40,12 @@ pub fn read_whole<S: Source>(
     limit: usize,
 ) -> Result<Vec<u8>, WholeFault>
     requires { limit < usize.MAX }
-    ensures bytes { IfOk result (λ v. Consumes (S.left input.old) (S.left input.new) v.items) }
-    ensures end { IfOk result (λ v. length v.items ≤ limit → IsAtEnd (S.left input.new)) }
+    ensures bytes { IfOk result (λ v. Consumes (S.state input.old).left (S.state input.new).left v.items) }
+    ensures end { IfOk result (λ v. length v.items ≤ limit → IsAtEnd (S.state input.new).left) }
     ensures longest { IfOk result (λ v. length v.items ≤ limit + 1) }
-    ensures most { TakesAtMost (S.left input.old) (S.left input.new) (limit + 1) }
-    ensures kept { S.faults input.old ≤ S.faults input.new }
-    ensures cause { result ≡ Err WholeFault.ReadFault → Rose (S.faults input.old) (S.faults input.new) }
+    ensures most { TakesAtMost (S.state input.old).left (S.state input.new).left (limit + 1) }
+    ensures kept { (S.state input.old).faults ≤ (S.state input.new).faults }
+    ensures cause { result ≡ Err WholeFault.ReadFault → Rose (S.state input.old).faults (S.state input.new).faults }
 {
     let mut whole = Vec::new(alloc);
     let mut buf = [0; PIECE];

@@ -6,11 +6,11 @@ use Rattle.aea_io.proofs.put.put_all.Given as goal
 abbrev pub invariant-loop-done : goal.invariant-loop-done
 invariant-loop-done g l = record {
   within : l.done ≤ length l.bytes;
-  appended : Appends (g.O.Sink.written l.fn.sink) (g.O.Sink.written l.sink) (take l.done l.bytes);
-  flushed : StaysFlushed (g.O.Sink.flushed l.fn.sink) (g.O.Sink.flushed l.sink);
-  left : (room : ℕ) → g.O.Sink.room l.fn.sink ≡ Some room → (l.done ≤ room) × (g.O.Sink.room l.sink ≡ Some (room - l.done));
-  steady : (room : ℕ) → g.O.Sink.room l.fn.sink ≡ Some room → g.O.Sink.faults l.sink ≡ g.O.Sink.faults l.fn.sink;
-  counted : g.O.Sink.faults l.fn.sink ≤ g.O.Sink.faults l.sink;
+  appended : Appends (g.O.Sink.state l.fn.sink).written (g.O.Sink.state l.sink).written (take l.done l.bytes);
+  flushed : StaysFlushed (g.O.Sink.state l.fn.sink) (g.O.Sink.state l.sink);
+  left : (room : ℕ) → (g.O.Sink.state l.fn.sink).room ≡ Some room → (l.done ≤ room) × ((g.O.Sink.state l.sink).room ≡ Some (room - l.done));
+  steady : (room : ℕ) → (g.O.Sink.state l.fn.sink).room ≡ Some room → (g.O.Sink.state l.sink).faults ≡ (g.O.Sink.state l.fn.sink).faults;
+  counted : (g.O.Sink.state l.fn.sink).faults ≤ (g.O.Sink.state l.sink).faults;
 }
 
 abbrev pub decreases-loop-done : goal.decreases-loop-done

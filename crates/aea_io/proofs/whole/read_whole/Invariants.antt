@@ -5,8 +5,8 @@ use Rattle.aea_io.proofs.whole.read_whole.Given as goal
 abbrev pub invariant-loop-buf : goal.invariant-loop-buf
 invariant-loop-buf g l = record {
   most : length l.whole.items ≤ l.limit + 1;
-  taken : Consumes (g.S.Source.left l.fn.input) (g.S.Source.left l.input) l.whole.items;
-  kept : g.S.Source.faults l.fn.input ≤ g.S.Source.faults l.input;
+  taken : Consumes (g.S.Source.state l.fn.input).left (g.S.Source.state l.input).left l.whole.items;
+  kept : (g.S.Source.state l.fn.input).faults ≤ (g.S.Source.state l.input).faults;
 }
 
 abbrev pub decreases-loop-buf : goal.decreases-loop-buf

@@ -1,0 +1,143 @@
+-- Pieces that are printed one after the other.
+use Rattle.std.proofs.Common.{◌≡◌, ℕ, ◌+◌, ◌-◌, ◌≤◌, List, [], ◌++◌, length, length-append, append_assoc, arith, refl, sym, ◌∙◌, ap, Ok, Err, subst}
+use Rattle.std.specs.Prelude.{Result, MatchResult, IsErr}
+use Rattle.std.specs.Io.KnownBytes.{Appends}
+use Rattle.std.proofs.KnownBytes.{Appends-nil, Appends-trans}
+use Rattle.std.proofs.lemmas.List.{append-nil}
+use Rattle.std.proofs.lemmas.Bool.{false≢true}
+use Rattle.aea_faults.specs.Faults.{HasCause, Rose}
+use Rattle.aea_io.specs.Streams.{SinkState}
+use Rattle.aea_io.specs.Written.{AppendsPart, PutsAll, PutsInRoom}
+use Rattle.aea_io.proofs.Puts.{AppendsPart-first, AppendsPart-then}
+use Rattle.aea_io.specs.Pages.{Gathers, Prints}
+
+-- two pieces after each other
+gathers_then : (a b c : SinkState) (p q r x y : List ℕ) → Gathers a p b q x → Gathers b q c r y → Gathers a p c r (x ++ y)
+gathers_then a b c p q r x y one two = (
+  one.0 ++ two.0,
+  Appends-trans a.written b.written c.written one.0 two.0 one.1 two.1,
+  sym (append_assoc p x y) ∙ ap (λ zs. zs ++ y) one.2 ∙ append_assoc one.0 q y ∙ ap (λ zs. one.0 ++ zs) two.2 ∙ sym (append_assoc one.0 two.0 r),
+)
+
+regroup : (p q x y sent : List ℕ) → p ++ x ≡ sent ++ q → sent ++ (q ++ y) ≡ p ++ (x ++ y)
+regroup p q x y sent e = sym (append_assoc sent q y) ∙ ap (λ zs. zs ++ y) (sym e) ∙ append_assoc p x y
+
+longer : (p x y : List ℕ) → length (p ++ (x ++ y)) ≡ length (p ++ x) + length y
+longer p x y = ap length (sym (append_assoc p x y)) ∙ length-append (p ++ x) y
+
+bytes_then : {T E : Type 0} (a b c : SinkState) (p q r : List ℕ) (result : Result T E) (x y : List ℕ) → Gathers a p b q x
+    → MatchResult result (λ _. Gathers b q c r y) (λ _. AppendsPart b.written c.written (q ++ y))
+    → MatchResult result (λ _. Gathers a p c r (x ++ y)) (λ _. AppendsPart a.written c.written (p ++ (x ++ y)))
+bytes_then a b c p q r (Ok v) x y one two = gathers_then a b c p q r x y one two
+bytes_then a b c p q r (Err e) x y one two =
+    rw (← regroup p q x y one.0 one.2) (AppendsPart-then a.written b.written c.written one.0 (q ++ y) one.1 two)
+
+cause_then : {T E : Type 0} (a b c : ℕ) (result : Result T E) → a ≤ b → HasCause b c result → HasCause a c result
+cause_then a b c (Ok v) le cause = let k = cause.kept in record { kept = omega arith; rose = tt }
+cause_then a b c (Err e) le cause = let k = cause.kept in let r : Rose b c = cause.rose in record { kept = omega arith; rose = omega arith }
+
+-- a piece, and then another, is both
+pub prints_then : {T U E F : Type 0} {a b c : SinkState} {p q r : List ℕ} {one : T} {result : Result U E} {x y : List ℕ} → Prints {E = F} a p b q (Ok one) x → Prints b q c r result y → Prints a p c r result (x ++ y)
+prints_then {a} {b} {c} {p} {q} {r} {result} {x} {y} first second =
+    let e = longer p x y in
+    let f = length-append q y in
+    record {
+      bytes = bytes_then a b c p q r result x y first.bytes second.bytes;
+      fits = λ room told enough. let l = first.left room told (omega arith) in let le = l.2 in second.fits l.0 l.1 (omega arith);
+      left = λ room told enough.
+          let l = first.left room told (omega arith) in let le = l.2 in
+          let m = second.left l.0 l.1 (omega arith) in let me = m.2 in
+          (m.0, m.1, omega arith);
+      steady = λ room told enough. let l = first.left room told (omega arith) in let le = l.2 in second.steady l.0 l.1 (omega arith) ∙ first.steady room told (omega arith);
+      cause = cause_then a.faults b.faults c.faults result first.cause.kept second.cause;
+    }
+
+-- nothing more is printed
+pub prints_then_nothing : {T U E F : Type 0} {a b c : SinkState} {p q r : List ℕ} {one : T} {result : Result U E} {x : List ℕ} → Prints {E = F} a p b q (Ok one) x → Prints b q c r result [] → Prints a p c r result x
+prints_then_nothing {a} {c} {p} {r} {result} {x} first second =
+    subst (λ zs. Prints a p c r result zs) (append-nil x) (prints_then first second)
+
+stopped_bytes : {T E : Type 0} (a b : SinkState) (p q : List ℕ) (result : Result T E) (x y : List ℕ) → IsErr result → AppendsPart a.written b.written (p ++ x)
+    → MatchResult result (λ _. Gathers a p b q (x ++ y)) (λ _. AppendsPart a.written b.written (p ++ (x ++ y)))
+stopped_bytes a b p q (Ok v) x y stopped part = absurd (false≢true stopped)
+stopped_bytes a b p q (Err f) x y stopped part = rw (← append_assoc p x y) (AppendsPart-first a.written b.written (p ++ x) y part)
+
+stopped_cause : {T E : Type 0} (a b : ℕ) (result : Result T E) → a ≤ b → Rose a b → HasCause a b result
+stopped_cause a b (Ok v) kept rose = record { kept = kept; rose = tt }
+stopped_cause a b (Err f) kept rose = record { kept = kept; rose = rose }
+
+-- a write failed before a further piece
+pub prints_stopped : {T U E F : Type 0} {a b : SinkState} {p q : List ℕ} {e : E} {result : Result U F} {x : List ℕ} (y : List ℕ) → IsErr result → Prints {T = T} a p b q (Err e) x → Prints a p b q result (x ++ y)
+prints_stopped {a} {b} {p} {q} {result} {x} y stopped first =
+    let l = longer p x y in
+    record {
+      bytes = stopped_bytes a b p q result x y stopped first.bytes;
+      fits = λ room told enough. absurd (false≢true (first.fits room told (omega arith)));
+      left = λ room told enough. absurd (false≢true (first.fits room told (omega arith)));
+      steady = λ room told enough. absurd (false≢true (first.fits room told (omega arith)));
+      cause = stopped_cause a.faults b.faults result first.cause.kept first.cause.rose;
+    }
+
+failed_bytes : {T E : Type 0} (a b : SinkState) (p q : List ℕ) (result : Result T E) (x : List ℕ) → IsErr result → AppendsPart a.written b.written (p ++ x)
+    → MatchResult result (λ _. Gathers a p b q x) (λ _. AppendsPart a.written b.written (p ++ x))
+failed_bytes a b p q (Ok v) x failed part = absurd (false≢true failed)
+failed_bytes a b p q (Err f) x failed part = part
+
+-- a fault that is handed on; the page does not matter then
+pub prints_failed : {T U E F : Type 0} {a b : SinkState} {p q r : List ℕ} {e : E} {result : Result U F} {x : List ℕ} → IsErr result → Prints {T = T} a p b q (Err e) x → Prints a p b r result x
+prints_failed {a} {b} {p} {r} {result} {x} failed first =
+    record {
+      bytes = failed_bytes a b p r result x failed first.bytes;
+      fits = λ room told enough. absurd (false≢true (first.fits room told enough));
+      left = λ room told enough. absurd (false≢true (first.fits room told enough));
+      steady = λ room told enough. absurd (false≢true (first.fits room told enough));
+      cause = stopped_cause a.faults b.faults result first.cause.kept first.cause.rose;
+    }
+
+-- another answer with what is printed
+pub prints_as : {T U E F : Type 0} {a b : SinkState} {p q : List ℕ} {v : T} {x : List ℕ} (u : U) → Prints {E = E} a p b q (Ok v) x → Prints {E = F} a p b q (Ok u) x
+prints_as u first = record { bytes = first.bytes; fits = λ room told enough. refl; left = first.left; steady = first.steady; cause = record { kept = first.cause.kept; rose = tt } }
+
+-- nothing is printed
+pub prints_none : {T E : Type 0} (a : SinkState) (p : List ℕ) (v : T) → Prints {E = E} a p a p (Ok v) []
+prints_none a p v =
+    let e = ap length (append-nil p) in
+    record {
+      bytes = ([], Appends-nil a.written, append-nil p);
+      fits = λ room told enough. refl;
+      left = λ room told enough. (room, told, omega arith);
+      steady = λ room told enough. refl;
+      cause = record { kept = omega arith; rose = tt };
+    }
+
+-- all of the page is written
+pub prints_page : {T E : Type 0} {a b : SinkState} {p : List ℕ} {v : T} → Appends a.written b.written p → PutsInRoom {E = E} a b (Ok v) p → HasCause {T = T} {E = E} a.faults b.faults (Ok v)
+    → Prints {E = E} a p b [] (Ok v) []
+prints_page {p} appended room cause =
+    let e = ap length (append-nil p) in
+    record {
+      bytes = (p, appended, refl);
+      fits = λ n told enough. refl;
+      left = λ n told enough. (n - length p, room.left n told (omega arith), omega arith);
+      steady = λ n told enough. room.steady n told (omega arith);
+      cause = cause;
+    }
+
+put_bytes : {T E : Type 0} (a b : SinkState) (p : List ℕ) (result : Result T E) (piece : List ℕ) → p ≡ [] → PutsAll a.written b.written result piece
+    → MatchResult result (λ _. Gathers a p b p piece) (λ _. AppendsPart a.written b.written (p ++ piece))
+put_bytes a b p (Ok v) piece none put = (piece, put, rw none (sym (append-nil piece)))
+put_bytes a b p (Err e) piece none put = rw none put
+
+-- a piece that goes past an empty page
+pub prints_past : {T E : Type 0} {a b : SinkState} {p : List ℕ} {result : Result T E} {piece : List ℕ} → p ≡ [] → PutsAll a.written b.written result piece → PutsInRoom a b result piece → HasCause a.faults b.faults result
+    → Prints a p b p result piece
+prints_past {a} {b} {p} {result} {piece} none put room cause =
+    let e : length (p ++ piece) ≡ length piece = rw none in
+    let z : length p ≡ 0 = rw none in
+    record {
+      bytes = put_bytes a b p result piece none put;
+      fits = λ n told enough. room.fits n told (omega arith);
+      left = λ n told enough. (n - length piece, room.left n told (omega arith), omega arith);
+      steady = λ n told enough. room.steady n told (omega arith);
+      cause = cause;
+    }

@@ -1,4 +1,5 @@
 mod Appends
+pub mod Frames
 mod Fresh
 mod Gates
 mod Inner

@@ -1,9 +1,9 @@
 -- How what a crash may leave goes on from call to call: the lemmas by which a client composes its calls.
-use Rattle.std.proofs.Common.{◌≡◌, ◌≢◌, ◌⊎◌, ⊎_elim, ℕ, ◌+◌, ◌≤◌, List, length, take, drop, refl, sym, ◌∙◌, ap, subst, arith}
+use Rattle.std.proofs.Common.{◌≡◌, ◌≢◌, ◌⊎◌, ◌↔◌, ⊎_elim, ℕ, ◌+◌, ◌≤◌, List, length, take, drop, refl, sym, ◌∙◌, ap, subst, arith}
 use Rattle.std.proofs.lemmas.Bool.{cases_eq, cases_lt}
 use Rattle.aea_disk.specs.Files.{Files, ChangesFile, Torn}
 use Rattle.aea_disk.specs.Steps.{torn_range}
-use Rattle.aea_disk.specs.State.{State, Passes, Follows, KeepsImages, Settles, EveryImage, During, Stays, SomeGivesEvery, IsSynced, IsFixed, KeepsOthers, KeepsWhere, HasRange}
+use Rattle.aea_disk.specs.State.{State, Passes, Follows, KeepsImages, Settles, EveryImage, During, Stays, SomeGivesEvery, HasEarlier, IsSynced, IsFixed, KeepsOthers, KeepsWhere, HasRange}
 
 -- a call that adds no moment and no image takes any step that may leave the files
 pub no_time : (step : Files → Files → Type 0) (old new : State) → new.moment ≤ old.moment → ((t : ℕ) (c : Files) → new.image t c → old.image t c) → ((c : Files) → step c c) → Follows step old new
@@ -189,6 +189,11 @@ where_others tells keep file old new apart others = record {
 pub stays_same : (old new : State) (P Q : Files → Type 0) → ((c : Files) → P c → Q c) → ((c : Files) → Q c → P c) → Stays old new P → Stays old new Q
 stays_same old new P Q there back stays t u from later to every c here = there c (stays t u from later to (λ d was. back d (every d was)) c here)
 
+-- a fact that means the same on the images of the call
+pub stays_same_during : (old new : State) (P Q : Files → Type 0) → During old new (λ c. P c ↔ Q c) → Stays old new P → Stays old new Q
+stays_same_during old new P Q same stays t u from later to every c here =
+    (same u c (omega arith) to here).0 (stays t u from later to (λ d was. (same t d from (omega arith) was).1 (every d was)) c here)
+
 -- a fact that every image has at each moment stays
 pub stays_during : (old new : State) (P : Files → Type 0) → During old new P → Stays old new P
 stays_during old new P during t u from later to every c here = during u c (omega arith) to here
@@ -231,6 +236,54 @@ stays_both old mid new P first second early late t u from later to every c here 
     let at_middle = early t mid.moment from (omega arith) (omega arith) (λ d was. every d ((keeps t d (omega arith)).1 was)) in
     late mid.moment u (omega arith) (omega arith) to (λ d was. at_middle d ((keeps mid.moment d (omega arith)).0 was)) c here)
     (λ after. late t u (omega arith) later to every c here)
+    (cases_lt t mid.moment))
+    (cases_lt u mid.moment)
+
+-- where no image has the fact, it stays
+pub stays_never : (old new : State) (P : Files → Type 0) → HasEarlier old new → During old new (λ c. P c → ⊥) → Stays old new P
+stays_never old new P earlier never t u from later to every c here =
+    let was = earlier t u c from later to here in absurd (never t was.0 from (omega arith) was.1 (every was.0 was.1))
+
+-- no call
+pub earlier_none : (s : State) → HasEarlier s s
+earlier_none s t u c from later to here = let is : u ≡ t = omega arith in (c, subst (λ (m : ℕ). s.image m c) is here)
+
+-- one call
+pub earlier_step : (step : Files → Files → Type 0) (old new : State) → Follows step old new → Settles old new → Passes old new → HasEarlier old new
+earlier_step step old new follows settles passes t u c from later to here =
+    ⊎_elim
+    (λ after. (c, settles t u c after later to here))
+    (λ entry.
+    let is : t ≡ old.moment = omega arith in
+    let was = follows u c (omega arith) to here in
+    (was.0, subst (λ (m : ℕ). new.image m was.0) (sym is) ((passes.keeps old.moment was.0 (omega arith)).1 was.1)))
+    (cases_lt old.moment t)
+
+-- one call that keeps the images
+pub earlier_kept : (old new : State) → KeepsImages old new → Settles old new → Passes old new → HasEarlier old new
+earlier_kept old new keeps settles passes t u c from later to here =
+    ⊎_elim
+    (λ after. (c, settles t u c after later to here))
+    (λ entry.
+    let is : t ≡ old.moment = omega arith in
+    (c, subst (λ (m : ℕ). new.image m c) (sym is) ((passes.keeps old.moment c (omega arith)).1 (keeps u c (omega arith) to here))))
+    (cases_lt old.moment t)
+
+-- two runs, one after the other
+pub earlier_both : (old mid new : State) → Passes old mid → Passes mid new → HasEarlier old mid → HasEarlier mid new → HasEarlier old new
+earlier_both old mid new first second early late t u c from later to here =
+    let keeps = second.keeps in
+    let before = first.later in
+    ⊎_elim
+    (λ both.
+    let was = early t u c from later (omega arith) ((keeps u c (omega arith)).0 here) in
+    (was.0, (keeps t was.0 (omega arith)).1 was.1))
+    (λ past. ⊎_elim
+    (λ between.
+    let at_middle = late mid.moment u c (omega arith) (omega arith) to here in
+    let was = early t mid.moment at_middle.0 from (omega arith) (omega arith) ((keeps mid.moment at_middle.0 (omega arith)).0 at_middle.1) in
+    (was.0, (keeps t was.0 (omega arith)).1 was.1))
+    (λ after. late t u c (omega arith) later to here)
     (cases_lt t mid.moment))
     (cases_lt u mid.moment)
 

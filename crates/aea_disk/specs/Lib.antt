@@ -2,6 +2,7 @@ pub mod Count
 pub mod Events
 pub mod Fail
 pub mod Files
+pub mod Frames
 pub mod Gate
 pub mod Log
 pub mod Logged

@@ -32,6 +32,10 @@ KeepsImages old new = (t : ℕ) (c : Files) → old.moment ≤ t → t ≤ new.m
 abbrev pub Settles : State → State → Type 0
 Settles old new = (t u : ℕ) (c : Files) → old.moment < t → t ≤ u → u ≤ new.moment → new.image u c → new.image t c
 
+-- Where some image is of a moment of a call, some image is of each earlier moment of it.
+abbrev pub HasEarlier : State → State → Type 0
+HasEarlier old new = (t u : ℕ) (c : Files) → old.moment ≤ t → t ≤ u → u ≤ new.moment → new.image u c → (d : Files) × new.image t d
+
 -- every image of now
 abbrev pub EveryImage : State → (Files → Type 0) → Type 0
 EveryImage s P = (c : Files) → s.image s.moment c → P c
@@ -68,13 +72,21 @@ HasRange file at bytes c = take (length bytes) (drop at (c file)) ≡ bytes
 abbrev pub IsHeld : State → ℕ → ℕ → List ℕ → Type 0
 IsHeld s file at bytes = EveryImage s (HasRange file at bytes)
 
--- a call that is within a sure disk's room doesn't fail
-abbrev pub IsSure : {T E : Type 0} → Type 0 → State → State → Result T E → Type 0
-IsSure fits old new result = fits → IsOk result × (new.faults ≡ old.faults)
+-- The disk has room for so many bytes of a file.
+abbrev pub HasRoomTo : State → ℕ → ℕ → Type 0
+HasRoomTo s file end = s.room file end
 
 -- the disk has some room, so it fails only for want of room
 abbrev pub HasRoom : State → Type 0
-HasRoom s = (f : ℕ) × (n : ℕ) × s.room f n
+HasRoom s = (f : ℕ) × (n : ℕ) × HasRoomTo s f n
+
+-- “It does not fail within the room”, of whatever calls: where they fit it, the answer is fine, and the count stays.
+abbrev pub NeverFails : (fits fine : Type 0) → State → State → Type 0
+NeverFails fits fine old new = fits → fine × (new.faults ≡ old.faults)
+
+-- the same of an answer that is Ok or a fault
+abbrev pub IsSure : {T E : Type 0} → Type 0 → State → State → Result T E → Type 0
+IsSure fits old new result = NeverFails fits (IsOk result) old new
 
 -- Each other file reads as before, and each image of a moment of the call has it as an image from before the call.
 pub record KeepsOthers (tells : Type 0) (file : ℕ) (old new : State) : Type 0 where

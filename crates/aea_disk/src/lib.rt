@@ -7,8 +7,10 @@
 //! - a fact about every image: `during_none` before the first call; `during_step`, `during_change`, `during_kept`
 //!   for one call; `during_both` for two runs, `during_then_kept` where the second keeps the images;
 //!   `during_more` for a weaker fact; `during_start`, `during_end` for the images of the first and the last moment
-//! - what stays once every image has it: `stays_none`, `stays_step`, `stays_kept`, `stays_both`, `stays_same`,
-//!   `stays_during`
+//! - what stays once every image has it: `stays_none`, `stays_step`, `stays_kept`, `stays_both`, `stays_same` and
+//!   `stays_same_during` for a fact that means the same, on all files or on the images of the calls, `stays_during`,
+//!   `stays_never` where no image has it
+//! - moments that have an image: `earlier_none`, `earlier_step`, `earlier_kept`, `earlier_both`
 //! - what every image has where some image has another fact: `gives_every`, `gives_none`, `gives_both`
 //! - nothing pending: `synced_fixed` after a sync, `fixed_others` on a file that the calls do not touch
 //! - the other files: `others_none`, `others_change`, `others_kept`, `others_both`, `others_then_kept`, and what
@@ -16,6 +18,17 @@
 //! - several files: `where_none`, `where_change`, `where_kept`, `where_both`, `where_others`
 //! - a range that is held: `range_kept` for one change of a file, `held_change` over one more call
 //! - a call that takes no time: `no_time`
+//!
+//! The frames of `specs/Frames.antt` go together by these lemmas of `Rattle.aea_disk.proofs.Frames`.
+//!
+//! - calls that only read: `reads_none` before the first call; `reads_one` for one call, `reads_ok` and `reads_made` where
+//!   it did not fail, `reads_failed` where it did; `reads_both` for two runs; `reads_as` and `reads_faulted` for another
+//!   name of the fault; `reads_synced` for what is sure
+//! - calls that change the files by one step: `writes_none`, `writes_one`, `writes_failed`, `writes_both`, `writes_as`,
+//!   `writes_faulted`; `writes_wider` for a wider step and a smaller room; `torn_anyway` and `cut_anyway` for the step of a
+//!   write and of a cut, whatever it answers
+//! - both kinds: `reads_writes`, `writes_then_reads`, `reads_then_writes`
+//! - the other files: `writes_others`, `writes_where`, `keeps_both`
 //!
 //! What a write or a cut does to the bytes of a file follows by the lemmas of `Rattle.aea_disk.specs.Steps`:
 //! `length-overwritten`, `get_or-overwritten_before`, `_gap`, `_at`, `_after` and `range-overwritten` of a write that
@@ -31,7 +44,10 @@ ghost use Rattle.aea_disk.specs.State.{State, Passes, Follows, KeepsImages, Sett
 mod dir;
 mod fail;
 mod folder;
+mod handle;
 mod mem;
+mod names;
+mod opening;
 mod replay;
 mod space;
 mod sure;

@@ -1,13 +1,15 @@
 -- Cells at homes.
-use Rattle.std.proofs.Common.{◌≡◌, ℕ, ◌+◌, ◌≤◌, List, ◌++◌, length, take, drop, replicate, sym, ◌∙◌, ap, subst, arith}
+use Rattle.std.proofs.Common.{◌≡◌, Bool, true, refl, ℕ, ◌+◌, ◌≤◌, List, ◌++◌, length, take, drop, replicate, sym, ◌∙◌, ap, subst, arith}
 use Rattle.std.proofs.lemmas.List.{length-take, length-drop}
 use Rattle.std.proofs.Math.Seq.{take-append_seam}
 use Rattle.aea_lattice.specs.declared.blocks.BlockId.{BlockId}
+use Rattle.aea_lattice.specs.declared.grid.Lattice.{Lattice}
 use Rattle.aea_lattice.specs.declared.shape.Shape.{Shape}
 use Rattle.aea_disk.specs.Files.{Files, ChangesFile, Holds}
 use Rattle.aea_disk.specs.Steps.{range-overwritten}
 use Rattle.aea_shelf.specs.Places.{cell_size, home_file, home_place, home_bytes, HasAtHome, padded_home}
 use Rattle.aea_shelf.specs.Intact.{IsRecorded, IsIntact}
+use Rattle.aea_shelf.specs.Honest.{IsHonest, IsHonestOn}
 use Rattle.aea_shelf.specs.Writes.{KeepsHomes, KeepsIntact}
 
 -- the bytes of a home that lies within its file
@@ -53,3 +55,10 @@ pub intact_same : (shape : Shape) (b : BlockId) (recorded : List ℕ) (old new :
 intact_same shape b recorded old new same intact =
     intact_of shape b recorded (home_bytes shape b old) new (length-home shape b old intact.within)
     (subst (λ (xs : List ℕ). take (length (home_bytes shape b old)) (drop (home_place shape b) xs) ≡ home_bytes shape b old) (sym same) (at_intact shape b recorded old intact)) intact.here
+
+-- where all survivors are honest, so are those of a test, and back
+pub honest_some : (picks : BlockId → Bool) (l : Lattice) (shape : Shape) (recorded : BlockId → List ℕ) (datas : List (List ℕ)) (c : Files) → IsHonest l shape recorded datas c → IsHonestOn picks l shape recorded datas c
+honest_some picks l shape recorded datas c honest b has_b picked intact = honest b has_b intact
+
+pub honest_all : (l : Lattice) (shape : Shape) (recorded : BlockId → List ℕ) (datas : List (List ℕ)) (c : Files) → IsHonestOn (λ b. true) l shape recorded datas c → IsHonest l shape recorded datas c
+honest_all l shape recorded datas c honest b has_b intact = honest b has_b refl intact

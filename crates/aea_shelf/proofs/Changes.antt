@@ -1,21 +1,16 @@
 -- What a change at one home leaves of the others, in the files as they read and in the images.
-use Rattle.std.proofs.Common.{◌≡◌, ◌≢◌, ℕ, ◌≤◌, List, length, subst}
+use Rattle.std.proofs.Common.{◌≡◌, ◌≢◌, ℕ, List, length, subst}
 use Rattle.aea_lattice.specs.declared.blocks.BlockId.{BlockId}
 use Rattle.aea_lattice.specs.declared.shape.Shape.{Shape}
 use Rattle.aea_lattice.specs.Shapes.{IsBlockOf}
 use Rattle.aea_place.specs.Facts.{RowsGoOverSites}
 use Rattle.aea_disk.specs.Files.{Files, ChangesFile, Torn, Holds}
 use Rattle.aea_disk.specs.Steps.{holds_torn, changes_wider}
-use Rattle.aea_disk.specs.State.{State, Follows, EveryImage, During}
-use Rattle.aea_disk.proofs.Moments.{during_step}
-use Rattle.aea_shelf.specs.Places.{cell_size, home_file, home_place, HasAtHome}
-use Rattle.aea_shelf.specs.Writes.{KeepsShelf}
+use Rattle.aea_disk.specs.State.{State, Follows}
+use Rattle.aea_shelf.specs.Places.{cell_size, home_file, home_place}
+use Rattle.aea_shelf.specs.Writes.{ChangesHome, KeepsShelf}
 use Rattle.aea_shelf.proofs.Homes.{some_sites, keeps_homes}
 use Rattle.aea_shelf.proofs.Cells.{keeps_intact}
-
--- a change that stays within one home
-abbrev pub ChangesHome : Shape → BlockId → Files → Files → Type 0
-ChangesHome shape b old new = ChangesFile (home_file shape b) (Torn (home_place shape b) (cell_size shape)) old new
 
 -- a cell written whole is such a change
 pub written_home : (shape : Shape) (b : BlockId) (bytes : List ℕ) (old new : Files) → length bytes ≡ cell_size shape
@@ -35,9 +30,3 @@ keeps_shelf rows tells shape b old new has_b follows changes =
           let was = follows t c from to here in
           (was.0, was.1, homes was.0 c was.2, keeps_intact shape (λ a. a ≢ b) was.0 c (homes was.0 c was.2));
     }
-
-pub keeps_held : RowsGoOverSites → (shape : Shape) (b : BlockId) (old new : State) → IsBlockOf shape b → Follows (ChangesHome shape b) old new
-    → (a : BlockId) (bytes : List ℕ) → IsBlockOf shape a → a ≢ b → length bytes ≤ cell_size shape → EveryImage old (HasAtHome shape a bytes) → During old new (HasAtHome shape a bytes)
-keeps_held rows shape b old new has_b follows a bytes has_a other short held =
-    during_step (ChangesHome shape b) old new (HasAtHome shape a bytes) follows
-    (λ d c was step. keeps_homes rows shape b d c (some_sites shape) has_b step a bytes has_a other short (held d was))

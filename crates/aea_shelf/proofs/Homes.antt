@@ -1,8 +1,8 @@
 -- Homes of two blocks are apart, and what a write at one leaves of the other.
-use Rattle.std.proofs.Common.{◌≡◌, ◌≢◌, ◌⊎◌, ⊎_elim, inl, inr, ℕ, min, ◌+◌, ◌-◌, ◌*◌, ◌/◌, ◌^◌, ◌<◌, ◌≤◌, List, ◌++◌, length, take, drop, replicate, get_or, refl, sym, ◌∙◌, ap, subst, arith, length-append, length-take, length-drop}
+use Rattle.std.proofs.Common.{◌≡◌, ◌≢◌, ◌⊎◌, ⊎_elim, inl, inr, ℕ, min, ◌+◌, ◌-◌, ◌*◌, ◌/◌, ◌%◌, ◌^◌, ◌<◌, ◌≤◌, List, ◌++◌, length, take, drop, replicate, get_or, refl, sym, ◌∙◌, ap, subst, arith, length-append, length-take, length-drop}
 use Rattle.std.proofs.lemmas.Bool.{cases_eq, cases_lt}
 use Rattle.std.proofs.lemmas.Nat.{div-mul-add, mul-le, mul-add-lt, le-div}
-use Rattle.std.proofs.Math.Nat.{mul-le-mul_right, div-mul-le_self}
+use Rattle.std.proofs.Math.Nat.{mod-lt, mul-le-mul_right, div-mul-le_self}
 use Rattle.std.proofs.lemmas.List.{length-replicate, get_or-take, get_or-drop, get_or-replicate, get_or-append_right, get_or_append_left, get_or_past, ext_get_or}
 use Rattle.std.proofs.lemmas.Bool.Decides.{nat_tests}
 use Rattle.aea_lattice.specs.declared.blocks.Class.{Class}
@@ -10,25 +10,30 @@ use Rattle.aea_lattice.specs.declared.blocks.Class.TheVariants.{Datum, Horiz, Ri
 use Rattle.aea_lattice.specs.declared.blocks.BlockId.{BlockId}
 use Rattle.aea_lattice.specs.declared.shape.Shape.{Shape}
 use Rattle.aea_lattice.specs.Blocks.{class_number, block_of}
-use Rattle.aea_lattice.specs.Profile.{greatest_nodes}
 use Rattle.aea_lattice.specs.Shapes.{IsBlockOf, number_in}
 use Rattle.aea_place.specs.Facts.{RowsGoOverSites}
 use Rattle.aea_disk.specs.Files.{Files, ChangesFile, Torn, Holds, overwritten}
 use Rattle.aea_disk.specs.Steps.{get_or-overwritten_before, get_or-overwritten_gap, get_or-overwritten_after}
 use Rattle.aea_disk.proofs.Moments.{range_kept}
-use Rattle.aea_shelf.specs.Places.{cell_size, most_rows, home_file, home_place}
+use Rattle.aea_shelf.specs.Places.{cell_size, rows_of, site_bytes, home_file, home_place}
 use Rattle.aea_shelf.specs.Writes.{KeepsHomes, KeepsPadded}
 
 -- an archive has a site, and its blocks at most 65,536 bytes
 pub some_sites : (shape : Shape) → 1 ≤ shape.sites
 some_sites shape = let h = shape.in_profile in grind (arith, nat_tests)
 
+-- the file of a home is one of its sites'
+pub home_on_sites : (shape : Shape) (b : BlockId) → (1 ≤ home_file shape b) × (home_file shape b ≤ shape.sites)
+home_on_sites shape b =
+    let number = number_in shape b in
+    (omega arith, omega (arith, mod-lt (number % shape.sites + number / shape.sites) {m = shape.sites} (some_sites shape)))
+
 pub few_bytes : (shape : Shape) → shape.block ≤ 65536
 few_bytes shape = let h = shape.in_profile in grind (arith, nat_tests)
 
 -- the end of a cell, by its row and the bytes of a block
-pub place_below : (r block n : ℕ) → r ≤ n → n < 2 ^ 18 → block ≤ 65536 → r * (block + 48) + (block + 48) ≤ 2 ^ 36
-place_below r block n row few small = omega (arith, mul-le r (block + 48) 262144 65584 (omega (arith, row, few)) (omega (arith, small)), small)
+pub place_below : (r block n : ℕ) → r ≤ n → n < 2 ^ 22 → block ≤ 65536 → r * (block + 48) + (block + 48) ≤ 2 ^ 40
+place_below r block n row few small = omega (arith, mul-le r (block + 48) 4194304 65584 (omega (arith, row, few)) (omega (arith, small)), small)
 
 -- a class is known by its number
 one_class : (c d : Class) → class_number c ≡ class_number d → c ≡ d
@@ -141,9 +146,18 @@ row_below k n m some below =
 number_below : (alpha class node most : ℕ) → 1 ≤ node → node ≤ most → class ≤ alpha → (node - 1) * (1 + alpha) + class < (1 + alpha) * most
 number_below alpha class node most first last used = mul-add-lt (node - 1) (1 + alpha) class most (omega (arith, first, last)) (omega (arith, used))
 
-pub home_in_rows : (shape : Shape) (b : BlockId) → IsBlockOf shape b → home_place shape b + cell_size shape ≤ most_rows shape * cell_size shape
-home_in_rows shape b has_b =
-    let below = number_below shape.alpha (class_number b.class) b.node greatest_nodes has_b.first has_b.last has_b.used in
-    let row = row_below (number_in shape b) ((1 + shape.alpha) * greatest_nodes) shape.sites (some_sites shape) below in
-    let more : (number_in shape b / shape.sites + 1) * cell_size shape ≤ most_rows shape * cell_size shape = mul-le-mul_right (cell_size shape) row in
+pub home_in_rows : (shape : Shape) (n : ℕ) (b : BlockId) → IsBlockOf shape b → b.node ≤ n → home_place shape b + cell_size shape ≤ site_bytes shape n
+home_in_rows shape n b has_b last =
+    let below = number_below shape.alpha (class_number b.class) b.node n has_b.first last has_b.used in
+    let row = row_below (number_in shape b) ((1 + shape.alpha) * n) shape.sites (some_sites shape) below in
+    let more : (number_in shape b / shape.sites + 1) * cell_size shape ≤ rows_of shape n * cell_size shape = mul-le-mul_right (cell_size shape) row in
     omega (arith, more)
+
+-- more nodes have no fewer rows
+pub rows_more : (shape : Shape) (n m : ℕ) → n ≤ m → site_bytes shape n ≤ site_bytes shape m
+rows_more shape n m more =
+    let blocks : (1 + shape.alpha) * n ≤ (1 + shape.alpha) * m = mul-le (1 + shape.alpha) n (1 + shape.alpha) m (omega arith) more in
+    let rows : rows_of shape n ≤ rows_of shape m =
+    let whole : rows_of shape n * shape.sites ≤ (1 + shape.alpha) * n + shape.sites - 1 = div-mul-le_self ((1 + shape.alpha) * n + shape.sites - 1) shape.sites in
+    le-div (rows_of shape n) ((1 + shape.alpha) * m + shape.sites - 1) shape.sites (omega (arith, some_sites shape)) (omega (arith, whole, blocks)) in
+    mul-le-mul_right (cell_size shape) rows

@@ -1,4 +1,5 @@
 pub mod Cells
 mod Changes
+pub mod Held
 mod Homes
 pub mod Runs

@@ -1,6 +1,6 @@
 -- How the shelf goes on from call to call: the lemmas by which a client composes its reads and writes of cells, and its
 -- other calls of the disk. Each takes the states before, between and after the calls.
-use Rattle.std.proofs.Common.{◌≡◌, ◌≢◌, ⊎_elim, ℕ, ◌≤◌, List, length, take, drop, refl, sym, ◌∙◌, ap, subst, arith}
+use Rattle.std.proofs.Common.{◌≡◌, ◌≢◌, ⊎_elim, ℕ, ◌<◌, ◌≤◌, List, ◌++◌, length, take, drop, replicate, refl, sym, ◌∙◌, ap, subst, arith}
 use Rattle.std.proofs.lemmas.Bool.{cases_lt}
 use Rattle.aea_lattice.specs.declared.blocks.BlockId.{BlockId}
 use Rattle.aea_lattice.specs.declared.shape.Shape.{Shape}
@@ -10,6 +10,7 @@ use Rattle.aea_disk.specs.State.{State, Passes, KeepsImages, KeepsOthers, EveryI
 use Rattle.aea_shelf.specs.Places.{cell_size, home_file, home_place, home_bytes, HasAtHome}
 use Rattle.aea_shelf.specs.Intact.{IsIntact, IsBlockHeld}
 use Rattle.aea_shelf.specs.Writes.{KeepsHomes, KeepsPadded, KeepsShelf}
+use Rattle.aea_shelf.proofs.Homes.{home_on_sites}
 use Rattle.aea_shelf.proofs.Cells.{length-home, at_home, at_intact, keeps_intact}
 
 -- files of which those with the homes are the same
@@ -73,6 +74,10 @@ shelf_others tells shape keep file old new apart others =
 pub no_home_in_ledger : (shape : Shape) (a : BlockId) → home_file shape a ≢ 0
 no_home_in_ledger shape a same = omega (arith, same)
 
+-- nor in a file past those of the sites
+pub no_home_outside : (shape : Shape) (a : BlockId) (file : ℕ) → shape.sites < file → home_file shape a ≢ file
+no_home_outside shape a file past same = omega (arith, same, past, (home_on_sites shape a).1)
+
 -- what every image had at a home that stays, every image of every moment has
 pub during_shelf : (tells : Type 0) (shape : Shape) (keep : BlockId → Type 0) (old new : State) (a : BlockId) (bytes : List ℕ) → IsBlockOf shape a → keep a → length bytes ≤ cell_size shape → KeepsShelf tells shape keep old new
     → EveryImage old (HasAtHome shape a bytes) → During old new (HasAtHome shape a bytes)
@@ -98,6 +103,27 @@ synced_held shape b recorded s synced intact = record {
   intact = intact;
   images = λ c here. subst (λ (xs : List ℕ). take (length (home_bytes shape b s.files)) (drop (home_place shape b) xs) ≡ home_bytes shape b s.files) (sym (synced c here (home_file shape b))) (at_intact shape b recorded s.files intact);
 }
+
+-- no call, as the homes read with zeros past the ends
+pub padded_none : (shape : Shape) (keep : BlockId → Type 0) (c : Files) → KeepsPadded shape keep c c
+padded_none shape keep c a has_a kept = refl
+
+-- fewer blocks that are to stay
+pub padded_less : (shape : Shape) (keep less : BlockId → Type 0) (old new : Files) → ((a : BlockId) → less a → keep a) → KeepsPadded shape keep old new → KeepsPadded shape less old new
+padded_less shape keep less old new fewer keeps a has_a kept = keeps a has_a (fewer a kept)
+
+-- calls that leave the files with the homes, as a read, a sync, and calls on a file without a home
+pub padded_same : (shape : Shape) (keep : BlockId → Type 0) (old new : Files) → ((a : BlockId) → keep a → new (home_file shape a) ≡ old (home_file shape a)) → KeepsPadded shape keep old new
+padded_same shape keep old new same a has_a kept =
+    ap (λ (xs : List ℕ). take (cell_size shape) (take (cell_size shape) (drop (home_place shape a) xs) ++ replicate (cell_size shape) 0)) (same a kept)
+
+-- a call that leaves all files
+pub padded_kept : (shape : Shape) (keep : BlockId → Type 0) (old new : Files) → new ≡ old → KeepsPadded shape keep old new
+padded_kept shape keep old new same = padded_same shape keep old new (λ a kept. ap (λ (c : Files). c (home_file shape a)) same)
+
+-- calls on one file that has none of the homes, as the ledger
+pub padded_others : (shape : Shape) (keep : BlockId → Type 0) (file : ℕ) (old new : Files) → ((a : BlockId) → keep a → home_file shape a ≢ file) → ((f : ℕ) → f ≢ file → new f ≡ old f) → KeepsPadded shape keep old new
+padded_others shape keep file old new apart others = padded_same shape keep old new (λ a kept. others (home_file shape a) (apart a kept))
 
 -- writes of several cells, as the homes read with zeros past the ends
 pub padded_both : (shape : Shape) (keep : BlockId → Type 0) (old mid new : Files) → KeepsPadded shape keep old mid → KeepsPadded shape keep mid new → KeepsPadded shape keep old new

@@ -6,7 +6,7 @@ use Rattle.aea_lattice.specs.declared.shape.Shape.{Shape}
 use Rattle.aea_lattice.specs.Blocks.{HasBlock}
 use Rattle.aea_lattice.specs.Shapes.{IsBlockOf}
 use Rattle.aea_disk.specs.Files.{Files}
-use Rattle.aea_shelf.specs.Places.{cell_size, home_file, home_place, most_rows, padded_home}
+use Rattle.aea_shelf.specs.Places.{cell_size, home_file, home_place, site_bytes, padded_home}
 use Rattle.aea_shelf.specs.Intact.{IsIntact}
 use Rattle.aea_shelf.specs.Honest.{IsPlain}
 
@@ -24,7 +24,16 @@ CellsAreApart =
     (shape : Shape) (a b : BlockId) → IsBlockOf shape a → IsBlockOf shape b → a ≢ b → home_file shape a ≡ home_file shape b
     → (home_place shape a + cell_size shape ≤ home_place shape b) ⊎ (home_place shape b + cell_size shape ≤ home_place shape a)
 
--- A home ends within the rows that the archive can have.
+-- A home ends within the rows of an archive that has the block's node.
 abbrev pub HomesAreInRows : Type 0
 HomesAreInRows =
-    (shape : Shape) (b : BlockId) → IsBlockOf shape b → home_place shape b + cell_size shape ≤ most_rows shape * cell_size shape
+    (shape : Shape) (n : ℕ) (b : BlockId) → IsBlockOf shape b → b.node ≤ n → home_place shape b + cell_size shape ≤ site_bytes shape n
+
+-- More nodes have no fewer rows.
+abbrev pub RowsGrow : Type 0
+RowsGrow = (shape : Shape) (n m : ℕ) → n ≤ m → site_bytes shape n ≤ site_bytes shape m
+
+-- An archive has a site, and the file of a home is one of its sites'.
+abbrev pub HomesAreOnItsSites : Type 0
+HomesAreOnItsSites =
+    (shape : Shape) → (1 ≤ shape.sites) × ((b : BlockId) → (1 ≤ home_file shape b) × (home_file shape b ≤ shape.sites))

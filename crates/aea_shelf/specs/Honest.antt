@@ -1,5 +1,5 @@
 -- “Honest and plain”: what the blocks that are intact hold, and what growing a file cannot make intact.
-use Rattle.std.specs.Prelude.{◌≡◌, List, ℕ}
+use Rattle.std.specs.Prelude.{◌≡◌, List, ℕ, Bool, IsTrue}
 use Rattle.aea_lattice.specs.declared.blocks.BlockId.{BlockId}
 use Rattle.aea_lattice.specs.declared.grid.Lattice.{Lattice}
 use Rattle.aea_lattice.specs.declared.shape.Shape.{Shape}
@@ -13,6 +13,12 @@ use Rattle.aea_shelf.specs.Intact.{IsRecorded, IsIntact, payload_in}
 abbrev pub IsHonest : Lattice → Shape → (BlockId → List ℕ) → List (List ℕ) → Files → Type 0
 IsHonest l shape recorded datas c =
     (b : BlockId) → HasBlock l b → IsIntact shape b (recorded b) c
+    → payload_in shape (home_bytes shape b c) ≡ value_of l shape.block datas b
+
+-- The same of the blocks that a test picks.
+abbrev pub IsHonestOn : (BlockId → Bool) → Lattice → Shape → (BlockId → List ℕ) → List (List ℕ) → Files → Type 0
+IsHonestOn picks l shape recorded datas c =
+    (b : BlockId) → HasBlock l b → IsTrue (picks b) → IsIntact shape b (recorded b) c
     → payload_in shape (home_bytes shape b c) ≡ value_of l shape.block datas b
 
 -- The damage is plain: no damaged block becomes intact when bytes past the end of its site's file are taken as zeros.

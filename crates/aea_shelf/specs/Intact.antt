@@ -23,6 +23,14 @@ pub record IsBlockHeld (shape : Shape) (b : BlockId) (recorded : List ℕ) (s : 
   pub intact : IsIntact shape b recorded s.files
   pub images : EveryImage s (HasAtHome shape b (home_bytes shape b s.files))
 
+-- “held at a moment”: in every image of it the home has the same bytes, and these are a cell of this block with the
+-- recorded digest
+pub record IsHeldIn (shape : Shape) (b : BlockId) (recorded : List ℕ) (image : Files → Type 0) : Type 0 where
+  pub bytes : List ℕ
+  pub size : length bytes ≡ cell_size shape
+  pub cell : IsRecorded b recorded bytes
+  pub images : (c : Files) → image c → HasAtHome shape b bytes c
+
 -- the payload in a cell: bytes 16 to 15+B
 abbrev pub payload_in : Shape → List ℕ → List ℕ
 payload_in shape cell = take shape.block (drop 16 cell)

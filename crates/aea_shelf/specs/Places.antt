@@ -2,7 +2,6 @@
 use Rattle.std.specs.Prelude.{ℕ, ◌+◌, ◌-◌, ◌*◌, ◌/◌, List, ◌++◌, take, drop, replicate}
 use Rattle.aea_lattice.specs.declared.blocks.BlockId.{BlockId}
 use Rattle.aea_lattice.specs.declared.shape.Shape.{Shape}
-use Rattle.aea_lattice.specs.Profile.{greatest_nodes}
 use Rattle.aea_lattice.specs.Shapes.{number_in}
 use Rattle.aea_place.specs.Homes.{home_of}
 use Rattle.aea_disk.specs.Files.{Files}
@@ -20,9 +19,13 @@ home_file shape b = (home_of shape.sites (number_in shape b)).site
 abbrev pub home_place : Shape → BlockId → ℕ
 home_place shape b = (home_of shape.sites (number_in shape b)).cell * cell_size shape
 
--- the most rows that an archive of this shape can have: its blocks, shared out to the sites
-abbrev pub most_rows : Shape → ℕ
-most_rows shape = ((1 + shape.alpha) * greatest_nodes + shape.sites - 1) / shape.sites
+-- the rows of an archive of this shape with so many nodes: its blocks, shared out to the sites
+abbrev pub rows_of : Shape → ℕ → ℕ
+rows_of shape n = ((1 + shape.alpha) * n + shape.sites - 1) / shape.sites
+
+-- the bytes of these rows, which a site's file has at most
+abbrev pub site_bytes : Shape → ℕ → ℕ
+site_bytes shape n = rows_of shape n * cell_size shape
 
 -- the home begins with these bytes
 abbrev pub HasAtHome : Shape → BlockId → List ℕ → Files → Type 0

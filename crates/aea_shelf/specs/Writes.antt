@@ -3,10 +3,14 @@ use Rattle.std.specs.Prelude.{◌≡◌, ℕ, ◌≤◌, List, length}
 use Rattle.aea_lattice.specs.declared.blocks.BlockId.{BlockId}
 use Rattle.aea_lattice.specs.declared.shape.Shape.{Shape}
 use Rattle.aea_lattice.specs.Shapes.{IsBlockOf}
-use Rattle.aea_disk.specs.Files.{Files}
+use Rattle.aea_disk.specs.Files.{Files, ChangesFile, Torn}
 use Rattle.aea_disk.specs.State.{State}
-use Rattle.aea_shelf.specs.Places.{cell_size, HasAtHome, padded_home}
+use Rattle.aea_shelf.specs.Places.{cell_size, home_file, home_place, HasAtHome, padded_home}
 use Rattle.aea_shelf.specs.Intact.{IsIntact}
+
+-- A change that stays within one home, and what lies past the end of its file: what a write of the block's cell may leave.
+abbrev pub ChangesHome : Shape → BlockId → Files → Files → Type 0
+ChangesHome shape b = ChangesFile (home_file shape b) (Torn (home_place shape b) (cell_size shape))
 
 -- Each home that is to stay has the bytes that stood there, also where the file had but the first of them.
 abbrev pub KeepsHomes : Shape → (BlockId → Type 0) → Files → Files → Type 0

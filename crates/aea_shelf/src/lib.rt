@@ -10,18 +10,27 @@
 //!
 //! - the blocks that stay: `shelf_none` before the first call; `shelf_both` for two runs; `shelf_less` for fewer blocks;
 //!   `shelf_kept` for a call that keeps the images, as a read or a sync; `shelf_others` for calls on a file with no home,
-//!   which the ledger's is by `no_home_in_ledger`
+//!   which the ledger's is by `no_home_in_ledger`, and each past the sites' by `no_home_outside`
 //! - what follows of a home that stays: `during_shelf` of its bytes in every image, `held_by_shelf` of a held block
 //! - after a sync: `synced_held`
-//! - the homes with zeros past the ends: `padded_both` for two runs
+//! - the homes with zeros past the ends: `padded_none` before the first call; `padded_both` for two runs; `padded_less` for
+//!   fewer blocks; `padded_kept` for a call that leaves the files; `padded_others` for calls on a file with no home;
+//!   `padded_same` for any that leave the files of the homes
+//!
+//! Of a block that is held at a moment, in each of its images, `Rattle.aea_shelf.proofs.Held` has `held_in` from a block
+//! that is held now and `held_of` back, `held_less` for fewer images, and `held_through` for each moment of calls.
 //!
 //! `Rattle.aea_shelf.proofs.Cells` has `intact_of` and `at_intact` between an intact block and the bytes at its home,
-//! `intact_same` for files that are the same there, and `padded_intact`.
+//! `intact_same` for files that are the same there, and `padded_intact`; and `honest_some` and `honest_all` between the
+//! honesty of all survivors and of those of a test.
 #![tactic(auto)]
 
 pub mod facts;
 mod places;
 pub mod shelf;
 
-pub use facts::{cells_are_apart, homes_are_in_rows, plain_damage_stays};
-pub use shelf::{Cell, read_cell, write_cell};
+pub use facts::{
+    cells_are_apart, held_is_held_now, homes_are_in_rows, homes_are_on_its_sites,
+    plain_damage_stays, rows_grow,
+};
+pub use shelf::{Cell, judge, read_cell, write_cell};

@@ -1,22 +1,22 @@
 //! A cell read at its home, and a cell written there.
 
-ghost use Rattle.std.specs.Prelude.{◌≡◌, ◌≢◌, ◌↔◌, ◌+◌, ◌-◌, ◌≤◌, List, ℕ, length, take, drop, IsTrue, IfOk, OnOk, OnErr};
-ghost use Rattle.aea_faults.specs.Faults.{HasCause};
+ghost use Rattle.std.specs.Prelude.{◌≡◌, ◌≢◌, ◌↔◌, ◌+◌, ◌-◌, ◌≤◌, Bool, List, ℕ, length, take, drop, IsTrue, IsNone, IsErr, IfSome, IfOk, OnOk};
 ghost use Rattle.aea_lattice.specs.declared.grid.Lattice.{Lattice};
 ghost use Rattle.aea_lattice.specs.Blocks.{HasBlock};
 ghost use Rattle.aea_lattice.specs.Data.{value_of};
 ghost use Rattle.aea_lattice.specs.Shapes.{IsBlockOf};
 ghost use Rattle.aea_envelope.specs.Cells.{block_digest, cell_of};
-ghost use Rattle.aea_disk.specs.Files.{ChangesFile, Holds, Torn};
-ghost use Rattle.aea_disk.specs.State.{Passes, Follows, KeepsImages, KeepsOthers, Settles, EveryImage, During, IsSure, HasRoom};
-ghost use Rattle.aea_shelf.specs.Places.{cell_size, home_file, home_place, HasAtHome};
-ghost use Rattle.aea_shelf.specs.Intact.{IsRecorded, IsIntact, IsBlockHeld, payload_in};
-ghost use Rattle.aea_shelf.specs.Honest.{IsHonest};
-ghost use Rattle.aea_shelf.specs.Writes.{KeepsShelf, KeepsPadded};
+ghost use Rattle.aea_disk.specs.Files.{ChangesFile, Holds};
+ghost use Rattle.aea_disk.specs.State.{Settles, AtEachMoment, HasRoom, HasRoomTo};
+ghost use Rattle.aea_disk.specs.Frames.{OnlyReads, OnlyWrites};
+ghost use Rattle.aea_shelf.specs.Places.{cell_size, home_file, home_place, home_bytes, HasAtHome};
+ghost use Rattle.aea_shelf.specs.Intact.{IsRecorded, IsIntact, IsBlockHeld, IsHeldIn, payload_in};
+ghost use Rattle.aea_shelf.specs.Honest.{IsHonestOn};
+ghost use Rattle.aea_shelf.specs.Writes.{ChangesHome, KeepsShelf, KeepsPadded};
 
 use crate::places::home_place;
 use aea_disk::{Disk, DiskFault};
-use aea_envelope::{decode, encode};
+use aea_envelope::{decode, digest_of, encode};
 use aea_lattice::{BlockId, Shape};
 use aea_place::rows_go_over_sites;
 
@@ -71,15 +71,15 @@ pub fn read_cell<D: Disk>(
     ensures digest { IfOk result (λ r. r ≡ Cell.Intact → block_digest b (payload_in shape.now cell.new) ≡ want.now) }
     ensures bytes { IfOk result (λ r. r ≡ Cell.Intact → D.tells → HasAtHome shape.now b cell.new (D.state disk.old).files) }
 
-    // Of survivors that are honest for a data list, it is the cell of the block of the list's lattice.
-    ensures honest { IfOk result (λ r. r ≡ Cell.Intact → D.tells → (l : Lattice) (recorded : BlockId → List ℕ) (datas : List (List ℕ)) → HasBlock l b → recorded b ≡ want.now → IsHonest l shape.now recorded datas (D.state disk.old).files → payload_in shape.now cell.new ≡ value_of l shape.now.block datas b) }
+    // Of survivors that are honest for a data list, at least those of a test that picks this block, it is the cell of the
+    // block of the list's lattice.
+    ensures honest { IfOk result (λ r. r ≡ Cell.Intact → D.tells → (picks : BlockId → Bool) (l : Lattice) (recorded : BlockId → List ℕ) (datas : List (List ℕ)) → HasBlock l b → IsTrue (picks b) → recorded b ≡ want.now → IsHonestOn picks l shape.now recorded datas (D.state disk.old).files → payload_in shape.now cell.new ≡ value_of l shape.now.block datas b) }
 
-    ensures contents { D.tells → (D.state disk.new).files ≡ (D.state disk.old).files }
-    ensures crash { KeepsImages (D.state disk.old) (D.state disk.new) }
+    // Also of a bad cell the buffer begins with what stands at the home, all within the file.
+    ensures home { IfOk result (λ r. D.tells → take (length (home_bytes shape.now b (D.state disk.old).files)) cell.new ≡ home_bytes shape.now b (D.state disk.old).files) }
+
     ensures settled { Settles (D.state disk.old) (D.state disk.new) }
-    ensures time { Passes (D.state disk.old) (D.state disk.new) }
-    ensures cause { HasCause (D.state disk.old).faults (D.state disk.new).faults result }
-    ensures sure { IsSure (HasRoom (D.state disk.old)) (D.state disk.old) (D.state disk.new) result }
+    ensures reads { OnlyReads D.tells (IsErr result) (D.state disk.old) (D.state disk.new) }
 {
     let home = home_place(shape, b);
     let count = disk.read(home.file, home.at, cell)?;
@@ -87,6 +87,38 @@ pub fn read_cell<D: Disk>(
         return Ok(Cell::Bad);
     }
     Ok(Cell::Intact)
+}
+
+/// Judges the payload in a cell, its bytes but the first 16 and the last 32, as one of the block: None where it has the
+/// digest that is wanted, and else the digest that it has. The cell's own head and digest are not looked at.
+pub fn judge(b: BlockId, want: &[u8; 32], cell: &[u8]) -> Option<[u8; 32]>
+    requires { 48 ≤ length cell.now }
+    ensures none { IsNone result ↔ (block_digest b (take (length cell.now - 48) (drop 16 cell.now)) ≡ want.now) }
+    ensures some { IfSome result (λ d. (d ≡ block_digest b (take (length cell.now - 48) (drop 16 cell.now))) × (d ≢ want.now)) }
+{
+    let digest = digest_of(b, &cell[16..cell.len() - 32]);
+    if digest == *want {
+        return None;
+    }
+    Some(digest)
+}
+
+// Writes the bytes of a cell at a block's home.
+fn write_home<D: Disk>(
+    disk: &mut D,
+    shape: &Shape,
+    b: BlockId,
+    cell: &[u8],
+) -> Result<(), DiskFault>
+    requires block { IsBlockOf shape.now b }
+    requires cell { length cell.now ≡ cell_size shape.now }
+    ensures written { OnOk result (D.tells → ChangesFile (home_file shape.now b) (Holds (home_place shape.now b) cell.now) (D.state disk.old).files (D.state disk.new).files) }
+    ensures settled { Settles (D.state disk.old) (D.state disk.new) }
+    ensures writes { OnlyWrites D.tells (HasRoomTo (D.state disk.old) (home_file shape.now b) (home_place shape.now b + cell_size shape.now)) (IsErr result) (ChangesHome shape.now b) (D.state disk.old) (D.state disk.new) }
+    ensures full { OnOk result (HasRoom (D.state disk.old) → HasRoomTo (D.state disk.old) (home_file shape.now b) (home_place shape.now b + cell_size shape.now)) }
+{
+    let home = home_place(shape, b);
+    disk.write(home.file, home.at, cell)
 }
 
 /// Writes the cell of a block at its home, and gives its digest. The payload has the B bytes of a block, and the
@@ -110,27 +142,22 @@ pub fn write_cell<D: Disk>(
 
     // The file grows by zeros up to the cell, and nothing else changes.
     ensures written { OnOk result (D.tells → ChangesFile (home_file shape.now b) (Holds (home_place shape.now b) (cell_of b payload.now)) (D.state disk.old).files (D.state disk.new).files) }
-    ensures torn { OnErr result (D.tells → ChangesFile (home_file shape.now b) (Torn (home_place shape.now b) (cell_size shape.now)) (D.state disk.old).files (D.state disk.new).files) }
-
-    // The other blocks, the other files, and what a crash leaves of them.
-    ensures padded { OnOk result (D.tells → KeepsPadded shape.now (λ a. a ≢ b) (D.state disk.old).files (D.state disk.new).files) }
-    ensures shelf { KeepsShelf D.tells shape.now (λ a. a ≢ b) (D.state disk.old) (D.state disk.new) }
-    ensures others { KeepsOthers D.tells (home_file shape.now b) (D.state disk.old) (D.state disk.new) }
-    ensures crash { Follows (ChangesFile (home_file shape.now b) (Torn (home_place shape.now b) (cell_size shape.now))) (D.state disk.old) (D.state disk.new) }
-    ensures held { D.tells → (a : BlockId) (recorded : List ℕ) → IsBlockOf shape.now a → a ≢ b → IsBlockHeld shape.now a recorded (D.state disk.old) → IsBlockHeld shape.now a recorded (D.state disk.new) }
-    ensures any_moment { (a : BlockId) (bytes : List ℕ) → IsBlockOf shape.now a → a ≢ b → length bytes ≤ cell_size shape.now → EveryImage (D.state disk.old) (HasAtHome shape.now a bytes) → During (D.state disk.old) (D.state disk.new) (HasAtHome shape.now a bytes) }
-
+    ensures writes { OnlyWrites D.tells (HasRoomTo (D.state disk.old) (home_file shape.now b) (home_place shape.now b + cell_size shape.now)) (IsErr result) (ChangesHome shape.now b) (D.state disk.old) (D.state disk.new) }
     ensures settled { Settles (D.state disk.old) (D.state disk.new) }
-    ensures time { Passes (D.state disk.old) (D.state disk.new) }
-    ensures cause { HasCause (D.state disk.old).faults (D.state disk.new).faults result }
-    ensures sure { IsSure ((D.state disk.old).room (home_file shape.now b) (home_place shape.now b + cell_size shape.now)) (D.state disk.old) (D.state disk.new) result }
-    ensures full { OnOk result (HasRoom (D.state disk.old) → (D.state disk.old).room (home_file shape.now b) (home_place shape.now b + cell_size shape.now)) }
+    ensures full { OnOk result (HasRoom (D.state disk.old) → HasRoomTo (D.state disk.old) (home_file shape.now b) (home_place shape.now b + cell_size shape.now)) }
+
+    // The other blocks, as they read and in what a crash leaves; after any answer those in other files also with zeros past
+    // the ends.
+    ensures padded { OnOk result (D.tells → KeepsPadded shape.now (λ a. a ≢ b) (D.state disk.old).files (D.state disk.new).files) }
+    ensures elsewhere { D.tells → KeepsPadded shape.now (λ a. home_file shape.now a ≢ home_file shape.now b) (D.state disk.old).files (D.state disk.new).files }
+    ensures shelf { KeepsShelf D.tells shape.now (λ a. a ≢ b) (D.state disk.old) (D.state disk.new) }
+    ensures held { D.tells → (a : BlockId) (recorded : List ℕ) → IsBlockOf shape.now a → a ≢ b → IsBlockHeld shape.now a recorded (D.state disk.old) → IsBlockHeld shape.now a recorded (D.state disk.new) }
+    ensures any_moment { (a : BlockId) (recorded : List ℕ) → IsBlockOf shape.now a → a ≢ b → IsHeldIn shape.now a recorded ((D.state disk.old).image (D.state disk.old).moment) → AtEachMoment (D.state disk.old) (D.state disk.new) (IsHeldIn shape.now a recorded) }
 {
     rows_go_over_sites();
     encode(b, payload, cell);
-    let home = home_place(shape, b);
     let digest = digest_in(cell);
-    disk.write(home.file, home.at, cell)?;
+    write_home(disk, shape, b, cell)?;
     Ok(digest)
 }
 

@@ -13,7 +13,7 @@ use Rattle.std.proofs.lemmas.List.{length-map, get_or-map, get_or_default}
 use Rattle.std.proofs.lemmas.Option.{slice_get-get_or, slice_get_past}
 use Rattle.std.proofs.lemmas.List.Edits.{length-insert}
 use Rattle.std.proofs.lemmas.List.Elements.{All-push, All-weaker}
-use Rattle.aea_catalog.specs.declared.objects.ObjectRef.{ObjectRef}
+use Rattle.aea_catalog.specs.Catalogs.{Placed}
 use Rattle.aea_catalog.specs.Names.{IsName}
 use Rattle.aea_catalog.specs.Kept.{Pair, name_cmp, no_pair, pair_at, name_at, listed, IsKept, IsAt, IsGapFor}
 use Rattle.aea_catalog.proofs.Places.{turned, find-at, find-absent, put-at, before-lesser, after-greater}
@@ -29,7 +29,7 @@ true-from_T true h = refl
 true-from_T false h = absurd h
 
 -- the map of the entries in order
-abbrev pub objects_of : List Pair → List ℕ → FinMap name_cmp ObjectRef
+abbrev pub objects_of : List Pair → List ℕ → FinMap name_cmp Placed
 objects_of pairs order = from_sorted (listed pairs order)
 
 -- with no entry it is empty

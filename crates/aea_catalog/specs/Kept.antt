@@ -1,17 +1,24 @@
 -- How a catalogue is kept: its entries in the order in which they came, and the indices of these in the order of the
 -- names' bytes.
-use Rattle.std.specs.Prelude.{◌≡◌, ℕ, ◌-◌, ◌^◌, ◌<◌, ◌≤◌, List, [], map, min, length, slice_index_or, IsTrue, All}
+use Rattle.std.specs.Prelude.{◌≡◌, ℕ, ◌-◌, ◌^◌, ◌<◌, ◌≤◌, List, [], ◌∷◌, map, min, length, slice_index_or, IsTrue, All}
 use Rattle.std.specs.Ordering.{nat_cmp}
 use Rattle.std.specs.Cmp.Lexicographic.{slice_cmp}
 use Rattle.std.specs.declared.cmp.Ordering.{Ordering}
 use Rattle.std.specs.declared.cmp.Ordering.TheVariants.{Less}
 use Rattle.std.specs.FinMap.{is_sorted}
 use Rattle.aea_catalog.specs.declared.objects.ObjectRef.{ObjectRef}
+use Rattle.aea_catalog.specs.declared.objects.Extent.{Extent}
 use Rattle.aea_catalog.specs.Names.{IsName}
+use Rattle.aea_catalog.specs.Catalogs.{Placed, own_range}
 
--- a name and its object
+-- a name, and its object with its parts
 abbrev pub Pair : Type 0
-Pair = List ℕ × ObjectRef
+Pair = List ℕ × Placed
+
+-- the parts of an object for which these are kept: none are kept where its range is its one part
+abbrev pub parts_of : ObjectRef → List Extent → List Extent
+parts_of o [] = own_range o
+parts_of o (e ∷ parts) = e ∷ parts
 
 -- the order of names: by their bytes, the first that differs, and a name before those that it begins
 abbrev pub name_cmp : List ℕ → List ℕ → Ordering
@@ -19,7 +26,7 @@ name_cmp = slice_cmp nat_cmp
 
 -- stands where there is no entry
 abbrev pub no_pair : Pair
-no_pair = ([], record { first = 0; count = 0; length = 0; digest = [] })
+no_pair = ([], record { object = record { first = 0; count = 0; length = 0; digest = [] }; parts = [] })
 
 -- the entry with this index
 abbrev pub pair_at : List Pair → ℕ → Pair

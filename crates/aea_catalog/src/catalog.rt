@@ -2,32 +2,63 @@
 
 ghost use Rattle.std.specs.Prelude.{◌≡◌, ◌==◌, ◌+◌, ◌<◌, ◌≤◌, ◌^◌, List, ℕ, None, length, insert, vec_len, vec_capacity, slice_get, slice_index_or, option_map, IsTrue, IfOk, IfErr, IfSome, OnOk, OnErr};
 ghost use Rattle.std.specs.FinMap as map;
+ghost use Rattle.std.specs.List.{sum_by};
 ghost use Rattle.aea_catalog.specs.Names.{IsName};
+ghost use Rattle.aea_catalog.specs.Catalogs.{placed_alone, named_object, part_at};
 ghost use Rattle.aea_catalog.specs.Kept.{IsKept, IsAt, IsGapFor, listed, name_at, name_cmp};
 
-use crate::objects::ObjectRef;
+use crate::objects::{Extent, ObjectRef};
 use std::alloc::{AllocError, Global};
 use std::cmp::Ordering;
 use std::marker::Model;
 
-// An object and its name.
+// An object, its name, and its parts; none where its range is its one part.
 #[derive(Debug, Drop)]
 struct Entry {
     name: Vec<u8>,
     object: ObjectRef,
+    parts: Vec<Extent>,
 }
 
 impl Model for Entry {
     ghost use Rattle.std.specs.Prelude.{List, ℕ};
     ghost use Rattle.std.specs.Coded.{coded×, coded_list, coded_ℕ};
-    ghost use Rattle.aea_catalog.specs.Kept.{Pair};
-    ghost use Rattle.aea_catalog.specs.Catalogs.{object_code};
+    ghost use Rattle.aea_catalog.specs.Kept.{Pair, parts_of};
+    ghost use Rattle.aea_catalog.specs.Catalogs.{placed_code};
 
     ghost Value = { Pair };
 
-    ghost coded = { coded× (coded_list coded_ℕ) object_code };
+    ghost coded = { coded× (coded_list coded_ℕ) placed_code };
 
-    ghost view = { λ e. (e.name.items, e.object) };
+    ghost view = { λ e. (e.name.items, record { object = e.object; parts = parts_of e.object e.parts.items }) };
+}
+
+impl Entry {
+    // How many parts the object has.
+    fn parts(&self) -> usize
+        ensures { result ≡ length self.now.1.parts }
+    {
+        if self.parts.is_empty() {
+            return if self.object.count == 0 { 0 } else { 1 };
+        }
+        self.parts.len()
+    }
+
+    // The part at a place.
+    fn part(&self, k: usize) -> Option<Extent>
+        ensures { result ≡ slice_get self.now.1.parts k }
+    {
+        if !self.parts.is_empty() {
+            return self.parts.get(k).copied();
+        }
+        if self.object.count == 0 || k > 0 {
+            return None;
+        }
+        Some(Extent {
+            first: self.object.first,
+            count: self.object.count,
+        })
+    }
 }
 
 /// The objects of an archive under their names, in the order of the names' bytes.
@@ -106,17 +137,38 @@ impl Catalog {
         }
     }
 
-    /// The object under the name.
-    pub fn find(&self, name: &[u8]) -> Option<ObjectRef>
-        ensures { result ≡ map.get self.now.objects name.now }
+    // The entry of the name.
+    fn entry_of(&self, name: &[u8]) -> Option<&Entry>
+        ensures { option_map (λ e. e.now.1) result ≡ map.get self.now.objects name.now }
     {
         match place_of(&self.entries, &self.order, name) {
             Ok(place) => {
                 let entry = &self.entries[self.order[place] as usize];
-                Some(entry.object)
+                Some(entry)
             }
             Err(_) => None,
         }
+    }
+
+    /// The object under the name.
+    pub fn find(&self, name: &[u8]) -> Option<ObjectRef>
+        ensures { result ≡ option_map (λ p. p.object) (map.get self.now.objects name.now) }
+    {
+        Some(self.entry_of(name)?.object)
+    }
+
+    /// How many parts the object under the name has.
+    pub fn parts(&self, name: &[u8]) -> Option<usize>
+        ensures { result ≡ option_map (λ p. length p.parts) (map.get self.now.objects name.now) }
+    {
+        Some(self.entry_of(name)?.parts())
+    }
+
+    /// The part at this place of the object under the name.
+    pub fn part(&self, name: &[u8], k: usize) -> Option<Extent>
+        ensures { result ≡ part_at (map.get self.now.objects name.now) k }
+    {
+        self.entry_of(name)?.part(k)
     }
 
     /// How many objects there are.
@@ -135,7 +187,7 @@ impl Catalog {
 
     /// The name and the object at this place in the order of the names' bytes.
     pub fn entry(&self, k: usize) -> Option<(&[u8], ObjectRef)>
-        ensures entry { option_map (λ e. (e.0.now, e.1)) result ≡ slice_get (map.entries self.now.objects) k }
+        ensures entry { option_map (λ e. (e.0.now, e.1)) result ≡ option_map named_object (slice_get (map.entries self.now.objects) k) }
         ensures name { IfSome result (λ e. IsName e.0.now) }
     {
         let index = *self.order.get(k)?;
@@ -155,11 +207,11 @@ impl Catalog {
         self.order.reserve(1)
     }
 
-    /// Puts an object under a name of its own. It fails also where there are 2^32 objects.
+    /// Puts an object under a name of its own; its nodes are its one part. It fails also where there are 2^32 objects.
     pub fn insert(&mut self, name: &[u8], object: ObjectRef) -> Result<(), AllocError>
         requires name { IsName name.now }
         requires absent { map.get self.old.objects name.now ≡ None }
-        ensures ok { OnOk result (self.new.objects ≡ map.insert self.old.objects name.now object) }
+        ensures ok { OnOk result (self.new.objects ≡ map.insert self.old.objects name.now (placed_alone object)) }
         ensures err { OnErr result (self.new.objects ≡ self.old.objects) }
     {
         let name = Vec::from_slice(*self.entries.allocator(), name)?;
@@ -168,18 +220,68 @@ impl Catalog {
         Ok(())
     }
 
-    /// Puts an object under a name of its own, where there is room for it. It takes no memory.
+    /// Puts an object in parts under a name of its own. It fails also where there are 2^32 objects.
+    pub fn insert_parts(
+        &mut self,
+        name: &[u8],
+        object: ObjectRef,
+        parts: &[Extent],
+    ) -> Result<(), AllocError>
+        requires name { IsName name.now }
+        requires absent { map.get self.old.objects name.now ≡ None }
+        requires count { object.count ≡ sum_by (λ e. e.count) parts.now }
+        ensures ok { OnOk result (self.new.objects ≡ map.insert self.old.objects name.now (record { object = object; parts = parts.now })) }
+        ensures err { OnErr result (self.new.objects ≡ self.old.objects) }
+    {
+        let name = Vec::from_slice(*self.entries.allocator(), name)?;
+        let parts = Vec::from_slice(*self.entries.allocator(), parts)?;
+        self.reserve()?;
+        self.insert_parts_owned(name, object, parts);
+        Ok(())
+    }
+
+    /// Puts an object under a name of its own, where there is room for it; its nodes are its one part. It takes no memory.
     pub fn insert_owned(&mut self, name: Vec<u8>, object: ObjectRef)
         requires name { IsName name.items }
         requires absent { map.get self.old.objects name.items ≡ None }
         requires room { 1 ≤ self.old.room }
-        ensures objects { self.new.objects ≡ map.insert self.old.objects name.items object }
+        ensures objects { self.new.objects ≡ map.insert self.old.objects name.items (placed_alone object) }
     {
-        let Err(place) = place_of(&self.entries, &self.order, &name) else {
+        let parts = Vec::new(*self.entries.allocator());
+        self.insert_entry(Entry {
+            name,
+            object,
+            parts,
+        });
+    }
+
+    /// Puts an object in parts under a name of its own, where there is room for it. It takes no memory.
+    pub fn insert_parts_owned(&mut self, name: Vec<u8>, object: ObjectRef, parts: Vec<Extent>)
+        requires name { IsName name.items }
+        requires absent { map.get self.old.objects name.items ≡ None }
+        requires count { object.count ≡ sum_by (λ e. e.count) parts.items }
+        requires room { 1 ≤ self.old.room }
+        ensures objects { self.new.objects ≡ map.insert self.old.objects name.items (record { object = object; parts = parts.items }) }
+    {
+        self.insert_entry(Entry {
+            name,
+            object,
+            parts,
+        });
+    }
+
+    // Puts an entry under its name, where there is room for it.
+    fn insert_entry(&mut self, entry: Entry)
+        requires name { IsName entry.0 }
+        requires absent { map.get self.old.objects entry.0 ≡ None }
+        requires room { 1 ≤ self.old.room }
+        ensures objects { self.new.objects ≡ map.insert self.old.objects entry.0 entry.1 }
+    {
+        let Err(place) = place_of(&self.entries, &self.order, &entry.name) else {
             unreachable!();
         };
         let index = self.entries.len() as u32;
-        self.entries.push_reserved(Entry { name, object });
+        self.entries.push_reserved(entry);
         insert_index(&mut self.order, place, index);
     }
 }

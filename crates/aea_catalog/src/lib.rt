@@ -13,7 +13,7 @@ pub mod objects;
 pub use catalog::Catalog;
 pub use name_text::NameText;
 pub use names::check_name;
-pub use objects::ObjectRef;
+pub use objects::{Extent, ObjectRef};
 
 #[cfg(test)]
 mod tests;

@@ -12,3 +12,12 @@ pub struct ObjectRef {
     /// The SHA-256 of its bytes.
     pub digest: [u8; 32],
 }
+
+/// Nodes that follow each other.
+#[derive(Clone, Copy, Debug, PartialEq, Eq)]
+pub struct Extent {
+    /// The first of them.
+    pub first: u32,
+    /// How many there are.
+    pub count: u32,
+}

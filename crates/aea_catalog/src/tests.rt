@@ -89,6 +89,43 @@ fn an_object_is_put_where_there_is_room(rt: HostRuntime) -> Result<(), Fail> {
     Ok(())
 }
 
+#[test]
+fn an_object_has_its_parts(rt: HostRuntime) -> Result<(), Fail> {
+    let mut catalog = Catalog::new(rt.alloc());
+    put(&mut catalog, b"oak", 5)?;
+    let parts = [Extent { first: 2, count: 3 }, Extent { first: 9, count: 1 }];
+    let whole = ObjectRef {
+        first: 2,
+        count: 4,
+        length: 60,
+        digest: [4; 32],
+    };
+    if catalog.find(b"elm").is_none() && check_name(b"elm") {
+        catalog.insert_parts(b"elm", whole, &parts)?;
+    }
+    assert_eq!(rt;
+        (
+            catalog.parts(b"oak"),
+            catalog.parts(b"elm"),
+            catalog.parts(b"ash")
+        ),
+        (Some(1), Some(2), None)
+    );
+    assert_eq!(rt;
+        catalog.part(b"oak", 0),
+        Some(Extent { first: 5, count: 1 })
+    );
+    assert_eq!(rt;
+        (catalog.part(b"elm", 1), catalog.part(b"elm", 2)),
+        (Some(parts[1]), None)
+    );
+    assert_eq!(rt;
+        (catalog.find(b"elm"), catalog.part(b"ash", 0)),
+        (Some(whole), None)
+    );
+    Ok(())
+}
+
 // The last decimal digit of the number.
 fn digit(number: u32) -> u8 {
     b'0' + (number % 10) as u8

@@ -1,14 +1,13 @@
-use Rattle.std.proofs.Common.{Some, sym, ap, ◌∙◌}
+use Rattle.std.proofs.Common.{sym, ap, ◌∙◌}
 use Rattle.std.specs.FinMap as map
-use Rattle.aea_catalog.specs.Kept.{Pair}
 use Rattle.aea_catalog.proofs.Catalogues.{object_at, missing}
-use Rattle.aea_catalog.proofs.catalog.Catalog.find.Goals as goal
+use Rattle.aea_catalog.proofs.catalog.Catalog.entry_of.Goals as goal
 
 pub returns-in-Ok : goal.returns-in-Ok
 returns-in-Ok c =
     let at = rw (c.deref.ensures.value, c.deref-2.ensures.value) at c.in-Ok.ensures.found in
     let object = object_at c.self.inside.entries.items c.self.inside.order.items c.self.invariant c.args.name.now c.in-Ok.place c.index.result.now c.index-entry.result.now at c.index.ensures c.index-entry.ensures in
-    ap (λ (pair : Pair). Some pair.1) c.entry.view_is ∙ sym object ∙ ap (λ v. map.get v.objects c.args.name.now) c.self.view_is
+    sym object ∙ ap (λ v. map.get v.objects c.args.name.now) c.self.view_is
 
 pub returns-in-Err : goal.returns-in-Err
 returns-in-Err c =

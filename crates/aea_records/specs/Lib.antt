@@ -1,0 +1,11 @@
+pub mod Tables
+pub mod TableLaws
+pub mod Format
+pub mod Known
+pub mod Fields
+pub mod Grammar
+pub mod Faults
+pub mod Laws
+pub mod Reads
+pub mod Recorded
+pub mod Catalogued

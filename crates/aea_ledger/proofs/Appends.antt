@@ -1,87 +1,61 @@
--- One more record in an opened ledger.
-use Rattle.std.proofs.Common.{◌≡◌, ℕ, ◌+◌, ◌*◌, ◌^◌, ◌<◌, ◌≤◌, List, [], ◌∷◌, ◌++◌, length, None, sym, ◌∙◌, ap, subst, arith, length-append}
-use Rattle.std.specs.Prelude.{All, true, false, Result, Ok, Err, is_ok, OnOk, take}
+-- One more record of an opened ledger.
+use Rattle.std.proofs.Common.{◌≡◌, ℕ, ◌+◌, ◌*◌, ◌^◌, ◌<◌, ◌≤◌, Bool, true, false, ◌||◌, List, [], ◌∷◌, ◌++◌, length, All, Result, Ok, Err, is_ok, take, inl, sym, ap, subst, ◌∙◌, arith}
+use Rattle.std.specs.Prelude.{OnOk, None}
+use Rattle.std.specs.List.{flat_map, sum_by}
+use Rattle.std.specs.FinMap.{get, len, empty}
+use Rattle.std.proofs.lemmas.List.{length-append}
 use Rattle.std.proofs.Math.Seq.{take-append_seam}
-use Rattle.std.specs.FinMap.{get, insert, len}
-use Rattle.std.proofs.lemmas.Nat.{mul-le}
-use Rattle.std.proofs.Math.Nat.{add-mul}
 use Rattle.sha2.specs.Hashers.{Holds256}
 use Rattle.sha2.specs.Sha256.{sha256}
 use Rattle.aea_lattice.specs.declared.shape.Shape.{Shape}
-use Rattle.aea_lattice.specs.Profile.{greatest_nodes}
-use Rattle.aea_lattice.specs.Blocks.{blocks_count}
 use Rattle.aea_lattice.specs.Data.{IsBytes}
+use Rattle.aea_lattice.specs.Fences.{greatest_fences, last_fence}
+use Rattle.aea_catalog.specs.Catalogs.{Objects}
 use Rattle.aea_catalog.specs.Names.{IsName}
-use Rattle.aea_ledger.specs.Format.{Record, greatest_objects, nodes_for, body, entry, spelled}
-use Rattle.aea_ledger.specs.Grammar.{IsNext, AreRecords, IsLedger}
-use Rattle.aea_ledger.specs.Values.{Objects, Opened, HasRecords, IsThisOne}
-use Rattle.aea_ledger.specs.Kept.{IsConsistent}
-use Rattle.aea_ledger.specs.Next.{next_record, AreItsRecords}
+use Rattle.aea_disk.specs.State.{State, IsFixed}
+use Rattle.aea_records.specs.Format.{Stored, Record, Object, Fence, Raise, first_limit, limit_of, fences_of, is_raise, greatest_objects, nodes_for, limit_when, stored_in, stored_of, nodes_of, fence_in, body, entry, spelled}
+use Rattle.aea_records.specs.Grammar.{MayBeStored, IsNext, AreRecords, IsLedger}
+use Rattle.aea_records.specs.Catalogued.{with_record}
+use Rattle.aea_records.specs.Laws.{FencesMayFollow, ObjectsAreCounted, NewNamesAreFree, RecordsAreFew}
+use Rattle.aea_ledger.specs.Values.{Opened, HasRecords, HasSomeRecords, IsThisOne}
+use Rattle.aea_ledger.specs.Next.{AreItsRecords}
 use Rattle.aea_ledger.specs.Stops.{HasLedger, IsAdded}
-use Rattle.aea_ledger.proofs.Shapes.{shape_small}
-use Rattle.aea_ledger.proofs.Fields.{length-entry, name-length}
-use Rattle.aea_ledger.proofs.Records.{MayFollow-push, nodes_of-push, digests_of-push, spelled-push}
-use Rattle.aea_ledger.proofs.Objects.{none_free, counted, objects-push, len_more}
-use Rattle.std.specs.FinMap.{empty}
+use Rattle.aea_ledger.specs.Committing.{IsNextOf, HasTaken, LeavesOldOrNew}
+use Rattle.aea_ledger.proofs.Records.{MayFollow-push, nodes_of-push, fences_of-push, digests_of-push, raised-push, objects-push, spelled-push}
 
--- what is asked of a record that is to be added
-pub record MayBeAdded (v : Opened) (r : Record) : Type 0 where
+-- what is asked of an object that is to be added
+pub record MayBeAdded (v : Opened) (o : Stored) : Type 0 where
   pub few : len v.objects < greatest_objects
-  pub named : IsName r.name
-  pub absent : get v.objects r.name ≡ None
-  pub size : r.object.length < 2 ^ 64
-  pub digest : IsBytes 32 r.object.digest
-  pub first : r.object.first ≡ v.lattice.n + 1
-  pub count : r.object.count ≡ nodes_for v.shape r.object.length
-  pub fits : v.lattice.n + r.object.count ≤ greatest_nodes
-  pub long : length r.digests ≡ r.object.count * (1 + v.shape.alpha)
-  pub each : All (IsBytes 32) r.digests
+  pub named : IsName o.name
+  pub absent : get v.objects o.name ≡ None
+  pub size : o.size < 2 ^ 64
+  pub digest : IsBytes 32 o.digest
+  pub first : o.first ≡ v.lattice.n + 1
+  pub fits : v.lattice.n + o.count ≤ limit_when v.raised
+  pub long : length o.digests ≡ o.count * (1 + v.shape.alpha)
+  pub each : All (IsBytes 32) o.digests
 
--- such a record may follow
-pub is_next : (v : Opened) (records : List Record) (r : Record) → MayBeAdded v r → HasRecords v records → IsNext v.shape records r
-is_next v records r may has =
-    let nodes = has.lattice.n in
-    let number : len v.objects ≡ length records = ap len has.objects ∙ counted v.shape records has.valid in
-    let free = none_free empty records r.name (subst (λ (m : Objects). get m r.name ≡ None) has.objects may.absent) in
+-- such an object may be stored
+pub may_be_stored : (v : Opened) (records : List Record) (o : Stored) → ObjectsAreCounted → NewNamesAreFree → MayBeAdded v o → HasRecords v records → MayBeStored v.shape records o
+may_be_stored v records o counted free may has =
+    let number : len v.objects ≡ length (stored_of records) = ap len has.objects ∙ counted v.shape records has.valid in
+    let new = (free records o.name).1 (subst (λ (m : Objects). get m o.name ≡ None) has.objects may.absent) in
     record {
       few = omega (arith, number, may.few);
       name = may.named;
-      new = free.0;
+      new = new;
       size = may.size;
       digest = may.digest;
-      first = may.first ∙ ap (λ (n : ℕ). n + 1) nodes;
-      count = may.count;
-      fits = subst (λ (n : ℕ). n + r.object.count ≤ greatest_nodes) nodes may.fits;
+      first = may.first ∙ ap (λ (n : ℕ). n + 1) has.lattice.n;
+      fits = subst (λ (b : Bool). nodes_of records + o.count ≤ limit_when b) has.raised (subst (λ (n : ℕ). n + o.count ≤ limit_when v.raised) has.lattice.n may.fits);
       digests = may.long;
       each = may.each;
     }
 
--- so many nodes have few digests
-pub few_digests : (shape : Shape) (nodes count digests : ℕ) → nodes + count ≤ greatest_nodes → digests ≡ count * (1 + shape.alpha) → digests ≤ 2 ^ 18
-few_digests shape nodes count digests fits long =
-    let few : count * (1 + shape.alpha) ≤ 65536 * 4 =
-    mul-le count (1 + shape.alpha) 65536 4 (omega (arith, fits)) (omega (arith, (shape_small shape).alpha_small)) in
-    omega (arith, few, long)
+pub object_next : (v : Opened) (o : Stored) → ObjectsAreCounted → NewNamesAreFree → MayBeAdded v o → o.count ≡ nodes_for v.shape o.size → IsNextOf v (Object o)
+object_next v o counted free may count records has = record { stored = may_be_stored v records o counted free may has; count = count }
 
--- and their entry is short
-pub short_entry : (v : Opened) (r : Record) → MayBeAdded v r → length (entry r) ≤ 2 ^ 24
-short_entry v r may =
-    let long = length-entry r may.digest.wide may.each in
-    omega (arith, long, (name-length r.name may.named).1, few_digests v.shape v.lattice.n r.object.count (length r.digests) may.fits may.long)
-
--- an opened ledger has one more record that has taken it
-pub record HasTaken (v : Opened) (r : Record) (w : Opened) : Type 0 where
-  pub shape : w.shape ≡ v.shape
-  pub alpha : w.lattice.alpha ≡ v.lattice.alpha
-  pub s : w.lattice.s ≡ v.lattice.s
-  pub p : w.lattice.p ≡ v.lattice.p
-  pub n : w.lattice.n ≡ v.lattice.n + r.object.count
-  pub objects : w.objects ≡ insert v.objects r.name r.object
-  pub digests : w.digests ≡ v.digests ++ r.digests
-  pub hasher : (m : List ℕ) → Holds256 v.hasher m → Holds256 w.hasher (m ++ entry r)
-  pub seal : (m : List ℕ) → Holds256 v.hasher m → w.seal ≡ sha256 (m ++ entry r)
-  pub end : w.end ≡ v.end + length (entry r)
-
+-- what an opened ledger has that has taken one more record
 pub has_more : (v w : Opened) (records : List Record) (r : Record) → HasTaken v r w → HasRecords v records → IsNext v.shape records r → HasRecords w (records ++ r ∷ [])
 has_more v w records r taken has next =
     let spelling : spelled v.shape records ++ entry r ≡ spelled w.shape (records ++ r ∷ []) =
@@ -92,26 +66,24 @@ has_more v w records r taken has next =
         alpha = taken.alpha ∙ has.lattice.alpha ∙ ap (λ (s : Shape). s.alpha) (sym taken.shape);
         s = taken.s ∙ has.lattice.s ∙ ap (λ (s : Shape). s.s) (sym taken.shape);
         p = taken.p ∙ has.lattice.p ∙ ap (λ (s : Shape). s.p) (sym taken.shape);
-        n = taken.n ∙ ap (λ (n : ℕ). n + r.object.count) has.lattice.n ∙ sym (nodes_of-push records r);
+        n = taken.n ∙ ap (λ (n : ℕ). n + sum_by (λ (o : Stored). o.count) (stored_in r)) has.lattice.n ∙ sym (nodes_of-push records r);
+        fences_are = taken.fences ∙ ap (λ (l : List ℕ). l ++ fence_in r) has.lattice.fences_are ∙ sym (fences_of-push records r);
       };
-      objects = taken.objects ∙ ap (λ (m : Objects). insert m r.name r.object) has.objects ∙ sym (objects-push empty records r);
-      digests = taken.digests ∙ ap (λ (l : List (List ℕ)). l ++ r.digests) has.digests ∙ sym (digests_of-push records r);
+      objects = taken.objects ∙ ap (λ (m : Objects). with_record m r) has.objects ∙ sym (objects-push empty records r);
+      raised = taken.raised ∙ ap (λ (b : Bool). b || is_raise r) has.raised ∙ sym (raised-push records r);
+      digests = taken.digests ∙ ap (λ (l : List (List ℕ)). l ++ flat_map (λ (o : Stored). o.digests) (stored_in r)) has.digests ∙ sym (digests_of-push records r);
       hasher = subst (Holds256 w.hasher) spelling (taken.hasher (spelled v.shape records) has.hasher);
       seal = taken.seal (spelled v.shape records) has.hasher ∙ ap sha256 spelling;
       end = taken.end ∙ ap (λ (n : ℕ). n + length (entry r)) has.end ∙ sym (length-append (spelled v.shape records) (entry r)) ∙ ap length spelling;
     }
 
--- what stands behind the gate is that of the next record, spelled with a copy of its name
-pub behind_next : (v : Opened) (name copy : List ℕ) (size : ℕ) (digest : List ℕ) (count : ℕ) (digests : List (List ℕ)) (nodes : ℕ) (behind : List ℕ)
-    → copy ≡ name → nodes ≡ v.lattice.n
-    → behind ≡ body (record { name = copy; object = record { first = nodes + 1; count = count; length = size; digest = digest }; digests = digests }) ++ 0 ∷ []
-    → behind ≡ body (next_record v name size digest count digests) ++ 0 ∷ []
-behind_next v name copy size digest count digests nodes behind same n is =
-    is
-    ∙ ap (λ (m : List ℕ). body (record { name = m; object = record { first = nodes + 1; count = count; length = size; digest = digest }; digests = digests }) ++ 0 ∷ []) same
-    ∙ ap (λ (k : ℕ). body (record { name = name; object = record { first = k + 1; count = count; length = size; digest = digest }; digests = digests }) ++ 0 ∷ []) n
+-- the ledger with one more record is not long
+pub short_end : (v : Opened) (records : List Record) (r : Record) → RecordsAreFew → HasRecords v records → IsNext v.shape records r → v.end + length (entry r) ≤ 2 ^ 45
+short_end v records r law has next =
+    let few = law v.shape (records ++ r ∷ []) (MayFollow-push v.shape [] records r has.valid next) in
+    omega (arith, has.end, ap length (spelled-push v.shape records r), length-append (spelled v.shape records) (entry r), few.short, few.objects)
 
--- it has as many bytes as the entry
+-- what stands behind the gate has as many bytes as the entry
 pub length-behind : (r : Record) (behind : List ℕ) → behind ≡ body r ++ 0 ∷ [] → length behind ≡ length (entry r)
 length-behind r behind is = ap length is ∙ omega (arith, length-append (body r) (0 ∷ []))
 
@@ -119,20 +91,20 @@ length-behind r behind is = ap length is ∙ omega (arith, length-append (body r
 pub front-behind : (r : Record) (behind : List ℕ) (n : ℕ) → behind ≡ body r ++ 0 ∷ [] → n ≡ length (body r) → take n behind ≡ body r
 front-behind r behind n is size = ap (λ (k : ℕ). take k behind) size ∙ ap (take (length (body r))) is ∙ take-append_seam (body r) (0 ∷ [])
 
--- and so it adds the record
-pub is_added : (v : Opened) (records : List Record) (r : Record) (bytes behind : List ℕ)
-    → MayBeAdded v r → AreItsRecords v records bytes → behind ≡ body r ++ 0 ∷ [] → IsAdded v.shape records r bytes v.end behind
-is_added v records r bytes behind may its is = record {
-  ledger = its.ledger;
-  next = is_next v records r may its.has;
+-- it adds the record
+pub is_added : (v : Opened) (records : List Record) (r : Record) (bytes behind : List ℕ) (end : ℕ) → v.end ≡ end → IsNextOf v r → AreItsRecords v records bytes → behind ≡ body r ++ 0 ∷ []
+    → IsAdded v.shape records r bytes end behind
+is_added v records r bytes behind end at next its is = record {
+  ledger = subst (IsLedger bytes v.shape records) at its.ledger;
+  next = next records its.has;
   bytes = is;
 }
 
 -- the bytes are the new ledger where they are with its records
-pub this_one : (v w : Opened) (r : Record) (old new : List ℕ) → HasTaken v r w → MayBeAdded v r → IsThisOne v old
+pub this_one : (v w : Opened) (r : Record) (old new : List ℕ) → HasTaken v r w → IsNextOf v r → IsThisOne v old
     → ((records : List Record) → AreItsRecords v records old → HasLedger v.shape (records ++ r ∷ []) new) → IsThisOne w new
-this_one v w r old new taken may is appended =
-    let has = has_more v w is.records r taken is.has (is_next v is.records r may is.has) in
+this_one v w r old new taken next is appended =
+    let has = has_more v w is.records r taken is.has (next is.records is.has) in
     let ledger = appended is.records (record { has = is.has; ledger = is.ledger }) in
     let there : IsLedger new w.shape (is.records ++ r ∷ []) (length (spelled w.shape (is.records ++ r ∷ []))) =
     subst (λ (s : Shape). IsLedger new s (is.records ++ r ∷ []) (length (spelled s (is.records ++ r ∷ [])))) (sym taken.shape) ledger in
@@ -142,29 +114,51 @@ this_one v w r old new taken may is appended =
       ledger = subst (IsLedger new w.shape (is.records ++ r ∷ [])) (sym has.end) there;
     }
 
--- the parts of the new ledger are consistent
-pub consistent : (v w : Opened) (r : Record) → HasTaken v r w → MayBeAdded v r → IsConsistent v.shape v.lattice v.objects v.digests v.end
-    → IsConsistent w.shape w.lattice w.objects w.digests w.end
-consistent v w r taken may is =
-    let more : len w.objects ≡ len v.objects + 1 = ap len taken.objects ∙ len_more v.objects r.name r.object may.absent in
-    let alpha : v.shape.alpha ≡ w.lattice.alpha = sym is.alpha ∙ sym taken.alpha in
-    let blocks : length w.digests ≡ blocks_count w.lattice =
-    ap length taken.digests ∙ length-append v.digests r.digests
-    ∙ (λ i. is.digests i + may.long i)
-    ∙ ap (λ (a : ℕ). v.lattice.n * (1 + a) + r.object.count * (1 + v.shape.alpha)) is.alpha
-    ∙ sym (add-mul v.lattice.n r.object.count (1 + v.shape.alpha))
-    ∙ ap (λ (a : ℕ). (v.lattice.n + r.object.count) * (1 + a)) alpha
-    ∙ ap (λ (n : ℕ). n * (1 + w.lattice.alpha)) (sym taken.n) in
-    record {
-      alpha = taken.alpha ∙ is.alpha ∙ ap (λ (s : Shape). s.alpha) (sym taken.shape);
-      s = taken.s ∙ is.s ∙ ap (λ (s : Shape). s.s) (sym taken.shape);
-      p = taken.p ∙ is.p ∙ ap (λ (s : Shape). s.p) (sym taken.shape);
-      digests = blocks;
-      few = omega (arith, more, may.few);
-      short = omega (arith, more, is.short, short_entry v r may, taken.end);
-    }
+-- a call that does nothing leaves the old ledger
+pub leaves_none : (tells : Type 0) (v : Opened) (r : Record) (s : State) → (tells → IsFixed s 0) → LeavesOldOrNew tells v r s s
+leaves_none tells v r s fixed = record {
+  any_moment = λ tell records its t c from to image.
+      let now : t ≡ s.moment = omega (arith, from, to) in
+      let same : c 0 ≡ s.files 0 = fixed tell c (subst (λ (n : ℕ). s.image n c) now image) in
+      inl (subst (HasLedger v.shape records) (sym same) (subst (IsLedger (s.files 0) v.shape records) its.ledger.place its.ledger));
+  stays = λ tell records its t u from between to all c image.
+      let same : u ≡ t = omega (arith, from, between, to) in
+      all c (subst (λ (n : ℕ). s.image n c) same image);
+  reads = λ tell records its. inl (subst (IsLedger (s.files 0) v.shape records) its.ledger.place its.ledger);
+  long = λ tell. omega arith;
+}
+
+-- an opened ledger with the parts of one that has some records has some
+pub still_has : (v w : Opened) → w.shape ≡ v.shape → w.lattice ≡ v.lattice → w.objects ≡ v.objects → w.raised ≡ v.raised → w.digests ≡ v.digests → w.hasher ≡ v.hasher → w.seal ≡ v.seal → w.end ≡ v.end
+    → HasSomeRecords v → HasSomeRecords w
+still_has v w shape lattice objects raised digests hasher seal end has = (
+  has.0,
+  subst (λ (u : Opened). HasRecords u has.0)
+      (λ i. record { shape = sym shape i; lattice = sym lattice i; objects = sym objects i; raised = sym raised i; digests = sym digests i; hasher = sym hasher i; seal = sym seal i; end = sym end i; live = w.live })
+      (record { valid = has.1.valid; lattice = has.1.lattice; objects = has.1.objects; raised = has.1.raised; digests = has.1.digests; hasher = has.1.hasher; seal = has.1.seal; end = has.1.end }),
+)
+
+-- and one that has taken a record of one that has some
+pub has_some_more : (v w : Opened) (r : Record) → HasTaken v r w → IsNextOf v r → HasSomeRecords v → HasSomeRecords w
+has_some_more v w r taken next has = (has.0 ++ r ∷ [], has_more v w has.0 r taken has.1 (next has.0 has.1))
+
+-- the room up to the new ending gate
+pub room_same : (inside now written entered : ℕ) → inside ≡ now → written ≡ entered → now + entered + 1 ≡ inside + 1 + written
+room_same inside now written entered end size = omega (arith, end, size)
 
 -- what holds of a call that succeeded
 pub when_ok : {T E P : Type 0} (r : Result T E) → is_ok r ≡ true → OnOk r P → P
 when_ok (Ok x) is p = p
 when_ok (Err e) is p = absurd (let h : false ≡ true = is in cc)
+
+-- a fence behind the last node may follow
+pub fence_next : (v : Opened) → FencesMayFollow → last_fence v.lattice.fences < v.lattice.n → length v.lattice.fences < greatest_fences → IsNextOf v (Fence v.lattice.n)
+fence_next v law before few records has =
+    subst (λ (n : ℕ). IsNext v.shape records (Fence n)) (sym has.lattice.n)
+    (law v.shape records has.valid
+    (subst (λ (n : ℕ). last_fence (fences_of records) < n) has.lattice.n (subst (λ (l : List ℕ). last_fence l < v.lattice.n) has.lattice.fences_are before))
+    (subst (λ (l : List ℕ). length l < greatest_fences) has.lattice.fences_are few))
+
+-- a raise may follow where there was none
+pub raise_next : (v : Opened) → v.raised ≡ false → IsNextOf v Raise
+raise_next v low records has = λ e. absurd (let l : limit_of records ≡ first_limit = ap limit_when (sym has.raised ∙ low) in omega (arith, e, l))

@@ -5,7 +5,7 @@ use Rattle.std.specs.List.{flat_map}
 use Rattle.std.proofs.lemmas.List.Elements.{All-nil, All-cons, All-take, All-drop}
 use Rattle.std.proofs.Math.Seq.{take-append_seam, drop-append_seam}
 use Rattle.aea_lattice.specs.Data.{IsBytes}
-use Rattle.aea_ledger.specs.Laws.{AreBytes}
+use Rattle.aea_records.specs.TableLaws.{AreBytes}
 
 -- lists of one length, whose elements are bytes
 pub each_part : (n : ℕ) (ds : List (List ℕ)) → ((i : ℕ) → i < length ds → length (get_or ds i []) ≡ n) → AreBytes (flat_map (λ d. d) ds) → All (IsBytes n) ds

@@ -4,8 +4,8 @@ use Rattle.std.proofs.lemmas.Bool.{cases_eq}
 use Rattle.std.proofs.lemmas.List.{append_cancel_left}
 use Rattle.aea_lattice.specs.declared.shape.Shape.{Shape}
 use Rattle.aea_disk.specs.Files.{Torn, Holds}
-use Rattle.aea_ledger.specs.Format.{Record, body, spelled}
-use Rattle.aea_ledger.specs.Grammar.{IsNext, AreRecords, IsLedger}
+use Rattle.aea_records.specs.Format.{Record, body, spelled}
+use Rattle.aea_records.specs.Grammar.{IsNext, AreRecords, IsLedger}
 use Rattle.aea_ledger.specs.Stops.{HasLedger, HasOldOrNew, IsAdded, IsStaged}
 use Rattle.aea_ledger.proofs.Records.{MayFollow-push, spelled-push}
 use Rattle.aea_ledger.proofs.Writes.{torn_gate, holds_gate, torn_behind, holds_behind}

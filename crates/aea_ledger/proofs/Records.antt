@@ -1,17 +1,16 @@
--- Records one after the other, and one more behind them.
-use Rattle.std.proofs.Common.{◌≡◌, ℕ, ◌+◌, ◌*◌, ◌^◌, ◌≤◌, List, [], ◌∷◌, ◌++◌, length, refl, sym, ap, subst, ◌∙◌, append_assoc, arith}
-use Rattle.std.specs.List.{flat_map, sum_by}
-use Rattle.std.proofs.lemmas.List.{append-nil, length-append}
-use Rattle.std.proofs.lemmas.List.Concat.{flat_map-append, length-flat_map}
-use Rattle.std.proofs.lemmas.List.Sums.{sum_by-cons, sum_by_push}
-use Rattle.std.proofs.lemmas.Nat.{mul-le}
-use Rattle.std.proofs.Math.Nat.{add-mul}
+-- One record more behind others, and parts of bytes.
+use Rattle.std.proofs.Common.{◌≡◌, ℕ, ◌+◌, ◌-◌, ◌≤◌, Bool, true, false, ◌||◌, List, [], ◌∷◌, ◌++◌, length, take, drop, refl, sym, ap, subst, ◌∙◌, append_assoc, arith}
+use Rattle.std.specs.List.{flat_map, list_any, sum_by}
+use Rattle.std.proofs.lemmas.List.{append-nil, length-take, length-drop, drop-take, take-take}
+use Rattle.std.proofs.lemmas.List.Concat.{flat_map-append}
+use Rattle.std.proofs.lemmas.List.Folds.{list_any-append}
+use Rattle.std.proofs.lemmas.List.Sums.{sum_by-append}
 use Rattle.aea_lattice.specs.declared.shape.Shape.{Shape}
-use Rattle.aea_lattice.specs.Profile.{greatest_nodes}
-use Rattle.aea_ledger.specs.Format.{Record, greatest_objects, nodes_of, digests_of, header, entry, spelled}
-use Rattle.aea_ledger.specs.Grammar.{IsNext, MayFollow, AreRecords}
-use Rattle.aea_ledger.proofs.Shapes.{shape_small}
-use Rattle.aea_ledger.proofs.Fields.{length-entry, name-length}
+use Rattle.aea_catalog.specs.Catalogs.{Objects}
+use Rattle.aea_records.specs.Tables.{bytes_at}
+use Rattle.aea_records.specs.Format.{Stored, Record, is_raise, stored_in, stored_of, nodes_of, digests_of, fence_in, fences_of, header, entry, spelled}
+use Rattle.aea_records.specs.Grammar.{IsNext, MayFollow}
+use Rattle.aea_records.specs.Catalogued.{with_record, objects_from}
 
 -- records that may follow, and then one more
 pub MayFollow-push : (shape : Shape) (earlier records : List Record) (r : Record) → MayFollow shape earlier records
@@ -23,13 +22,38 @@ MayFollow-push shape earlier (q ∷ records) r follow next = (
       (subst (λ (e : List Record). IsNext shape e r) (sym (append_assoc earlier (q ∷ []) records)) next),
 )
 
--- one more record adds its nodes, its digests and its entry
-pub nodes_of-push : (records : List Record) (r : Record) → nodes_of (records ++ r ∷ []) ≡ nodes_of records + r.object.count
-nodes_of-push records r = sum_by_push (λ (q : Record). q.object.count) records r
+stored_of-push : (records : List Record) (r : Record) → stored_of (records ++ r ∷ []) ≡ stored_of records ++ stored_in r
+stored_of-push records r = flat_map-append stored_in records (r ∷ []) ∙ ap (λ (l : List Stored). stored_of records ++ l) (append-nil (stored_in r))
 
-pub digests_of-push : (records : List Record) (r : Record) → digests_of (records ++ r ∷ []) ≡ digests_of records ++ r.digests
-digests_of-push records r =
-    flat_map-append (λ (q : Record). q.digests) records (r ∷ []) ∙ ap (λ (l : List (List ℕ)). digests_of records ++ l) (append-nil r.digests)
+pub fences_of-push : (records : List Record) (r : Record) → fences_of (records ++ r ∷ []) ≡ fences_of records ++ fence_in r
+fences_of-push records r = flat_map-append fence_in records (r ∷ []) ∙ ap (λ (l : List ℕ). fences_of records ++ l) (append-nil (fence_in r))
+
+pub nodes_of-push : (records : List Record) (r : Record) → nodes_of (records ++ r ∷ []) ≡ nodes_of records + sum_by (λ o. o.count) (stored_in r)
+nodes_of-push records r = ap (sum_by (λ (o : Stored). o.count)) (stored_of-push records r) ∙ sum_by-append (λ (o : Stored). o.count) (stored_of records) (stored_in r)
+
+pub digests_of-push : (records : List Record) (r : Record) → digests_of (records ++ r ∷ []) ≡ digests_of records ++ flat_map (λ o. o.digests) (stored_in r)
+digests_of-push records r = ap (flat_map (λ (o : Stored). o.digests)) (stored_of-push records r) ∙ flat_map-append (λ (o : Stored). o.digests) (stored_of records) (stored_in r)
+
+pub or_false : (a : Bool) → (a || false) ≡ a
+or_false true = refl
+or_false false = refl
+
+pub raised-push : (records : List Record) (r : Record) → list_any is_raise (records ++ r ∷ []) ≡ (list_any is_raise records || is_raise r)
+raised-push records r = list_any-append is_raise records (r ∷ []) ∙ ap (λ (b : Bool). list_any is_raise records || b) (or_false (is_raise r))
+
+pub raised_stays : (records : List Record) (r : Record) → is_raise r ≡ false → list_any is_raise (records ++ r ∷ []) ≡ list_any is_raise records
+raised_stays records r none = raised-push records r ∙ ap (λ (b : Bool). list_any is_raise records || b) none ∙ or_false (list_any is_raise records)
+
+pub or_true : (a : Bool) → (a || true) ≡ true
+or_true true = refl
+or_true false = refl
+
+pub raised_now : (records : List Record) (r : Record) → is_raise r ≡ true → list_any is_raise (records ++ r ∷ []) ≡ true
+raised_now records r one = raised-push records r ∙ ap (λ (b : Bool). list_any is_raise records || b) one ∙ or_true (list_any is_raise records)
+
+pub objects-push : (m : Objects) (records : List Record) (r : Record) → objects_from m (records ++ r ∷ []) ≡ with_record (objects_from m records) r
+objects-push m [] r = refl
+objects-push m (e ∷ records) r = objects-push (with_record m e) records r
 
 pub spelled-push : (shape : Shape) (records : List Record) (r : Record) → spelled shape (records ++ r ∷ []) ≡ spelled shape records ++ entry r
 spelled-push shape records r =
@@ -37,88 +61,16 @@ spelled-push shape records r =
     (flat_map-append entry records (r ∷ []) ∙ ap (λ (l : List ℕ). flat_map entry records ++ l) (append-nil (entry r)))
     ∙ sym (append_assoc (header shape) (flat_map entry records) (entry r))
 
--- where one more record follows in the bytes, they are its spelling too
-pub spelled-more : (shape : Shape) (records : List Record) (r : Record) (rest after bytes : List ℕ) → bytes ≡ spelled shape records ++ rest
-    → rest ≡ entry r ++ after
-    → bytes ≡ spelled shape (records ++ r ∷ []) ++ after
-spelled-more shape records r rest after bytes spelling more =
-    spelling ∙ ap (λ (l : List ℕ). spelled shape records ++ l) more
-    ∙ sym (append_assoc (spelled shape records) (entry r) after)
-    ∙ ap (λ (l : List ℕ). l ++ after) (sym (spelled-push shape records r))
+-- ---- parts of bytes
 
--- a ledger without records is its header, 17 bytes
-pub length-spelled_none : (shape : Shape) → length (spelled shape []) ≡ 17
-length-spelled_none shape = refl
+-- a part within the bytes is as long as it says
+pub length-bytes_at : (bytes : List ℕ) (at n : ℕ) → at + n ≤ length bytes → length (bytes_at n at bytes) ≡ n
+length-bytes_at bytes at n h = omega (arith, length-take n (drop at bytes), length-drop at bytes)
 
-pub length-spelled_push : (shape : Shape) (records : List Record) (r : Record)
-    → length (spelled shape (records ++ r ∷ [])) ≡ length (spelled shape records) + length (entry r)
-length-spelled_push shape records r = ap length (spelled-push shape records r) ∙ length-append (spelled shape records) (entry r)
-
--- a ledger is as long as its header and its entries
-pub length-spelled : (shape : Shape) (records : List Record) → length (spelled shape records) ≡ 17 + sum_by (λ r. length (entry r)) records
-length-spelled shape records = length-append (header shape) (flat_map entry records) ∙ ap (λ (n : ℕ). 17 + n) (length-flat_map entry records)
-
--- the entry of a record that is next has 57 bytes at least, and 2 ^ 24 at most
-pub length-next : (shape : Shape) (earlier : List Record) (r : Record) → IsNext shape earlier r
-    → (57 ≤ length (entry r)) × (length (entry r) ≤ 2 ^ 24)
-length-next shape earlier r next =
-    let long = length-entry r next.digest.wide next.each in
-    let name = name-length r.name next.name in
-    let few : r.object.count * (1 + shape.alpha) ≤ 65536 * 4 =
-    mul-le r.object.count (1 + shape.alpha) 65536 4 (omega (arith, next.fits)) (omega (arith, (shape_small shape).alpha_small)) in
-    (omega (arith, long, name.0), omega (arith, long, name.1, few, next.digests))
-
--- the entries of so many records have as many times 2 ^ 24 bytes at most
-length-follow : (shape : Shape) (earlier records : List Record) → MayFollow shape earlier records
-    → length (flat_map entry records) ≤ 2 ^ 24 * length records
-length-follow shape earlier [] follow = omega arith
-length-follow shape earlier (r ∷ records) follow =
-    omega (
-      arith,
-      length-append (entry r) (flat_map entry records),
-      (length-next shape earlier r follow.0).1,
-      length-follow shape (earlier ++ r ∷ [])
-          records follow.1,
-    )
-
--- a bound on how long a ledger is
-pub length-spelled-le : (shape : Shape) (records : List Record) → AreRecords shape records
-    → length (spelled shape records) ≤ 2 ^ 24 * (length records + 1)
-length-spelled-le shape records valid = omega (arith, length-append (header shape) (flat_map entry records), length-follow shape [] records valid)
-
--- the digests of records that may follow are one for each block of their nodes
-digests-follow : (shape : Shape) (earlier records : List Record) → MayFollow shape earlier records
-    → length (digests_of records) ≡ nodes_of records * (1 + shape.alpha)
-digests-follow shape earlier [] follow = omega arith
-digests-follow shape earlier (r ∷ records) follow =
-    let others = digests-follow shape (earlier ++ r ∷ []) records follow.1 in
-    let nodes : nodes_of (r ∷ records) ≡ r.object.count + nodes_of records = sum_by-cons (λ (q : Record). q.object.count) r records in
-    length-append r.digests (digests_of records) ∙ (λ i. follow.0.digests i + others i) ∙ sym
-    (add-mul r.object.count (nodes_of records) (1 + shape.alpha)) ∙ ap (λ (n : ℕ). n * (1 + shape.alpha)) (sym nodes)
-
--- a ledger has one digest for each block
-pub length-digests_of : (shape : Shape) (records : List Record) → AreRecords shape records
-    → length (digests_of records) ≡ nodes_of records * (1 + shape.alpha)
-length-digests_of shape records valid = digests-follow shape [] records valid
-
-few-follow : (shape : Shape) (earlier records : List Record) → MayFollow shape earlier records → length earlier ≤ greatest_objects
-    → length (earlier ++ records) ≤ greatest_objects
-few-follow shape earlier [] follow few = omega (arith, length-append earlier [])
-few-follow shape earlier (r ∷ records) follow few =
-    let more = few-follow shape (earlier ++ r ∷ []) records follow.1 (omega (arith, length-append earlier (r ∷ []), follow.0.few)) in
-    omega (arith, more, ap length (append_assoc earlier (r ∷ []) records))
-
--- there are no more records than the most objects
-pub few_records : (shape : Shape) (records : List Record) → AreRecords shape records → length records ≤ greatest_objects
-few_records shape records valid = few-follow shape [] records valid (omega arith)
-
-nodes-follow : (shape : Shape) (earlier records : List Record) → MayFollow shape earlier records → nodes_of earlier ≤ greatest_nodes
-    → nodes_of (earlier ++ records) ≤ greatest_nodes
-nodes-follow shape earlier [] follow few = subst (λ (l : List Record). nodes_of l ≤ greatest_nodes) (sym (append-nil earlier)) few
-nodes-follow shape earlier (r ∷ records) follow few =
-    subst (λ (l : List Record). nodes_of l ≤ greatest_nodes) (append_assoc earlier (r ∷ []) records)
-    (nodes-follow shape (earlier ++ r ∷ []) records follow.1 (omega (arith, nodes_of-push earlier r, follow.0.fits)))
-
--- nor more nodes than a lattice has
-pub few_nodes : (shape : Shape) (records : List Record) → AreRecords shape records → nodes_of records ≤ greatest_nodes
-few_nodes shape records valid = nodes-follow shape [] records valid (omega arith)
+-- a part that ends within a front is one of the front
+pub front-bytes_at : (bytes : List ℕ) (at n size : ℕ) → at + n ≤ size → bytes_at n at (take size bytes) ≡ bytes_at n at bytes
+front-bytes_at bytes at n size h =
+    let sum : size ≡ at + (size - at) = omega arith in
+    let front : drop at (take size bytes) ≡ take (size - at) (drop at bytes) =
+    ap (λ (k : ℕ). drop at (take k bytes)) sum ∙ drop-take at (size - at) bytes in
+    ap (take n) front ∙ take-take n (size - at) (drop at bytes) (omega arith)

@@ -1,255 +1,519 @@
 -- One step of a reader: over a gate and the record behind it.
-use Rattle.std.proofs.Common.{◌≡◌, ◌≢◌, ℕ, ◌+◌, ◌*◌, ◌^◌, ◌<◌, ◌≤◌, Bool, true, false, List, [], ◌∷◌, ◌++◌, length, take, drop, All, None, Some, refl, sym, ap, ◌∙◌, subst, append_assoc, inr, arith, length-drop}
-use Rattle.std.specs.Prelude.{slice_index}
-use Rattle.std.specs.FinMap as map
-use Rattle.std.specs.List.{flat_map}
-use Rattle.std.specs.Int.{w16, w32, from_be_bytes}
-use Rattle.std.proofs.lemmas.Bool.{ne_eqb, le-leb}
+use Rattle.std.proofs.Common.{◌≡◌, ◌≢◌, ℕ, ◌+◌, ◌*◌, ◌^◌, ◌<◌, ◌≤◌, Bool, true, false, ◌&&◌, ◌==◌, List, [], ◌∷◌, ◌++◌, length, take, drop, Result, Err, Some, None, refl, sym, ap, subst, ◌∙◌, append_assoc, arith, inr}
+use Rattle.std.specs.Prelude.{slice_index, if◌then◌else◌, nat_le}
+use Rattle.std.specs.List.{list_any, sum_by}
+use Rattle.std.specs.FinMap.{get, insert, empty}
+use Rattle.std.proofs.lemmas.Bool.{eq-eqb, ne_eqb}
 use Rattle.std.proofs.lemmas.Bool.Decides.{nat_tests}
-use Rattle.std.proofs.lemmas.List.{take-take, length-take, drop-drop, take-append-drop}
-use Rattle.std.proofs.lemmas.List.Elements.{All-nil, All-append, All-head, All-tail}
-use Rattle.std.proofs.lemmas.Nat.{mul-le}
-use Rattle.aea_ledger.proofs.Shapes.{shape_small}
-use Rattle.std.proofs.Math.Seq.{take-add}
+use Rattle.std.proofs.lemmas.List.{append-nil, length-append, length-take, length-drop, take-take, take_at, drop_at}
+use Rattle.std.proofs.lemmas.List.Elements.{All-nil, All-append}
+use Rattle.std.proofs.lemmas.List.Sums.{sum_by-cons}
 use Rattle.sha2.specs.Hashers.{Holds256}
 use Rattle.aea_lattice.specs.declared.shape.Shape.{Shape}
-use Rattle.aea_lattice.specs.Data.{IsBytes}
+use Rattle.aea_lattice.specs.declared.grid.Lattice.{Lattice}
+use Rattle.aea_lattice.specs.Growth.{IsGrown, IsFenced}
 use Rattle.aea_catalog.specs.declared.objects.ObjectRef.{ObjectRef}
-use Rattle.aea_ledger.specs.Format.{Record, open_gate, entry, digests_of, spelled}
-use Rattle.aea_ledger.proofs.Parts.{front-bytes_at, length-bytes_at}
-use Rattle.aea_ledger.specs.Grammar.{AreRecords, IsLedger}
-use Rattle.aea_ledger.specs.Faults.{bytes_at, number_at, first_bad, head_fields, tail_fields, record_fields, gate_fault, IsBadAt}
-use Rattle.aea_ledger.specs.Laws.{AreBytes}
-use Rattle.aea_ledger.specs.Values.{Objects, objects_of}
-use Rattle.aea_ledger.specs.Reads.{Ahead, IsAhead}
-use Rattle.aea_ledger.specs.Readings.{IsClosed, IsHead, IsBadWindow, HasRead, AreIn, IsReading, IsWhole, IsAtHead, HasTaken, HasDigests}
-use Rattle.aea_ledger.specs.declared.heads.Head.{Head}
+use Rattle.aea_catalog.specs.declared.objects.Extent.{Extent}
+use Rattle.aea_catalog.specs.Catalogs.{Objects, placed_alone}
+use Rattle.aea_catalog.specs.Names.{IsName}
+use Rattle.aea_records.specs.Tables.{Spells, judge, bytes_at}
+use Rattle.aea_records.specs.TableLaws.{AreBytes}
+use Rattle.aea_records.specs.Format.{Stored, Record, Object, Joined, Fence, Raise, is_raise, nodes_of, fences_of, digests_of, entry, spelled}
+use Rattle.aea_records.specs.Known.{known_of}
+use Rattle.aea_records.specs.Fields.{pieces, extents, are_parts, tail_fields, digest_fields}
+use Rattle.aea_records.specs.Grammar.{IsNext, AreRecords}
+use Rattle.aea_records.specs.Faults.{bad_of, gate_fault, IsBadAt}
+use Rattle.aea_records.specs.Catalogued.{placed_parts, objects_of, first_of}
+use Rattle.aea_records.specs.Laws.{TailsAreJudged, TailsAreSpelled, NewNamesAreFree}
+use Rattle.aea_records.specs.Reads.{stored_at, found_at, object_end, head_end, IsSmall}
+use Rattle.aea_records.specs.declared.heads.ObjectFields.{ObjectFields}
+use Rattle.aea_records.specs.declared.heads.HeadFields.{HeadFields}
+use Rattle.aea_records.specs.declared.heads.HeadFields.TheVariants.{Alone, InParts, Fenced, Raised}
+use Rattle.aea_records.specs.declared.heads.Found.{Found}
+use Rattle.aea_ledger.specs.Recorded.{IsLatticeOf}
+use Rattle.aea_ledger.specs.Reads.{IsAhead}
+use Rattle.aea_ledger.specs.Readings.{HasPassed, HasDigests, HasParts, HasRead, AreIn, IsReading, IsAtHead}
+use Rattle.aea_ledger.specs.declared.input.Input.{Input}
 use Rattle.aea_ledger.specs.declared.reader.Reader.{Reader}
-use Rattle.aea_ledger.proofs.Entries.{entry_read, same_front, same_byte, first_of}
-use Rattle.aea_ledger.proofs.Objects.{objects-push, len_more, counted}
-use Rattle.aea_ledger.proofs.Tables.{bad_of_second}
-use Rattle.aea_ledger.proofs.Fields.{take_fields, length-entry, length-joined}
-use Rattle.aea_ledger.proofs.Gates.{opened_gate}
-use Rattle.aea_ledger.proofs.Records.{MayFollow-push, nodes_of-push, digests_of-push, spelled-push, spelled-more, length-spelled_push, length-spelled-le, few_records, few_nodes}
-
--- an object under a new name is one more
-pub one_more : (objects more : Objects) (name : List ℕ) (object : ObjectRef) → map.get objects name ≡ None → more ≡ map.insert objects name object → map.len more ≡ map.len objects + 1
-one_more objects more name object free is =
-    ap map.len is ∙ len_more objects name object free
-
--- so many nodes have not many blocks
-pub few_blocks : (shape : Shape) (nodes count : ℕ) → nodes + count ≤ 65536 → count * (1 + shape.alpha) ≤ 65536 * 4
-few_blocks shape nodes count few = mul-le count (1 + shape.alpha) 65536 4 (omega (arith, few)) (omega (arith, (shape_small shape).alpha_small))
-
--- what was read is not long, and has few nodes
-pub place_small : (r : Reader) (records : List Record) → HasRead r records → (r.cursor.place ≤ 2 ^ 24 * 65537) × (r.nodes ≤ 65536)
-place_small r records read =
-    let few = few_records r.shape records read.valid in
-    (omega (arith, read.place, length-spelled-le r.shape records read.valid, few), omega (arith, read.known.nodes_are, few_nodes r.shape records read.valid))
+use Rattle.aea_ledger.proofs.Passed.{passed_then}
+use Rattle.aea_ledger.proofs.Records.{MayFollow-push, fences_of-push, nodes_of-push, digests_of-push, raised_stays, raised_now, objects-push, spelled-push, length-bytes_at, front-bytes_at}
 
 -- what is bad behind records
-pub bad_at : (shape : Shape) (records : List Record) (file rest : List ℕ) (at place : ℕ) → AreRecords shape records → 18 ≤ length file → file ≡ spelled shape records ++ rest
-    → gate_fault shape records rest ≡ Some at → place ≡ length (spelled shape records) + at → IsBadAt file place
-bad_at shape records file rest at place valid long spelling bad is = record {
-  header = record { long = long; gate = ap (λ (l : List ℕ). slice_index l 0) spelling };
-  bad = inr (record { shape = shape; records = records; valid = valid; rest = rest; spelling = spelling; fault = at; bad = bad; place = is });
+pub bad_at : (shape : Shape) (records : List Record) (file : List ℕ) (r : Reader) (fault place : ℕ) → r.shape ≡ shape → HasRead r records → AreIn r records file
+    → gate_fault r.shape (known_of records) (drop r.input.cursor.place file) ≡ Some fault → place ≡ r.input.cursor.place + fault → IsBadAt file place
+bad_at shape records file r fault place same read told bad is = record {
+  header = record { long = told.long; gate = ap (λ (l : List ℕ). slice_index l 0) told.spelling };
+  bad = inr (record { shape = r.shape; records = records; valid = read.valid; rest = drop r.input.cursor.place file; spelling = told.spelling; fault = fault; bad = bad; place = omega (arith, is, read.place) });
 }
 
--- a window that is bad
-pub bad_gate : (r : Reader) (records : List Record) (file window : List ℕ) (at place : ℕ) → HasRead r records → AreIn r records file → IsBadWindow r.shape records window at
-    → window ≡ take 311 (drop r.cursor.place file) → place ≡ r.cursor.place + at → IsBadAt file place
-bad_gate r records file window at place read told bad is sum =
-    bad_at r.shape records file (drop r.cursor.place file) at place read.valid told.long told.spelling (bad (drop r.cursor.place file) is) (sum ∙ ap (λ (n : ℕ). n + at) read.place)
+-- the head ends within the window
+pub short_head : (f : HeadFields) → IsSmall f → head_end f ≤ 315
+short_head (Alone o) small = omega (arith, small.0)
+short_head (InParts o parts) small = omega (arith, small.0.0)
+short_head (Fenced node) small = omega arith
+short_head Raised small = omega arith
 
--- behind a head that passes the fault is one of the tail
-tail_fault : (shape : Shape) (records : List Record) (window rest : List ℕ) (head : Head) → IsHead shape records window head → 56 + head.long ≤ length window → window ≡ take 311 rest
-    → gate_fault shape records rest ≡ first_bad (tail_fields shape rest)
-tail_fault shape records window rest head stands within is =
-    let passes : first_bad (head_fields shape records rest) ≡ None = sym (take_fields shape records rest 311 (omega arith)) ∙ ap (λ (l : List ℕ). first_bad (head_fields shape records l)) (sym is) ∙ stands.passes in
-    let whole : rest ≡ open_gate ∷ drop 1 rest =
-    first_of rest open_gate (omega (arith, ap length is, length-take 311 rest, within)) (sym (same_byte (take 311 rest) rest 311 0 (take-take 311 311 rest (omega arith)) (omega arith)) ∙ ap (λ (l : List ℕ). slice_index l 0) (sym is) ∙ stands.gate) in
-    ap (gate_fault shape records) whole ∙ opened_gate shape records open_gate (drop 1 rest) refl stands.few
-    ∙ ap (λ (l : List ℕ). first_bad (record_fields shape records l)) (sym whole)
-    ∙ bad_of_second (head_fields shape records rest) (tail_fields shape rest) passes
+-- the input goes on over the record
+pub record Goes (tells : Type 0) (file : List ℕ) (old : Reader) (new : Input) (records : List Record) (r : Record) : Type 0 where
+  pub next : IsNext old.shape records r
+  pub holds : Holds256 new.hasher (spelled old.shape (records ++ r ∷ []))
+  pub place : new.cursor.place ≡ length (spelled old.shape (records ++ r ∷ []))
+  pub spelling : tells → file ≡ spelled old.shape (records ++ r ∷ []) ++ drop new.cursor.place file
+  pub ahead : tells → IsAhead new.cursor file
+  pub on : old.input.cursor.place < new.cursor.place
 
--- the numbers of a head in the bytes from its gate on
-head_numbers : (shape : Shape) (records : List Record) (window rest : List ℕ) (head : Head) → IsHead shape records window head → head.long ≤ 255 → window ≡ take 311 rest
-    → (head.long ≡ number_at w16 6 rest) × ((head.object.count ≡ number_at w32 (52 + number_at w16 6 rest) rest) × (head.body ≡ number_at w32 2 rest))
-head_numbers shape records window rest head stands short is =
-    let front : take 311 window ≡ take 311 rest = ap (take 311) is ∙ take-take 311 311 rest (omega arith) in
-    let long : head.long ≡ number_at w16 6 rest = stands.long ∙ ap (from_be_bytes w16) (same_front window rest 311 6 2 front (omega arith)) in
-    let count : head.object.count ≡ number_at w32 (52 + head.long) rest =
-    ap (λ (o : ObjectRef). o.count) stands.object ∙ ap (from_be_bytes w32) (same_front window rest 311 (52 + head.long) 4 front (omega (arith, short))) in
-    (long, (count ∙ ap (λ (n : ℕ). number_at w32 (52 + n) rest) long, stands.body ∙ ap (from_be_bytes w32) (same_front window rest 311 2 4 front (omega arith))))
-
--- two fields
-first_fails : (a b : ℕ) (p q : Bool) → p ≡ false → first_bad ((a, p) ∷ (b, q) ∷ []) ≡ Some a
-first_fails a b false q e = refl
-first_fails a b true q e = cc
-
-second_fails : (a b : ℕ) (p q : Bool) → p ≡ true → q ≡ false → first_bad ((a, p) ∷ (b, q) ∷ []) ≡ Some b
-second_fails a b true false e f = refl
-second_fails a b true true e f = cc
-second_fails a b false q e f = cc
-
--- the file ends within the digests
-pub digests_missing : (tells : Type 0) (file : List ℕ) (old mid : Reader) (size : ℕ) (head : Head) (count place : ℕ) → tells → IsAtHead tells file old size head → head.long ≤ 255 → 56 + head.long ≤ size
-    → HasTaken head old mid → count ≡ head.object.count * (1 + old.shape.alpha) → length (drop mid.cursor.place file) < 32 * count → place ≡ old.cursor.place + (56 + head.long) → IsBadAt file place
-digests_missing tells file old mid size head count place tell at short within taken count_is missing sum =
-    let told = at.told tell in
-    let rest : List ℕ = drop old.cursor.place file in
-    let window : List ℕ = take size old.cursor.bytes in
-    let is = at.window tell in
-    let numbers = head_numbers old.shape at.records (take size old.cursor.bytes) (drop old.cursor.place file) head at.stands short is in
-    let inside : 56 + head.long ≤ length (take size old.cursor.bytes) = omega (arith, length-take size old.cursor.bytes, at.size_is, within) in
-    let many : count ≡ number_at w32 (52 + number_at w16 6 rest) rest * (1 + old.shape.alpha) = count_is ∙ ap (λ (n : ℕ). n * (1 + old.shape.alpha)) numbers.1.0 in
-    let ends : length rest < 56 + number_at w16 6 rest + 32 * (number_at w32 (52 + number_at w16 6 rest) rest * (1 + old.shape.alpha)) =
-    omega (arith, missing, length-drop mid.cursor.place file, length-drop old.cursor.place file, taken.place, many, numbers.0) in
-    let fault : first_bad (tail_fields old.shape rest) ≡ Some (56 + head.long) =
-    first_fails (56 + number_at w16 6 rest) 2 _ _ (grind (arith, nat_tests)) ∙ ap (λ (n : ℕ). Some (56 + n)) (sym numbers.0) in
-    bad_at old.shape at.records file rest (56 + head.long) place at.read.valid told.long told.spelling
-    (tail_fault old.shape at.records window rest head at.stands inside is ∙ fault) (sum ∙ ap (λ (n : ℕ). n + (56 + head.long)) at.read.place)
-
--- the body has another length than it says
-pub body_wrong : (tells : Type 0) (file : List ℕ) (old mid new : Reader) (size : ℕ) (head : Head) (count place : ℕ) → tells → IsAtHead tells file old size head → head.long ≤ 255 → 56 + head.long ≤ size
-    → HasTaken head old mid → HasDigests tells file mid new count → count ≡ head.object.count * (1 + old.shape.alpha) → head.body ≢ 50 + head.long + 32 * count → place ≡ old.cursor.place + 2 → IsBadAt file place
-body_wrong tells file old mid new size head count place tell at short within taken digests count_is wrong sum =
-    let told = at.told tell in
-    let rest : List ℕ = drop old.cursor.place file in
-    let window : List ℕ = take size old.cursor.bytes in
-    let is = at.window tell in
-    let numbers = head_numbers old.shape at.records (take size old.cursor.bytes) (drop old.cursor.place file) head at.stands short is in
-    let inside : 56 + head.long ≤ length (take size old.cursor.bytes) = omega (arith, length-take size old.cursor.bytes, at.size_is, within) in
-    let many : count ≡ number_at w32 (52 + number_at w16 6 rest) rest * (1 + old.shape.alpha) = count_is ∙ ap (λ (n : ℕ). n * (1 + old.shape.alpha)) numbers.1.0 in
-    let whole : length (flat_map (λ d. d) digests.more) ≡ 32 * count = length-joined digests.more digests.each ∙ ap (λ (n : ℕ). 32 * n) digests.count_is in
-    let all : 32 * count ≤ length (drop mid.cursor.place file) = omega (arith, whole, ap length (digests.bytes tell), length-take (32 * count) (drop mid.cursor.place file)) in
-    let reaches : 56 + head.long ≤ length rest = omega (arith, inside, ap length is, length-take 311 rest) in
-    let ends : 56 + number_at w16 6 rest + 32 * (number_at w32 (52 + number_at w16 6 rest) rest * (1 + old.shape.alpha)) ≤ length rest =
-    omega (arith, all, length-drop mid.cursor.place file, length-drop old.cursor.place file, taken.place, many, numbers.0, reaches) in
-    let other : number_at w32 2 rest ≢ 50 + number_at w16 6 rest + 32 * (number_at w32 (52 + number_at w16 6 rest) rest * (1 + old.shape.alpha)) =
-    λ e. wrong (numbers.1.1 ∙ e ∙ sym (λ i. 50 + numbers.0 i + 32 * many i)) in
-    let fault : first_bad (tail_fields old.shape rest) ≡ Some 2 =
-    second_fails (56 + number_at w16 6 rest) 2 _ _ (le-leb _ _ ends) (ne_eqb _ _ other) in
-    bad_at old.shape at.records file rest 2 place at.read.valid told.long told.spelling
-    (tail_fault old.shape at.records window rest head at.stands inside is ∙ fault) (sum ∙ ap (λ (n : ℕ). n + 2) at.read.place)
-
-joined_bytes : (more : List (List ℕ)) → All (IsBytes 32) more → AreBytes (flat_map (λ d. d) more)
-joined_bytes [] each = All-nil (λ b. b < 2 ^ 8)
-joined_bytes (d ∷ more) each = All-append (λ b. b < 2 ^ 8) d (flat_map (λ e. e) more) (All-head (IsBytes 32) d more each).each (joined_bytes more (All-tail (IsBytes 32) d more each))
-
--- the entry in the file
-entry_in : (file : List ℕ) (start behind next long count : ℕ) (window entry digests : List ℕ) → long ≤ 255 → behind ≡ start + (56 + long) → next ≡ behind + 32 * count → window ≡ take 311 (drop start file)
-    → take (32 * count) (drop behind file) ≡ digests → entry ≡ take (56 + long) window ++ digests → drop start file ≡ entry ++ drop next file
-entry_in file start behind next long count window entry digests short behind_is next_is is read entry_is =
-    let front : take (56 + long) (drop start file) ≡ take (56 + long) window = sym (ap (take (56 + long)) is ∙ take-take (56 + long) 311 (drop start file) (omega (arith, short))) in
-    let back : take (32 * count) (drop (56 + long) (drop start file)) ≡ digests = ap (take (32 * count)) (drop-drop (56 + long) start file ∙ ap (λ (n : ℕ). drop n file) (sym behind_is)) ∙ read in
-    let both : take (56 + long + 32 * count) (drop start file) ≡ entry = take-add (56 + long) (32 * count) (drop start file) ∙ (λ i. front i ++ back i) ∙ sym entry_is in
-    let after : drop (56 + long + 32 * count) (drop start file) ≡ drop next file = drop-drop (56 + long + 32 * count) start file ∙ ap (λ (n : ℕ). drop n file) (omega (arith, behind_is, next_is)) in
-    sym (take-append-drop (56 + long + 32 * count) (drop start file)) ∙ (λ i. both i ++ after i)
-
--- the record is read
-pub next_reading : (tells : Type 0) (file : List ℕ) (old mid new : Reader) (size : ℕ) (head : Head) (count : ℕ) → IsAtHead tells file old size head → head.long ≤ 255 → 56 + head.long ≤ size
-    → HasTaken head old mid → HasDigests tells file mid new count → count ≡ head.object.count * (1 + old.shape.alpha) → head.body ≡ 50 + head.long + 32 * count → IsReading tells file new
-next_reading tells file old mid new size head count at short within taken digests count_is body =
-    let window : List ℕ = take size old.cursor.bytes in
-    let inside : 56 + head.long ≤ length (take size old.cursor.bytes) = omega (arith, length-take size old.cursor.bytes, at.size_is, within) in
-    let e = entry_read old.shape at.records window head digests.more at.stands inside (digests.count_is ∙ count_is) digests.each (joined_bytes digests.more digests.each)
-    (body ∙ ap (λ (n : ℕ). 50 + head.long + 32 * n) (sym digests.count_is)) in
-    let r : Record = e.r in
-    let same : new.shape ≡ old.shape = digests.shape ∙ taken.shape in
-    let own : take (56 + head.long) old.cursor.bytes ≡ take (56 + head.long) window = sym (take-take (56 + head.long) size old.cursor.bytes within) in
-    let valid : AreRecords old.shape (at.records ++ e.r ∷ []) = MayFollow-push old.shape [] at.records e.r at.read.valid e.next in
-    let name : bytes_at head.long 8 old.cursor.bytes ≡ e.r.name = sym (front-bytes_at old.cursor.bytes 8 head.long size (omega (arith, within))) ∙ sym e.name_is in
-    let objects : new.catalog.objects ≡ objects_of (at.records ++ e.r ∷ []) =
-    digests.objects ∙ taken.objects ∙ (λ i. map.insert (at.read.known.objects_are i) (name i) (sym e.object_is i)) ∙ sym (objects-push map.empty at.records e.r) in
-    let place : new.cursor.place ≡ length (spelled old.shape (at.records ++ e.r ∷ [])) =
-    omega (
-      arith,
-      digests.place,
-      taken.place,
-      at.read.place,
-      length-spelled_push old.shape at.records e.r,
-      length-entry e.r e.next.digest.wide e.next.each,
-      ap length e.name_is,
-      length-bytes_at (take size old.cursor.bytes) 8 head.long (omega (arith, inside)),
-      ap length e.digests_are,
-      digests.count_is,
-    ) in
-    let read : HasRead new (at.records ++ e.r ∷ []) = record {
-      valid = subst (λ (s : Shape). AreRecords s (at.records ++ e.r ∷ [])) (sym same) valid;
-      known = record {
-        objects_are = objects;
-        count = ap map.len objects ∙ counted old.shape (at.records ++ e.r ∷ []) valid;
-        nodes_are = digests.nodes ∙ taken.nodes ∙ (λ i. at.read.known.nodes_are i + ap (λ (o : ObjectRef). o.count) (sym e.object_is) i) ∙ sym (nodes_of-push at.records e.r);
-      };
-      digests_are = digests.digests ∙ ap (λ (l : List (List ℕ)). l ++ digests.more) (taken.digests ∙ at.read.digests_are) ∙ ap (λ (l : List (List ℕ)). digests_of at.records ++ l) (sym e.digests_are) ∙ sym (digests_of-push at.records e.r);
-      holds = subst (Holds256 new.hasher)
-          (append_assoc (spelled old.shape at.records) (take (56 + head.long) old.cursor.bytes) (flat_map (λ d. d) digests.more)
-          ∙ ap (λ (l : List ℕ). spelled old.shape at.records ++ (l ++ flat_map (λ d. d) digests.more)) own
-          ∙ ap (λ (l : List ℕ). spelled old.shape at.records ++ l) (sym e.entry_is)
-          ∙ sym (spelled-push old.shape at.records e.r)
-          ∙ ap (λ (s : Shape). spelled s (at.records ++ e.r ∷ [])) (sym same))
-          (digests.holds (spelled old.shape at.records ++ take (56 + head.long) old.cursor.bytes) (taken.holds (spelled old.shape at.records) at.read.holds));
-      place = place ∙ ap (λ (s : Shape). length (spelled s (at.records ++ e.r ∷ []))) (sym same);
-    } in
+pub goes_on : (tells : Type 0) (file : List ℕ) (old : Reader) (found : Found) (new : Input) (back : List ℕ) (r : Record) → TailsAreSpelled → (at : IsAtHead tells file old found)
+    → HasPassed tells file old.input new (take (head_end found.fields) old.input.cursor.bytes ++ back) → AreBytes back
+    → Spells (tail_fields old.shape (known_of at.records) (found_at (take 315 old.input.cursor.bytes) found)) back r → Goes tells file old new at.records r
+goes_on tells file old found new back r law at passed are spells =
+    let bytes : List ℕ = old.input.cursor.bytes in
+    let end : ℕ = head_end found.fields in
+    let records : List Record = at.records in
+    let is = law old.shape at.records (take 315 old.input.cursor.bytes) back (found_at (take 315 old.input.cursor.bytes) found) (head_end found.fields) r at.read.valid at.stands are spells in
+    let front : take (head_end found.fields) (take 315 old.input.cursor.bytes) ≡ take (head_end found.fields) old.input.cursor.bytes =
+    take-take (head_end found.fields) 315 old.input.cursor.bytes (short_head found.fields at.small) in
+    let text : take (head_end found.fields) old.input.cursor.bytes ++ back ≡ entry r = ap (λ (l : List ℕ). l ++ back) (sym front) ∙ is.1 in
+    let more : spelled old.shape at.records ++ (take (head_end found.fields) old.input.cursor.bytes ++ back) ≡ spelled old.shape (at.records ++ r ∷ []) =
+    ap (λ (l : List ℕ). spelled old.shape at.records ++ l) text ∙ sym (spelled-push old.shape at.records r) in
+    let size : length (entry r) ≡ length (take (head_end found.fields) old.input.cursor.bytes ++ back) = ap length (sym text) in
     record {
-      records = at.records ++ e.r ∷ [];
-      read = read;
-      told = λ tell. record {
-        long = (at.told tell).long;
-        spelling = spelled-more old.shape at.records e.r (drop old.cursor.place file) (drop new.cursor.place file) file (at.told tell).spelling
-            (entry_in file old.cursor.place mid.cursor.place new.cursor.place head.long count window (entry e.r) (flat_map (λ d. d) digests.more) short taken.place digests.place (at.window tell) (digests.bytes tell) e.entry_is)
-            ∙ ap (λ (s : Shape). spelled s (at.records ++ e.r ∷ []) ++ drop new.cursor.place file) (sym same);
-        ahead = digests.ahead tell;
-      };
+      next = is.0;
+      holds = subst (Holds256 new.hasher) more (passed.holds (spelled old.shape at.records) at.read.holds);
+      place = passed.place ∙ ap (λ (n : ℕ). n + length (take (head_end found.fields) old.input.cursor.bytes ++ back)) at.read.place
+          ∙ sym (length-append (spelled old.shape at.records) (take (head_end found.fields) old.input.cursor.bytes ++ back)) ∙ ap length more;
+      spelling = λ tell.
+          (at.told tell).spelling ∙ ap (λ (l : List ℕ). spelled old.shape at.records ++ l) (passed.bytes tell)
+          ∙ sym (append_assoc (spelled old.shape at.records) (take (head_end found.fields) old.input.cursor.bytes ++ back) (drop new.cursor.place file))
+          ∙ ap (λ (l : List ℕ). l ++ drop new.cursor.place file) more;
+      ahead = passed.ahead;
+      on = omega (arith, passed.place, size, some r);
+    }
+  where
+    some : (r : Record) → 1 ≤ length (entry r)
+    some r = omega arith
+
+-- what is bad behind a head
+pub bad_tail : (tells : Type 0) (file : List ℕ) (old : Reader) (found : Found) (fault place : ℕ) → TailsAreJudged → (at : IsAtHead tells file old found) → tells
+    → bad_of (judge (tail_fields old.shape (known_of at.records) (found_at (take 315 old.input.cursor.bytes) found)) (head_end found.fields) (drop old.input.cursor.place file)) ≡ Some fault
+    → place ≡ old.input.cursor.place + fault → IsBadAt file place
+bad_tail tells file old found fault place law at tell bad is =
+    bad_at old.shape at.records file old fault place refl at.read (at.told tell)
+    (law old.shape (known_of at.records) (take 315 old.input.cursor.bytes) (drop old.input.cursor.place file) (found_at (take 315 old.input.cursor.bytes) found) (head_end found.fields) at.stands (at.window tell) ∙ bad)
+    is
+
+-- the bytes that are left have the head
+pub head_there : (tells : Type 0) (file : List ℕ) (old : Reader) (found : Found) (at : IsAtHead tells file old found) → tells → head_end found.fields ≤ length (drop old.input.cursor.place file)
+head_there tells file old found at tell =
+    omega (arith, at.within, short_head found.fields at.small, ap length (at.window tell), length-take 315 old.input.cursor.bytes, length-take 315 (drop old.input.cursor.place file))
+
+-- ---- choices
+
+taken : {X : Type 0} (a : Bool) (x y : X) → a ≡ true → (if a && true then x else y) ≡ x
+taken true x y e = refl
+taken false x y e = absurd (let h : false ≡ true = e in cc)
+
+missed : {X : Type 0} (a b : Bool) (x y : X) → a ≡ false → (if a && b then x else y) ≡ y
+missed false b x y e = refl
+missed true b x y e = absurd (let h : true ≡ false = e in cc)
+
+failed : {X : Type 0} (a b : Bool) (x y : X) → b ≡ false → (if a && b then x else y) ≡ y
+failed true false x y e = refl
+failed false false x y e = refl
+failed a true x y e = absurd (let h : true ≡ false = e in cc)
+
+both : {X : Type 0} (a b : Bool) (x y : X) → a ≡ true → b ≡ true → (if a && b then x else y) ≡ x
+both true true x y e f = refl
+both false b x y e f = absurd (let h : false ≡ true = e in cc)
+both true false x y e f = absurd (let h : false ≡ true = f in cc)
+
+unless : {X : Type 0} (a : Bool) (x y : X) → a ≡ false → (if a then x else y) ≡ y
+unless false x y e = refl
+unless true x y e = absurd (let h : true ≡ false = e in cc)
+
+short-has : (n m : ℕ) → m < n → nat_le n m ≡ false
+short-has n m lt = grind (arith, nat_tests)
+
+long-has : (n m : ℕ) → n ≤ m → nat_le n m ≡ true
+long-has n m le = grind (arith, nat_tests)
+
+-- what is left behind two texts
+length_left : (file : List ℕ) (from : ℕ) (x y : List ℕ) (mid to : ℕ) → drop from file ≡ x ++ drop mid file → drop mid file ≡ y ++ drop to file → length x + length y ≤ length (drop from file)
+length_left file from x y mid to first second =
+    omega (arith, ap length first, ap length second, length-append x (drop mid file), length-append y (drop to file))
+
+-- digests that are not all there
+pub digests_missing : (shape : Shape) (bytes others : ℕ) (o : Stored) (make : Stored → Record) (end : ℕ) (rest : List ℕ) → length rest < end + 32 * (o.count * (1 + shape.alpha))
+    → bad_of (judge (digest_fields shape bytes others o make) end rest) ≡ Some end
+digests_missing shape bytes others o make end rest short =
+    ap (λ (x : Result (Record × ℕ) ℕ). bad_of x) (missed (nat_le (end + 32 * (o.count * (1 + shape.alpha))) (length rest)) true _ (Err end) (short-has (end + 32 * (o.count * (1 + shape.alpha))) (length rest) short))
+
+-- a number of bytes that is another
+pub length_wrong : (shape : Shape) (bytes others : ℕ) (o : Stored) (make : Stored → Record) (end : ℕ) (rest : List ℕ) → end + 32 * (o.count * (1 + shape.alpha)) ≤ length rest
+    → bytes ≢ others + length o.name + 32 * (o.count * (1 + shape.alpha)) → bad_of (judge (digest_fields shape bytes others o make) end rest) ≡ Some 2
+length_wrong shape bytes others o make end rest long wrong =
+    ap (λ (x : Result (Record × ℕ) ℕ). bad_of x)
+    (taken (nat_le (end + 32 * (o.count * (1 + shape.alpha))) (length rest)) _ (Err end) (long-has (end + 32 * (o.count * (1 + shape.alpha))) (length rest) long)
+    ∙ unless (bytes == others + length o.name + 32 * (o.count * (1 + shape.alpha))) _ (Err 2) (ne_eqb bytes (others + length o.name + 32 * (o.count * (1 + shape.alpha))) wrong))
+
+-- digests that are there, and the right number of bytes
+pub digests_spell : (shape : Shape) (bytes others : ℕ) (o : Stored) (make : Stored → Record) (text : List ℕ) → length text ≡ 32 * (o.count * (1 + shape.alpha))
+    → bytes ≡ others + length o.name + 32 * (o.count * (1 + shape.alpha)) → Spells (digest_fields shape bytes others o make) text (make (record o { digests = pieces 32 (o.count * (1 + shape.alpha)) text }))
+digests_spell shape bytes others o make text long right =
+    (text, [], sym (append-nil text), long, refl, (eq-eqb bytes (others + length o.name + 32 * (o.count * (1 + shape.alpha))) right, (refl, refl)))
+
+-- ---- an object whose nodes are all new
+
+-- the head
+abbrev pub alone_found : ℕ → ObjectFields → Found
+alone_found bytes object = record { bytes = bytes; fields = Alone object }
+
+-- the name in the window
+pub name_long : (tells : Type 0) (file : List ℕ) (old : Reader) (found : Found) (long : ℕ) → IsAtHead tells file old found → 8 + long ≤ head_end found.fields → length (bytes_at long 8 (take 315 old.input.cursor.bytes)) ≡ long
+name_long tells file old found long at within =
+    length-bytes_at (take 315 old.input.cursor.bytes) 8 long (omega (arith, length-take 315 old.input.cursor.bytes, at.within, short_head found.fields at.small, within))
+
+-- the record
+abbrev pub alone_record : Reader → ObjectFields → List ℕ → Record
+alone_record old object text =
+    Object (record (stored_at (take 315 old.input.cursor.bytes) object) { digests = pieces 32 (object.count * (1 + old.shape.alpha)) text })
+
+pub alone_goes : (tells : Type 0) (file : List ℕ) (old : Reader) (mid new : Input) (object : ObjectFields) (bytes count : ℕ) (before after : List (List ℕ)) → TailsAreSpelled
+    → (at : IsAtHead tells file old (alone_found bytes object)) → HasPassed tells file old.input mid (take (object_end object) old.input.cursor.bytes)
+    → (ds : HasDigests tells file mid new count before after) → count ≡ object.count * (1 + old.shape.alpha) → bytes ≡ 50 + object.long + 32 * count
+    → Goes tells file old new at.records (alone_record old object ds.text)
+alone_goes tells file old mid new object bytes count before after law at head ds many right =
+    let long : length ds.text ≡ 32 * (object.count * (1 + old.shape.alpha)) = ds.long ∙ ap (λ (n : ℕ). 32 * n) many in
+    let name = name_long tells file old (alone_found bytes object) object.long at (omega arith) in
+    let size : bytes ≡ 50 + length (bytes_at object.long 8 (take 315 old.input.cursor.bytes)) + 32 * (object.count * (1 + old.shape.alpha)) = right ∙ (λ i. 50 + sym name i + 32 * many i) in
+    goes_on tells file old (alone_found bytes object) new ds.text (alone_record old object ds.text) law at
+    (passed_then tells file old.input mid new (take (object_end object) old.input.cursor.bytes) ds.text head ds.passed) ds.passed.are
+    (digests_spell old.shape bytes 50 (stored_at (take 315 old.input.cursor.bytes) object) (λ o. Object o) ds.text long size)
+
+-- ---- what is read then
+
+-- a lattice with more nodes, or with a fence
+grown_is : (shape : Shape) (records : List Record) (r : Record) (l m : Lattice) (count : ℕ) → IsLatticeOf shape (nodes_of records) (fences_of records) l → IsGrown l (l.n + count) m
+    → nodes_of (records ++ r ∷ []) ≡ nodes_of records + count → fences_of (records ++ r ∷ []) ≡ fences_of records → IsLatticeOf shape (nodes_of (records ++ r ∷ [])) (fences_of (records ++ r ∷ [])) m
+grown_is shape records r l m count is grown nodes fences = record {
+  alpha = grown.shape.alpha ∙ is.alpha;
+  s = grown.shape.s ∙ is.s;
+  p = grown.shape.p ∙ is.p;
+  n = grown.nodes ∙ ap (λ (n : ℕ). n + count) is.n ∙ sym nodes;
+  fences_are = grown.fences ∙ is.fences_are ∙ sym fences;
+}
+
+pub one_count : (o : Stored) → sum_by (λ (q : Stored). q.count) (o ∷ []) ≡ o.count
+one_count o = omega (arith, sum_by-cons (λ (q : Stored). q.count) o [])
+
+-- records of an object
+pub object_read : (tells : Type 0) (file : List ℕ) (old new : Reader) (records : List Record) (r : Record) (o : Stored) (more : List (List ℕ)) → HasRead old records → (tells → AreIn old records file)
+    → Goes tells file old new.input records r → new.shape ≡ old.shape → IsGrown old.lattice (old.lattice.n + o.count) new.lattice
+    → nodes_of (records ++ r ∷ []) ≡ nodes_of records + o.count → fences_of (records ++ r ∷ []) ≡ fences_of records → list_any is_raise (records ++ r ∷ []) ≡ list_any is_raise records
+    → digests_of (records ++ r ∷ []) ≡ digests_of records ++ more → new.catalog.objects ≡ objects_of (records ++ r ∷ []) → new.raised ≡ old.raised
+    → new.digests.items ≡ old.digests.items ++ more → IsReading tells file new
+object_read tells file old new records r o more read told goes shape lattice nodes fences raise digests objects raised items = record {
+  records = records ++ r ∷ [];
+  read = record {
+    valid = subst (λ (s : Shape). AreRecords s (records ++ r ∷ [])) (sym shape) (MayFollow-push old.shape [] records r read.valid goes.next);
+    lattice = subst (λ (s : Shape). IsLatticeOf s (nodes_of (records ++ r ∷ [])) (fences_of (records ++ r ∷ [])) new.lattice) (sym shape)
+        (grown_is old.shape records r old.lattice new.lattice o.count read.lattice lattice nodes fences);
+    objects = objects;
+    raised = raised ∙ read.raised ∙ sym raise;
+    digests = items ∙ ap (λ (l : List (List ℕ)). l ++ more) read.digests ∙ sym digests;
+    holds = subst (λ (s : Shape). Holds256 new.input.hasher (spelled s (records ++ r ∷ []))) (sym shape) goes.holds;
+    place = goes.place ∙ ap (λ (s : Shape). length (spelled s (records ++ r ∷ []))) (sym shape);
+  };
+  told = λ tell. record {
+    long = (told tell).long;
+    spelling = goes.spelling tell ∙ ap (λ (s : Shape). spelled s (records ++ r ∷ []) ++ drop new.input.cursor.place file) (sym shape);
+    ahead = goes.ahead tell;
+  };
+}
+
+-- a name that may be put
+pub record MayBePut (objects : Objects) (name : List ℕ) : Type 0 where
+  pub named : IsName name
+  pub free : get objects name ≡ None
+
+-- the name that was read
+pub name_is : (old : Reader) (name : List ℕ) (long : ℕ) → 8 + long ≤ 315 → name ≡ bytes_at long 8 old.input.cursor.bytes → bytes_at long 8 (take 315 old.input.cursor.bytes) ≡ name
+name_is old name long short is = front-bytes_at old.input.cursor.bytes 8 long 315 short ∙ sym is
+
+pub alone_put : (tells : Type 0) (file : List ℕ) (old : Reader) (new : Input) (object : ObjectFields) (text name : List ℕ) (records : List Record) → NewNamesAreFree → HasRead old records → object.long ≤ 255
+    → Goes tells file old new records (alone_record old object text) → name ≡ bytes_at object.long 8 old.input.cursor.bytes → MayBePut old.catalog.objects name
+alone_put tells file old new object text name records law read short goes is =
+    let same = name_is old name object.long (omega (arith, short)) is in
+    record {
+      named = subst IsName same goes.next.stored.name;
+      free = ap (λ (m : Objects). get m name) read.objects
+          ∙ subst (λ (n : List ℕ). get (objects_of records) n ≡ None) same ((law records (bytes_at object.long 8 (take 315 old.input.cursor.bytes))).0 goes.next.stored.new);
     }
 
--- the reader, whose cursor has read on
-pub read_on : (old : Reader) (cursor : Ahead) (records : List Record) → cursor.place ≡ old.cursor.place → HasRead old records → HasRead (record old { cursor = cursor }) records
-read_on old cursor records place read = record {
-  valid = read.valid;
-  known = read.known;
-  digests_are = read.digests_are;
-  holds = read.holds;
-  place = place ∙ read.place;
-}
+pub alone_read : (tells : Type 0) (file : List ℕ) (old new : Reader) (object : ObjectFields) (bytes : ℕ) (text name : List ℕ) (placed : ObjectRef) → (at : IsAtHead tells file old (alone_found bytes object))
+    → Goes tells file old new.input at.records (alone_record old object text) → new.shape ≡ old.shape → IsGrown old.lattice (old.lattice.n + object.count) new.lattice
+    → name ≡ bytes_at object.long 8 old.input.cursor.bytes → placed ≡ record { first = object.first; count = object.count; length = object.size; digest = object.digest }
+    → new.catalog.objects ≡ insert old.catalog.objects name (placed_alone placed) → new.raised ≡ old.raised
+    → new.digests.items ≡ old.digests.items ++ pieces 32 (object.count * (1 + old.shape.alpha)) text → IsReading tells file new
+alone_read tells file old new object bytes text name placed at goes shape lattice is places objects raised items =
+    let r : Record = alone_record old object text in
+    let o : Stored = record (stored_at (take 315 old.input.cursor.bytes) object) { digests = pieces 32 (object.count * (1 + old.shape.alpha)) text } in
+    let same = name_is old name object.long (omega (arith, at.small.0)) is in
+    object_read tells file old new at.records (alone_record old object text) (record (stored_at (take 315 old.input.cursor.bytes) object) { digests = pieces 32 (object.count * (1 + old.shape.alpha)) text })
+    (pieces 32 (object.count * (1 + old.shape.alpha)) text) at.read at.told goes shape lattice
+    (nodes_of-push at.records (alone_record old object text) ∙ ap (λ (n : ℕ). nodes_of at.records + n) (one_count (record (stored_at (take 315 old.input.cursor.bytes) object) { digests = pieces 32 (object.count * (1 + old.shape.alpha)) text })))
+    (fences_of-push at.records (alone_record old object text) ∙ append-nil (fences_of at.records))
+    (raised_stays at.records (alone_record old object text) refl)
+    (digests_of-push at.records (alone_record old object text) ∙ ap (λ (l : List (List ℕ)). digests_of at.records ++ l) (append-nil (pieces 32 (object.count * (1 + old.shape.alpha)) text)))
+    (objects ∙ (λ i. insert (at.read.objects i) (sym same i) (placed_alone (places i))) ∙ sym (objects-push empty at.records (alone_record old object text)))
+    raised items
 
-pub told_on : (old : Reader) (cursor : Ahead) (records : List Record) (file other : List ℕ) → cursor.place ≡ old.cursor.place → file ≡ other → IsAhead cursor other → AreIn old records file → AreIn (record old { cursor = cursor }) records other
-told_on old cursor records file other place same ahead told = record {
-  long = subst (λ (l : List ℕ). 18 ≤ length l) same told.long;
-  spelling = sym same ∙ told.spelling ∙ (λ i. spelled old.shape records ++ drop (sym place i) (same i));
-  ahead = ahead;
-}
+-- the digests of an object are not all there
+pub alone_missing : (tells : Type 0) (file : List ℕ) (old : Reader) (mid : Input) (object : ObjectFields) (bytes count place : ℕ) → TailsAreJudged → (at : IsAtHead tells file old (alone_found bytes object)) → tells
+    → mid.cursor.place ≡ old.input.cursor.place + object_end object → count ≡ object.count * (1 + old.shape.alpha) → length (drop mid.cursor.place file) < 32 * count
+    → place ≡ old.input.cursor.place + object_end object → IsBadAt file place
+alone_missing tells file old mid object bytes count place law at tell behind many missing is =
+    bad_tail tells file old (alone_found bytes object) (object_end object) place law at tell
+    (digests_missing old.shape bytes 50 (stored_at (take 315 old.input.cursor.bytes) object) (λ o. Object o) (object_end object) (drop old.input.cursor.place file)
+    (omega (arith, missing, length-drop mid.cursor.place file, length-drop old.input.cursor.place file, behind, many))) is
 
--- a gate that is closed ends the ledger
-pub ends_at : (r : Reader) (records : List Record) (file window : List ℕ) → HasRead r records → AreIn r records file → window ≡ take 311 (drop r.cursor.place file) → IsClosed window → IsLedger file r.shape records r.cursor.place
-ends_at r records file window read told is closed =
-    let rest : List ℕ = drop r.cursor.place file in
-    let first : slice_index window 0 ≡ slice_index (drop r.cursor.place file) 0 = ap (λ (l : List ℕ). slice_index l 0) is ∙ same_byte (take 311 (drop r.cursor.place file)) (drop r.cursor.place file) 311 0 (take-take 311 311 (drop r.cursor.place file) (omega arith)) (omega arith) in
+-- the number of bytes of an object is another
+pub alone_wrong : (tells : Type 0) (file : List ℕ) (old : Reader) (mid new : Input) (object : ObjectFields) (bytes count place : ℕ) (before after : List (List ℕ)) → TailsAreJudged
+    → (at : IsAtHead tells file old (alone_found bytes object)) → tells → HasPassed tells file old.input mid (take (object_end object) old.input.cursor.bytes) → HasDigests tells file mid new count before after
+    → count ≡ object.count * (1 + old.shape.alpha) → bytes ≢ 50 + object.long + 32 * count → place ≡ old.input.cursor.place + 2 → IsBadAt file place
+alone_wrong tells file old mid new object bytes count place before after law at tell head ds many wrong is =
+    let name = name_long tells file old (alone_found bytes object) object.long at (omega arith) in
+    let there = length_left file old.input.cursor.place (take (object_end object) old.input.cursor.bytes) ds.text mid.cursor.place new.cursor.place (head.bytes tell) (ds.passed.bytes tell) in
+    bad_tail tells file old (alone_found bytes object) 2 place law at tell
+    (length_wrong old.shape bytes 50 (stored_at (take 315 old.input.cursor.bytes) object) (λ o. Object o) (object_end object) (drop old.input.cursor.place file)
+    (omega (arith, there, ds.long, many, length-take (object_end object) old.input.cursor.bytes, at.within))
+    (λ e. wrong (e ∙ (λ i. 50 + name i + 32 * sym many i)))) is
+
+-- ---- an object in parts
+
+abbrev pub joined_found : ℕ → ObjectFields → ℕ → Found
+joined_found bytes object parts = record { bytes = bytes; fields = InParts object parts }
+
+abbrev pub joined_record : Reader → ObjectFields → ℕ → List ℕ → List ℕ → Record
+joined_record old object parts first text =
+    Joined (record (stored_at (take 315 old.input.cursor.bytes) object) { digests = pieces 32 (object.count * (1 + old.shape.alpha)) text }) (extents parts first)
+
+pub joined_goes : (tells : Type 0) (file : List ℕ) (old : Reader) (mid behind new : Input) (object : ObjectFields) (bytes parts count : ℕ) (none all : List Extent) (before after : List (List ℕ)) → TailsAreSpelled
+    → (at : IsAtHead tells file old (joined_found bytes object parts)) → HasPassed tells file old.input mid (take (object_end object + 4) old.input.cursor.bytes)
+    → (ps : HasParts tells file mid behind parts none all) → (ds : HasDigests tells file behind new count before after) → none ≡ [] → old.lattice.n ≡ nodes_of at.records
+    → are_parts old.shape object.size (old.lattice.n + object.count) all ≡ true → count ≡ object.count * (1 + old.shape.alpha)
+    → bytes ≡ 54 + 8 * parts + object.long + 32 * count → Goes tells file old new at.records (joined_record old object parts ps.text ds.text)
+joined_goes tells file old mid behind new object bytes parts count none all before after law at head ps ds nothing nodes apart many right =
+    let o : Stored = stored_at (take 315 old.input.cursor.bytes) object in
+    let long : length ds.text ≡ 32 * (object.count * (1 + old.shape.alpha)) = ds.long ∙ ap (λ (n : ℕ). 32 * n) many in
+    let name = name_long tells file old (joined_found bytes object parts) object.long at (omega arith) in
+    let size : bytes ≡ 54 + 8 * parts + length (bytes_at object.long 8 (take 315 old.input.cursor.bytes)) + 32 * (object.count * (1 + old.shape.alpha)) = right ∙ (λ i. 54 + 8 * parts + sym name i + 32 * many i) in
+    let all_is : all ≡ extents parts ps.text = ps.parts ∙ ap (λ (l : List Extent). l ++ extents parts ps.text) nothing in
+    let good : are_parts old.shape object.size (nodes_of at.records + object.count) (extents parts ps.text) ≡ true =
+    (λ i. are_parts old.shape object.size (sym nodes i + object.count) (sym all_is i)) ∙ apart in
+    goes_on tells file old (joined_found bytes object parts) new (ps.text ++ ds.text) (joined_record old object parts ps.text ds.text) law at
+    (subst (HasPassed tells file old.input new) (append_assoc (take (object_end object + 4) old.input.cursor.bytes) ps.text ds.text)
+    (passed_then tells file old.input behind new (take (object_end object + 4) old.input.cursor.bytes ++ ps.text) ds.text
+    (passed_then tells file old.input mid behind (take (object_end object + 4) old.input.cursor.bytes) ps.text head ps.passed) ds.passed))
+    (All-append (λ b. b < 2 ^ 8) ps.text ds.text ps.passed.are ds.passed.are)
+    (ps.text, ds.text, refl, ps.long, good, digests_spell old.shape bytes (54 + 8 * parts) (stored_at (take 315 old.input.cursor.bytes) object) (λ p. Joined p (extents parts ps.text)) ds.text long size)
+
+pub joined_put : (tells : Type 0) (file : List ℕ) (old : Reader) (new : Input) (object : ObjectFields) (parts : ℕ) (first text name : List ℕ) (records : List Record) → NewNamesAreFree → HasRead old records → object.long ≤ 255
+    → Goes tells file old new records (joined_record old object parts first text) → name ≡ bytes_at object.long 8 old.input.cursor.bytes → MayBePut old.catalog.objects name
+joined_put tells file old new object parts first text name records law read short goes is =
+    let same = name_is old name object.long (omega (arith, short)) is in
     record {
-      valid = read.valid;
-      gate = slice_index (drop r.cursor.place file) 0;
-      closed = λ e. closed.gate (first ∙ e);
-      after = drop 1 (drop r.cursor.place file);
-      spelling = told.spelling ∙ ap (λ (l : List ℕ). spelled r.shape records ++ l) (first_of (drop r.cursor.place file) (slice_index (drop r.cursor.place file) 0) (omega (arith, ap length is, length-take 311 (drop r.cursor.place file), closed.there)) refl);
-      place = read.place;
+      named = subst IsName same goes.next.stored.name;
+      free = ap (λ (m : Objects). get m name) read.objects
+          ∙ subst (λ (n : List ℕ). get (objects_of records) n ≡ None) same ((law records (bytes_at object.long 8 (take 315 old.input.cursor.bytes))).0 goes.next.stored.new);
     }
 
--- where the file is told, it may be named otherwise
-pub reading_in : (tells : Type 0) (file other : List ℕ) (r : Reader) → (tells → file ≡ other) → IsReading tells file r → IsReading tells other r
-reading_in tells file other r same reading = record {
-  records = reading.records;
-  read = reading.read;
-  told = λ tell. subst (AreIn r reading.records) (same tell) (reading.told tell);
-}
+pub joined_read : (tells : Type 0) (file : List ℕ) (old new : Reader) (object : ObjectFields) (bytes parts : ℕ) (first text name : List ℕ) (all : List Extent) (placed : ObjectRef) → (at : IsAtHead tells file old (joined_found bytes object parts))
+    → Goes tells file old new.input at.records (joined_record old object parts first text) → new.shape ≡ old.shape → IsGrown old.lattice (old.lattice.n + object.count) new.lattice
+    → name ≡ bytes_at object.long 8 old.input.cursor.bytes → all ≡ extents parts first
+    → placed ≡ record { first = first_of all; count = sum_by (λ e. e.count) all; length = object.size; digest = object.digest }
+    → new.catalog.objects ≡ insert old.catalog.objects name (record { object = placed; parts = all }) → new.raised ≡ old.raised
+    → new.digests.items ≡ old.digests.items ++ pieces 32 (object.count * (1 + old.shape.alpha)) text → IsReading tells file new
+joined_read tells file old new object bytes parts first text name all placed at goes shape lattice is all_is places objects raised items =
+    let o : Stored = record (stored_at (take 315 old.input.cursor.bytes) object) { digests = pieces 32 (object.count * (1 + old.shape.alpha)) text } in
+    let same = name_is old name object.long (omega (arith, at.small.0.0)) is in
+    let kept : record { object = placed; parts = all } ≡ placed_parts (record (stored_at (take 315 old.input.cursor.bytes) object) { digests = pieces 32 (object.count * (1 + old.shape.alpha)) text }) (extents parts first) =
+    (λ i. record { object = places i; parts = all })
+    ∙ (λ i. record { object = record { first = first_of (all_is i); count = sum_by (λ e. e.count) (all_is i); length = object.size; digest = object.digest }; parts = all_is i }) in
+    object_read tells file old new at.records (joined_record old object parts first text) (record (stored_at (take 315 old.input.cursor.bytes) object) { digests = pieces 32 (object.count * (1 + old.shape.alpha)) text })
+    (pieces 32 (object.count * (1 + old.shape.alpha)) text) at.read at.told goes shape lattice
+    (nodes_of-push at.records (joined_record old object parts first text) ∙ ap (λ (n : ℕ). nodes_of at.records + n) (one_count (record (stored_at (take 315 old.input.cursor.bytes) object) { digests = pieces 32 (object.count * (1 + old.shape.alpha)) text })))
+    (fences_of-push at.records (joined_record old object parts first text) ∙ append-nil (fences_of at.records))
+    (raised_stays at.records (joined_record old object parts first text) refl)
+    (digests_of-push at.records (joined_record old object parts first text) ∙ ap (λ (l : List (List ℕ)). digests_of at.records ++ l) (append-nil (pieces 32 (object.count * (1 + old.shape.alpha)) text)))
+    (objects ∙ (λ i. insert (at.read.objects i) (sym same i) (kept i)) ∙ sym (objects-push empty at.records (joined_record old object parts first text)))
+    raised items
 
-pub whole_in : (tells : Type 0) (file other : List ℕ) (r : Reader) → (tells → file ≡ other) → IsWhole tells file r → IsWhole tells other r
-whole_in tells file other r same whole = record {
-  records = whole.records;
-  read = whole.read;
-  told = λ tell. subst (λ (l : List ℕ). IsLedger l r.shape whole.records r.cursor.place) (same tell) (whole.told tell);
-}
+-- the parts are not all there
+pub parts_missing : (tells : Type 0) (file : List ℕ) (old : Reader) (mid : Input) (object : ObjectFields) (bytes parts place : ℕ) → TailsAreJudged → (at : IsAtHead tells file old (joined_found bytes object parts)) → tells
+    → mid.cursor.place ≡ old.input.cursor.place + (object_end object + 4) → length (drop mid.cursor.place file) < 8 * parts → place ≡ old.input.cursor.place + (object_end object + 4) → IsBadAt file place
+parts_missing tells file old mid object bytes parts place law at tell behind missing is =
+    let rest : List ℕ = drop old.input.cursor.place file in
+    bad_tail tells file old (joined_found bytes object parts) (object_end object + 4) place law at tell
+    (ap (λ (x : Result (Record × ℕ) ℕ). bad_of x) (missed (nat_le (object_end object + 4 + 8 * parts) (length (drop old.input.cursor.place file))) _ _ (Err (object_end object + 4))
+    (short-has (object_end object + 4 + 8 * parts) (length (drop old.input.cursor.place file)) (omega (arith, missing, length-drop mid.cursor.place file, length-drop old.input.cursor.place file, behind))))) is
 
--- there are at most 65,536 objects
-pub few_objects : (tells : Type 0) (file : List ℕ) (r : Reader) → IsReading tells file r → map.len r.catalog.objects ≤ 65536
-few_objects tells file r reading = omega (arith, reading.read.known.count, few_records r.shape reading.records reading.read.valid)
+-- the bytes of a field stand in the bytes
+stands_at : (rest x y z : List ℕ) (at n : ℕ) → rest ≡ x ++ (y ++ z) → length x ≡ at → length y ≡ n → bytes_at n at rest ≡ y
+stands_at rest x y z at n is long wide =
+    ap (λ (l : List ℕ). take n (drop at l)) is ∙ ap (take n) (drop_at x (y ++ z) at long) ∙ take_at y z n wide
+
+-- they are no parts of it
+pub parts_bad : (tells : Type 0) (file : List ℕ) (old : Reader) (mid behind : Input) (object : ObjectFields) (bytes parts place : ℕ) (none all : List Extent) → TailsAreJudged
+    → (at : IsAtHead tells file old (joined_found bytes object parts)) → tells → HasPassed tells file old.input mid (take (object_end object + 4) old.input.cursor.bytes) → HasParts tells file mid behind parts none all
+    → none ≡ [] → old.lattice.n ≡ nodes_of at.records → are_parts old.shape object.size (old.lattice.n + object.count) all ≡ false → place ≡ old.input.cursor.place + (object_end object + 4) → IsBadAt file place
+parts_bad tells file old mid behind object bytes parts place none all law at tell head ps nothing nodes bad is =
+    let rest : List ℕ = drop old.input.cursor.place file in
+    let whole : drop old.input.cursor.place file ≡ take (object_end object + 4) old.input.cursor.bytes ++ (ps.text ++ drop behind.cursor.place file) =
+    head.bytes tell ∙ ap (λ (l : List ℕ). take (object_end object + 4) old.input.cursor.bytes ++ l) (ps.passed.bytes tell) in
+    let field : bytes_at (8 * parts) (object_end object + 4) (drop old.input.cursor.place file) ≡ ps.text =
+    stands_at (drop old.input.cursor.place file) (take (object_end object + 4) old.input.cursor.bytes) ps.text (drop behind.cursor.place file) (object_end object + 4) (8 * parts) whole
+    (omega (arith, length-take (object_end object + 4) old.input.cursor.bytes, at.within)) ps.long in
+    let all_is : all ≡ extents parts ps.text = ps.parts ∙ ap (λ (l : List Extent). l ++ extents parts ps.text) nothing in
+    bad_tail tells file old (joined_found bytes object parts) (object_end object + 4) place law at tell
+    (ap (λ (x : Result (Record × ℕ) ℕ). bad_of x) (failed (nat_le (object_end object + 4 + 8 * parts) (length (drop old.input.cursor.place file))) _ _ (Err (object_end object + 4))
+    (ap (λ (l : List ℕ). are_parts old.shape object.size (nodes_of at.records + object.count) (extents parts l)) field
+    ∙ (λ i. are_parts old.shape object.size (sym nodes i + object.count) (sym all_is i)) ∙ bad))) is
+
+-- what is judged behind parts that are good
+behind_parts : (tells : Type 0) (file : List ℕ) (old : Reader) (mid behind : Input) (object : ObjectFields) (bytes parts : ℕ) (none all : List Extent)
+    → (at : IsAtHead tells file old (joined_found bytes object parts)) → tells → HasPassed tells file old.input mid (take (object_end object + 4) old.input.cursor.bytes) → (ps : HasParts tells file mid behind parts none all)
+    → none ≡ [] → old.lattice.n ≡ nodes_of at.records → are_parts old.shape object.size (old.lattice.n + object.count) all ≡ true
+    → judge (tail_fields old.shape (known_of at.records) (found_at (take 315 old.input.cursor.bytes) (joined_found bytes object parts))) (object_end object + 4) (drop old.input.cursor.place file)
+    ≡ judge (digest_fields old.shape bytes (54 + 8 * parts) (stored_at (take 315 old.input.cursor.bytes) object) (λ p. Joined p (extents parts (bytes_at (8 * parts) (object_end object + 4) (drop old.input.cursor.place file)))))
+    (object_end object + 4 + 8 * parts) (drop old.input.cursor.place file)
+behind_parts tells file old mid behind object bytes parts none all at tell head ps nothing nodes good =
+    let whole : drop old.input.cursor.place file ≡ take (object_end object + 4) old.input.cursor.bytes ++ (ps.text ++ drop behind.cursor.place file) =
+    head.bytes tell ∙ ap (λ (l : List ℕ). take (object_end object + 4) old.input.cursor.bytes ++ l) (ps.passed.bytes tell) in
+    let size : length (take (object_end object + 4) old.input.cursor.bytes) ≡ object_end object + 4 = omega (arith, length-take (object_end object + 4) old.input.cursor.bytes, at.within) in
+    let field : bytes_at (8 * parts) (object_end object + 4) (drop old.input.cursor.place file) ≡ ps.text =
+    stands_at (drop old.input.cursor.place file) (take (object_end object + 4) old.input.cursor.bytes) ps.text (drop behind.cursor.place file) (object_end object + 4) (8 * parts) whole size ps.long in
+    let all_is : all ≡ extents parts ps.text = ps.parts ∙ ap (λ (l : List Extent). l ++ extents parts ps.text) nothing in
+    both (nat_le (object_end object + 4 + 8 * parts) (length (drop old.input.cursor.place file))) _ _ _
+    (long-has (object_end object + 4 + 8 * parts) (length (drop old.input.cursor.place file))
+    (omega (arith, ap length whole, length-append (take (object_end object + 4) old.input.cursor.bytes) (ps.text ++ drop behind.cursor.place file), length-append ps.text (drop behind.cursor.place file), size, ps.long)))
+    (ap (λ (l : List ℕ). are_parts old.shape object.size (nodes_of at.records + object.count) (extents parts l)) field
+    ∙ (λ i. are_parts old.shape object.size (sym nodes i + object.count) (sym all_is i)) ∙ good)
+
+pub joined_missing : (tells : Type 0) (file : List ℕ) (old : Reader) (mid behind : Input) (object : ObjectFields) (bytes parts count place : ℕ) (none all : List Extent) → TailsAreJudged
+    → (at : IsAtHead tells file old (joined_found bytes object parts)) → tells → HasPassed tells file old.input mid (take (object_end object + 4) old.input.cursor.bytes) → HasParts tells file mid behind parts none all
+    → none ≡ [] → old.lattice.n ≡ nodes_of at.records → are_parts old.shape object.size (old.lattice.n + object.count) all ≡ true → count ≡ object.count * (1 + old.shape.alpha)
+    → length (drop behind.cursor.place file) < 32 * count → place ≡ old.input.cursor.place + (object_end object + 4 + 8 * parts) → IsBadAt file place
+joined_missing tells file old mid behind object bytes parts count place none all law at tell head ps nothing nodes good many missing is =
+    let there : HasPassed tells file old.input behind (take (object_end object + 4) old.input.cursor.bytes ++ ps.text) =
+    passed_then tells file old.input mid behind (take (object_end object + 4) old.input.cursor.bytes) ps.text head ps.passed in
+    let size : length (take (object_end object + 4) old.input.cursor.bytes) ≡ object_end object + 4 = omega (arith, length-take (object_end object + 4) old.input.cursor.bytes, at.within) in
+    bad_tail tells file old (joined_found bytes object parts) (object_end object + 4 + 8 * parts) place law at tell
+    (ap (λ (x : Result (Record × ℕ) ℕ). bad_of x) (behind_parts tells file old mid behind object bytes parts none all at tell head ps nothing nodes good)
+    ∙ digests_missing old.shape bytes (54 + 8 * parts) (stored_at (take 315 old.input.cursor.bytes) object) (λ p. Joined p (extents parts (bytes_at (8 * parts) (object_end object + 4) (drop old.input.cursor.place file)))) (object_end object + 4 + 8 * parts) (drop old.input.cursor.place file)
+    (omega (arith, missing, length-drop behind.cursor.place file, length-drop old.input.cursor.place file, there.place, length-append (take (object_end object + 4) old.input.cursor.bytes) ps.text, size, ps.long, many))) is
+
+pub joined_wrong : (tells : Type 0) (file : List ℕ) (old : Reader) (mid behind new : Input) (object : ObjectFields) (bytes parts count place : ℕ) (none all : List Extent) (before after : List (List ℕ)) → TailsAreJudged
+    → (at : IsAtHead tells file old (joined_found bytes object parts)) → tells → HasPassed tells file old.input mid (take (object_end object + 4) old.input.cursor.bytes) → HasParts tells file mid behind parts none all
+    → HasDigests tells file behind new count before after → none ≡ [] → old.lattice.n ≡ nodes_of at.records → are_parts old.shape object.size (old.lattice.n + object.count) all ≡ true
+    → count ≡ object.count * (1 + old.shape.alpha) → bytes ≢ 54 + 8 * parts + object.long + 32 * count → place ≡ old.input.cursor.place + 2 → IsBadAt file place
+joined_wrong tells file old mid behind new object bytes parts count place none all before after law at tell head ps ds nothing nodes good many wrong is =
+    let there : HasPassed tells file old.input behind (take (object_end object + 4) old.input.cursor.bytes ++ ps.text) =
+    passed_then tells file old.input mid behind (take (object_end object + 4) old.input.cursor.bytes) ps.text head ps.passed in
+    let name = name_long tells file old (joined_found bytes object parts) object.long at (omega arith) in
+    let size : length (take (object_end object + 4) old.input.cursor.bytes) ≡ object_end object + 4 = omega (arith, length-take (object_end object + 4) old.input.cursor.bytes, at.within) in
+    let left = length_left file old.input.cursor.place (take (object_end object + 4) old.input.cursor.bytes ++ ps.text) ds.text behind.cursor.place new.cursor.place (there.bytes tell) (ds.passed.bytes tell) in
+    bad_tail tells file old (joined_found bytes object parts) 2 place law at tell
+    (ap (λ (x : Result (Record × ℕ) ℕ). bad_of x) (behind_parts tells file old mid behind object bytes parts none all at tell head ps nothing nodes good)
+    ∙ length_wrong old.shape bytes (54 + 8 * parts) (stored_at (take 315 old.input.cursor.bytes) object) (λ p. Joined p (extents parts (bytes_at (8 * parts) (object_end object + 4) (drop old.input.cursor.place file)))) (object_end object + 4 + 8 * parts) (drop old.input.cursor.place file)
+    (omega (arith, left, ds.long, many, length-append (take (object_end object + 4) old.input.cursor.bytes) ps.text, size, ps.long))
+    (λ e. wrong (e ∙ (λ i. 54 + 8 * parts + name i + 32 * sym many i)))) is
+
+-- ---- a fence, and a raise
+
+abbrev pub fence_found : ℕ → ℕ → Found
+fence_found bytes node = record { bytes = bytes; fields = Fenced node }
+
+abbrev pub raise_found : ℕ → Found
+raise_found bytes = record { bytes = bytes; fields = Raised }
+
+short_goes : (tells : Type 0) (file : List ℕ) (old : Reader) (found : Found) (new : Input) (r : Record) → TailsAreSpelled → (at : IsAtHead tells file old found)
+    → HasPassed tells file old.input new (take (head_end found.fields) old.input.cursor.bytes) → Spells (tail_fields old.shape (known_of at.records) (found_at (take 315 old.input.cursor.bytes) found)) [] r
+    → Goes tells file old new at.records r
+short_goes tells file old found new r law at passed spells =
+    goes_on tells file old found new [] r law at (subst (HasPassed tells file old.input new) (sym (append-nil (take (head_end found.fields) old.input.cursor.bytes))) passed) (All-nil (λ b. b < 2 ^ 8)) spells
+
+pub fence_read : (tells : Type 0) (file : List ℕ) (old new : Reader) (bytes node : ℕ) → TailsAreSpelled → (at : IsAtHead tells file old (fence_found bytes node)) → HasPassed tells file old.input new.input (take 10 old.input.cursor.bytes)
+    → bytes ≡ 4 → new.shape ≡ old.shape → IsFenced old.lattice new.lattice → new.catalog.objects ≡ old.catalog.objects → new.raised ≡ old.raised → new.digests.items ≡ old.digests.items → IsReading tells file new × (old.input.cursor.place < new.input.cursor.place)
+fence_read tells file old new bytes node law at passed four shape lattice objects raised items =
+    let records : List Record = at.records in
+    let goes : Goes tells file old new.input at.records (Fence node) = short_goes tells file old (fence_found bytes node) new.input (Fence node) law at passed (eq-eqb bytes 4 four, (refl, refl)) in
+    let nodes : nodes_of (at.records ++ Fence node ∷ []) ≡ nodes_of at.records = nodes_of-push at.records (Fence node) ∙ (let z : nodes_of at.records + 0 ≡ nodes_of at.records = omega arith in z) in
+    let is : IsLatticeOf old.shape (nodes_of (at.records ++ Fence node ∷ [])) (fences_of (at.records ++ Fence node ∷ [])) new.lattice = record {
+      alpha = lattice.shape.alpha ∙ at.read.lattice.alpha;
+      s = lattice.shape.s ∙ at.read.lattice.s;
+      p = lattice.shape.p ∙ at.read.lattice.p;
+      n = lattice.nodes ∙ at.read.lattice.n ∙ sym nodes;
+      fences_are = lattice.fences ∙ (λ i. at.read.lattice.fences_are i ++ (at.read.lattice.n ∙ sym goes.next.last) i ∷ []) ∙ sym (fences_of-push at.records (Fence node));
+    } in (
+      record {
+        records = at.records ++ Fence node ∷ [];
+        read = record {
+          valid = subst (λ (s : Shape). AreRecords s (at.records ++ Fence node ∷ [])) (sym shape) (MayFollow-push old.shape [] at.records (Fence node) at.read.valid goes.next);
+          lattice = subst (λ (s : Shape). IsLatticeOf s (nodes_of (at.records ++ Fence node ∷ [])) (fences_of (at.records ++ Fence node ∷ [])) new.lattice) (sym shape) is;
+          objects = objects ∙ at.read.objects ∙ sym (objects-push empty at.records (Fence node));
+          raised = raised ∙ at.read.raised ∙ sym (raised_stays at.records (Fence node) refl);
+          digests = items ∙ at.read.digests ∙ sym (digests_of-push at.records (Fence node) ∙ append-nil (digests_of at.records));
+          holds = subst (λ (s : Shape). Holds256 new.input.hasher (spelled s (at.records ++ Fence node ∷ []))) (sym shape) goes.holds;
+          place = goes.place ∙ ap (λ (s : Shape). length (spelled s (at.records ++ Fence node ∷ []))) (sym shape);
+        };
+        told = λ tell. record {
+          long = (at.told tell).long;
+          spelling = goes.spelling tell ∙ ap (λ (s : Shape). spelled s (at.records ++ Fence node ∷ []) ++ drop new.input.cursor.place file) (sym shape);
+          ahead = goes.ahead tell;
+        };
+      },
+      goes.on,
+    )
+
+pub raise_read : (tells : Type 0) (file : List ℕ) (old new : Reader) (bytes : ℕ) → TailsAreSpelled → (at : IsAtHead tells file old (raise_found bytes)) → HasPassed tells file old.input new.input (take 10 old.input.cursor.bytes)
+    → bytes ≡ 4 → new.shape ≡ old.shape → new.lattice ≡ old.lattice → new.catalog.objects ≡ old.catalog.objects → new.raised ≡ true → new.digests.items ≡ old.digests.items → IsReading tells file new × (old.input.cursor.place < new.input.cursor.place)
+raise_read tells file old new bytes law at passed four shape lattice objects raised items =
+    let goes : Goes tells file old new.input at.records Raise = short_goes tells file old (raise_found bytes) new.input Raise law at passed (eq-eqb bytes 4 four, (refl, refl)) in
+    let nodes : nodes_of (at.records ++ Raise ∷ []) ≡ nodes_of at.records = nodes_of-push at.records Raise ∙ (let z : nodes_of at.records + 0 ≡ nodes_of at.records = omega arith in z) in
+    let fences : fences_of (at.records ++ Raise ∷ []) ≡ fences_of at.records = fences_of-push at.records Raise ∙ append-nil (fences_of at.records) in
+    let was : IsLatticeOf old.shape (nodes_of at.records) (fences_of at.records) new.lattice = subst (IsLatticeOf old.shape (nodes_of at.records) (fences_of at.records)) (sym lattice) at.read.lattice in
+    let is : IsLatticeOf old.shape (nodes_of (at.records ++ Raise ∷ [])) (fences_of (at.records ++ Raise ∷ [])) new.lattice = record {
+      alpha = was.alpha;
+      s = was.s;
+      p = was.p;
+      n = was.n ∙ sym nodes;
+      fences_are = was.fences_are ∙ sym fences;
+    } in (
+      record {
+        records = at.records ++ Raise ∷ [];
+        read = record {
+          valid = subst (λ (s : Shape). AreRecords s (at.records ++ Raise ∷ [])) (sym shape) (MayFollow-push old.shape [] at.records Raise at.read.valid goes.next);
+          lattice = subst (λ (s : Shape). IsLatticeOf s (nodes_of (at.records ++ Raise ∷ [])) (fences_of (at.records ++ Raise ∷ [])) new.lattice) (sym shape) is;
+          objects = objects ∙ at.read.objects ∙ sym (objects-push empty at.records Raise);
+          raised = raised ∙ sym (raised_now at.records Raise refl);
+          digests = items ∙ at.read.digests ∙ sym (digests_of-push at.records Raise ∙ append-nil (digests_of at.records));
+          holds = subst (λ (s : Shape). Holds256 new.input.hasher (spelled s (at.records ++ Raise ∷ []))) (sym shape) goes.holds;
+          place = goes.place ∙ ap (λ (s : Shape). length (spelled s (at.records ++ Raise ∷ []))) (sym shape);
+        };
+        told = λ tell. record {
+          long = (at.told tell).long;
+          spelling = goes.spelling tell ∙ ap (λ (s : Shape). spelled s (at.records ++ Raise ∷ []) ++ drop new.input.cursor.place file) (sym shape);
+          ahead = goes.ahead tell;
+        };
+      },
+      goes.on,
+    )
+
+-- the number of bytes of a fence or a raise is another
+pub fence_wrong : (tells : Type 0) (file : List ℕ) (old : Reader) (bytes node place : ℕ) → TailsAreJudged → IsAtHead tells file old (fence_found bytes node) → tells → bytes ≢ 4 → place ≡ old.input.cursor.place + 2 → IsBadAt file place
+fence_wrong tells file old bytes node place law at tell wrong is =
+    bad_tail tells file old (fence_found bytes node) 2 place law at tell (ap (λ (x : Result (Record × ℕ) ℕ). bad_of x) (unless (bytes == 4) _ (Err 2) (ne_eqb bytes 4 wrong))) is
+
+pub raise_wrong : (tells : Type 0) (file : List ℕ) (old : Reader) (bytes place : ℕ) → TailsAreJudged → IsAtHead tells file old (raise_found bytes) → tells → bytes ≢ 4 → place ≡ old.input.cursor.place + 2 → IsBadAt file place
+raise_wrong tells file old bytes place law at tell wrong is =
+    bad_tail tells file old (raise_found bytes) 2 place law at tell (ap (λ (x : Result (Record × ℕ) ℕ). bad_of x) (unless (bytes == 4) _ (Err 2) (ne_eqb bytes 4 wrong))) is

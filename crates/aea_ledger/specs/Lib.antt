@@ -1,13 +1,8 @@
-pub mod Format
-pub mod Grammar
-pub mod Faults
-pub mod Laws
 pub mod Recorded
 pub mod Values
-pub mod Kept
 pub mod Next
 pub mod Stops
 pub mod Reads
 pub mod Openings
-pub mod Heads
 pub mod Readings
+pub mod Committing

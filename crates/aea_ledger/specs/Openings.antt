@@ -2,8 +2,8 @@
 use Rattle.std.specs.Prelude.{◌≡◌, ◌⊎◌, ℕ, List, Result, Ok, Err, IsOk}
 use Rattle.aea_ledger.specs.declared.open.OpenFault.{OpenFault}
 use Rattle.aea_ledger.specs.declared.open.OpenFault.TheVariants.{NoArchive, LedgerBad, DiskFault, NoMemory}
-use Rattle.aea_ledger.specs.Faults.{IsNoArchive, IsBadAt}
-use Rattle.aea_ledger.specs.Laws.{IsSomeLedger}
+use Rattle.aea_records.specs.Faults.{IsNoArchive, IsBadAt}
+use Rattle.aea_records.specs.Laws.{IsSomeLedger}
 use Rattle.aea_ledger.specs.Values.{Opened, IsThisOne}
 
 -- Each answer has its cause in the bytes. A fault of the disk and want of memory have none there.

@@ -1,11 +1,11 @@
 -- What stops leave of a ledger file that is being made or added to.
-use Rattle.std.specs.Prelude.{◌≡◌, ◌≢◌, ◌⊎◌, ℕ, ◌≤◌, List, [], ◌∷◌, ◌++◌, length}
+use Rattle.std.specs.Prelude.{◌≡◌, ◌≢◌, ◌⊎◌, ℕ, ◌+◌, ◌≤◌, List, [], ◌∷◌, ◌++◌, length}
 use Rattle.aea_lattice.specs.declared.shape.Shape.{Shape}
-use Rattle.aea_disk.specs.Files.{Files}
+use Rattle.aea_disk.specs.Files.{Files, ChangesOnly, overwritten}
 use Rattle.aea_disk.specs.State.{State, KeepsImages}
-use Rattle.aea_ledger.specs.Format.{Record, open_gate, header, body, spelled}
-use Rattle.aea_ledger.specs.Grammar.{IsNext, AreRecords, IsLedger}
-use Rattle.aea_ledger.specs.Faults.{HasOpenHeader, IsNoArchive}
+use Rattle.aea_records.specs.Format.{Record, open_gate, header, body, spelled}
+use Rattle.aea_records.specs.Grammar.{IsNext, AreRecords, IsLedger}
+use Rattle.aea_records.specs.Faults.{HasOpenHeader, IsNoArchive}
 
 -- the ledger without records: the header, and a gate that is not open
 abbrev pub empty_ledger : Shape → List ℕ
@@ -20,6 +20,15 @@ IsNoneOrEmpty shape bytes = IsNoArchive bytes ⊎ (bytes ≡ empty_ledger shape)
 pub record IsBeingMade (shape : Shape) (old new : List ℕ) : Type 0 where
   pub occupied : HasOpenHeader old → new ≡ old
   pub free : IsNoArchive old → IsNoneOrEmpty shape new
+
+-- the same of a disk's files: no other file changes
+pub record MakesArchive (shape : Shape) (old new : Files) : Type 0 where
+  pub ledger : IsBeingMade shape (old 0) (new 0)
+  pub others : ChangesOnly 0 old new
+
+-- The file with bytes written behind the gate at this place, and then the gate opened. Everything else stays.
+abbrev pub committed : List ℕ → ℕ → List ℕ → List ℕ
+committed file end behind = overwritten (overwritten file (end + 1) behind) end (open_gate ∷ [])
 
 -- The file has these records, whatever stands behind its ending gate.
 abbrev pub HasLedger : Shape → List Record → List ℕ → Type 0
@@ -47,14 +56,19 @@ pub record IsStaged (shape : Shape) (records : List Record) (r : Record) (bytes 
   pub place : end ≡ length (spelled shape records)
 
 -- Of a call that begins with a sync. At some moment of the call it has succeeded: up to then the images are those at the
--- entry, and from then on each has the fact.
+-- entry, at that moment each has every file as it read at the entry, and from then on each has the fact.
 pub record IsOpened (old new : State) (P : Files → Type 0) : Type 0 where
   pub moment : ℕ
   pub from : old.moment ≤ moment
   pub to : moment ≤ new.moment
   pub before : (t : ℕ) (c : Files) → old.moment ≤ t → t ≤ moment → new.image t c → old.image old.moment c
+  pub sure : (c : Files) → new.image moment c → (f : ℕ) → c f ≡ old.files f
   pub later : (t : ℕ) (c : Files) → moment ≤ t → t ≤ new.moment → new.image t c → P c
 
 -- The sync failed, and all images are those at the entry; or it has succeeded.
 abbrev pub HasOpening : State → State → (Files → Type 0) → Type 0
 HasOpening old new P = KeepsImages old new ⊎ IsOpened old new P
+
+-- every file is as it was
+abbrev pub StaysAll : Files → Files → Type 0
+StaysAll old new = (f : ℕ) → new f ≡ old f

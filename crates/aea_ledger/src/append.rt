@@ -1,24 +1,26 @@
 //! One more record.
 
-ghost use Rattle.std.specs.Prelude.{◌≡◌, ◌≢◌, ◌⊎◌, ◌↔◌, ◌+◌, ◌*◌, ◌≤◌, ◌<◌, ◌^◌, [], ◌∷◌, ◌++◌, None, true, false, ℕ, List, length, max, vec_len, vec_capacity, OnOk};
+ghost use Rattle.std.specs.Prelude.{◌≡◌, ◌≢◌, ◌⊎◌, ◌↔◌, ◌+◌, ◌*◌, ◌≤◌, ◌<◌, ◌^◌, [], ◌∷◌, ◌++◌, None, true, false, ℕ, List, length, vec_len, vec_capacity, OnOk};
 ghost use Rattle.std.specs.FinMap.{get, len, insert};
-ghost use Rattle.aea_faults.specs.Faults.{Rose};
-ghost use Rattle.aea_lattice.specs.Profile.{greatest_nodes};
-ghost use Rattle.aea_disk.specs.State.{Passes, During, Stays, KeepsOthers, IsSynced, IsFixed, HasRoom};
 ghost use Rattle.sha2.specs.Hashers.{Holds256};
 ghost use Rattle.sha2.specs.Sha256.{sha256};
+ghost use Rattle.aea_disk.specs.Files.{ChangesOnly};
+ghost use Rattle.aea_disk.specs.State.{IsFixed, HasRoomTo};
+ghost use Rattle.aea_disk.specs.Frames.{OnlyWrites};
 ghost use Rattle.aea_catalog.specs.Names.{IsName};
-ghost use Rattle.aea_ledger.specs.Format.{Record, greatest_objects, nodes_for, entry};
-ghost use Rattle.aea_ledger.specs.Values.{HasRecords, IsThisOne};
-ghost use Rattle.aea_ledger.specs.Next.{next_record, AreItsRecords};
-ghost use Rattle.aea_ledger.specs.Stops.{HasLedger, HasOldOrNew};
+ghost use Rattle.aea_catalog.specs.Catalogs.{placed_alone};
+ghost use Rattle.aea_records.specs.Format.{Object, greatest_objects, nodes_for, limit_when, entry};
+ghost use Rattle.aea_ledger.specs.Values.{IsThisOne};
+ghost use Rattle.aea_ledger.specs.Next.{next_stored};
+ghost use Rattle.aea_ledger.specs.Committing.{LeavesOldOrNew, HasCommitted};
 
 use crate::body::closed_body;
-use crate::commit::commit;
+use crate::commit::commit_next;
 use crate::ledger::Ledger;
+use crate::reader::more_nodes;
 use aea_catalog::{Catalog, ObjectRef};
 use aea_disk::Disk;
-use aea_lattice::Lattice;
+use aea_records::{new_names_are_free, objects_are_counted, records_are_few};
 use sha2::{Digest, Sha256};
 use std::alloc::AllocError;
 
@@ -74,7 +76,7 @@ fn put(
     requires absent { get catalog.old.objects name.items ≡ None }
     requires room { 1 ≤ catalog.old.room }
     requires capacity { vec_len digests.old + length more.now ≤ vec_capacity digests.old }
-    ensures objects { catalog.new.objects ≡ insert catalog.old.objects name.items object }
+    ensures objects { catalog.new.objects ≡ insert catalog.old.objects name.items (placed_alone object) }
     ensures digests { digests.new.items ≡ digests.old.items ++ more.now }
 {
     catalog.insert_owned(name, object);
@@ -83,7 +85,7 @@ fn put(
 }
 
 // Lets the hasher take an open gate and a body, and gives the digest of all that it then has.
-fn take_entry(hasher: &mut Sha256, body: &[u8]) -> [u8; 32]
+pub(crate) fn take_entry(hasher: &mut Sha256, body: &[u8]) -> [u8; 32]
     ensures taken { (m : List ℕ) → Holds256 hasher.old m → Holds256 hasher.new (m ++ 1 ∷ body.now) }
     ensures seal { (m : List ℕ) → Holds256 hasher.old m → result ≡ sha256 (m ++ 1 ∷ body.now) }
 {
@@ -92,29 +94,11 @@ fn take_entry(hasher: &mut Sha256, body: &[u8]) -> [u8; 32]
     hasher.clone().unwrap().finalize()
 }
 
-// The lattice with so many more nodes.
-fn more_nodes(lattice: &Lattice, count: u32) -> Lattice
-    requires { lattice.now.n + count ≤ greatest_nodes }
-    ensures alpha { result.alpha ≡ lattice.now.alpha }
-    ensures s { result.s ≡ lattice.now.s }
-    ensures p { result.p ≡ lattice.now.p }
-    ensures n { result.n ≡ lattice.now.n + count }
-{
-    let Some(lattice) = Lattice::new(
-        lattice.alpha(),
-        lattice.s(),
-        lattice.p(),
-        lattice.n() + count,
-    ) else {
-        unreachable!();
-    };
-    lattice
-}
-
 impl Ledger {
-    /// Adds a record: the name of an object; its length in bytes, its SHA-256 (FIPS 180-4) and its number of nodes; and
-    /// the digests of its blocks in number order. All memory is taken before the first write. At `Ok` every file is
-    /// sure. After a fault of the disk, which may have left the record or not, the ledger has to be opened anew.
+    /// Adds a record of an object whose nodes are all new: its name; its length in bytes, its SHA-256 (FIPS 180-4) and its
+    /// number of nodes; and the digests of its blocks in number order. All memory is taken before the first write. At `Ok`
+    /// every file is sure. After a fault of the disk, which may have left the record or not, the ledger has to be opened
+    /// anew.
     pub fn append<D: Disk>(
         &mut self,
         disk: &mut D,
@@ -128,7 +112,7 @@ impl Ledger {
         requires name { IsName name.now }
         requires absent { get self.old.objects name.now ≡ None }
         requires count { count ≡ nodes_for self.old.shape size }
-        requires fits { self.old.lattice.n + count ≤ greatest_nodes }
+        requires fits { self.old.lattice.n + count ≤ limit_when self.old.raised }
         requires digests { length digests.now ≡ count * (1 + self.old.shape.alpha) }
         requires this { D.tells → IsThisOne self.old ((D.state disk.old).files 0) }
         requires fixed { D.tells → IsFixed (D.state disk.old) 0 }
@@ -137,36 +121,22 @@ impl Ledger {
         ensures full { (result ≡ Err AppendFault.CatalogFull) ↔ (len self.old.objects ≡ greatest_objects) }
         ensures unchanged { (result ≡ Err AppendFault.CatalogFull) ⊎ (result ≡ Err AppendFault.NoMemory) → (self.new ≡ self.old) × (disk.new ≡ disk.old) }
 
-        // The new ledger: behind these records, the next one.
-        ensures value { OnOk result ((records : List Record) → HasRecords self.old records → HasRecords self.new (records ++ next_record self.old name.now size digest count digests.now ∷ [])) }
-        ensures shape { self.new.shape ≡ self.old.shape }
-        ensures live_on { OnOk result (self.new.live ≡ true) }
-        ensures this_one { OnOk result (D.tells → IsThisOne self.new ((D.state disk.new).files 0)) }
-        ensures durable { OnOk result (D.tells → IsSynced (D.state disk.new)) }
+        // The old ledger or the new one at each moment, and the new one at Ok.
+        ensures leaves { LeavesOldOrNew D.tells self.old (Object (next_stored self.old name.now size digest count digests.now)) (D.state disk.old) (D.state disk.new) }
+        ensures committed { OnOk result (HasCommitted D.tells self.old self.new (Object (next_stored self.old name.now size digest count digests.now)) (D.state disk.old) (D.state disk.new)) }
         ensures dead { result ≡ Err AppendFault.DiskFault → self.new ≡ record self.old { live = false } }
 
-        // On the disk: the old ledger or the new one at each moment, and the new one at Ok.
-        ensures old_or_new { D.tells → (records : List Record) → AreItsRecords self.old records ((D.state disk.old).files 0) → During (D.state disk.old) (D.state disk.new) (λ c. HasOldOrNew self.old.shape records (next_record self.old name.now size digest count digests.now) (c 0)) }
-        ensures stays { D.tells → (records : List Record) → AreItsRecords self.old records ((D.state disk.old).files 0) → Stays (D.state disk.old) (D.state disk.new) (λ c. HasLedger self.old.shape (records ++ next_record self.old name.now size digest count digests.now ∷ []) (c 0)) }
-        ensures reads { D.tells → (records : List Record) → AreItsRecords self.old records ((D.state disk.old).files 0) → HasOldOrNew self.old.shape records (next_record self.old name.now size digest count digests.now) ((D.state disk.new).files 0) }
-        ensures appended { OnOk result (D.tells → (records : List Record) → AreItsRecords self.old records ((D.state disk.old).files 0) → HasLedger self.old.shape (records ++ next_record self.old name.now size digest count digests.now ∷ []) ((D.state disk.new).files 0)) }
-
-        // No write ends past the gate that ends the new ledger, and none is on another file.
-        ensures length { D.tells → length ((D.state disk.new).files 0) ≤ max (length ((D.state disk.old).files 0)) (self.old.end + length (entry (next_record self.old name.now size digest count digests.now)) + 1) }
-        ensures others { KeepsOthers D.tells 0 (D.state disk.old) (D.state disk.new) }
-
-        // When the disk is at fault.
-        ensures time { Passes (D.state disk.old) (D.state disk.new) }
-        ensures kept { (D.state disk.old).faults ≤ (D.state disk.new).faults }
-        ensures cause { result ≡ Err AppendFault.DiskFault → Rose (D.state disk.old).faults (D.state disk.new).faults }
-        ensures sure { (D.state disk.old).room 0 (self.old.end + length (entry (next_record self.old name.now size digest count digests.now)) + 1) → (result ≢ Err AppendFault.DiskFault) × ((D.state disk.new).faults ≡ (D.state disk.old).faults) }
-        ensures room { OnOk result (HasRoom (D.state disk.old) → (D.state disk.old).room 0 (self.old.end + length (entry (next_record self.old name.now size digest count digests.now)) + 1)) }
+        // No other file changes, and when the disk is at fault.
+        ensures writes { OnlyWrites D.tells (HasRoomTo (D.state disk.old) 0 (self.old.end + length (entry (Object (next_stored self.old name.now size digest count digests.now))) + 1)) (result ≡ Err AppendFault.DiskFault) (ChangesOnly 0) (D.state disk.old) (D.state disk.new) }
     {
+        objects_are_counted();
+        new_names_are_free();
+        records_are_few();
         if self.catalog.len() >= MAX_OBJECTS {
             return Err(AppendFault::CatalogFull);
         }
         let object = ObjectRef {
-            first: self.lattice.n() + 1,
+            first: self.lattice.n + 1,
             count,
             length: size,
             digest,
@@ -175,7 +145,7 @@ impl Ledger {
         let name = Vec::from_slice(alloc, name)?;
         let bytes = closed_body(alloc, &name, &object, digests)?;
         reserve(&mut self.catalog, &mut self.digests, digests.len())?;
-        if commit(disk, self.end, &bytes).is_err() {
+        if commit_next(disk, self.end, &bytes).is_err() {
             self.live = false;
             return Err(AppendFault::DiskFault);
         }

@@ -2,8 +2,8 @@
 
 ghost use Rattle.std.specs.Prelude.{◌≡◌, ◌≤◌, ◌^◌, [], ◌∷◌, ◌++◌, length, All, is_ok, if◌then◌else◌, IfOk, OnOk};
 ghost use Rattle.aea_lattice.specs.Data.{IsBytes};
-ghost use Rattle.aea_ledger.specs.Format.{body};
-ghost use Rattle.aea_ledger.specs.Laws.{AreBytes};
+ghost use Rattle.aea_records.specs.Format.{Object, body};
+ghost use Rattle.aea_records.specs.TableLaws.{AreBytes};
 
 use aea_catalog::ObjectRef;
 use std::alloc::{AllocError, Global};
@@ -24,8 +24,8 @@ pub(crate) fn closed_body(
     digests: &[[u8; 32]],
 ) -> Result<Vec<u8>, AllocError>
     requires name { length name.now ≤ 255 }
-    requires digests { length digests.now ≤ 2 ^ 18 }
-    ensures items { IfOk result (λ bytes. bytes.items ≡ body (record { name = name.now; object = object.now; digests = digests.now }) ++ 0 ∷ []) }
+    requires digests { length digests.now ≤ 2 ^ 22 }
+    ensures items { IfOk result (λ bytes. bytes.items ≡ body (Object (record { name = name.now; size = object.now.length; digest = object.now.digest; first = object.now.first; count = object.now.count; digests = digests.now })) ++ 0 ∷ []) }
     ensures digest { OnOk result (IsBytes 32 object.now.digest) }
     ensures each { OnOk result (All (IsBytes 32) digests.now) }
 {

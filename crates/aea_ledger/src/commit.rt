@@ -1,12 +1,14 @@
 // Writes to the ledger file that are made sure, and the commit of a record by its gate.
-ghost use Rattle.std.specs.Prelude.{◌≡◌, ◌+◌, ◌^◌, ◌≤◌, [], ◌∷◌, ◌++◌, List, length, max, OnOk};
-ghost use Rattle.aea_faults.specs.Faults.{HasCause};
+ghost use Rattle.std.specs.Prelude.{◌≡◌, ◌+◌, ◌^◌, ◌≤◌, [], ◌∷◌, ◌++◌, List, length, max, IsErr, OnOk};
 ghost use Rattle.aea_lattice.specs.declared.shape.Shape.{Shape};
-ghost use Rattle.aea_disk.specs.Files.{ChangesFile, Holds, Torn};
-ghost use Rattle.aea_disk.specs.State.{Passes, Follows, Settles, Stays, During, KeepsOthers, IsSynced, IsFixed, IsSure, HasRoom};
-ghost use Rattle.aea_ledger.specs.Format.{Record};
-ghost use Rattle.aea_ledger.specs.Grammar.{IsLedger};
-ghost use Rattle.aea_ledger.specs.Stops.{HasLedger, HasOldOrNew, IsAdded, IsStaged};
+ghost use Rattle.aea_disk.specs.Files.{ChangesFile, ChangesOnly, Holds, Torn, overwritten};
+ghost use Rattle.aea_disk.specs.State.{Settles, Stays, During, IsSynced, IsFixed, HasRoom, HasRoomTo};
+ghost use Rattle.aea_disk.specs.Frames.{OnlyWrites};
+ghost use Rattle.aea_records.specs.Format.{Record, body};
+ghost use Rattle.aea_records.specs.Grammar.{IsLedger};
+ghost use Rattle.aea_ledger.specs.Values.{Opened, IsThisOne};
+ghost use Rattle.aea_ledger.specs.Committing.{IsNextOf, HasTaken, LeavesOldOrNew, HasCommitted};
+ghost use Rattle.aea_ledger.specs.Stops.{HasLedger, HasOldOrNew, IsAdded, IsStaged, committed};
 
 use aea_disk::{Disk, DiskFault};
 
@@ -14,14 +16,10 @@ use aea_disk::{Disk, DiskFault};
 pub(crate) fn write_through<D: Disk>(disk: &mut D, at: u64, bytes: &[u8]) -> Result<(), DiskFault>
     requires { at + length bytes.now ≤ 2 ^ 62 }
     ensures written { OnOk result (D.tells → ChangesFile 0 (Holds at bytes.now) (D.state disk.old).files (D.state disk.new).files) }
-    ensures torn { D.tells → ChangesFile 0 (Torn at (length bytes.now)) (D.state disk.old).files (D.state disk.new).files }
     ensures durable { OnOk result (D.tells → IsSynced (D.state disk.new)) }
-    ensures crash { Follows (ChangesFile 0 (Torn at (length bytes.now))) (D.state disk.old) (D.state disk.new) }
     ensures settled { Settles (D.state disk.old) (D.state disk.new) }
-    ensures time { Passes (D.state disk.old) (D.state disk.new) }
-    ensures cause { HasCause (D.state disk.old).faults (D.state disk.new).faults result }
-    ensures sure { IsSure ((D.state disk.old).room 0 (at + length bytes.now)) (D.state disk.old) (D.state disk.new) result }
-    ensures full { OnOk result (HasRoom (D.state disk.old) → (D.state disk.old).room 0 (at + length bytes.now)) }
+    ensures writes { OnlyWrites D.tells (HasRoomTo (D.state disk.old) 0 (at + length bytes.now)) (IsErr result) (ChangesFile 0 (Torn at (length bytes.now))) (D.state disk.old) (D.state disk.new) }
+    ensures full { OnOk result (HasRoom (D.state disk.old) → HasRoomTo (D.state disk.old) 0 (at + length bytes.now)) }
 {
     disk.write(0, at, bytes)?;
     disk.sync()
@@ -37,15 +35,13 @@ pub(crate) fn write_body<D: Disk>(disk: &mut D, end: u64, behind: &[u8]) -> Resu
     ensures any_moment { D.tells → (shape : Shape) (records : List Record) → IsLedger ((D.state disk.old).files 0) shape records end → During (D.state disk.old) (D.state disk.new) (λ c. HasLedger shape records (c 0)) }
     ensures reads { D.tells → (shape : Shape) (records : List Record) → IsLedger ((D.state disk.old).files 0) shape records end → HasLedger shape records ((D.state disk.new).files 0) }
     ensures stays { D.tells → (shape : Shape) (records : List Record) (r : Record) → IsLedger ((D.state disk.old).files 0) shape records end → Stays (D.state disk.old) (D.state disk.new) (λ c. HasLedger shape (records ++ r ∷ []) (c 0)) }
+    ensures exactly { OnOk result (D.tells → (D.state disk.new).files 0 ≡ overwritten ((D.state disk.old).files 0) (end + 1) behind.now) }
     ensures staged { OnOk result (D.tells → (shape : Shape) (records : List Record) (r : Record) → IsAdded shape records r ((D.state disk.old).files 0) end behind.now → IsStaged shape records r ((D.state disk.new).files 0) end) }
     ensures durable { OnOk result (D.tells → IsSynced (D.state disk.new)) }
 
     ensures length { D.tells → length ((D.state disk.new).files 0) ≤ max (length ((D.state disk.old).files 0)) (end + 1 + length behind.now) }
-    ensures others { KeepsOthers D.tells 0 (D.state disk.old) (D.state disk.new) }
-    ensures time { Passes (D.state disk.old) (D.state disk.new) }
-    ensures cause { HasCause (D.state disk.old).faults (D.state disk.new).faults result }
-    ensures sure { IsSure ((D.state disk.old).room 0 (end + 1 + length behind.now)) (D.state disk.old) (D.state disk.new) result }
-    ensures full { OnOk result (HasRoom (D.state disk.old) → (D.state disk.old).room 0 (end + 1 + length behind.now)) }
+    ensures writes { OnlyWrites D.tells (HasRoomTo (D.state disk.old) 0 (end + 1 + length behind.now)) (IsErr result) (ChangesOnly 0) (D.state disk.old) (D.state disk.new) }
+    ensures full { OnOk result (HasRoom (D.state disk.old) → HasRoomTo (D.state disk.old) 0 (end + 1 + length behind.now)) }
 {
     write_through(disk, end + 1, behind)
 }
@@ -59,14 +55,12 @@ pub(crate) fn open_gate<D: Disk>(disk: &mut D, end: u64) -> Result<(), DiskFault
     ensures any_moment { D.tells → (shape : Shape) (records : List Record) (r : Record) → IsStaged shape records r ((D.state disk.old).files 0) end → During (D.state disk.old) (D.state disk.new) (λ c. HasOldOrNew shape records r (c 0)) }
     ensures reads { D.tells → (shape : Shape) (records : List Record) (r : Record) → IsStaged shape records r ((D.state disk.old).files 0) end → HasOldOrNew shape records r ((D.state disk.new).files 0) }
     ensures stays { D.tells → (shape : Shape) (records : List Record) (r : Record) → IsStaged shape records r ((D.state disk.old).files 0) end → Stays (D.state disk.old) (D.state disk.new) (λ c. HasLedger shape (records ++ r ∷ []) (c 0)) }
+    ensures exactly { OnOk result (D.tells → (D.state disk.new).files 0 ≡ overwritten ((D.state disk.old).files 0) end (1 ∷ [])) }
     ensures opened { OnOk result (D.tells → (shape : Shape) (records : List Record) (r : Record) → IsStaged shape records r ((D.state disk.old).files 0) end → HasLedger shape (records ++ r ∷ []) ((D.state disk.new).files 0)) }
     ensures durable { OnOk result (D.tells → IsSynced (D.state disk.new)) }
 
     ensures length { D.tells → length ((D.state disk.new).files 0) ≤ max (length ((D.state disk.old).files 0)) (end + 1) }
-    ensures others { KeepsOthers D.tells 0 (D.state disk.old) (D.state disk.new) }
-    ensures time { Passes (D.state disk.old) (D.state disk.new) }
-    ensures cause { HasCause (D.state disk.old).faults (D.state disk.new).faults result }
-    ensures sure { IsSure ((D.state disk.old).room 0 (end + 1)) (D.state disk.old) (D.state disk.new) result }
+    ensures writes { OnlyWrites D.tells (HasRoomTo (D.state disk.old) 0 (end + 1)) (IsErr result) (ChangesOnly 0) (D.state disk.old) (D.state disk.new) }
 {
     write_through(disk, end, &[1])
 }
@@ -81,16 +75,27 @@ pub(crate) fn commit<D: Disk>(disk: &mut D, end: u64, behind: &[u8]) -> Result<(
     ensures any_moment { D.tells → (shape : Shape) (records : List Record) (r : Record) → IsAdded shape records r ((D.state disk.old).files 0) end behind.now → During (D.state disk.old) (D.state disk.new) (λ c. HasOldOrNew shape records r (c 0)) }
     ensures stays { D.tells → (shape : Shape) (records : List Record) (r : Record) → IsAdded shape records r ((D.state disk.old).files 0) end behind.now → Stays (D.state disk.old) (D.state disk.new) (λ c. HasLedger shape (records ++ r ∷ []) (c 0)) }
     ensures reads { D.tells → (shape : Shape) (records : List Record) (r : Record) → IsAdded shape records r ((D.state disk.old).files 0) end behind.now → HasOldOrNew shape records r ((D.state disk.new).files 0) }
+    // At Ok the file is the old one with these bytes behind the gate, and the gate opened.
+    ensures exactly { OnOk result (D.tells → (D.state disk.new).files 0 ≡ committed ((D.state disk.old).files 0) end behind.now) }
     ensures appended { OnOk result (D.tells → (shape : Shape) (records : List Record) (r : Record) → IsAdded shape records r ((D.state disk.old).files 0) end behind.now → HasLedger shape (records ++ r ∷ []) ((D.state disk.new).files 0)) }
     ensures durable { OnOk result (D.tells → IsSynced (D.state disk.new)) }
 
     ensures length { D.tells → length ((D.state disk.new).files 0) ≤ max (length ((D.state disk.old).files 0)) (end + 1 + length behind.now) }
-    ensures others { KeepsOthers D.tells 0 (D.state disk.old) (D.state disk.new) }
-    ensures time { Passes (D.state disk.old) (D.state disk.new) }
-    ensures cause { HasCause (D.state disk.old).faults (D.state disk.new).faults result }
-    ensures sure { IsSure ((D.state disk.old).room 0 (end + 1 + length behind.now)) (D.state disk.old) (D.state disk.new) result }
-    ensures full { OnOk result (HasRoom (D.state disk.old) → (D.state disk.old).room 0 (end + 1 + length behind.now)) }
+    ensures writes { OnlyWrites D.tells (HasRoomTo (D.state disk.old) 0 (end + 1 + length behind.now)) (IsErr result) (ChangesOnly 0) (D.state disk.old) (D.state disk.new) }
+    ensures full { OnOk result (HasRoom (D.state disk.old) → HasRoomTo (D.state disk.old) 0 (end + 1 + length behind.now)) }
 {
     write_body(disk, end, behind)?;
     open_gate(disk, end)
+}
+
+// Commits the record r of which these bytes are the body and a closed gate, to an opened ledger v that ends at this place.
+pub(crate) fn commit_next<D: Disk>(disk: &mut D, end: u64, behind: &[u8]) -> Result<(), DiskFault>
+    requires range { end + length behind.now + 1 ≤ 2 ^ 62 }
+    requires fixed { D.tells → IsFixed (D.state disk.old) 0 }
+    ensures leaves { (v : Opened) (r : Record) → v.end ≡ end → behind.now ≡ body r ++ 0 ∷ [] → IsNextOf v r → LeavesOldOrNew D.tells v r (D.state disk.old) (D.state disk.new) }
+    ensures committed { OnOk result ((v w : Opened) (r : Record) → v.end ≡ end → behind.now ≡ body r ++ 0 ∷ [] → IsNextOf v r → (D.tells → IsThisOne v ((D.state disk.old).files 0)) → HasTaken v r w → HasCommitted D.tells v w r (D.state disk.old) (D.state disk.new)) }
+    ensures writes { OnlyWrites D.tells (HasRoomTo (D.state disk.old) 0 (end + 1 + length behind.now)) (IsErr result) (ChangesOnly 0) (D.state disk.old) (D.state disk.new) }
+{
+    commit(disk, end, behind)?;
+    Ok(())
 }

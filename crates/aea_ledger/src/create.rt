@@ -1,11 +1,11 @@
 //! A new archive: its ledger.
 
-ghost use Rattle.std.specs.Prelude.{◌≡◌, ◌≢◌, ◌↔◌, ◌+◌, ◌≤◌, [], ◌∷◌, length, drop, max, IsTrue, IfOk, OnOk, ℕ};
-ghost use Rattle.aea_faults.specs.Faults.{HasCause, Rose};
-ghost use Rattle.aea_disk.specs.Files.{Files, ChangesFile, MayBeCut};
-ghost use Rattle.aea_disk.specs.State.{Passes, Follows, KeepsImages, KeepsOthers, During, IsSynced, IsFixed, IsSure, HasRoom};
-ghost use Rattle.aea_ledger.specs.Faults.{HasOpenHeader, IsNoArchive};
-ghost use Rattle.aea_ledger.specs.Stops.{empty_ledger, IsNoneOrEmpty, IsBeingMade, HasOpening};
+ghost use Rattle.std.specs.Prelude.{◌≡◌, ◌≢◌, ◌↔◌, ◌+◌, ◌≤◌, [], ◌∷◌, length, drop, max, IsErr, IsTrue, IfOk, OnOk};
+ghost use Rattle.aea_disk.specs.Files.{ChangesFile, ChangesOnly, MayBeCut};
+ghost use Rattle.aea_disk.specs.State.{KeepsImages, HasEarlier, During, IsSynced, IsFixed, HasRoom, HasRoomTo, NeverFails};
+ghost use Rattle.aea_disk.specs.Frames.{OnlyReads, OnlyWrites};
+ghost use Rattle.aea_records.specs.Faults.{HasOpenHeader, IsNoArchive};
+ghost use Rattle.aea_ledger.specs.Stops.{empty_ledger, IsNoneOrEmpty, IsBeingMade, MakesArchive, IsOpened, HasOpening};
 
 use crate::commit::write_through;
 use aea_disk::{Disk, DiskFault};
@@ -34,11 +34,8 @@ impl From<DiskFault> for CreateFault {
 fn is_occupied<D: Disk>(disk: &mut D) -> Result<bool, DiskFault>
     ensures occupied { IfOk result (λ found. D.tells → IsTrue found ↔ HasOpenHeader ((D.state disk.old).files 0)) }
     ensures durable { OnOk result (D.tells → IsSynced (D.state disk.new)) }
-    ensures contents { D.tells → (D.state disk.new).files ≡ (D.state disk.old).files }
-    ensures crash { KeepsImages (D.state disk.old) (D.state disk.new) }
-    ensures time { Passes (D.state disk.old) (D.state disk.new) }
-    ensures cause { HasCause (D.state disk.old).faults (D.state disk.new).faults result }
-    ensures sure { IsSure (HasRoom (D.state disk.old)) (D.state disk.old) (D.state disk.new) result }
+    ensures earlier { HasEarlier (D.state disk.old) (D.state disk.new) }
+    ensures reads { OnlyReads D.tells (IsErr result) (D.state disk.old) (D.state disk.new) }
 {
     disk.sync()?;
     let mut front = [0; 18];
@@ -49,12 +46,8 @@ fn is_occupied<D: Disk>(disk: &mut D) -> Result<bool, DiskFault>
 // Empties the ledger's file, and makes that sure.
 fn empty<D: Disk>(disk: &mut D) -> Result<(), DiskFault>
     ensures emptied { OnOk result (D.tells → (D.state disk.new).files 0 ≡ []) }
-    ensures cut { D.tells → ChangesFile 0 (MayBeCut 0) (D.state disk.old).files (D.state disk.new).files }
     ensures durable { OnOk result (D.tells → IsSynced (D.state disk.new)) }
-    ensures crash { Follows (ChangesFile 0 (MayBeCut 0)) (D.state disk.old) (D.state disk.new) }
-    ensures time { Passes (D.state disk.old) (D.state disk.new) }
-    ensures cause { HasCause (D.state disk.old).faults (D.state disk.new).faults result }
-    ensures sure { IsSure (HasRoom (D.state disk.old)) (D.state disk.old) (D.state disk.new) result }
+    ensures writes { OnlyWrites D.tells (HasRoom (D.state disk.old)) (IsErr result) (ChangesFile 0 (MayBeCut 0)) (D.state disk.old) (D.state disk.new) }
 {
     disk.cut(0, 0)?;
     disk.sync()
@@ -69,10 +62,7 @@ fn begin<D: Disk>(disk: &mut D) -> Result<(), DiskFault>
     ensures begun { OnOk result (D.tells → (D.state disk.new).files 0 ≡ 0 ∷ []) }
     ensures durable { OnOk result (D.tells → IsSynced (D.state disk.new)) }
     ensures length { D.tells → length ((D.state disk.new).files 0) ≤ max (length ((D.state disk.old).files 0)) 1 }
-    ensures others { KeepsOthers D.tells 0 (D.state disk.old) (D.state disk.new) }
-    ensures time { Passes (D.state disk.old) (D.state disk.new) }
-    ensures cause { HasCause (D.state disk.old).faults (D.state disk.new).faults result }
-    ensures sure { IsSure ((D.state disk.old).room 0 1) (D.state disk.old) (D.state disk.new) result }
+    ensures writes { OnlyWrites D.tells (HasRoomTo (D.state disk.old) 0 1) (IsErr result) (ChangesOnly 0) (D.state disk.old) (D.state disk.new) }
 {
     empty(disk)?;
     write_through(disk, 0, &[0])
@@ -113,11 +103,8 @@ fn finish<D: Disk>(disk: &mut D, shape: &Shape) -> Result<(), DiskFault>
     ensures created { OnOk result (D.tells → (D.state disk.new).files 0 ≡ empty_ledger shape.now) }
     ensures durable { OnOk result (D.tells → IsSynced (D.state disk.new)) }
     ensures length { D.tells → length ((D.state disk.new).files 0) ≤ 18 }
-    ensures others { KeepsOthers D.tells 0 (D.state disk.old) (D.state disk.new) }
-    ensures time { Passes (D.state disk.old) (D.state disk.new) }
-    ensures cause { HasCause (D.state disk.old).faults (D.state disk.new).faults result }
-    ensures sure { IsSure ((D.state disk.old).room 0 18) (D.state disk.old) (D.state disk.new) result }
-    ensures full { OnOk result (HasRoom (D.state disk.old) → (D.state disk.new).room 0 18) }
+    ensures writes { OnlyWrites D.tells (HasRoomTo (D.state disk.old) 0 18) (IsErr result) (ChangesOnly 0) (D.state disk.old) (D.state disk.new) }
+    ensures full { OnOk result (HasRoom (D.state disk.old) → HasRoomTo (D.state disk.new) 0 18) }
 {
     write_through(disk, 1, &behind_gate(shape))?;
     write_through(disk, 0, &[1])
@@ -132,11 +119,8 @@ fn make<D: Disk>(disk: &mut D, shape: &Shape) -> Result<(), DiskFault>
     ensures created { OnOk result (D.tells → (D.state disk.new).files 0 ≡ empty_ledger shape.now) }
     ensures durable { OnOk result (D.tells → IsSynced (D.state disk.new)) }
     ensures length { D.tells → length ((D.state disk.new).files 0) ≤ max (length ((D.state disk.old).files 0)) 18 }
-    ensures others { KeepsOthers D.tells 0 (D.state disk.old) (D.state disk.new) }
-    ensures time { Passes (D.state disk.old) (D.state disk.new) }
-    ensures cause { HasCause (D.state disk.old).faults (D.state disk.new).faults result }
-    ensures sure { IsSure ((D.state disk.old).room 0 18) (D.state disk.old) (D.state disk.new) result }
-    ensures full { OnOk result (HasRoom (D.state disk.old) → (D.state disk.new).room 0 18) }
+    ensures writes { OnlyWrites D.tells (HasRoomTo (D.state disk.old) 0 18) (IsErr result) (ChangesOnly 0) (D.state disk.old) (D.state disk.new) }
+    ensures full { OnOk result (HasRoom (D.state disk.old) → HasRoomTo (D.state disk.new) 0 18) }
 {
     begin(disk)?;
     finish(disk, shape)
@@ -151,23 +135,20 @@ pub fn create_ledger<D: Disk>(disk: &mut D, shape: &Shape) -> Result<(), CreateF
     ensures free { OnOk result (D.tells → IsNoArchive ((D.state disk.old).files 0)) }
     ensures untouched { result ≡ Err CreateFault.Occupied → KeepsImages (D.state disk.old) (D.state disk.new) × (D.tells → (D.state disk.new).files ≡ (D.state disk.old).files) }
 
-    // What stands at Ok. Nothing is then pending on any file.
+    // What stands at Ok. Nothing is pending on any file after any answer but a fault.
     ensures created { OnOk result (D.tells → (D.state disk.new).files 0 ≡ empty_ledger shape.now) }
-    ensures durable { OnOk result (D.tells → IsSynced (D.state disk.new)) }
+    ensures durable { result ≢ Err CreateFault.DiskFault → D.tells → IsSynced (D.state disk.new) }
 
-    // What a stop at any moment leaves, and what stands after a fault.
-    ensures stops { D.tells → HasOpening (D.state disk.old) (D.state disk.new) (λ c. IsBeingMade shape.now ((D.state disk.old).files 0) (c 0)) }
+    // What a stop at any moment leaves, and what stands after a fault. Any other answer comes after the first sync.
+    ensures stops { D.tells → HasOpening (D.state disk.old) (D.state disk.new) (MakesArchive shape.now (D.state disk.old).files) }
+    ensures opened { result ≢ Err CreateFault.DiskFault → D.tells → IsOpened (D.state disk.old) (D.state disk.new) (MakesArchive shape.now (D.state disk.old).files) }
     ensures reads { D.tells → IsBeingMade shape.now ((D.state disk.old).files 0) ((D.state disk.new).files 0) }
     ensures length { D.tells → length ((D.state disk.new).files 0) ≤ max (length ((D.state disk.old).files 0)) 18 }
-    ensures others { KeepsOthers D.tells 0 (D.state disk.old) (D.state disk.new) }
 
-    // When the disk is at fault.
-    ensures time { Passes (D.state disk.old) (D.state disk.new) }
-    ensures kept { (D.state disk.old).faults ≤ (D.state disk.new).faults }
-    ensures cause { result ≡ Err CreateFault.DiskFault → Rose (D.state disk.old).faults (D.state disk.new).faults }
-    ensures sure { (D.state disk.old).room 0 18 → (result ≢ Err CreateFault.DiskFault) × ((D.state disk.new).faults ≡ (D.state disk.old).faults) }
-    ensures full { OnOk result (HasRoom (D.state disk.old) → (D.state disk.new).room 0 18) }
-    ensures refused { HasRoom (D.state disk.old) → D.tells → HasOpenHeader ((D.state disk.old).files 0) → (result ≡ Err CreateFault.Occupied) × ((D.state disk.new).faults ≡ (D.state disk.old).faults) }
+    // No other file changes, and when the disk is at fault.
+    ensures writes { OnlyWrites D.tells (HasRoomTo (D.state disk.old) 0 18) (result ≡ Err CreateFault.DiskFault) (ChangesOnly 0) (D.state disk.old) (D.state disk.new) }
+    ensures full { OnOk result (HasRoom (D.state disk.old) → HasRoomTo (D.state disk.new) 0 18) }
+    ensures refused { D.tells → HasOpenHeader ((D.state disk.old).files 0) → NeverFails (HasRoom (D.state disk.old)) (result ≡ Err CreateFault.Occupied) (D.state disk.old) (D.state disk.new) }
 {
     if is_occupied(disk)? {
         return Err(CreateFault::Occupied);

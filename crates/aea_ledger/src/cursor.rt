@@ -3,7 +3,8 @@
 ghost use Rattle.std.specs.Prelude.{◌≡◌, ◌+◌, ◌-◌, ◌^◌, ◌≤◌, ◌++◌, [], ℕ, List, length, take, drop, min, IfOk, IsErr, OnOk};
 ghost use Rattle.aea_faults.specs.Faults.{HasCause};
 ghost use Rattle.aea_disk.specs.State.{Passes, KeepsImages, IsSure, HasRoom};
-ghost use Rattle.aea_ledger.specs.Reads.{OnlyReads, IsAhead};
+ghost use Rattle.aea_disk.specs.Frames.{OnlyReads};
+ghost use Rattle.aea_ledger.specs.Reads.{IsAhead};
 
 use aea_disk::{Disk, DiskFault};
 use std::alloc::{AllocError, Global};

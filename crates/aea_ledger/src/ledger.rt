@@ -1,11 +1,15 @@
 //! An opened ledger.
 
-ghost use Rattle.std.specs.Prelude.{◌≡◌, ◌<◌, ◌≤◌, true, false, slice_get, length, Some};
+ghost use Rattle.std.specs.Prelude.{◌≡◌, ◌<◌, ◌≤◌, ◌+◌, true, false, slice_get, length, Some, List, ℕ};
+ghost use Rattle.std.specs.FinMap.{len, get};
 ghost use Rattle.aea_lattice.specs.Blocks.{blocks_count};
-ghost use Rattle.aea_ledger.specs.Kept.{IsConsistent};
+ghost use Rattle.aea_records.specs.Format.{greatest_objects, limit_when};
+ghost use Rattle.aea_ledger.specs.Recorded.{IsLatticeOf};
+ghost use Rattle.aea_ledger.specs.Values.{Opened, HasSomeRecords};
 
 use aea_catalog::Catalog;
 use aea_lattice::{Lattice, Shape};
+use aea_records::digests_are_counted;
 use sha2::Sha256;
 use std::marker::Model;
 
@@ -16,6 +20,7 @@ pub struct Ledger {
     pub(crate) shape: Shape,
     pub(crate) lattice: Lattice,
     pub(crate) catalog: Catalog,
+    pub(crate) raised: bool,
     // those of all blocks, in number order
     pub(crate) digests: Vec<[u8; 32]>,
     // it has taken the bytes before the gate that ends the ledger
@@ -27,45 +32,18 @@ pub struct Ledger {
 }
 
 impl Model for Ledger {
-    ghost use Rattle.aea_ledger.specs.Values.{Opened, opened_code};
+    ghost use Rattle.aea_ledger.specs.Values.{Opened, opened_code, HasSomeRecords};
 
     ghost Value = { Opened };
 
     ghost coded = { opened_code };
 
-    ghost use Rattle.aea_ledger.specs.Kept.{IsConsistent};
+    ghost view = { λ l. record { shape = l.shape; lattice = l.lattice; objects = l.catalog.objects; raised = l.raised; digests = l.digests.items; hasher = l.hasher; seal = l.seal; end = l.end; live = l.live } };
 
-    ghost view = { λ l. record { shape = l.shape; lattice = l.lattice; objects = l.catalog.objects; digests = l.digests.items; hasher = l.hasher; seal = l.seal; end = l.end; live = l.live } };
-
-    ghost invariant = { λ l. IsConsistent l.shape l.lattice l.catalog.objects l.digests.items l.end };
+    ghost invariant = { λ l. HasSomeRecords (record { shape = l.shape; lattice = l.lattice; objects = l.catalog.objects; raised = l.raised; digests = l.digests.items; hasher = l.hasher; seal = l.seal; end = l.end; live = l.live }) };
 }
 
 impl Ledger {
-    // The ledger of these parts, to which records may be added.
-    pub(crate) fn of_parts(
-        shape: Shape,
-        lattice: Lattice,
-        catalog: Catalog,
-        digests: Vec<[u8; 32]>,
-        hasher: Sha256,
-        seal: [u8; 32],
-        end: u64,
-    ) -> Ledger
-        requires { IsConsistent shape lattice catalog.objects digests.items end }
-        ensures { result ≡ record { shape = shape; lattice = lattice; objects = catalog.objects; digests = digests.items; hasher = hasher; seal = seal; end = end; live = true } }
-    {
-        Ledger {
-            shape,
-            lattice,
-            catalog,
-            digests,
-            hasher,
-            seal,
-            end,
-            live: true,
-        }
-    }
-
     /// The shape of the archive.
     pub fn shape(&self) -> Shape
         ensures { result ≡ self.now.shape }
@@ -73,7 +51,7 @@ impl Ledger {
         self.shape
     }
 
-    /// The lattice of the archive: of its shape, with the nodes of all its objects.
+    /// The lattice of the archive: of its shape, with the nodes of all its objects, and its fences.
     pub fn lattice(&self) -> Lattice
         ensures { result ≡ self.now.lattice }
     {
@@ -85,6 +63,13 @@ impl Ledger {
         ensures { result.now.objects ≡ self.now.objects }
     {
         &self.catalog
+    }
+
+    /// The most nodes that the archive may have.
+    pub fn limit(&self) -> u32
+        ensures { result ≡ limit_when self.now.raised }
+    {
+        if self.raised { 1_048_576 } else { 65_536 }
     }
 
     /// Whether records may be added: after a fault of the disk while one was added, the ledger has to be opened anew.
@@ -106,6 +91,7 @@ impl Ledger {
         requires { k < blocks_count self.now.lattice }
         ensures { slice_get self.now.digests k ≡ Some result }
     {
+        digests_are_counted();
         self.digests[k as usize]
     }
 

@@ -1,22 +1,26 @@
 //! Opening a ledger.
 
-ghost use Rattle.std.specs.Prelude.{◌≡◌, ◌≢◌, ◌≤◌, ◌+◌, ◌*◌, ◌/◌, min, List, ℕ, IfOk, IfErr, OnOk, Ok, Err, true, take, length};
-ghost use Rattle.aea_faults.specs.Faults.{Rose};
-ghost use Rattle.aea_disk.specs.State.{Passes, KeepsImages, IsSynced, HasRoom};
-ghost use Rattle.aea_ledger.specs.Format.{Record, header};
+ghost use Rattle.std.specs.Prelude.{◌≡◌, ◌≢◌, ◌≤◌, ◌+◌, ◌*◌, ◌/◌, min, List, ℕ, IfOk, IfErr, OnOk, Ok, Err, true, take, length, []};
+ghost use Rattle.aea_disk.specs.State.{IsSynced};
+ghost use Rattle.aea_records.specs.Format.{Record, header};
+ghost use Rattle.aea_ledger.specs.Recorded.{IsLatticeOf};
 ghost use Rattle.aea_ledger.specs.Openings.{Answers, IsAnswered};
 ghost use Rattle.aea_ledger.specs.Values.{HasRecords, HasSomeRecords};
-ghost use Rattle.aea_ledger.specs.Reads.{OnlyReads};
+ghost use Rattle.aea_disk.specs.Frames.{OnlyReads};
 ghost use Rattle.aea_ledger.specs.Readings.{IsReading, HasRead};
+ghost use Rattle.aea_ledger.specs.Stops.{StaysAll, IsOpened, HasOpening};
 
 use crate::cursor::Cursor;
-use crate::judge::shape_in;
-use crate::laws::{ledgers_are_archives, ledgers_are_bad_at_one_place, ledgers_are_not_bad};
+use crate::input::Input;
 use crate::ledger::Ledger;
 use crate::reader::Reader;
 use aea_catalog::Catalog;
 use aea_disk::{Disk, DiskFault};
 use aea_lattice::{Lattice, Shape};
+use aea_records::{
+    ledgers_are_archives, ledgers_are_bad_at_one_place, ledgers_are_not_bad, records_are_few,
+    shape_in,
+};
 use sha2::{Digest, Sha256};
 use std::alloc::{AllocError, Global};
 
@@ -73,10 +77,20 @@ fn header_in(window: &[u8]) -> Result<Shape, OpenFault>
 
 // Room for the digests of a file of so many bytes: for as many as it can have.
 fn digests_room(shape: &Shape, bytes: u64) -> usize
-    ensures { result ≡ min (bytes / 32) (65536 * (1 + shape.now.alpha)) }
+    ensures { result ≡ min (bytes / 32) (1048576 * (1 + shape.now.alpha)) }
 {
-    let most = 65_536 * (1 + usize::from(shape.alpha()));
+    let most = 1_048_576 * (1 + usize::from(shape.alpha()));
     (bytes as usize / 32).min(most)
+}
+
+// The lattice of this shape without nodes.
+fn no_nodes(shape: &Shape) -> Lattice
+    ensures { IsLatticeOf shape.now 0 [] result }
+{
+    let Some(lattice) = Lattice::new(shape.alpha(), shape.s(), shape.p(), 0) else {
+        unreachable!();
+    };
+    lattice
 }
 
 // Reads the header.
@@ -86,20 +100,21 @@ fn start<D: Disk>(alloc: Global, disk: &mut D) -> Result<Reader, OpenFault>
     ensures reads { OnlyReads D.tells (result ≡ Err OpenFault.DiskFault) (D.state disk.old) (D.state disk.new) }
 {
     let bytes = disk.len(0)?;
-    let mut cursor = Cursor::new(alloc)?;
-    let count = cursor.fill(disk, 18)?;
-    let window = cursor.window(count);
-    let shape = header_in(window)?;
-    let mut hasher = Sha256::new();
-    hasher.update(&window[..17]);
-    cursor.skip(17);
+    let mut input = Input {
+        cursor: Cursor::new(alloc)?,
+        hasher: Sha256::new(),
+    };
+    let count = input.cursor.fill(disk, 18)?;
+    let shape = header_in(input.cursor.window(count))?;
+    input.pass(17);
+    let digests = Vec::with_capacity(alloc, digests_room(&shape, bytes))?;
     Ok(Reader {
-        cursor,
-        hasher,
+        input,
         shape,
+        lattice: no_nodes(&shape),
         catalog: Catalog::new(alloc),
-        digests: Vec::with_capacity(alloc, digests_room(&shape, bytes))?,
-        nodes: 0,
+        raised: false,
+        digests,
     })
 }
 
@@ -108,39 +123,57 @@ fn finish(reader: Reader) -> Result<Ledger, OpenFault>
     requires { (records : List Record) × HasRead reader records }
     ensures records { IfOk result (λ v. (records : List Record) → HasRead reader records → HasRecords v records) }
     ensures shape { IfOk result (λ v. v.shape ≡ reader.shape) }
-    ensures end { IfOk result (λ v. v.end ≡ reader.cursor.place) }
+    ensures end { IfOk result (λ v. v.end ≡ reader.input.cursor.place) }
     ensures live { IfOk result (λ v. v.live ≡ true) }
     ensures memory { IfErr result (λ fault. fault ≡ OpenFault.NoMemory) }
 {
-    let end = reader.cursor.place();
-    let shape = reader.shape;
-    let Some(lattice) = Lattice::new(shape.alpha(), shape.s(), shape.p(), reader.nodes) else {
-        unreachable!();
-    };
-    let seal = reader.hasher.clone()?.finalize();
     let Reader {
-        cursor: _,
-        hasher,
-        shape: _,
+        input,
+        shape,
+        lattice,
         catalog,
+        raised,
         digests,
-        nodes: _,
     } = reader;
-    Ok(Ledger::of_parts(shape, lattice, catalog, digests, hasher, seal, end))
+    let Input { cursor, hasher } = input;
+    let seal = hasher.clone()?.finalize();
+    Ok(Ledger {
+        shape,
+        lattice,
+        catalog,
+        raised,
+        digests,
+        hasher,
+        seal,
+        end: cursor.place(),
+        live: true,
+    })
 }
 
-// Makes all files sure, and reads the ledger.
+// Reads the ledger.
 fn read_ledger<D: Disk>(alloc: Global, disk: &mut D) -> Result<Ledger, OpenFault>
     ensures answers { D.tells → Answers ((D.state disk.old).files 0) result }
     ensures records { IfOk result HasSomeRecords }
     ensures live { IfOk result (λ v. v.live ≡ true) }
-    ensures synced { result ≢ Err OpenFault.DiskFault → D.tells → IsSynced (D.state disk.new) }
     ensures reads { OnlyReads D.tells (result ≡ Err OpenFault.DiskFault) (D.state disk.old) (D.state disk.new) }
 {
-    disk.sync()?;
     let mut reader = start(alloc, disk)?;
     reader.read_all(disk)?;
     finish(reader)
+}
+
+// Makes all files sure, and reads the ledger.
+fn read_surely<D: Disk>(alloc: Global, disk: &mut D) -> Result<Ledger, OpenFault>
+    ensures answers { D.tells → Answers ((D.state disk.old).files 0) result }
+    ensures records { IfOk result HasSomeRecords }
+    ensures live { IfOk result (λ v. v.live ≡ true) }
+    ensures synced { result ≢ Err OpenFault.DiskFault → D.tells → IsSynced (D.state disk.new) }
+    ensures stops { D.tells → HasOpening (D.state disk.old) (D.state disk.new) (StaysAll (D.state disk.old).files) }
+    ensures opened { result ≢ Err OpenFault.DiskFault → D.tells → IsOpened (D.state disk.old) (D.state disk.new) (StaysAll (D.state disk.old).files) }
+    ensures reads { OnlyReads D.tells (result ≡ Err OpenFault.DiskFault) (D.state disk.old) (D.state disk.new) }
+{
+    disk.sync()?;
+    read_ledger(alloc, disk)
 }
 
 /// Opens the ledger in file 0 of the disk: reads it whole, each byte once. It begins with a sync, and writes nothing.
@@ -158,15 +191,14 @@ pub fn open_ledger<D: Disk>(alloc: Global, disk: &mut D) -> Result<Ledger, OpenF
     // Nothing is pending then, but after a fault of the disk.
     ensures synced { result ≢ Err OpenFault.DiskFault → D.tells → IsSynced (D.state disk.new) }
 
-    ensures contents { D.tells → (D.state disk.new).files ≡ (D.state disk.old).files }
-    ensures crash { KeepsImages (D.state disk.old) (D.state disk.new) }
-    ensures time { Passes (D.state disk.old) (D.state disk.new) }
-    ensures kept { (D.state disk.old).faults ≤ (D.state disk.new).faults }
-    ensures cause { result ≡ Err OpenFault.DiskFault → Rose (D.state disk.old).faults (D.state disk.new).faults }
-    ensures sure { HasRoom (D.state disk.old) → (result ≢ Err OpenFault.DiskFault) × ((D.state disk.new).faults ≡ (D.state disk.old).faults) }
+    // Once the first sync has succeeded every image has every file as it reads. Any answer but a fault comes after it.
+    ensures stops { D.tells → HasOpening (D.state disk.old) (D.state disk.new) (StaysAll (D.state disk.old).files) }
+    ensures opened { result ≢ Err OpenFault.DiskFault → D.tells → IsOpened (D.state disk.old) (D.state disk.new) (StaysAll (D.state disk.old).files) }
+
+    ensures reads { OnlyReads D.tells (result ≡ Err OpenFault.DiskFault) (D.state disk.old) (D.state disk.new) }
 {
     ledgers_are_not_bad();
     ledgers_are_bad_at_one_place();
     ledgers_are_archives();
-    read_ledger(alloc, disk)
+    read_surely(alloc, disk)
 }

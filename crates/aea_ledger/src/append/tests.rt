@@ -4,7 +4,7 @@ ghost use Rattle.aea_ledger.specs.Values.{HasRecords};
 use super::*;
 use crate::create::{CreateFault, behind_gate, create_ledger};
 use aea_disk::{DiskFault, FailDisk, Loss, MemDisk, SureDisk};
-use aea_lattice::Shape;
+use aea_lattice::{Lattice, Shape};
 use std::alloc::Global;
 use std::test::Fail;
 
@@ -54,6 +54,7 @@ fn fresh(alloc: Global, shape: &Shape) -> Ledger
         shape: *shape,
         lattice,
         catalog: Catalog::new(alloc),
+        raised: false,
         digests: Vec::new(alloc),
         hasher,
         seal,

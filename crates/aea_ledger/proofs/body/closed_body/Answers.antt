@@ -1,5 +1,5 @@
 use Rattle.std.proofs.Common.{subst}
-use Rattle.aea_ledger.specs.Laws.{AreBytes}
+use Rattle.aea_records.specs.TableLaws.{AreBytes}
 use Rattle.aea_ledger.proofs.Bodies.{each_part}
 use Rattle.aea_ledger.proofs.body.closed_body.Goals as goal
 

@@ -1,7 +1,9 @@
-use Rattle.std.proofs.Common.{[], ◌∷◌, ◌++◌, inl}
+use Rattle.std.proofs.Common.{◌≢◌, ◌+◌, [], ◌∷◌, ◌++◌, length, inl, arith}
 use Rattle.std.proofs.lemmas.Result.{on_ok_weaker}
-use Rattle.aea_disk.specs.Files.{Files}
-use Rattle.aea_disk.proofs.Moments.{during_both, during_more, stays_both, others_both}
+use Rattle.aea_disk.specs.Files.{Files, ChangesOnly}
+use Rattle.aea_disk.specs.State.{HasRoomTo}
+use Rattle.aea_disk.proofs.Frames.{writes_both, keeps_both}
+use Rattle.aea_disk.proofs.Moments.{during_both, during_more, stays_both}
 use Rattle.aea_ledger.specs.Stops.{HasLedger, HasOldOrNew}
 use Rattle.aea_ledger.proofs.commit.commit.Goals as goal
 
@@ -24,7 +26,7 @@ returns-clause-any_moment g c told shape records r added =
     let second = g.D.Disk.state c.write_body.new.disk in
     let third = g.D.Disk.state c.open_gate.new.disk in
     let P : Files → Type 0 = λ d. HasOldOrNew shape records r (d 0) in
-    during_both first second third P c.write_body.ensures.time c.open_gate.ensures.time
+    during_both first second third P c.write_body.ensures.writes.time c.open_gate.ensures.writes.time
     (during_more first second (λ d. HasLedger shape records (d 0)) P (λ d is. inl is) (c.write_body.ensures.any_moment told shape records added.ledger))
     (c.open_gate.ensures.any_moment told shape records r (c.in_ok-write_body.ensures.staged told shape records r added))
 
@@ -34,7 +36,7 @@ returns-clause-stays g c told shape records r added =
     let second = g.D.Disk.state c.write_body.new.disk in
     let third = g.D.Disk.state c.open_gate.new.disk in
     let P : Files → Type 0 = λ d. HasLedger shape (records ++ r ∷ []) (d 0) in
-    stays_both first second third P c.write_body.ensures.time c.open_gate.ensures.time
+    stays_both first second third P c.write_body.ensures.writes.time c.open_gate.ensures.writes.time
     (c.write_body.ensures.stays told shape records r added.ledger)
     (c.open_gate.ensures.stays told shape records r (c.in_ok-write_body.ensures.staged told shape records r added))
 
@@ -48,6 +50,13 @@ returns-clause-appended g c =
     (λ opened told shape records r added. opened told shape records r (c.in_ok-write_body.ensures.staged told shape records r added))
     c.open_gate.ensures.opened
 
-pub returns-clause-others : goal.returns-clause-others
-returns-clause-others g c =
-    others_both g.D.Disk.tells 0 _ _ _ c.write_body.ensures.time c.open_gate.ensures.time c.write_body.ensures.others c.open_gate.ensures.others
+pub returns-clause-writes : goal.returns-clause-writes
+returns-clause-writes g c =
+    let first = g.D.Disk.state c.args.disk.now in
+    let second = g.D.Disk.state c.write_body.new.disk in
+    let third = g.D.Disk.state c.open_gate.new.disk in
+    let fits = HasRoomTo first 0 (c.args.end + 1 + length c.args.behind.now) in
+    writes_both g.D.Disk.tells fits fits (HasRoomTo second 0 (c.args.end + 1)) _ _ (ChangesOnly 0) (ChangesOnly 0) (ChangesOnly 0) first second third
+    (λ d e one. one) (λ d e f one two. keeps_both (λ k. k ≢ 0) d e f one two) (λ fit. fit)
+    (λ fit passes. g.met.D.Disk.smaller_fits c.write_body.new.disk 0 (c.args.end + 1) (c.args.end + 1 + length c.args.behind.now) (omega arith) (passes.room 0 (c.args.end + 1 + length c.args.behind.now) fit))
+    c.write_body.ensures.writes c.open_gate.ensures.writes

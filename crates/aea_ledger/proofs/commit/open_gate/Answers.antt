@@ -1,8 +1,10 @@
-use Rattle.std.proofs.Common.{[], ◌∷◌, ◌++◌, ℕ, List, sym, subst}
+use Rattle.std.proofs.Common.{[], ◌∷◌, ◌++◌, ◌+◌, ℕ, List, sym, subst}
 use Rattle.std.proofs.lemmas.Result.{on_ok_weaker}
-use Rattle.aea_disk.specs.Files.{Files, ChangesFile, Torn}
-use Rattle.aea_disk.proofs.Moments.{during_change, stays_step, others_change}
-use Rattle.aea_ledger.specs.Grammar.{IsLedger}
+use Rattle.aea_disk.specs.Files.{Files, ChangesFile, ChangesOnly, Torn}
+use Rattle.aea_disk.specs.State.{HasRoomTo}
+use Rattle.aea_disk.proofs.Frames.{writes_wider}
+use Rattle.aea_disk.proofs.Moments.{during_change, stays_step}
+use Rattle.aea_records.specs.Grammar.{IsLedger}
 use Rattle.aea_ledger.specs.Stops.{HasLedger, HasOldOrNew}
 use Rattle.aea_ledger.proofs.Commits.{old_staged, old_or_new, new_opened, not_both}
 use Rattle.aea_ledger.proofs.commit.open_gate.Goals as goal
@@ -11,22 +13,22 @@ pub returns-clause-any_moment : goal.returns-clause-any_moment
 returns-clause-any_moment g c told shape records r is =
     let first = g.D.Disk.state c.args.disk.now in
     let second = g.D.Disk.state c.write_through.new.disk in
-    during_change 0 (Torn c.args.end 1) first second (HasOldOrNew shape records r) c.write_through.ensures.crash (c.requires.fixed told)
+    during_change 0 (Torn c.args.end 1) first second (HasOldOrNew shape records r) c.write_through.ensures.writes.crash (c.requires.fixed told)
     (λ xs torn. old_or_new shape records r (first.files 0) xs c.args.end is torn)
 
 pub returns-clause-reads : goal.returns-clause-reads
 returns-clause-reads g c told shape records r is =
-    old_or_new shape records r _ _ c.args.end is (c.write_through.ensures.torn told).here
+    old_or_new shape records r _ _ c.args.end is (c.write_through.ensures.writes.contents told).here
 
 pub returns-clause-stays : goal.returns-clause-stays
 returns-clause-stays g c told shape records r is =
     let first = g.D.Disk.state c.args.disk.now in
     let second = g.D.Disk.state c.write_through.new.disk in
     let P : Files → Type 0 = λ d. HasLedger shape (records ++ r ∷ []) (d 0) in
-    stays_step (ChangesFile 0 (Torn c.args.end 1)) first second P c.write_through.ensures.crash c.write_through.ensures.settled
+    stays_step (ChangesFile 0 (Torn c.args.end 1)) first second P c.write_through.ensures.writes.crash c.write_through.ensures.settled
     (λ d e was new step. absurd (not_both shape records r (d 0) c.args.end
     (subst (λ (l : List ℕ). IsLedger l shape records c.args.end) (sym (c.requires.fixed told d was)) (old_staged shape records r (first.files 0) c.args.end is)) new))
-    c.write_through.ensures.time
+    c.write_through.ensures.writes.time
 
 pub returns-clause-opened : goal.returns-clause-opened
 returns-clause-opened g c =
@@ -36,8 +38,7 @@ returns-clause-opened g c =
     (λ written told shape records r is. new_opened shape records r (first.files 0) (second.files 0) c.args.end is (written told).here)
     c.write_through.ensures.written
 
-pub returns-clause-others : goal.returns-clause-others
-returns-clause-others g c =
+pub returns-clause-writes : goal.returns-clause-writes
+returns-clause-writes g c =
     let first = g.D.Disk.state c.args.disk.now in
-    let second = g.D.Disk.state c.write_through.new.disk in
-    others_change g.D.Disk.tells 0 (Torn c.args.end 1) first second c.write_through.ensures.crash (λ told. (c.write_through.ensures.torn told).others)
+    writes_wider g.D.Disk.tells (HasRoomTo first 0 (c.args.end + 1)) (HasRoomTo first 0 (c.args.end + 1)) _ (ChangesFile 0 (Torn c.args.end 1)) (ChangesOnly 0) first (g.D.Disk.state c.write_through.new.disk) (λ d e changes. changes.others) (λ fit. fit) c.write_through.ensures.writes

@@ -1,37 +1,62 @@
-use Rattle.aea_disk.specs.Files.{Files}
-use Rattle.aea_disk.proofs.Moments.{others_both, others_kept, during_more}
-use Rattle.aea_ledger.specs.Faults.{IsNoArchive}
-use Rattle.aea_ledger.specs.Stops.{IsBeingMade, IsNoneOrEmpty}
-use Rattle.aea_ledger.proofs.Creates.{being_made, opening, no_header}
+use Rattle.std.proofs.Common.{refl, inr}
+use Rattle.aea_disk.specs.Files.{ChangesOnly}
+use Rattle.aea_disk.specs.State.{HasRoomTo}
+use Rattle.aea_disk.proofs.Frames.{reads_as, reads_faulted, reads_writes, writes_as, writes_faulted, reads_then_writes}
+use Rattle.aea_ledger.proofs.Creates.{no_header, opened_making, opened_occupied}
 use Rattle.aea_ledger.proofs.create.create_ledger.Goals as goal
+
+pub returns-then-branch-clause-opened : goal.returns-then-branch-clause-opened
+returns-then-branch-clause-opened g c _ told =
+    let e = c.in_ok-is_occupied.ensures in
+    opened_occupied c.args.shape.now (g.D.Disk.state c.args.disk.now) (g.D.Disk.state c.is_occupied.new.disk) e.reads.time e.reads.crash (e.durable told) (e.reads.contents told) ((e.occupied told).0 c.if-branch.true)
 
 pub returns-in_err-make-clause-stops : goal.returns-in_err-make-clause-stops
 returns-in_err-make-clause-stops g c told =
     let first = g.D.Disk.state c.args.disk.now in
+    let e = c.in_ok-is_occupied.ensures in
+    inr (opened_making c.args.shape.now first (g.D.Disk.state c.is_occupied.new.disk) (g.D.Disk.state c.make.new.disk) e.reads.time c.make.ensures.writes.time e.reads.crash (e.durable told) (e.reads.contents told)
+    (no_header (first.files 0) c.in_ok-is_occupied.field-0 c.if-branch.false (e.occupied told)) c.make.ensures.writes.crash (c.make.ensures.any_moment told))
+
+pub returns-in_err-make-clause-writes : goal.returns-in_err-make-clause-writes
+returns-in_err-make-clause-writes g c =
+    let first = g.D.Disk.state c.args.disk.now in
     let second = g.D.Disk.state c.is_occupied.new.disk in
     let third = g.D.Disk.state c.make.new.disk in
-    let shape = c.args.shape.now in
-    let none : IsNoArchive (first.files 0) = no_header (first.files 0) c.in_ok-is_occupied.field-0 c.if-branch.false (c.in_ok-is_occupied.ensures.occupied told) in
-    let P : Files → Type 0 = λ d. IsBeingMade shape (first.files 0) (d 0) in
-    opening P first second third c.is_occupied.ensures.time c.make.ensures.time c.is_occupied.ensures.crash
-    (during_more second third (λ d. IsNoneOrEmpty shape (d 0)) P (λ d is. being_made shape (first.files 0) (d 0) none is) (c.make.ensures.any_moment told))
+    reads_then_writes g.D.Disk.tells (HasRoomTo first 0 18) (HasRoomTo second 0 18) _ _ (ChangesOnly 0) first second third (λ d f other. refl) (λ fit. (0, 18, fit)) (λ fit passes. passes.room 0 18 fit)
+    c.is_occupied.ensures.earlier c.is_occupied.ensures.reads (writes_faulted g.D.Disk.tells (HasRoomTo second 0 18) _ _ (ChangesOnly 0) second third c.in_err-make.ensures.writes refl)
 
 pub returns-clause-stops : goal.returns-clause-stops
 returns-clause-stops g c told =
     let first = g.D.Disk.state c.args.disk.now in
-    let second = g.D.Disk.state c.is_occupied.new.disk in
-    let third = g.D.Disk.state c.make.new.disk in
-    let shape = c.args.shape.now in
-    let none : IsNoArchive (first.files 0) = no_header (first.files 0) c.in_ok-is_occupied.field-0 c.if-branch.false (c.in_ok-is_occupied.ensures.occupied told) in
-    let P : Files → Type 0 = λ d. IsBeingMade shape (first.files 0) (d 0) in
-    opening P first second third c.is_occupied.ensures.time c.make.ensures.time c.is_occupied.ensures.crash
-    (during_more second third (λ d. IsNoneOrEmpty shape (d 0)) P (λ d is. being_made shape (first.files 0) (d 0) none is) (c.make.ensures.any_moment told))
+    let e = c.in_ok-is_occupied.ensures in
+    inr (opened_making c.args.shape.now first (g.D.Disk.state c.is_occupied.new.disk) (g.D.Disk.state c.make.new.disk) e.reads.time c.make.ensures.writes.time e.reads.crash (e.durable told) (e.reads.contents told)
+    (no_header (first.files 0) c.in_ok-is_occupied.field-0 c.if-branch.false (e.occupied told)) c.make.ensures.writes.crash (c.make.ensures.any_moment told))
 
-pub returns-clause-others : goal.returns-clause-others
-returns-clause-others g c =
+pub returns-clause-opened : goal.returns-clause-opened
+returns-clause-opened g c _ told =
+    let first = g.D.Disk.state c.args.disk.now in
+    let e = c.in_ok-is_occupied.ensures in
+    opened_making c.args.shape.now first (g.D.Disk.state c.is_occupied.new.disk) (g.D.Disk.state c.make.new.disk) e.reads.time c.make.ensures.writes.time e.reads.crash (e.durable told) (e.reads.contents told)
+    (no_header (first.files 0) c.in_ok-is_occupied.field-0 c.if-branch.false (e.occupied told)) c.make.ensures.writes.crash (c.make.ensures.any_moment told)
+
+pub returns-clause-writes : goal.returns-clause-writes
+returns-clause-writes g c =
     let first = g.D.Disk.state c.args.disk.now in
     let second = g.D.Disk.state c.is_occupied.new.disk in
     let third = g.D.Disk.state c.make.new.disk in
-    others_both g.D.Disk.tells 0 first second third c.is_occupied.ensures.time c.make.ensures.time
-    (others_kept g.D.Disk.tells 0 first second c.is_occupied.ensures.crash c.is_occupied.ensures.contents)
-    c.make.ensures.others
+    reads_then_writes g.D.Disk.tells (HasRoomTo first 0 18) (HasRoomTo second 0 18) _ _ (ChangesOnly 0) first second third (λ d f other. refl) (λ fit. (0, 18, fit)) (λ fit passes. passes.room 0 18 fit)
+    c.is_occupied.ensures.earlier c.is_occupied.ensures.reads (writes_as g.D.Disk.tells (HasRoomTo second 0 18) _ _ (ChangesOnly 0) second third (λ is. absurd (cc)) c.in_ok-make.ensures.writes)
+
+pub returns-in_err-is_occupied-clause-writes : goal.returns-in_err-is_occupied-clause-writes
+returns-in_err-is_occupied-clause-writes g c =
+    let first = g.D.Disk.state c.args.disk.now in
+    let second = g.D.Disk.state c.is_occupied.new.disk in
+    reads_writes g.D.Disk.tells (HasRoomTo first 0 18) _ (ChangesOnly 0) first second (λ fit. (0, 18, fit)) (λ d f other. refl) c.is_occupied.ensures.earlier
+    (reads_faulted g.D.Disk.tells _ _ first second c.in_err-is_occupied.ensures.reads refl)
+
+pub returns-then-branch-clause-writes : goal.returns-then-branch-clause-writes
+returns-then-branch-clause-writes g c =
+    let first = g.D.Disk.state c.args.disk.now in
+    let second = g.D.Disk.state c.is_occupied.new.disk in
+    reads_writes g.D.Disk.tells (HasRoomTo first 0 18) _ (ChangesOnly 0) first second (λ fit. (0, 18, fit)) (λ d f other. refl) c.is_occupied.ensures.earlier
+    (reads_as g.D.Disk.tells _ _ first second (λ is. absurd (cc)) c.in_ok-is_occupied.ensures.reads)

@@ -1,7 +1,17 @@
-use Rattle.std.proofs.Common.{arith}
-use Rattle.aea_ledger.proofs.Steps.{few_objects}
+use Rattle.std.proofs.Common.{ℕ, List, ap}
+use Rattle.aea_ledger.proofs.Gates.{reading_in}
+use Rattle.aea_disk.proofs.Frames.{reads_both, reads_as}
 use Rattle.aea_ledger.proofs.reader.Reader.read_all.Goals as goal
 
-pub gates-smaller : goal.gates-smaller
-gates-smaller g c =
-    omega (arith, c.in_ok-read_gate.ensures.one c.if-not-branch.false, few_objects g.D.Disk.tells ((g.D.Disk.state c.args.disk.now).files 0) c.gates.self c.gates.invariant.0)
+pub returns-then-not-branch-clause-reads : goal.returns-then-not-branch-clause-reads
+returns-then-not-branch-clause-reads g c =
+    reads_both g.D.Disk.tells ⊥ _ (g.D.Disk.state c.args.disk.now) (g.D.Disk.state c.gates.disk) (g.D.Disk.state c.read_gate.new.disk) c.gates.invariant.1
+    (reads_as g.D.Disk.tells _ _ (g.D.Disk.state c.gates.disk) (g.D.Disk.state c.read_gate.new.disk) (λ e. absurd (cc)) c.in_ok-read_gate.ensures.reads)
+
+pub gates-preserved : goal.gates-preserved
+gates-preserved g c = (
+  reading_in g.D.Disk.tells ((g.D.Disk.state c.gates.disk).files 0) ((g.D.Disk.state c.args.disk.now).files 0) c.read_gate.new.self
+      (λ tells. ap (λ (f : ℕ → List ℕ). f 0) (c.gates.invariant.1.contents tells)) (c.in_ok-read_gate.ensures.more c.if-not-branch.false),
+  reads_both g.D.Disk.tells ⊥ ⊥ (g.D.Disk.state c.args.disk.now) (g.D.Disk.state c.gates.disk) (g.D.Disk.state c.read_gate.new.disk) c.gates.invariant.1
+      (reads_as g.D.Disk.tells _ ⊥ (g.D.Disk.state c.gates.disk) (g.D.Disk.state c.read_gate.new.disk) (λ none. absurd none) c.in_ok-read_gate.ensures.reads),
+)

@@ -1,6 +1,5 @@
-use Rattle.std.proofs.Common.{◌-◌}
-use Rattle.std.specs.FinMap as map
-use Rattle.aea_ledger.specs.Reads.{OnlyReads}
+use Rattle.std.proofs.Common.{◌-◌, ◌^◌}
+use Rattle.aea_disk.specs.Frames.{OnlyReads}
 use Rattle.aea_ledger.specs.Readings.{IsReading}
 use Rattle.aea_ledger.proofs.reader.Reader.read_all.Given as goal
 
@@ -10,4 +9,4 @@ invariant-gates g l =
     × OnlyReads g.D.Disk.tells ⊥ (g.D.Disk.state l.fn.disk) (g.D.Disk.state l.disk)
 
 abbrev pub decreases-gates : goal.decreases-gates
-decreases-gates g l = 65537 - map.len l.self.catalog.objects
+decreases-gates g l = 2 ^ 46 - l.self.input.cursor.place

@@ -1,60 +1,38 @@
 use Rattle.std.proofs.Common.{◌+◌, ℕ, List, take, drop, sym, ap, ◌∙◌, subst, arith}
-use Rattle.aea_ledger.specs.Grammar.{IsLedger}
-use Rattle.aea_ledger.specs.Readings.{IsHead}
-use Rattle.aea_ledger.proofs.Records.{few_records}
-use Rattle.aea_ledger.proofs.Steps.{place_small, bad_gate, read_on, told_on, ends_at}
+use Rattle.aea_records.specs.Grammar.{IsLedger}
+use Rattle.aea_ledger.proofs.Gates.{with_cursor, read_on, told_on, window_is, bad_gate, at_head, ends_at, place_small}
 use Rattle.aea_ledger.proofs.reader.Reader.read_gate.Goals as goal
 
 pub fill-requires-clause-range : goal.fill-requires-clause-range
-fill-requires-clause-range g c = omega (arith, (place_small c.args.self.now c.requires.reading.records c.requires.reading.read).0)
-
-pub judge-requires : goal.judge-requires
-judge-requires g c = (place_small c.args.self.now c.requires.reading.records c.requires.reading.read).1
+fill-requires-clause-range g c = omega (arith, (place_small c.args.self.now c.requires.reading.records c.records_are_few.ensures c.requires.reading.read))
 
 pub overflow_add-result : goal.overflow_add-result
-overflow_add-result g c =
-    omega (arith, (place_small c.args.self.now c.requires.reading.records c.requires.reading.read).0, c.place.ensures, c.in_ok-size.ensures.place, c.in-Err.ensures.near)
+overflow_add-result g c = omega (arith, (place_small c.args.self.now c.requires.reading.records c.records_are_few.ensures c.requires.reading.read), c.place.ensures, c.in_ok-size.ensures.place, c.in-Err.ensures.near)
 
 pub read_record-requires-clause-range : goal.read_record-requires-clause-range
-read_record-requires-clause-range g c =
-    omega (arith, (place_small c.args.self.now c.requires.reading.records c.requires.reading.read).0, c.in_ok-size.ensures.place)
+read_record-requires-clause-range g c = omega (arith, (place_small c.args.self.now c.requires.reading.records c.records_are_few.ensures c.requires.reading.read), c.in_ok-size.ensures.place)
 
 pub read_record-requires-clause-stands : goal.read_record-requires-clause-stands
 read_record-requires-clause-stands g c =
-    let reading = c.requires.reading in
-    let e = c.in_ok-size.ensures in
-    let stands = rw c.in-Ok-Some.field-0-is at c.in-Ok-Some.ensures.open in
-    let file = (g.D.Disk.state c.args.disk.now).files 0 in
-    let other = (g.D.Disk.state c.fill.new.disk).files 0 in
-    record {
-      records = reading.records;
-      read = read_on c.args.self.now c.fill.new.self reading.records e.place reading.read;
-      told = λ tells. told_on c.args.self.now c.fill.new.self reading.records file other e.place
-          (ap (λ (f : ℕ → List ℕ). f 0) (sym (e.reads.contents tells))) (e.told tells) (reading.told tells);
-      size_is = omega (arith, e.there);
-      stands = subst (λ (l : List ℕ). IsHead c.args.self.now.shape reading.records l c.in-Ok-Some.head) c.window.ensures
-          (stands reading.records reading.read.known (few_records c.args.self.now.shape reading.records reading.read.valid));
-      window = λ tells. e.window tells
-          ∙ ap (λ (k : ℕ). take 311 (drop k file)) (sym e.place)
-          ∙ ap (λ (f : ℕ → List ℕ). take 311 (drop c.fill.new.self.place (f 0))) (sym (e.reads.contents tells));
-    }
+    let open_ = rw c.in-Ok-Some.field-0-is at c.in-Ok-Some.ensures.open in
+    let within = rw c.in-Ok-Some.field-0-is at c.in-Ok-Some.ensures.within in
+    let small = rw c.in-Ok-Some.field-0-is at c.in-Ok-Some.ensures.small in
+    let goes = rw c.in-Ok-Some.field-0-is at c.in-Ok-Some.ensures.goes in
+    at_head g.D.Disk.tells ((g.D.Disk.state c.fill.new.disk).files 0) (with_cursor c.args.self.now c.fill.new.self) c.in-Ok-Some.found c.window.result.now c.requires.reading.records c.readers_know.ensures (read_on c.args.self.now c.fill.new.self c.requires.reading.records c.in_ok-size.ensures.place c.requires.reading.read) (λ tells. told_on c.args.self.now c.fill.new.self c.requires.reading.records ((g.D.Disk.state c.args.disk.now).files 0) ((g.D.Disk.state c.fill.new.disk).files 0) c.in_ok-size.ensures.place (ap (λ (f : ℕ → List ℕ). f 0) (sym (c.in_ok-size.ensures.reads.contents tells))) (c.in_ok-size.ensures.told tells) (c.requires.reading.told tells)) (c.window.ensures ∙ window_is c.fill.new.self c.in_ok-size.size c.in_ok-size.ensures.there) open_ within small goes (λ tells. sym (window_is c.fill.new.self c.in_ok-size.size c.in_ok-size.ensures.there) ∙ c.in_ok-size.ensures.window tells
+    ∙ ap (λ (k : ℕ). take 315 (drop k ((g.D.Disk.state c.args.disk.now).files 0))) (sym c.in_ok-size.ensures.place)
+    ∙ ap (λ (f : ℕ → List ℕ). take 315 (drop c.fill.new.self.place (f 0))) (sym (c.in_ok-size.ensures.reads.contents tells)))
 
 pub returns-in-Err-clause-bad : goal.returns-in-Err-clause-bad
 returns-in-Err-clause-bad g c = λ tells.
-    let reading = c.requires.reading in
-    let e = c.in_ok-size.ensures in
-    bad_gate c.args.self.now reading.records ((g.D.Disk.state c.args.disk.now).files 0) c.window.result.now c.in-Err.at _ reading.read (reading.told tells)
-    (c.in-Err.ensures.bad reading.records reading.read.known) (c.window.ensures ∙ e.window tells) (ap (λ (n : ℕ). n + c.in-Err.at) (c.place.ensures ∙ e.place))
+    bad_gate c.args.self.now c.requires.reading.records ((g.D.Disk.state c.args.disk.now).files 0) c.window.result.now c.in-Err.at _ c.readers_know.ensures c.requires.reading.read (c.requires.reading.told tells) c.in-Err.ensures.bad
+    (c.window.ensures ∙ c.in_ok-size.ensures.window tells) (ap (λ (n : ℕ). n + c.in-Err.at) (c.place.ensures ∙ c.in_ok-size.ensures.place))
 
 pub returns-in-Ok-None-clause-last : goal.returns-in-Ok-None-clause-last
 returns-in-Ok-None-clause-last g c = λ _.
-    let reading = c.requires.reading in
-    let e = c.in_ok-size.ensures in
-    let file = (g.D.Disk.state c.args.disk.now).files 0 in
     let closed = rw c.in-Ok-None.field-0-is at c.in-Ok-None.ensures.closed in
     record {
-      records = reading.records;
-      read = read_on c.args.self.now c.fill.new.self reading.records e.place reading.read;
-      told = λ tells. subst (λ (k : ℕ). IsLedger file c.args.self.now.shape reading.records k) (sym e.place)
-          (ends_at c.args.self.now reading.records file c.window.result.now reading.read (reading.told tells) (c.window.ensures ∙ e.window tells) closed);
+      records = c.requires.reading.records;
+      read = (read_on c.args.self.now c.fill.new.self c.requires.reading.records c.in_ok-size.ensures.place c.requires.reading.read);
+      told = λ tells. subst (λ (k : ℕ). IsLedger ((g.D.Disk.state c.args.disk.now).files 0) c.args.self.now.shape c.requires.reading.records k) (sym c.in_ok-size.ensures.place)
+          (ends_at c.args.self.now c.requires.reading.records ((g.D.Disk.state c.args.disk.now).files 0) c.window.result.now c.requires.reading.read (c.requires.reading.told tells) (c.window.ensures ∙ c.in_ok-size.ensures.window tells) closed);
     }

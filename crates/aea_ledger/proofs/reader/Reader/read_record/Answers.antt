@@ -1,48 +1,25 @@
-use Rattle.std.proofs.Common.{◌≡◌, ◌+◌, ◌*◌, ◌≤◌, ℕ, List, None, sym, ap, ◌∙◌, subst, arith}
-use Rattle.std.specs.FinMap as map
-use Rattle.aea_lattice.specs.declared.shape.Shape.{Shape}
-use Rattle.aea_catalog.specs.Names.{IsName}
-use Rattle.aea_ledger.proofs.Parts.{front-bytes_at}
-use Rattle.aea_ledger.proofs.Steps.{next_reading, digests_missing, body_wrong, one_more, few_blocks}
+use Rattle.std.proofs.Common.{◌+◌, ℕ, refl, ap, subst}
+use Rattle.aea_records.specs.declared.heads.HeadFields.{HeadFields}
+use Rattle.aea_records.specs.declared.heads.HeadFields.TheVariants.{Fenced, Raised}
+use Rattle.aea_ledger.specs.Readings.{IsAtHead}
+use Rattle.aea_ledger.proofs.Passed.{passed_over}
+use Rattle.aea_ledger.proofs.Steps.{fence_read, raise_read, fence_wrong, raise_wrong}
 use Rattle.aea_ledger.proofs.reader.Reader.read_record.Goals as goal
 
-pub take_head-requires-clause-name : goal.take_head-requires-clause-name
-take_head-requires-clause-name g c =
-    subst IsName (front-bytes_at c.args.self.now.cursor.bytes 8 c.args.head.now.long c.args.size (omega (arith, c.requires.there.1))) c.requires.name
+pub returns-then-found-ne4-clause-bad : goal.returns-then-found-ne4-clause-bad
+returns-then-found-ne4-clause-bad g c = λ tells.
+    fence_wrong g.D.Disk.tells ((g.D.Disk.state c.args.disk.now).files 0) c.args.self.now c.args.found.now.bytes c.in-Fenced.field-0 _ c.tails_are_judged.ensures (subst (λ (f : HeadFields). IsAtHead g.D.Disk.tells ((g.D.Disk.state c.args.disk.now).files 0) c.args.self.now (record { bytes = c.args.found.now.bytes; fields = f })) c.in-Fenced.is c.requires.stands) tells c.if-found-ne4.true (ap (λ (n : ℕ). n + 2) c.place-gate.ensures)
 
-pub take_head-requires-clause-new : goal.take_head-requires-clause-new
-take_head-requires-clause-new g c =
-    subst (λ (n : List ℕ). map.get c.args.self.now.catalog.objects n ≡ None) (front-bytes_at c.args.self.now.cursor.bytes 8 c.args.head.now.long c.args.size (omega (arith, c.requires.there.1))) c.requires.new
+pub returns-then-found-ne4-2-clause-bad : goal.returns-then-found-ne4-2-clause-bad
+returns-then-found-ne4-2-clause-bad g c = λ tells.
+    raise_wrong g.D.Disk.tells ((g.D.Disk.state c.args.disk.now).files 0) c.args.self.now c.args.found.now.bytes _ c.tails_are_judged.ensures (subst (λ (f : HeadFields). IsAtHead g.D.Disk.tells ((g.D.Disk.state c.args.disk.now).files 0) c.args.self.now (record { bytes = c.args.found.now.bytes; fields = f })) c.in-Raised.is c.requires.stands) tells c.if-found-ne4-2.true (ap (λ (n : ℕ). n + 2) c.place-gate.ensures)
 
-pub read_digests-requires-clause-range : goal.read_digests-requires-clause-range
-read_digests-requires-clause-range g c =
-    let few : c.args.head.now.object.count * (1 + c.from.result) ≤ 65536 * 4 =
-    subst (λ (a : ℕ). c.args.head.now.object.count * (1 + a) ≤ 65536 * 4) (sym (c.from.ensures ∙ c.alpha.ensures ∙ ap (λ (s : Shape). s.alpha) c.in_ok-take_head.ensures.shape)) (few_blocks c.args.self.now.shape c.args.self.now.nodes c.args.head.now.object.count c.requires.count) in
-    omega (arith, few, c.in_ok-take_head.ensures.place, c.requires.range, c.requires.there.0)
+pub returns-else-found-ne4-clause-more : goal.returns-else-found-ne4-clause-more
+returns-else-found-ne4-clause-more g c =
+    let stands : IsAtHead g.D.Disk.tells ((g.D.Disk.state c.args.disk.now).files 0) c.args.self.now (record { bytes = c.args.found.now.bytes; fields = Fenced c.in-Fenced.field-0 }) = (subst (λ (f : HeadFields). IsAtHead g.D.Disk.tells ((g.D.Disk.state c.args.disk.now).files 0) c.args.self.now (record { bytes = c.args.found.now.bytes; fields = f })) c.in-Fenced.is c.requires.stands) in
+    (fence_read g.D.Disk.tells ((g.D.Disk.state c.args.disk.now).files 0) c.args.self.now _ c.args.found.now.bytes c.in-Fenced.field-0 c.tails_are_spelled.ensures stands (passed_over g.D.Disk.tells ((g.D.Disk.state c.args.disk.now).files 0) c.args.self.now.input c.args.self.now.input c.pass.new.self 10 refl (λ message held. held) (λ tells. (stands.told tells).ahead) stands.within c.pass.ensures.are c.pass.ensures.holds c.pass.ensures.place c.pass.ensures.told) c.if-found-ne4.false refl c.with_fence-self.ensures refl refl refl).0
 
-pub read_digests-requires-clause-ahead : goal.read_digests-requires-clause-ahead
-read_digests-requires-clause-ahead g c = λ tells. c.in_ok-take_head.ensures.ahead _ (c.requires.stands.told tells).ahead
-
-pub returns-then-not-branch-clause-bad : goal.returns-then-not-branch-clause-bad
-returns-then-not-branch-clause-bad g c = λ tells.
-    digests_missing g.D.Disk.tells ((g.D.Disk.state c.args.disk.now).files 0) c.args.self.now c.take_head.new.self c.args.size c.args.head.now _ _ tells c.requires.stands c.requires.there.0 c.requires.there.1
-    c.in_ok-take_head.ensures (ap (λ (a : ℕ). c.args.head.now.object.count * (1 + a)) (c.from.ensures ∙ c.alpha.ensures ∙ ap (λ (s : Shape). s.alpha) c.in_ok-take_head.ensures.shape))
-    (c.in_ok-read_digests.ensures.last c.if-not-branch.true tells) (omega (arith, c.place-gate.ensures))
-
-pub returns-then-from-head-clause-bad : goal.returns-then-from-head-clause-bad
-returns-then-from-head-clause-bad g c = λ tells.
-    body_wrong g.D.Disk.tells ((g.D.Disk.state c.args.disk.now).files 0) c.args.self.now c.take_head.new.self c.read_digests.new.self c.args.size c.args.head.now _ _ tells c.requires.stands c.requires.there.0 c.requires.there.1
-    c.in_ok-take_head.ensures (c.in_ok-read_digests.ensures.more c.if-not-branch.false) (ap (λ (a : ℕ). c.args.head.now.object.count * (1 + a)) (c.from.ensures ∙ c.alpha.ensures ∙ ap (λ (s : Shape). s.alpha) c.in_ok-take_head.ensures.shape))
-    (λ e. c.if-from-head.true (c.from-2.ensures ∙ e)) (omega (arith, c.place-gate.ensures))
-
-pub returns-clause-more : goal.returns-clause-more
-returns-clause-more g c =
-    next_reading g.D.Disk.tells ((g.D.Disk.state c.args.disk.now).files 0) c.args.self.now c.take_head.new.self c.read_digests.new.self c.args.size c.args.head.now _ c.requires.stands c.requires.there.0 c.requires.there.1
-    c.in_ok-take_head.ensures (c.in_ok-read_digests.ensures.more c.if-not-branch.false) (ap (λ (a : ℕ). c.args.head.now.object.count * (1 + a)) (c.from.ensures ∙ c.alpha.ensures ∙ ap (λ (s : Shape). s.alpha) c.in_ok-take_head.ensures.shape))
-    (sym c.from-2.ensures ∙ c.if-from-head.false)
-
-pub returns-clause-one : goal.returns-clause-one
-returns-clause-one g c =
-    one_more c.args.self.now.catalog.objects c.read_digests.new.self.catalog.objects _ c.args.head.now.object
-    (subst (λ (n : List ℕ). map.get c.args.self.now.catalog.objects n ≡ None) (front-bytes_at c.args.self.now.cursor.bytes 8 c.args.head.now.long c.args.size (omega (arith, c.requires.there.1))) c.requires.new)
-    ((c.in_ok-read_digests.ensures.more c.if-not-branch.false).objects ∙ c.in_ok-take_head.ensures.objects)
+pub returns-else-found-ne4-2-clause-more : goal.returns-else-found-ne4-2-clause-more
+returns-else-found-ne4-2-clause-more g c =
+    let stands : IsAtHead g.D.Disk.tells ((g.D.Disk.state c.args.disk.now).files 0) c.args.self.now (record { bytes = c.args.found.now.bytes; fields = Raised }) = (subst (λ (f : HeadFields). IsAtHead g.D.Disk.tells ((g.D.Disk.state c.args.disk.now).files 0) c.args.self.now (record { bytes = c.args.found.now.bytes; fields = f })) c.in-Raised.is c.requires.stands) in
+    (raise_read g.D.Disk.tells ((g.D.Disk.state c.args.disk.now).files 0) c.args.self.now _ c.args.found.now.bytes c.tails_are_spelled.ensures stands (passed_over g.D.Disk.tells ((g.D.Disk.state c.args.disk.now).files 0) c.args.self.now.input c.args.self.now.input c.pass-in-Raised.new.self 10 refl (λ message held. held) (λ tells. (stands.told tells).ahead) stands.within c.pass-in-Raised.ensures.are c.pass-in-Raised.ensures.holds c.pass-in-Raised.ensures.place c.pass-in-Raised.ensures.told) c.if-found-ne4-2.false refl refl refl refl refl).0

@@ -1,0 +1,14 @@
+use Rattle.std.proofs.Common.{ℕ, List, ap}
+use Rattle.aea_ledger.proofs.Passed.{parts_push, parts_in}
+use Rattle.aea_disk.proofs.Frames.{reads_both, reads_as}
+use Rattle.aea_ledger.proofs.input.read_parts.Goals as goal
+
+pub loop-preserved : goal.loop-preserved
+loop-preserved g c =
+    let early = c.loop.invariant.1 in (
+      parts_push g.D.Disk.tells _ c.args.input.now c.loop.input c.read_part.new.input c.loop.counter _ _ _ c.loop.invariant.0
+          (parts_in g.D.Disk.tells ((g.D.Disk.state c.loop.disk).files 0) ((g.D.Disk.state c.args.disk.now).files 0) c.loop.input c.read_part.new.input 1 _ _
+          (λ tells. ap (λ (f : ℕ → List ℕ). f 0) (early.contents tells)) (c.in_ok-read_part.ensures.more c.if-not-branch.false)),
+      reads_both g.D.Disk.tells ⊥ ⊥ (g.D.Disk.state c.args.disk.now) (g.D.Disk.state c.loop.disk) (g.D.Disk.state c.read_part.new.disk) early
+          (reads_as g.D.Disk.tells _ ⊥ _ _ (λ none. absurd none) c.in_ok-read_part.ensures.reads),
+    )

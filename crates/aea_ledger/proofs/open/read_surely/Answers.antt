@@ -1,0 +1,34 @@
+use Rattle.std.proofs.Common.{refl, inl, inr}
+use Rattle.aea_disk.proofs.Frames.{reads_failed, reads_made, reads_both, reads_synced}
+use Rattle.aea_ledger.proofs.Creates.{opened_read}
+use Rattle.aea_ledger.proofs.open.read_surely.Goals as goal
+
+pub returns-in_err-sync-clause-reads : goal.returns-in_err-sync-clause-reads
+returns-in_err-sync-clause-reads g c =
+    let e = c.in_err-sync.ensures in
+    reads_failed g.D.Disk.tells _ (g.D.Disk.state c.args.disk.now) (g.D.Disk.state c.sync.new.self) _ refl e.contents e.crash e.time e.cause e.sure
+
+pub returns-in_err-sync-clause-stops : goal.returns-in_err-sync-clause-stops
+returns-in_err-sync-clause-stops g c told = inl c.in_err-sync.ensures.crash
+
+pub returns-clause-synced : goal.returns-clause-synced
+returns-clause-synced g c fine told =
+    reads_synced g.D.Disk.tells _ (g.D.Disk.state c.sync.new.self) (g.D.Disk.state c.read_ledger.new.disk) told c.read_ledger.ensures.reads (c.in_ok-sync.ensures.durable told)
+
+pub returns-clause-stops : goal.returns-clause-stops
+returns-clause-stops g c told =
+    let e = c.in_ok-sync.ensures in
+    let reads = c.read_ledger.ensures.reads in
+    inr (opened_read (g.D.Disk.state c.args.disk.now) (g.D.Disk.state c.sync.new.self) (g.D.Disk.state c.read_ledger.new.disk) e.time reads.time e.crash (e.durable told) (e.contents told) reads.crash)
+
+pub returns-clause-opened : goal.returns-clause-opened
+returns-clause-opened g c fine told =
+    let e = c.in_ok-sync.ensures in
+    let reads = c.read_ledger.ensures.reads in
+    opened_read (g.D.Disk.state c.args.disk.now) (g.D.Disk.state c.sync.new.self) (g.D.Disk.state c.read_ledger.new.disk) e.time reads.time e.crash (e.durable told) (e.contents told) reads.crash
+
+pub returns-clause-reads : goal.returns-clause-reads
+returns-clause-reads g c =
+    let e = c.in_ok-sync.ensures in
+    reads_both g.D.Disk.tells ⊥ _ (g.D.Disk.state c.args.disk.now) (g.D.Disk.state c.sync.new.self) (g.D.Disk.state c.read_ledger.new.disk)
+    (reads_made g.D.Disk.tells ⊥ _ _ _ (λ is. is) e.contents e.crash e.time e.cause e.sure) c.read_ledger.ensures.reads

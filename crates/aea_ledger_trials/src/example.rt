@@ -47,3 +47,21 @@ pub fn example(alloc: Global) -> Result<Vec<u8>, AllocError> {
     bytes.push(0)?;
     Ok(bytes)
 }
+
+/// The example with a record of each other kind behind it: a fence behind its node, a raise of the limit, and an object `b`
+/// of 128 bytes in two parts, the first node and one that is new with it. 430 bytes.
+pub fn each_kind(alloc: Global) -> Result<Vec<u8>, AllocError> {
+    let mut bytes = example(alloc)?;
+    let _gate = bytes.pop();
+    bytes.extend_from_slice(b"\x01\x02\0\0\0\x04\0\0\0\x01")?;
+    bytes.extend_from_slice(b"\x01\x04\0\0\0\x04\0\x10\0\0")?;
+    bytes.extend_from_slice(b"\x01\x03\0\0\0\xc7\0\x01b\0\0\0\0\0\0\0\x80")?;
+    bytes.extend_from_slice(ABC)?;
+    bytes.extend_from_slice(b"\0\0\0\x02\0\0\0\x01\0\0\0\x02")?;
+    bytes.extend_from_slice(b"\0\0\0\x01\0\0\0\x01\0\0\0\x02\0\0\0\x01")?;
+    for class in CLASSES {
+        bytes.extend_from_slice(&first_digest(class))?;
+    }
+    bytes.push(0)?;
+    Ok(bytes)
+}

@@ -1,6 +1,6 @@
 //! Ledgers byte by byte: what opening answers, beside the plain reader.
 
-use crate::example::{ABC, FRONT, example, first_digest};
+use crate::example::{ABC, FRONT, each_kind, example, first_digest};
 use crate::plain::{Reading, part, read_plainly};
 use aea_disk::{Disk, DiskFault, SureDisk};
 use aea_lattice::{Class, Shape};
@@ -88,6 +88,57 @@ fn each_cut_and_change_is_as_the_plain_reader_has_it(rt: HostRuntime) -> Result<
     for place in 0..bytes.len() {
         let kept = changed[place];
         for value in 0..=255u8 {
+            changed[place] = value;
+            let plain = read_plainly(alloc, &changed)?;
+            assert_eq!(rt;
+                open_bytes(alloc, &mut disk, &changed)?,
+                plain,
+                "{value} at {place}"
+            );
+        }
+        changed[place] = kept;
+    }
+    Ok(())
+}
+
+#[test]
+fn each_kind_is_as_the_plain_reader_has_it(rt: HostRuntime) -> Result<(), Fail> {
+    let alloc = rt.alloc();
+    let bytes = each_kind(alloc)?;
+    let mut disk = SureDisk::new(alloc, 0, 512, 0)?;
+    assert_eq!(rt;
+        open_bytes(alloc, &mut disk, &bytes)?,
+        Reading::Ledger {
+            nodes: 2,
+            objects: 2
+        }
+    );
+    let ledger = open_ledger(alloc, &mut disk)?;
+    assert_eq!(rt; ledger.limit(), 1_048_576);
+    assert_eq!(rt; ledger.lattice().fence_count(), 1);
+    assert_eq!(rt; ledger.catalog().parts(b"b"), Some(2));
+    for end in 0..=bytes.len() {
+        let front = &bytes[..end];
+        let plain = read_plainly(alloc, front)?;
+        assert_eq!(rt; open_bytes(alloc, &mut disk, front)?, plain, "{end} bytes");
+    }
+    let mut changed = Vec::from_slice(alloc, &bytes)?;
+    for place in 0..bytes.len() {
+        let kept = changed[place];
+        for value in [
+            0,
+            1,
+            2,
+            3,
+            4,
+            5,
+            31,
+            127,
+            255,
+            kept ^ 1,
+            kept ^ 128,
+            kept ^ 16,
+        ] {
             changed[place] = value;
             let plain = read_plainly(alloc, &changed)?;
             assert_eq!(rt;

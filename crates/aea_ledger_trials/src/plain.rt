@@ -69,31 +69,97 @@ fn header_fields(bytes: &[u8]) -> [(u64, bool); 6] {
     ]
 }
 
-// What is known of a ledger so far: α, the block size, the nodes, and the names.
+// What is known of a ledger so far: α, the block size, the nodes, the names, the fences, and whether the limit was raised.
 #[derive(Drop)]
 struct SoFar {
     alpha: u64,
     block: u64,
     nodes: u64,
     names: Vec<Vec<u8>>,
+    fences: Vec<u64>,
+    raised: bool,
 }
 
-// The fields of the record behind an open gate, with which the bytes begin.
-fn record_fields(far: &SoFar, bytes: &[u8]) -> [(u64, bool); 10] {
+impl SoFar {
+    // How many nodes there may be.
+    fn limit(&self) -> u64 {
+        if self.raised { 1_048_576 } else { 65_536 }
+    }
+
+    // Whether a fence may stand behind this node.
+    fn may_fence(&self, node: u64) -> bool {
+        node == self.nodes && node != 0 && !self.fences.contains(&node) && self.fences.len() < 16
+    }
+
+    // Whether a record of this kind may come.
+    fn may_come(&self, kind: u64) -> bool {
+        kind == 1 || kind == 2 || kind == 4 || (kind == 3 && self.raised)
+    }
+}
+
+// Whether the parts from a place on lie apart, in order, up to the last node, and have so many nodes together.
+fn are_parts(bytes: &[u8], at: u64, parts: u64, last: u64, nodes: u64) -> bool {
+    let mut after = 0u64;
+    let mut sum = 0u64;
+    for k in 0..parts {
+        let place = at.saturating_add(k.saturating_mul(8));
+        let first = number(bytes, place, 4);
+        let count = number(bytes, place.saturating_add(4), 4);
+        let end = first.saturating_add(count).saturating_sub(1);
+        if first <= after || count == 0 || end > last {
+            return false;
+        }
+        after = end;
+        sum = sum.saturating_add(count);
+    }
+    sum == nodes
+}
+
+// The fields of a fence or a raise behind an open gate, with which the bytes begin.
+fn short_fields(far: &SoFar, bytes: &[u8], kind: u64) -> [(u64, bool); 4] {
     let has = |end: u64| end <= bytes.len() as u64;
+    let value = number(bytes, 6, 4);
+    [
+        (1, has(2) && far.may_come(kind)),
+        (2, has(6)),
+        (
+            6,
+            has(10)
+                && if kind == 2 {
+                    far.may_fence(value)
+                } else {
+                    value == 1_048_576 && !far.raised
+                },
+        ),
+        (2, number(bytes, 2, 4) == 4),
+    ]
+}
+
+// The fields of an object behind an open gate, with which the bytes begin; one in parts has four bytes more before them.
+fn object_fields(far: &SoFar, bytes: &[u8], kind: u64) -> [(u64, bool); 12] {
+    let has = |end: u64| end <= bytes.len() as u64;
+    let joined = kind == 3;
     let long = number(bytes, 6, 2);
     let name = part(bytes, 8, long);
     let after = long.saturating_add(8);
     let length = number(bytes, after, 8);
     let first = number(bytes, after.saturating_add(40), 4);
     let count = number(bytes, after.saturating_add(44), 4);
+    let last = far.nodes.saturating_add(count);
+    let parts = if joined {
+        number(bytes, after.saturating_add(48), 4)
+    } else {
+        0
+    };
+    let behind = after.saturating_add(if joined { 52 } else { 48 });
+    let parts_end = behind.saturating_add(parts.saturating_mul(8));
     let digests = count
         .saturating_mul(far.alpha.saturating_add(1))
         .saturating_mul(32);
     let nodes = length.div_ceil(far.block.max(1));
     let taken = far.names.iter().any(|known| known.as_slice() == name);
     [
-        (1, has(2) && number(bytes, 1, 1) == 1),
+        (1, has(2) && far.may_come(kind)),
         (2, has(6)),
         (6, has(8) && 1 <= long && long <= 255),
         (8, has(after) && check_name(name) && !taken),
@@ -105,49 +171,75 @@ fn record_fields(far: &SoFar, bytes: &[u8]) -> [(u64, bool); 10] {
         ),
         (
             after.saturating_add(44),
-            has(after.saturating_add(48))
-                && count == nodes
-                && far.nodes.saturating_add(count) <= 65_536,
+            has(after.saturating_add(48)) && (joined || count == nodes) && last <= far.limit(),
         ),
         (
             after.saturating_add(48),
-            has(after.saturating_add(48).saturating_add(digests)),
+            !joined || (has(behind) && parts <= 1_048_576),
         ),
         (
+            behind,
+            !joined || (has(parts_end) && are_parts(bytes, behind, parts, last, nodes)),
+        ),
+        (parts_end, has(parts_end.saturating_add(digests))),
+        (
             2,
-            number(bytes, 2, 4) == long.saturating_add(50).saturating_add(digests),
+            number(bytes, 2, 4) == parts_end.saturating_add(digests).saturating_sub(6),
         ),
     ]
+}
+
+// Takes the record behind an open gate, which is valid.
+fn take(alloc: Global, far: &mut SoFar, bytes: &[u8], kind: u64) -> Result<(), AllocError> {
+    if kind == 2 {
+        far.fences.push(number(bytes, 6, 4))?;
+    } else if kind == 4 {
+        far.raised = true;
+    } else {
+        let long = number(bytes, 6, 2);
+        far.nodes = far
+            .nodes
+            .saturating_add(number(bytes, long.saturating_add(52), 4));
+        far.names
+            .push(Vec::from_slice(alloc, part(bytes, 8, long))?)?;
+    }
+    Ok(())
+}
+
+// The place of what is bad in the record behind an open gate, if anything is.
+fn bad_record(far: &SoFar, bytes: &[u8], kind: u64) -> Option<u64> {
+    if kind == 2 || kind == 4 {
+        first_bad(&short_fields(far, bytes, kind))
+    } else {
+        first_bad(&object_fields(far, bytes, kind))
+    }
 }
 
 // What the bytes behind the header are.
 fn read_records(alloc: Global, far: &mut SoFar, bytes: &[u8]) -> Result<Reading, AllocError> {
     let mut gate = 17u64;
-    for objects in 0..70_000u64 {
+    for _ in 0..70_000u64 {
         let rest = part(bytes, gate, u64::MAX);
         if rest.is_empty() {
             return Ok(Reading::Bad { at: gate });
         }
+        let objects = far.names.len() as u64;
         if rest[0] != 1 {
             return Ok(Reading::Ledger {
                 nodes: far.nodes,
                 objects,
             });
         }
-        if objects == 65_536 {
+        let kind = number(rest, 1, 1);
+        if objects == 65_536 && (kind == 1 || (kind == 3 && far.raised)) {
             return Ok(Reading::Bad { at: gate });
         }
-        if let Some(at) = first_bad(&record_fields(far, rest)) {
+        if let Some(at) = bad_record(far, rest, kind) {
             return Ok(Reading::Bad {
                 at: gate.saturating_add(at),
             });
         }
-        let long = number(rest, 6, 2);
-        far.nodes = far
-            .nodes
-            .saturating_add(number(rest, long.saturating_add(52), 4));
-        far.names
-            .push(Vec::from_slice(alloc, part(rest, 8, long))?)?;
+        take(alloc, far, rest, kind)?;
         gate = gate.saturating_add(number(rest, 2, 4)).saturating_add(6);
     }
     Ok(Reading::NoArchive)
@@ -166,6 +258,8 @@ pub fn read_plainly(alloc: Global, bytes: &[u8]) -> Result<Reading, AllocError> 
         block: number(bytes, 13, 4),
         nodes: 0,
         names: Vec::new(alloc),
+        fences: Vec::new(alloc),
+        raised: false,
     };
     read_records(alloc, &mut far, bytes)
 }

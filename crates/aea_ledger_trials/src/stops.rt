@@ -53,7 +53,9 @@ fn add<D: Disk>(
         return Ok(false);
     }
     let count = (size + block - 1) / block;
-    let free = 65_536 - ledger.lattice().n();
+    let Some(free) = 65_536u32.checked_sub(ledger.lattice().n()) else {
+        return Ok(false);
+    };
     if count > u64::from(free) || !check_name(name) || ledger.catalog().find(name).is_some() {
         return Ok(false);
     }

@@ -1,17 +1,19 @@
 -- Which lists of words mean no command.
-use Rattle.std.proofs.Common.{◌≡◌, ℕ, ◌<◌, ◌≤◌, get_or, ◌^◌, List, [], ◌∷◌, decimal, arith, refl, sym, ◌∙◌, ap, subst, length, IsTrue, true, Option, Some, None}
-use Rattle.std.specs.Prelude.{IfNone}
+use Rattle.std.proofs.Common.{◌≡◌, ℕ, ◌<◌, ◌≤◌, get_or, ◌^◌, List, [], ◌∷◌, decimal, arith, refl, sym, ◌∙◌, ap, length, true, Option, Some, None}
+use Rattle.std.specs.Prelude.{IfNone, codes, if◌then◌else◌}
+use Rattle.std.specs.Str.{bytes_eq}
 use Rattle.std.proofs.lemmas.Bool.Decides.{nat_tests}
 use Rattle.std.proofs.lemmas.Fmt.{decimal_injective}
 use Rattle.std.proofs.Math.Bridge.{le_prop}
 use mathlib.Core.HLevel.{is_prop→PathP}
 use mathlib.Core.Bool.{Bool-set}
+use Rattle.aea_lattice.specs.Fences.{are_fences}
 use Rattle.aea_lattice.specs.Profile.{is_profile, is_shape, greatest_nodes}
 use Rattle.aea_lattice.specs.declared.grid.Lattice.{Lattice}
 use Rattle.aea_lattice.specs.declared.shape.Shape.{Shape}
 use Rattle.aea_cli.specs.declared.command.Command.{Command}
 use Rattle.aea_cli.specs.declared.command.Command.TheVariants.{Drill, Create, Stat}
-use Rattle.aea_cli.specs.Words.{Means, AreNoDrill, AreNoCreate, AreNoCommand}
+use Rattle.aea_cli.specs.Words.{Means, AreNoDrill, AreNoCreate, AreNoCommand, IsDrilled}
 
 -- the numbers of a lattice fit 32 bits
 pub record AreSmall (l : Lattice) : Type 0 where
@@ -36,10 +38,11 @@ if_none_weaker None P Q f h = f h
 if_none_weaker (Some x) P Q f h = tt
 
 -- the numbers that the words name are those of no lattice
-pub no_lattice : (w : List ℕ) (a s p n : ℕ) → a < 2 ^ 32 → s < 2 ^ 32 → p < 2 ^ 32 → n < 2 ^ 32 → ((l : Lattice) → l.alpha ≡ a → l.s ≡ s → l.p ≡ p → l.n ≡ n → ⊥)
+pub no_lattice : (w : List ℕ) (a s p n : ℕ) → a < 2 ^ 32 → s < 2 ^ 32 → p < 2 ^ 32 → n < 2 ^ 32 → ((l : Lattice) → l.alpha ≡ a → l.s ≡ s → l.p ≡ p → l.n ≡ n → IsDrilled l → ⊥)
     → AreNoDrill (w ∷ decimal a ∷ decimal s ∷ decimal p ∷ decimal n ∷ [])
 no_lattice w a s p n fa fs fp fn never = λ l means.
     let small = are_small l in
+    let said = means.0 in
     let ea : decimal l.alpha ≡ decimal a = cc in
     let es : decimal l.s ≡ decimal s = cc in
     let ep : decimal l.p ≡ decimal p = cc in
@@ -49,6 +52,7 @@ no_lattice w a s p n fa fs fp fn never = λ l means.
     (decimal_injective l.s s (omega arith) (omega arith) es)
     (decimal_injective l.p p (omega arith) (omega arith) ep)
     (decimal_injective l.n n (omega arith) (omega arith) en)
+    means.1
 
 -- a list of five items is its five items
 pub five_items : {X : Type 0} → (xs : List X) (a b c d e : X) → 5 ≤ length xs → length xs < 6 → a ≡ get_or xs 0 a → b ≡ get_or xs 1 b → c ≡ get_or xs 2 c → d ≡ get_or xs 3 d → e ≡ get_or xs 4 e
@@ -62,35 +66,25 @@ five_items (v ∷ w ∷ x ∷ y ∷ z ∷ []) a b c d e least most ea eb ec ed e
     let va : a ≡ v = ea in let wb : b ≡ w = eb in let xc : c ≡ x = ec in let yd : d ≡ y = ed in let ze : e ≡ z = ee in cc
 five_items (v ∷ w ∷ x ∷ y ∷ z ∷ u ∷ us) a b c d e least most ea eb ec ed ee = absurd (omega arith)
 
--- a lattice by its numbers and the facts that it carries
-abbrev made : (alpha s p n : ℕ) → IsTrue (is_profile alpha s p) → n ≤ greatest_nodes → Lattice
-made alpha s p n shape range = record { alpha = alpha; s = s; p = p; n = n; in_profile = shape; in_range = range }
-
-one_shape : (alpha s p : ℕ) → IsProp (IsTrue (is_profile alpha s p))
-one_shape alpha s p = hlevel (Bool-set)
-
-same_facts : (alpha s p n : ℕ) (f g : IsTrue (is_profile alpha s p)) (h k : n ≤ greatest_nodes) → made alpha s p n f h ≡ made alpha s p n g k
-same_facts alpha s p n f g h k = ap (λ x. made alpha s p n x h) (one_shape alpha s p f g) ∙ ap (λ x. made alpha s p n g x) (le_prop h k)
-
-equal_n : (alpha s p n m : ℕ) (f g : IsTrue (is_profile alpha s p)) (h : n ≤ greatest_nodes) → n ≡ m → (k : m ≤ greatest_nodes) → made alpha s p n f h ≡ made alpha s p m g k
-equal_n alpha s p n m f g h e = subst (λ x. (k : x ≤ greatest_nodes) → made alpha s p n f h ≡ made alpha s p x g k) e (λ k. same_facts alpha s p n f g h k)
-
-equal_p : (alpha s p q n m : ℕ) (f : IsTrue (is_profile alpha s p)) (h : n ≤ greatest_nodes) (k : m ≤ greatest_nodes) → p ≡ q → n ≡ m → (g : IsTrue (is_profile alpha s q)) → made alpha s p n f h ≡ made alpha s q m g k
-equal_p alpha s p q n m f h k e en = subst (λ x. (g : IsTrue (is_profile alpha s x)) → made alpha s p n f h ≡ made alpha s x m g k) e (λ g. equal_n alpha s p n m f g h en k)
-
-equal_s : (alpha s t p q n m : ℕ) (f : IsTrue (is_profile alpha s p)) (h : n ≤ greatest_nodes) (k : m ≤ greatest_nodes) → s ≡ t → p ≡ q → n ≡ m → (g : IsTrue (is_profile alpha t q)) → made alpha s p n f h ≡ made alpha t q m g k
-equal_s alpha s t p q n m f h k e ep en = subst (λ x. (g : IsTrue (is_profile alpha x q)) → made alpha s p n f h ≡ made alpha x q m g k) e (λ g. equal_p alpha s p q n m f h k ep en g)
-
--- two lattices with the same numbers are one
-pub lattice_equal : (a b : Lattice) → a.alpha ≡ b.alpha → a.s ≡ b.s → a.p ≡ b.p → a.n ≡ b.n → a ≡ b
-lattice_equal a b ea es ep en =
-    subst (λ x. (g : IsTrue (is_profile x b.s b.p)) → a ≡ made x b.s b.p b.n g b.in_range) ea
-    (λ g. equal_s a.alpha a.s b.s a.p b.p a.n b.n a.in_profile a.in_range b.in_range es ep en g) b.in_profile
+-- two lattices with the same numbers and fences are one
+pub lattice_equal : (a b : Lattice) → a.alpha ≡ b.alpha → a.s ≡ b.s → a.p ≡ b.p → a.n ≡ b.n → a.fences ≡ b.fences → a ≡ b
+lattice_equal a b alpha s p n fences = λ i. record {
+  alpha = alpha i;
+  s = s i;
+  p = p i;
+  n = n i;
+  fences = fences i;
+  in_profile = is_prop→PathP (λ j. is_profile (alpha j) (s j) (p j) ≡ true)
+      (λ j. Bool-set (is_profile (alpha j) (s j) (p j)) true) a.in_profile b.in_profile i;
+  in_range = is_prop→PathP (λ j. n j ≤ greatest_nodes) (λ j h k. le_prop h k) a.in_range b.in_range i;
+  fenced = is_prop→PathP (λ j. are_fences (n j) (fences j) ≡ true)
+      (λ j. Bool-set (are_fences (n j) (fences j)) true) a.fenced b.fenced i;
+}
 
 -- the words of a drill have one lattice
 pub drills_equal : (words : List (List ℕ)) (a b : Lattice) → Means words (Drill a) → Means words (Drill b) → a ≡ b
 drills_equal words a b ea eb =
-    let same = sym ea ∙ eb in
+    let same = sym ea.0 ∙ eb.0 in
     let sa = are_small a in
     let sb = are_small b in
     let dalpha : decimal a.alpha ≡ decimal b.alpha = cc in
@@ -102,6 +96,7 @@ drills_equal words a b ea eb =
     (decimal_injective a.s b.s (omega arith) (omega arith) ds)
     (decimal_injective a.p b.p (omega arith) (omega arith) dp)
     (decimal_injective a.n b.n (omega arith) (omega arith) dn)
+    (ea.1.fences ∙ sym eb.1.fences)
 
 -- the numbers of the shape of an archive fit 32 bits
 pub record AreSmallNumbers (shape : Shape) : Type 0 where
@@ -185,20 +180,28 @@ shapes_equal words a b ea eb =
     (decimal_injective a.block b.block (omega arith) (omega arith) dblock)
     (decimal_injective a.sites b.sites (omega arith) (omega arith) dsites)
 
+-- a number for each kind of command
+kind : Command → ℕ
+kind (Drill l) = 0
+kind (Create shape) = 1
+kind Stat = 2
+
+-- the kind that the first word names
+kind_by : List (List ℕ) → ℕ
+kind_by [] = 3
+kind_by (word ∷ words) = if bytes_eq word (codes "drill") then 0 else if bytes_eq word (codes "create") then 1 else 2
+
+-- the first word tells the kind
+kind_is : (words : List (List ℕ)) (a : Command) → Means words a → kind_by words ≡ kind a
+unfolding kind kind_by
+kind_is words (Drill l) means = ap kind_by means.0
+kind_is words (Create shape) means = ap kind_by means
+kind_is words Stat means = ap kind_by means
+
 -- words mean one command at most
 pub one_command : (words : List (List ℕ)) (a b : Command) → Means words a → Means words b → a ≡ b
-one_command words (Drill a) (Drill b) ea eb = ap Drill (drills_equal words a b ea eb)
-one_command words (Drill a) (Create b) ea eb = let same = sym ea ∙ eb in cc
-one_command words (Drill a) Stat ea eb = let same = sym ea ∙ eb in cc
-one_command words (Create a) (Drill b) ea eb = let same = sym ea ∙ eb in cc
-one_command words (Create a) (Create b) ea eb = ap Create (shapes_equal words a b ea eb)
-one_command words (Create a) Stat ea eb = let same = sym ea ∙ eb in cc
-one_command words Stat (Drill b) ea eb = let same = sym ea ∙ eb in cc
-one_command words Stat (Create b) ea eb = let same = sym ea ∙ eb in cc
-one_command words Stat Stat ea eb = refl
-
--- words that are none of the commands
-pub none_of_all : (words : List (List ℕ)) → AreNoDrill words → AreNoCreate words → (Means words Stat → ⊥) → AreNoCommand words
-none_of_all words drill create stat (Drill l) means = drill l means
-none_of_all words drill create stat (Create shape) means = create shape means
-none_of_all words drill create stat Stat means = stat means
+unfolding kind
+one_command words (Drill a) (Drill b) one two = ap Drill (drills_equal words a b one two)
+one_command words (Create a) (Create b) one two = ap Create (shapes_equal words a b one two)
+one_command words Stat Stat one two = refl
+one_command words a b one two = let same : kind a ≡ kind b = sym (kind_is words a one) ∙ kind_is words b two in cc

@@ -1,139 +1,161 @@
 -- What `create` does, by where it ends.
-use Rattle.std.proofs.Common.{◌≡◌, ◌≢◌, [], ℕ, inl, inr, ⊎_elim, List, arith, refl, Option, Ok, Err}
+pub mod Running
+use Rattle.std.proofs.Common.{◌≡◌, ◌≢◌, ◌⊎◌, ◌<◌, ℕ, inl, inr, List, arith, refl, sym, ◌∙◌, ap, Ok, Err}
+use Rattle.std.specs.Prelude.{IfOk, IsOk}
+use Rattle.std.proofs.lemmas.Bool.{false≢true}
 use Rattle.aea_faults.specs.Faults.{Rose}
+use Rattle.aea_io.specs.Streams.{SinkState}
 use Rattle.aea_lattice.specs.declared.shape.Shape.{Shape}
-use Rattle.aea_disk.specs.State.{State, KeepsImages, HasRoom}
+use Rattle.aea_disk.specs.State.{State, KeepsImages, IsSynced, HasRoom, HasRoomTo, NeverFails}
 use Rattle.aea_ledger.specs.declared.create.CreateFault.{CreateFault}
 use Rattle.aea_ledger.specs.declared.create.CreateFault.TheVariants as creation
-use Rattle.aea_ledger.specs.Faults.{HasOpenHeader, IsNoArchive}
-use Rattle.aea_ledger.specs.Stops.{IsBeingMade, HasOpening}
-use Rattle.aea_cli.specs.declared.status.Status.TheVariants.{Done, Refused, Disk, Output, Memory}
-use Rattle.aea_cli.specs.Failures.{creation_failure, failure_status}
-use Rattle.aea_cli.specs.Pages.{sheet, Prints}
-use Rattle.aea_cli.specs.Streams.{SinkState, sink_state}
-use Rattle.aea_cli.specs.Create.{created_line, Creates, IsCreated}
-use Rattle.aea_cli.proofs.Outcomes.{printed_all, printed_part}
+use Rattle.aea_records.specs.Faults.{HasOpenHeader, IsNoArchive}
+use Rattle.aea_ledger.specs.Stops.{IsBeingMade, MakesArchive, IsOpened, HasOpening}
+use Rattle.aea_cli.specs.declared.refusal.Refusal.{Refusal}
+use Rattle.aea_cli.specs.declared.refusal.Refusal.TheVariants.{InputTooLong, BadBlock, NoArchive, LedgerBad, Occupied}
+use Rattle.aea_cli.specs.declared.refusal.Failure.{Failure}
+use Rattle.aea_cli.specs.declared.refusal.Failure.TheVariants as failure
+use Rattle.aea_cli.specs.declared.status.Status.{Status}
+use Rattle.aea_cli.specs.declared.status.Status.TheVariants.{Done}
+use Rattle.aea_cli.specs.Failures.{Answer, creation_failure}
+use Rattle.aea_cli.specs.Causes.{place_of, IsFirst, Refuses}
+use Rattle.aea_cli.specs.Create.{created_line, CreateCauses, Creates, IsCreated}
+use Rattle.aea_cli.specs.Printed.{PrintsText}
+use Rattle.aea_cli.proofs.OpeningCases.{header_or_none, images_same}
+use Rattle.aea_cli.proofs.Refusing.{refuses_none, refuses_one, refuses_stopped}
+use Rattle.aea_cli.proofs.Texts.{text_unused}
 
--- a file is not both no archive and one with an open header
-pub header_or_none : (bytes : List ℕ) → HasOpenHeader bytes → IsNoArchive bytes → ⊥
-header_or_none bytes header (inl short) = let long = header.long in omega arith
-header_or_none bytes header (inr shut) = shut header.gate
+-- a failure is neither done nor a failure of the output
+never_stands : (answer : Answer) (f : Failure) → answer ≡ Err f → f ≢ failure.Output → IsOk answer ⊎ (answer ≡ Err failure.Output) → ⊥
+never_stands (Ok s) f is differs stands = let h : Ok s ≡ Err f = is in cc
+never_stands (Err e) f is differs (inl ok) = false≢true ok
+never_stands (Err e) f is differs (inr out) = let h : Err f ≡ Err failure.Output = sym is ∙ out in differs cc
 
--- where no call was made, every image is as it was
-pub images_same : (s : State) → KeepsImages s s
-images_same s t c from to here = let e : t ≡ s.moment = omega arith in subst_image s t c e here
-  where
-    subst_image : (s : State) (t : ℕ) (c : ℕ → List ℕ) → t ≡ s.moment → s.image t c → s.image s.moment c
-    subst_image s t c e h = rw e at h
+never_opened : (answer : Answer) (f : Failure) → answer ≡ Err f → f ≢ failure.Output → f ≢ failure.Refused Occupied
+    → IsOk answer ⊎ ((answer ≡ Err failure.Output) ⊎ (answer ≡ Err (failure.Refused Occupied))) → ⊥
+never_opened answer f is output occupied (inl ok) = never_stands answer f is output (inl ok)
+never_opened answer f is output occupied (inr (inl out)) = never_stands answer f is output (inr out)
+never_opened answer f is output occupied (inr (inr there)) = let h : Err f ≡ Err (failure.Refused Occupied) = sym is ∙ there in occupied cc
 
 -- memory was wanting, and nothing was done
-pub creates_nothing : (shape : Shape) (tells : Type 0) (s : State) (out : SinkState) → Creates shape tells s s out out Memory
+pub creates_nothing : (shape : Shape) (tells : Type 0) (s : State) (out : SinkState) → Creates shape tells s s out out (Err failure.Memory)
 creates_nothing shape tells s out = record {
-  kinds = inr (inr (inr (inr refl)));
-  created = λ e. let h : Memory ≡ Done = e in cc;
-  part = λ e. let h : Memory ≡ Output = e in cc;
-  stands = λ e. ⊎_elim (λ d. let h : Memory ≡ Done = d in cc) (λ o. let h : Memory ≡ Output = o in cc) e;
+  done = tt;
+  prints = text_unused out failure.Memory (created_line shape) (λ e. cc);
+  stands = λ e. absurd (never_stands (Err failure.Memory) failure.Memory refl (λ d. cc) e);
   stops = λ told. inl (images_same s);
   reads = λ told. record { occupied = λ header. refl; free = λ none. inl none };
-  refused = λ e. let h : Memory ≡ Refused = e in cc;
-  kept = λ e. images_same s;
-  same = λ e told. refl;
-  refusal = λ told header. inr (inr refl);
-  complete = λ told none disk_quiet out_quiet. inr refl;
-  in_room = λ room. (λ e. let h : Memory ≡ Disk = e in cc, refl);
-  refuses_in_room = λ room told header. (inr refl, refl);
-  line_fits = λ room told enough. refl;
+  kept = λ e. (images_same s, λ told. refl);
+  opened = λ e. absurd (never_opened (Err failure.Memory) failure.Memory refl (λ d. cc) (λ d. cc) e);
+  in_room = λ room. (λ e. let h : Err failure.Memory ≡ Err failure.Disk = e in cc, refl);
+  refused_in_room = λ told header room. (λ e. let h : Err failure.Memory ≡ Err failure.Disk = e in cc, refl);
 }
 
 -- what making the archive gave, where it failed
 pub record IsUnmade (shape : Shape) (tells : Type 0) (old new : State) (fault : CreateFault) : Type 0 where
   pub occupied : fault ≡ creation.Occupied → tells → HasOpenHeader (old.files 0)
-  pub kept : fault ≡ creation.Occupied → KeepsImages old new
-  pub same : fault ≡ creation.Occupied → tells → new.files ≡ old.files
-  pub stops : tells → HasOpening old new (λ c. IsBeingMade shape (old.files 0) (c 0))
+  pub kept : fault ≡ creation.Occupied → KeepsImages old new × (tells → new.files ≡ old.files)
+  pub stops : tells → HasOpening old new (MakesArchive shape old.files)
+  pub opened : fault ≡ creation.Occupied → tells → IsOpened old new (MakesArchive shape old.files) × IsSynced new
   pub reads : tells → IsBeingMade shape (old.files 0) (new.files 0)
-  pub cause : fault ≡ creation.DiskFault → Rose old.faults new.faults
-  pub sure : old.room 0 18 → (fault ≢ creation.DiskFault) × (new.faults ≡ old.faults)
-  pub refused : HasRoom old → tells → HasOpenHeader (old.files 0) → (fault ≡ creation.Occupied) × (new.faults ≡ old.faults)
+  pub sure : NeverFails (HasRoomTo old 0 18) (fault ≢ creation.DiskFault) old new
+  pub refused : tells → HasOpenHeader (old.files 0) → NeverFails (HasRoom old) (fault ≡ creation.Occupied) old new
 
 pub creates_failed : (shape : Shape) (tells : Type 0) (old new : State) (out : SinkState) (fault : CreateFault) → IsUnmade shape tells old new fault
-    → Creates shape tells old new out out (failure_status (creation_failure fault))
+    → Creates shape tells old new out out (Err (creation_failure fault))
 creates_failed shape tells old new out creation.Occupied unmade = record {
-  kinds = inr (inl refl);
-  created = λ e. let h : Refused ≡ Done = e in cc;
-  part = λ e. let h : Refused ≡ Output = e in cc;
-  stands = λ e. ⊎_elim (λ d. let h : Refused ≡ Done = d in cc) (λ o. let h : Refused ≡ Output = o in cc) e;
+  done = tt;
+  prints = text_unused out (failure.Refused Occupied) (created_line shape) (λ e. cc);
+  stands = λ e. absurd (never_stands (Err (failure.Refused Occupied)) (failure.Refused Occupied) refl (λ d. cc) e);
   stops = unmade.stops;
   reads = unmade.reads;
-  refused = λ e. unmade.occupied refl;
   kept = λ e. unmade.kept refl;
-  same = λ e. unmade.same refl;
-  refusal = λ told header. inl refl;
-  complete = λ told none disk_quiet out_quiet. absurd (header_or_none (old.files 0) (unmade.occupied refl told) none);
-  in_room = λ room. (λ e. let h : Refused ≡ Disk = e in cc, (unmade.sure room).1);
-  refuses_in_room = λ room told header. (inl refl, (unmade.refused room told header).1);
-  line_fits = λ room told enough. refl;
+  opened = λ e. unmade.opened refl;
+  in_room = λ room. (λ e. let h : Err (failure.Refused Occupied) ≡ Err failure.Disk = e in cc, (unmade.sure room).1);
+  refused_in_room = λ told header room. (λ e. let h : Err (failure.Refused Occupied) ≡ Err failure.Disk = e in cc, (unmade.refused told header room).1);
 }
 creates_failed shape tells old new out creation.DiskFault unmade = record {
-  kinds = inr (inr (inl refl));
-  created = λ e. let h : Disk ≡ Done = e in cc;
-  part = λ e. let h : Disk ≡ Output = e in cc;
-  stands = λ e. ⊎_elim (λ d. let h : Disk ≡ Done = d in cc) (λ o. let h : Disk ≡ Output = o in cc) e;
+  done = tt;
+  prints = text_unused out failure.Disk (created_line shape) (λ e. cc);
+  stands = λ e. absurd (never_stands (Err failure.Disk) failure.Disk refl (λ d. cc) e);
   stops = unmade.stops;
   reads = unmade.reads;
-  refused = λ e. let h : Disk ≡ Refused = e in cc;
-  kept = λ e. ⊎_elim (λ d. let h : Disk ≡ Refused = d in cc) (λ m. let h : Disk ≡ Memory = m in cc) e;
-  same = λ e. ⊎_elim (λ d. let h : Disk ≡ Refused = d in cc) (λ m. let h : Disk ≡ Memory = m in cc) e;
-  refusal = λ told header. inr (inl refl);
-  complete = λ told none disk_quiet out_quiet. absurd (disk_quiet (unmade.cause refl));
+  kept = λ e. elim e [
+    | inl r ↦ let h : Err failure.Disk ≡ Err (failure.Refused Occupied) = r in cc
+    | inr m ↦ let h : Err failure.Disk ≡ Err failure.Memory = m in cc
+  ];
+  opened = λ e. absurd (never_opened (Err failure.Disk) failure.Disk refl (λ d. cc) (λ d. cc) e);
   in_room = λ room. absurd ((unmade.sure room).0 refl);
-  refuses_in_room = λ room told header. let h : creation.DiskFault ≡ creation.Occupied = (unmade.refused room told header).0 in cc;
-  line_fits = λ room told enough. refl;
+  refused_in_room = λ told header room. let h : creation.DiskFault ≡ creation.Occupied = (unmade.refused told header room).0 in cc;
 }
+
+one_cause : (bytes : List ℕ) (why : Refusal) → IsFirst (CreateCauses bytes) why → why ≡ Occupied
+one_cause bytes Occupied first = refl
+one_cause bytes InputTooLong first = absurd first.stands
+one_cause bytes (BadBlock k) first = absurd first.stands
+one_cause bytes NoArchive first = absurd first.stands
+one_cause bytes (LedgerBad at) first = absurd first.stands
+
+none_before : (bytes : List ℕ) (other : Refusal) → place_of other < place_of Occupied → CreateCauses bytes other → ⊥
+none_before bytes Occupied before cause = omega arith
+none_before bytes InputTooLong before cause = cause
+none_before bytes (BadBlock k) before cause = cause
+none_before bytes NoArchive before cause = cause
+none_before bytes (LedgerBad at) before cause = cause
+
+-- how making an archive tells why it failed
+pub create_refuses : (tells : Type 0) (bytes : List ℕ) (fault : CreateFault) → (fault ≡ creation.Occupied → tells → HasOpenHeader bytes) → Refuses {T = Status} tells (CreateCauses bytes) (Err (creation_failure fault))
+create_refuses tells bytes creation.Occupied header =
+    refuses_one tells (CreateCauses bytes) (Err (failure.Refused Occupied)) Occupied refl (λ told. record { stands = header refl told; none = none_before bytes }) (λ told. one_cause bytes)
+create_refuses tells bytes creation.DiskFault header = refuses_stopped tells (CreateCauses bytes) (Err failure.Disk) (inl refl)
+
+never_created : (bytes : List ℕ) (why : Refusal) → IsNoArchive bytes → CreateCauses bytes why → ⊥
+never_created bytes Occupied none cause = header_or_none bytes cause none
+never_created bytes InputTooLong none cause = cause
+never_created bytes (BadBlock k) none cause = cause
+never_created bytes NoArchive none cause = cause
+never_created bytes (LedgerBad at) none cause = cause
 
 -- what it gave, where it was done
 pub record IsMade (shape : Shape) (tells : Type 0) (old new : State) : Type 0 where
   pub stands : tells → IsCreated shape old new
-  pub stops : tells → HasOpening old new (λ c. IsBeingMade shape (old.files 0) (c 0))
+  pub stops : tells → HasOpening old new (MakesArchive shape old.files)
+  pub opened : tells → IsOpened old new (MakesArchive shape old.files) × IsSynced new
   pub reads : tells → IsBeingMade shape (old.files 0) (new.files 0)
-  pub sure : old.room 0 18 → new.faults ≡ old.faults
+  pub sure : HasRoomTo old 0 18 → new.faults ≡ old.faults
 
--- the line was printed
-pub creates_done : {T E : Type 0} (shape : Shape) (tells : Type 0) (old new : State) (a b : Option (List ℕ)) (r q : Option ℕ) (x y : ℕ) (v : T) → IsMade shape tells old new
-    → Prints {E = E} (sheet a r x []) (sheet b q y []) (Ok v) (created_line shape) → Creates shape tells old new (sink_state a r x) (sink_state b q y) Done
-creates_done shape tells old new a b r q x y v made prints = record {
-  kinds = inl refl;
-  created = λ e. printed_all a b r q x y v (created_line shape) prints;
-  part = λ e. let h : Done ≡ Output = e in cc;
+-- the archive was made, and then the line was printed, or the output failed
+abbrev pub IsPrinting : Answer → Type 0
+IsPrinting answer = (answer ≡ Ok Done) ⊎ (answer ≡ Err failure.Output)
+
+printing_done : (answer : Answer) → IsPrinting answer → IfOk answer (λ status. status ≡ Done)
+printing_done (Ok s) (inl e) = cc
+printing_done (Ok s) (inr e) = let h : Ok s ≡ Err failure.Output = e in cc
+printing_done (Err f) printing = tt
+
+printing_never : (answer : Answer) (f : Failure) → IsPrinting answer → f ≢ failure.Output → answer ≡ Err f → ⊥
+printing_never answer f (inl e) differs is = let h : Ok Done ≡ Err f = sym e ∙ is in cc
+printing_never answer f (inr e) differs is = let h : Err failure.Output ≡ Err f = sym e ∙ is in differs cc
+
+pub creates_made : (shape : Shape) (tells : Type 0) (old new : State) (before after : SinkState) (answer : Answer) → IsPrinting answer → IsMade shape tells old new
+    → PrintsText before after answer (created_line shape) → Creates shape tells old new before after answer
+creates_made shape tells old new before after answer printing made prints = record {
+  done = printing_done answer printing;
+  prints = prints;
   stands = λ e. made.stands;
   stops = made.stops;
   reads = made.reads;
-  refused = λ e. let h : Done ≡ Refused = e in cc;
-  kept = λ e. ⊎_elim (λ d. let h : Done ≡ Refused = d in cc) (λ m. let h : Done ≡ Memory = m in cc) e;
-  same = λ e. ⊎_elim (λ d. let h : Done ≡ Refused = d in cc) (λ m. let h : Done ≡ Memory = m in cc) e;
-  refusal = λ told header. absurd (header_or_none (old.files 0) header (made.stands told).free);
-  complete = λ told none disk_quiet out_quiet. inl refl;
-  in_room = λ room. (λ e. let h : Done ≡ Disk = e in cc, made.sure room);
-  refuses_in_room = λ room told header. absurd (header_or_none (old.files 0) header (made.stands told).free);
-  line_fits = prints.steady;
+  kept = λ e. elim e [
+    | inl r ↦ absurd (printing_never answer (failure.Refused Occupied) printing (λ d. cc) r)
+    | inr m ↦ absurd (printing_never answer failure.Memory printing (λ d. cc) m)
+  ];
+  opened = λ e. made.opened;
+  in_room = λ room. (printing_never answer failure.Disk printing (λ d. cc), made.sure room);
+  refused_in_room = λ told header room. absurd (header_or_none (old.files 0) header (made.stands told).free);
 }
 
--- the output failed
-pub creates_unprinted : {T E : Type 0} (shape : Shape) (tells : Type 0) (old new : State) (a b : Option (List ℕ)) (r q : Option ℕ) (x y : ℕ) (e : E) → IsMade shape tells old new
-    → Prints {T = T} (sheet a r x []) (sheet b q y []) (Err e) (created_line shape) → Creates shape tells old new (sink_state a r x) (sink_state b q y) Output
-creates_unprinted shape tells old new a b r q x y fault made prints = record {
-  kinds = inr (inr (inr (inl refl)));
-  created = λ e. let h : Output ≡ Done = e in cc;
-  part = λ e. printed_part a b r q x y fault (created_line shape) prints;
-  stands = λ e. made.stands;
-  stops = made.stops;
-  reads = made.reads;
-  refused = λ e. let h : Output ≡ Refused = e in cc;
-  kept = λ e. ⊎_elim (λ d. let h : Output ≡ Refused = d in cc) (λ m. let h : Output ≡ Memory = m in cc) e;
-  same = λ e. ⊎_elim (λ d. let h : Output ≡ Refused = d in cc) (λ m. let h : Output ≡ Memory = m in cc) e;
-  refusal = λ told header. absurd (header_or_none (old.files 0) header (made.stands told).free);
-  complete = λ told none disk_quiet out_quiet. absurd (out_quiet prints.cause.rose);
-  in_room = λ room. (λ e. let h : Output ≡ Disk = e in cc, made.sure room);
-  refuses_in_room = λ room told header. absurd (header_or_none (old.files 0) header (made.stands told).free);
-  line_fits = prints.steady;
-}
+pub made_refuses : (shape : Shape) (tells : Type 0) (old new : State) (answer : Answer) → IsPrinting answer → IsMade shape tells old new → Refuses tells (CreateCauses (old.files 0)) answer
+made_refuses shape tells old new answer printing made =
+    refuses_none tells (CreateCauses (old.files 0)) answer
+    (λ why. printing_never answer (failure.Refused why) printing (λ d. cc))
+    (λ told why first. never_created (old.files 0) why (made.stands told).free first.stands)

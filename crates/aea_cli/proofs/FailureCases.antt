@@ -1,21 +1,12 @@
--- Failures by their statuses, and what an accepted damage list excludes.
-use Rattle.std.proofs.Common.{◌≡◌, ℕ, ◌-◌, ◌⊎◌, inl, inr, List, get_or, arith, refl, sym, ◌∙◌, subst, Option, Some, None}
-use Rattle.std.specs.Io.KnownBytes.{Keeps}
-use Rattle.std.proofs.lemmas.Option.{slice_get_within, get_or_from_slice_get}
-use Rattle.aea_lattice.specs.declared.grid.Lattice.{Lattice}
+-- Failures by their statuses.
+use Rattle.std.proofs.Common.{◌≡◌, ◌⊎◌, inl, inr, refl, sym, ◌∙◌, ap, Ok, Err}
+use Rattle.std.specs.Prelude.{IfOk}
 use Rattle.aea_cli.specs.declared.refusal.Refusal.{Refusal}
-use Rattle.aea_cli.specs.declared.refusal.Refusal.TheVariants.{InputTooLong, BadBlock, NoArchive, LedgerBad, Occupied}
 use Rattle.aea_cli.specs.declared.refusal.Failure.{Failure}
 use Rattle.aea_cli.specs.declared.refusal.Failure.TheVariants as failure
 use Rattle.aea_cli.specs.declared.status.Status.{Status}
 use Rattle.aea_cli.specs.declared.status.Status.TheVariants as status
-use Rattle.aea_cli.specs.Lines.{lines_of}
-use Rattle.aea_cli.specs.Drill.{IsAccepted, IsRefused, NamesBlock}
-use Rattle.aea_cli.specs.Failures.{failure_status, IsWell}
-
-pub keeps_same : (a : Option (List ℕ)) → Keeps a a
-keeps_same None = tt
-keeps_same (Some xs) = refl
+use Rattle.aea_cli.specs.Failures.{Answer, answer_status, failure_status, IsWell}
 
 pub is_words : (f : Failure) → failure_status f ≡ status.Words → f ≡ failure.Words
 is_words failure.Words e = refl
@@ -86,32 +77,34 @@ pub never_well : (f : Failure) (s : Status) → s ≡ failure_status f → IsWel
 never_well f s is (inl e) = never_done f (sym is ∙ e)
 never_well f s is (inr e) = never_damage f (sym is ∙ e)
 
--- an accepted list is not refused
-pub accepted_not_refused : (l : Lattice) (input : List ℕ) (why : Refusal) → IsAccepted l input → IsRefused l input why → ⊥
-accepted_not_refused l input InputTooLong accepted refused = let short = accepted.0 in omega arith
-accepted_not_refused l input NoArchive accepted refused = refused
-accepted_not_refused l input (LedgerBad at) accepted refused = refused
-accepted_not_refused l input Occupied accepted refused = refused
-accepted_not_refused l input (BadBlock k) accepted refused =
-    let bad = refused.1.bad in
-    let lines = lines_of input in
-    let at_line : get_or lines (k - 1) bad.0 ≡ bad.0 = get_or_from_slice_get lines (k - 1) bad.0 bad.0 bad.1 in
-    bad.2 (subst (NamesBlock l) at_line (accepted.1 (k - 1) bad.0 (slice_get_within lines (k - 1) bad.0 bad.1)))
+-- an answer by its status
+pub answer_words : (a : Answer) → IfOk a IsWell → answer_status a ≡ status.Words → a ≡ Err failure.Words
+answer_words (Ok s) well is = absurd (never_well failure.Words s is well)
+answer_words (Err f) well is = ap Err (is_words f is)
 
--- which statuses are left where the words are a drill and the output did not fail
-pub refusal_cases : (f : Failure) (s : Status) → s ≡ failure_status f → (f ≡ failure.Words → ⊥) → (f ≡ failure.Disk → ⊥) → (f ≡ failure.Output → ⊥) → (s ≡ status.Refused) ⊎ ((s ≡ status.Input) ⊎ (s ≡ status.Memory))
-refusal_cases failure.Words s is words disk output = absurd (words refl)
-refusal_cases (failure.Refused why) s is words disk output = inl is
-refusal_cases failure.Disk s is words disk output = absurd (disk refl)
-refusal_cases failure.Input s is words disk output = inr (inl is)
-refusal_cases failure.Output s is words disk output = absurd (output refl)
-refusal_cases failure.Memory s is words disk output = inr (inr is)
+pub answer_refused : (a : Answer) → IfOk a IsWell → answer_status a ≡ status.Refused → (why : Refusal) × (a ≡ Err (failure.Refused why))
+answer_refused (Ok s) well is = elim well [ inl e ↦ let h : status.Done ≡ status.Refused = sym e ∙ is in cc | inr e ↦ let h : status.Damage ≡ status.Refused = sym e ∙ is in cc ]
+answer_refused (Err f) well is = let why = is_refused f is in (why.0, ap Err why.1)
 
--- and where nothing else is left either
-pub complete_cases : (f : Failure) (s : Status) → s ≡ failure_status f → (f ≡ failure.Words → ⊥) → ((why : Refusal) → f ≡ failure.Refused why → ⊥) → (f ≡ failure.Disk → ⊥) → (f ≡ failure.Input → ⊥) → (f ≡ failure.Output → ⊥) → IsWell s ⊎ (s ≡ status.Memory)
-complete_cases failure.Words s is words refused disk input output = absurd (words refl)
-complete_cases (failure.Refused why) s is words refused disk input output = absurd (refused why refl)
-complete_cases failure.Disk s is words refused disk input output = absurd (disk refl)
-complete_cases failure.Input s is words refused disk input output = absurd (input refl)
-complete_cases failure.Output s is words refused disk input output = absurd (output refl)
-complete_cases failure.Memory s is words refused disk input output = inr is
+pub answer_disk : (a : Answer) → IfOk a IsWell → answer_status a ≡ status.Disk → a ≡ Err failure.Disk
+answer_disk (Ok s) well is = absurd (never_well failure.Disk s is well)
+answer_disk (Err f) well is = ap Err (is_disk f is)
+
+pub answer_input : (a : Answer) → IfOk a IsWell → answer_status a ≡ status.Input → a ≡ Err failure.Input
+answer_input (Ok s) well is = absurd (never_well failure.Input s is well)
+answer_input (Err f) well is = ap Err (is_input f is)
+
+pub answer_output : (a : Answer) → IfOk a IsWell → answer_status a ≡ status.Output → a ≡ Err failure.Output
+answer_output (Ok s) well is = absurd (never_well failure.Output s is well)
+answer_output (Err f) well is = ap Err (is_output f is)
+
+-- which statuses an answer may have
+pub answer_cases : (a : Answer) (s : Status) → s ≡ answer_status a → IfOk a IsWell → (a ≡ Err failure.Words → ⊥) → ((why : Refusal) → a ≡ Err (failure.Refused why) → ⊥) → (a ≡ Err failure.Disk → ⊥) → (a ≡ Err failure.Input → ⊥) → (a ≡ Err failure.Output → ⊥)
+    → IsWell s ⊎ (s ≡ status.Memory)
+answer_cases (Ok t) s is well words refused disk input output = inl (rw is well)
+answer_cases (Err failure.Words) s is well words refused disk input output = absurd (words refl)
+answer_cases (Err (failure.Refused why)) s is well words refused disk input output = absurd (refused why refl)
+answer_cases (Err failure.Disk) s is well words refused disk input output = absurd (disk refl)
+answer_cases (Err failure.Input) s is well words refused disk input output = absurd (input refl)
+answer_cases (Err failure.Output) s is well words refused disk input output = absurd (output refl)
+answer_cases (Err failure.Memory) s is well words refused disk input output = inr is

@@ -1,12 +1,8 @@
 pub mod Commands
-pub mod TextLines
-pub mod DamageLines
-pub mod Printing
-pub mod BlockLines
-pub mod StepMarks
-pub mod Outcomes
+pub mod Refusing
+pub mod Texts
+pub mod Drilling
 pub mod FailureCases
-pub mod StatTexts
 pub mod OpeningCases
 pub mod Creating
 pub mod Stating

@@ -1,16 +1,17 @@
--- What `create` does: the line that it prints, and how its status tells what became of the disk.
-use Rattle.std.specs.Prelude.{◌≡◌, ◌≢◌, ◌⊎◌, ◌≤◌, ℕ, List, ◌++◌, length, codes, decimal, Some}
-use Rattle.std.specs.Io.KnownBytes.{Appends}
-use Rattle.aea_faults.specs.Faults.{Rose}
-use Rattle.aea_io.specs.Written.{AppendsPart}
+-- What `create` does: the line that it prints, why it is refused, and what becomes of the disk.
+use Rattle.std.specs.Prelude.{◌≡◌, ◌≢◌, ◌⊎◌, ℕ, List, ◌++◌, codes, decimal, Err, IsOk, IfOk}
+use Rattle.aea_io.specs.Streams.{SinkState}
 use Rattle.aea_lattice.specs.declared.shape.Shape.{Shape}
-use Rattle.aea_disk.specs.State.{State, KeepsImages, IsSynced, HasRoom}
-use Rattle.aea_ledger.specs.Faults.{HasOpenHeader, IsNoArchive}
-use Rattle.aea_ledger.specs.Stops.{empty_ledger, IsBeingMade, HasOpening}
-use Rattle.aea_cli.specs.declared.status.Status.{Status}
-use Rattle.aea_cli.specs.declared.status.Status.TheVariants.{Done, Refused, Disk, Output, Memory}
+use Rattle.aea_disk.specs.State.{State, KeepsImages, IsSynced, HasRoom, HasRoomTo, NeverFails}
+use Rattle.aea_records.specs.Faults.{HasOpenHeader, IsNoArchive}
+use Rattle.aea_ledger.specs.Stops.{empty_ledger, IsBeingMade, MakesArchive, IsOpened, HasOpening}
+use Rattle.aea_cli.specs.declared.refusal.Refusal.{Refusal}
+use Rattle.aea_cli.specs.declared.refusal.Refusal.TheVariants.{InputTooLong, BadBlock, NoArchive, LedgerBad, Occupied}
+use Rattle.aea_cli.specs.declared.refusal.Failure.TheVariants as failure
+use Rattle.aea_cli.specs.declared.status.Status.TheVariants.{Done}
+use Rattle.aea_cli.specs.Failures.{Answer}
 use Rattle.aea_cli.specs.Lines.{newline}
-use Rattle.aea_cli.specs.Streams.{SinkState}
+use Rattle.aea_cli.specs.Printed.{PrintsText}
 
 -- `created A S P B M`
 abbrev pub created_line : Shape → List ℕ
@@ -24,30 +25,30 @@ pub record IsCreated (shape : Shape) (old new : State) : Type 0 where
   pub empty : new.files 0 ≡ empty_ledger shape
   pub durable : IsSynced new
 
--- Of a call that makes an archive of this shape, with the disk and `out` before and after it, and its status:
-pub record Creates (shape : Shape) (tells : Type 0) (old new : State) (before after : SinkState) (status : Status) : Type 0 where
-  -- the statuses that it may have
-  pub kinds : (status ≡ Done) ⊎ ((status ≡ Refused) ⊎ ((status ≡ Disk) ⊎ ((status ≡ Output) ⊎ (status ≡ Memory))))
+-- why no archive is made in a folder whose ledger file has these bytes: there is an archive, or what was one
+abbrev pub CreateCauses : List ℕ → Refusal → Type 0
+CreateCauses bytes Occupied = HasOpenHeader bytes
+CreateCauses bytes InputTooLong = ⊥
+CreateCauses bytes (BadBlock k) = ⊥
+CreateCauses bytes NoArchive = ⊥
+CreateCauses bytes (LedgerBad at) = ⊥
+
+-- Of a run that makes an archive of this shape, with the disk and `out` before and after it, and its answer:
+pub record Creates (shape : Shape) (tells : Type 0) (old new : State) (before after : SinkState) (answer : Answer) : Type 0 where
+  -- no block is lost
+  pub done : IfOk answer (λ status. status ≡ Done)
   -- what is printed
-  pub created : status ≡ Done → Appends before.written after.written (created_line shape)
-  pub part : status ≡ Output → AppendsPart before.written after.written (created_line shape)
+  pub prints : PrintsText before after answer (created_line shape)
   -- the archive stands where it is done, and where the output failed
-  pub stands : (status ≡ Done) ⊎ (status ≡ Output) → tells → IsCreated shape old new
+  pub stands : IsOk answer ⊎ (answer ≡ Err failure.Output) → tells → IsCreated shape old new
   -- what a stop at any moment leaves, and what stands after any answer
-  pub stops : tells → HasOpening old new (λ c. IsBeingMade shape (old.files 0) (c 0))
+  pub stops : tells → HasOpening old new (MakesArchive shape old.files)
   pub reads : tells → IsBeingMade shape (old.files 0) (new.files 0)
-  -- it is refused only where there is an archive, or what was one
-  pub refused : status ≡ Refused → tells → HasOpenHeader (old.files 0)
-  -- and there it is refused, but for a fault of the disk and want of memory
-  pub refusal : tells → HasOpenHeader (old.files 0) → (status ≡ Refused) ⊎ ((status ≡ Disk) ⊎ (status ≡ Memory))
-  -- where no count of faults rises it is done, but for want of memory
-  pub complete : tells → IsNoArchive (old.files 0) → (Rose old.faults new.faults → ⊥) → (Rose before.faults after.faults → ⊥)
-      → (status ≡ Done) ⊎ (status ≡ Memory)
+  -- it begins with a sync; but after a fault of the disk and want of memory that has succeeded, and nothing is pending
+  pub opened : IsOk answer ⊎ ((answer ≡ Err failure.Output) ⊎ (answer ≡ Err (failure.Refused Occupied))) → tells
+      → IsOpened old new (MakesArchive shape old.files) × IsSynced new
   -- where it is refused or memory is wanting, the disk stays
-  pub kept : (status ≡ Refused) ⊎ (status ≡ Memory) → KeepsImages old new
-  pub same : (status ≡ Refused) ⊎ (status ≡ Memory) → tells → new.files ≡ old.files
-  -- within the room of the disk, and of `out`, nothing fails
-  pub in_room : old.room 0 18 → (status ≢ Disk) × (new.faults ≡ old.faults)
-  pub refuses_in_room : HasRoom old → tells → HasOpenHeader (old.files 0)
-      → ((status ≡ Refused) ⊎ (status ≡ Memory)) × (new.faults ≡ old.faults)
-  pub line_fits : (room : ℕ) → before.room ≡ Some room → length (created_line shape) ≤ room → after.faults ≡ before.faults
+  pub kept : (answer ≡ Err (failure.Refused Occupied)) ⊎ (answer ≡ Err failure.Memory) → KeepsImages old new × (tells → new.files ≡ old.files)
+  -- within the room of the disk nothing fails; a folder that is occupied needs none
+  pub in_room : NeverFails (HasRoomTo old 0 18) (answer ≢ Err failure.Disk) old new
+  pub refused_in_room : tells → HasOpenHeader (old.files 0) → NeverFails (HasRoom old) (answer ≢ Err failure.Disk) old new

@@ -1,22 +1,28 @@
 -- The outcome of a drill: what is refused, what is printed, and the status.
-use Rattle.std.specs.Prelude.{◌≡◌, ℕ, ◌-◌, ◌<◌, ◌≤◌, ◌↔◌, Bool, not, cond, List, ◌++◌, filter, length, count_by, All, slice_get, Option, Some, codes, decimal, IsTrue, take}
+pub mod Counts
+pub mod Marks
+pub mod Reached
+use Rattle.std.specs.Prelude.{◌≡◌, ◌⊎◌, ℕ, ◌+◌, ◌-◌, ◌<◌, ◌≤◌, ◌↔◌, Bool, not, cond, List, ◌++◌, filter, length, count_by, All, slice_get, Some, Err, IsOk, IfOk, OnOk, codes, decimal, IsTrue, take}
 use Rattle.std.specs.List.{list_any, flat_map}
 use Rattle.std.specs.Str.{bytes_eq}
+use Rattle.std.specs.Io.KnownBytes.{IsAtEnd}
+use Rattle.aea_io.specs.Streams.{SourceState, SinkState}
+use Rattle.aea_io.specs.Taken.{TakesAtMost}
 use Rattle.aea_lattice.specs.declared.blocks.BlockId.{BlockId}
 use Rattle.aea_lattice.specs.declared.grid.Lattice.{Lattice}
 use Rattle.aea_lattice.specs.Blocks.{HasBlock, blocks_of}
 use Rattle.aea_lattice.specs.Closure.{IsReached}
 use Rattle.aea_lattice.specs.Texts.{text_of}
-use Rattle.aea_cli.specs.declared.command.Command.{Command}
-use Rattle.aea_cli.specs.declared.command.Command.TheVariants.{Drill}
 use Rattle.aea_cli.specs.declared.refusal.Refusal.{Refusal}
 use Rattle.aea_cli.specs.declared.refusal.Refusal.TheVariants.{InputTooLong, BadBlock, NoArchive, LedgerBad, Occupied}
+use Rattle.aea_cli.specs.declared.refusal.Failure.TheVariants as failure
 use Rattle.aea_cli.specs.declared.status.Status.{Status}
 use Rattle.aea_cli.specs.declared.status.Status.TheVariants.{Done, Damage}
+use Rattle.aea_cli.specs.Failures.{Answer}
 use Rattle.aea_cli.specs.Lines.{lines_of, newline}
-use Rattle.aea_cli.specs.Marks.{AreMarks}
-use Rattle.aea_cli.specs.Reached.{AreReached}
-use Rattle.aea_cli.specs.Words.{Means}
+use Rattle.aea_cli.specs.Drill.Marks.{AreMarks}
+use Rattle.aea_cli.specs.Drill.Reached.{AreReached}
+use Rattle.aea_cli.specs.Printed.{PrintsText}
 
 -- the greatest number of bytes of a damage list
 abbrev pub greatest_input : ℕ
@@ -32,13 +38,13 @@ pub record IsFirstBad (l : Lattice) (text : List ℕ) (k : ℕ) : Type 0 where
   pub bad : (line : List ℕ) × (slice_get (lines_of text) (k - 1) ≡ Some line) × (NamesBlock l line → ⊥)
   pub before : All (NamesBlock l) (take (k - 1) (lines_of text))
 
--- the damage list is refused for this reason: it is too long, or a line of it names no block
-abbrev pub IsRefused : Lattice → List ℕ → Refusal → Type 0
-IsRefused l input InputTooLong = greatest_input < length input
-IsRefused l input (BadBlock k) = (length input ≤ greatest_input) × IsFirstBad l input k
-IsRefused l input NoArchive = ⊥
-IsRefused l input (LedgerBad at) = ⊥
-IsRefused l input Occupied = ⊥
+-- why a damage list is refused: it is too long, or a line of it names no block
+abbrev pub DamageCauses : Lattice → List ℕ → Refusal → Type 0
+DamageCauses l input InputTooLong = greatest_input < length input
+DamageCauses l input (BadBlock k) = IsFirstBad l input k
+DamageCauses l input NoArchive = ⊥
+DamageCauses l input (LedgerBad at) = ⊥
+DamageCauses l input Occupied = ⊥
 
 -- the damage list is not refused
 abbrev pub IsAccepted : Lattice → List ℕ → Type 0
@@ -98,10 +104,15 @@ pub record IsOutcome (l : Lattice) (input : List ℕ) (printed : List ℕ) (answ
   pub text : printed ≡ printed_text reached (listed_blocks l input)
   pub status : answer ≡ status_of reached (listed_blocks l input)
 
--- a fact of the lattice of a drill, and of the bytes that the input tells
-abbrev pub OnLattice : Command → Option (List ℕ) → (Lattice → List ℕ → Type 0) → Type 0
-OnLattice command told fact = (l : Lattice) (input : List ℕ) → command ≡ Drill l → told ≡ Some input → fact l input
-
--- a fact of the lattice that the words of a drill name, and of the bytes that the input tells
-abbrev pub OnDrill : List (List ℕ) → Option (List ℕ) → (Lattice → List ℕ → Type 0) → Type 0
-OnDrill words told fact = (l : Lattice) (input : List ℕ) → Means words (Drill l) → told ≡ Some input → fact l input
+-- Of a drill, with the input and `out` before and after it, and its answer:
+pub record Drills (l : Lattice) (old new : SourceState) (before after : SinkState) (answer : Answer) : Type 0 where
+  -- a list of which something is printed is accepted, and has an outcome
+  pub planned : IsOk answer ⊎ (answer ≡ Err failure.Output) → (bytes : List ℕ) → old.left ≡ Some bytes
+      → IsAccepted l bytes × ((text : List ℕ) × (status : Status) × IsOutcome l bytes text status)
+  -- the status tells of it
+  pub outcome : IfOk answer (λ status. (bytes : List ℕ) → old.left ≡ Some bytes → (text : List ℕ) × IsOutcome l bytes text status)
+  -- the text of the outcome is printed
+  pub prints : (bytes text : List ℕ) (status : Status) → old.left ≡ Some bytes → IsOutcome l bytes text status → PrintsText before after answer text
+  -- the whole list is read, and at most one byte past the greatest one
+  pub end : OnOk answer (IsAtEnd new.left)
+  pub most : TakesAtMost old.left new.left (greatest_input + 1)

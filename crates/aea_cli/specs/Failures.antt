@@ -29,8 +29,12 @@ failure_status failure.Input = status.Input
 failure_status failure.Output = status.Output
 failure_status failure.Memory = status.Memory
 
+-- what a command answers: a status that says that it did all its work, or why it did not
+abbrev pub Answer : Type 0
+Answer = Result Status Failure
+
 -- the status that a command ends with
-abbrev pub answer_status : Result Status Failure → Status
+abbrev pub answer_status : Answer → Status
 answer_status (Ok s) = s
 answer_status (Err f) = failure_status f
 

@@ -1,5 +1,5 @@
 -- “Words”: the command that a list of words means, or none.
-use Rattle.std.specs.Prelude.{◌≡◌, ℕ, List, [], ◌∷◌, codes, decimal}
+use Rattle.std.specs.Prelude.{◌≡◌, ◌≤◌, ℕ, List, [], ◌∷◌, codes, decimal}
 use Rattle.aea_lattice.specs.declared.grid.Lattice.{Lattice}
 use Rattle.aea_lattice.specs.declared.shape.Shape.{Shape}
 use Rattle.aea_cli.specs.declared.command.Command.{Command}
@@ -12,9 +12,20 @@ words_of (Create shape) =
     codes "create" ∷ decimal shape.alpha ∷ decimal shape.s ∷ decimal shape.p ∷ decimal shape.block ∷ decimal shape.sites ∷ []
 words_of Stat = codes "stat" ∷ []
 
+-- the most nodes of a drill
+abbrev pub drill_limit : ℕ
+drill_limit = 65536
+
+-- the lattice may be drilled: it has no fences, and not too many nodes
+pub record IsDrilled (l : Lattice) : Type 0 where
+  pub fences : l.fences ≡ []
+  pub few : l.n ≤ drill_limit
+
 -- the words mean this command
 abbrev pub Means : List (List ℕ) → Command → Type 0
-Means words command = words ≡ words_of command
+Means words (Drill l) = (words ≡ words_of (Drill l)) × IsDrilled l
+Means words (Create shape) = words ≡ words_of (Create shape)
+Means words Stat = words ≡ words_of Stat
 
 -- the words mean no drill
 abbrev pub AreNoDrill : List (List ℕ) → Type 0

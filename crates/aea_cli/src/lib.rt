@@ -3,23 +3,18 @@
 
 mod archive;
 mod command;
-mod counts;
 mod create;
-mod damage;
 mod drill;
-mod lines;
-mod outcome;
-mod page;
-mod plan;
+mod numbers;
+mod program;
 mod refusal;
 mod report;
 mod stat;
 mod status;
 mod surely;
-mod top;
 
 pub use command::{Command, parse_words};
+pub use program::run;
 pub use refusal::Refusal;
 pub use status::Status;
 pub use surely::run_surely;
-pub use top::run;

@@ -1,31 +1,29 @@
 //! The line on `err` where a command did not end well.
 
-ghost use Rattle.std.specs.Prelude.{◌≡◌, ◌≤◌, []};
+ghost use Rattle.std.specs.Prelude.{◌≡◌, ◌≤◌, [], OnOk};
 ghost use Rattle.aea_cli.specs.Refusals.{refusal_line};
 ghost use Rattle.aea_cli.specs.Failures.{failure_line, failure_status};
-ghost use Rattle.aea_cli.specs.Pages.{sheet, Prints};
-ghost use Rattle.aea_cli.specs.Streams.{PutsLine};
+ghost use Rattle.aea_io.specs.Written.{IsFlushed};
+ghost use Rattle.aea_io.specs.Pages.{Prints};
+ghost use Rattle.aea_cli.specs.Printed.{PutsLine};
 
-use crate::outcome::{print_number, print_place};
-use crate::page::{Page, finish, print};
 use crate::refusal::{Failure, Refusal};
 use crate::status::Status;
-use aea_io::{Sink, WriteFault};
+use aea_io::{Page, Sink, WriteFault, finish, print, print_number};
 
 // Prints the line of a refusal.
 fn print_refusal<E: Sink>(err: &mut E, page: &mut Page, why: Refusal) -> Result<(), WriteFault>
-    ensures { Prints (sheet (E.written err.old) (E.room err.old) (E.faults err.old) page.old)
-        (sheet (E.written err.new) (E.room err.new) (E.faults err.new) page.new) result (refusal_line why) }
+    ensures { Prints (E.state err.old) page.old (E.state err.new) page.new result (refusal_line why) }
 {
     match why {
         Refusal::InputTooLong => print(err, page, b"refused: input too long\n"),
         Refusal::BadBlock { line } => {
-            print_number(err, page, b"refused: bad block at line ", line)?;
+            print_number(err, page, b"refused: bad block at line ", u64::from(line))?;
             print(err, page, b"\n")
         }
         Refusal::NoArchive => print(err, page, b"refused: no archive\n"),
         Refusal::LedgerBad { at } => {
-            print_place(err, page, b"refused: ledger bad at ", at)?;
+            print_number(err, page, b"refused: ledger bad at ", at)?;
             print(err, page, b"\n")
         }
         Refusal::Occupied => print(err, page, b"refused: occupied\n"),
@@ -34,8 +32,7 @@ fn print_refusal<E: Sink>(err: &mut E, page: &mut Page, why: Refusal) -> Result<
 
 // Prints the line of a failure.
 fn print_failure<E: Sink>(err: &mut E, page: &mut Page, failure: Failure) -> Result<(), WriteFault>
-    ensures { Prints (sheet (E.written err.old) (E.room err.old) (E.faults err.old) page.old)
-        (sheet (E.written err.new) (E.room err.new) (E.faults err.new) page.new) result (failure_line failure) }
+    ensures { Prints (E.state err.old) page.old (E.state err.new) page.new result (failure_line failure) }
 {
     match failure {
         Failure::Words => print(err, page, b"words: no such command\n"),
@@ -49,8 +46,8 @@ fn print_failure<E: Sink>(err: &mut E, page: &mut Page, failure: Failure) -> Res
 
 // Puts the line of a failure, and flushes it.
 fn put_failure<E: Sink>(err: &mut E, failure: Failure) -> Result<(), WriteFault>
-    ensures { Prints (sheet (E.written err.old) (E.room err.old) (E.faults err.old) [])
-        (sheet (E.written err.new) (E.room err.new) (E.faults err.new) []) result (failure_line failure) }
+    ensures flushed { OnOk result (IsFlushed (E.state err.new)) }
+    ensures prints { Prints (E.state err.old) [] (E.state err.new) [] result (failure_line failure) }
 {
     let mut page = Page::new();
     print_failure(err, &mut page, failure)?;
@@ -61,8 +58,8 @@ fn put_failure<E: Sink>(err: &mut E, failure: Failure) -> Result<(), WriteFault>
 /// Puts the line of a failure, as far as `err` takes it, and answers the status. Takes no memory.
 pub fn report<E: Sink>(err: &mut E, failure: Failure) -> Status
     ensures status { result ≡ failure_status failure }
-    ensures line { PutsLine (E.written err.old) (E.written err.new) (E.faults err.old) (E.faults err.new) (failure_line failure) }
-    ensures kept { E.faults err.old ≤ E.faults err.new }
+    ensures line { PutsLine (E.state err.old) (E.state err.new) (failure_line failure) }
+    ensures kept { (E.state err.old).faults ≤ (E.state err.new).faults }
 {
     let _ = put_failure(err, failure);
     match failure {

@@ -123,7 +123,9 @@ fn add_abc<D: Disk>(alloc: Global, disk: &mut D) -> Result<bool, Fail> {
     let mut ledger = open_ledger(alloc, disk)?;
     let block = u64::from(ledger.shape().block());
     let count = (3 + block - 1) / block;
-    let free = 65_536 - ledger.lattice().n();
+    let Some(free) = 65_536u32.checked_sub(ledger.lattice().n()) else {
+        return Ok(false);
+    };
     if count != 1 || free < 1 || ledger.shape().alpha() != 3 {
         return Ok(false);
     }

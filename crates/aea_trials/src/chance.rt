@@ -28,6 +28,29 @@ const SHAPES: [(u8, u8, u8, u32); 12] = [
     (3, 16, 64, 60),
 ];
 
+// α, s, p, the fences and the number of nodes.
+const FENCED: [(u8, u8, u8, &[u32], u32); 13] = [
+    (1, 1, 0, &[1], 1),
+    (1, 1, 0, &[1, 2], 60),
+    (2, 2, 2, &[4, 7], 11),
+    (2, 2, 5, &[13, 14], 60),
+    (2, 3, 7, &[50], 50),
+    (2, 16, 16, &[20, 40], 60),
+    (3, 2, 2, &[1, 9, 20], 30),
+    (3, 2, 5, &[30], 60),
+    (3, 3, 3, &[44, 45], 45),
+    (3, 4, 5, &[30, 60], 60),
+    (3, 5, 5, &[13, 25], 40),
+    (
+        3,
+        5,
+        5,
+        &[1, 2, 4, 8, 9, 15, 21, 22, 30, 31, 40, 41, 47, 50, 55, 60],
+        60,
+    ),
+    (3, 16, 64, &[59], 60),
+];
+
 // How many of a hundred blocks are damaged.
 const PERCENTS: [u64; 4] = [1, 10, 25, 50];
 
@@ -155,6 +178,36 @@ fn plans_and_drills_agree_with_the_plain_closure(rt: HostRuntime) -> Result<(), 
             );
             let is_done = left.status == Status::Done;
             assert_eq!(rt; is_done, steps.len() == lost.len(), "{case}, from {seed}");
+        }
+    }
+    Ok(())
+}
+
+// The lattice of this shape with these fences and n nodes.
+fn fenced(shape: (u8, u8, u8), fences: &[u32], n: u32) -> Option<Lattice> {
+    let (alpha, s, p) = shape;
+    let mut lattice = Lattice::new(alpha, s, p, 0)?;
+    for fence in fences {
+        lattice = lattice.grown(*fence)?.fenced()?;
+    }
+    lattice.grown(n)
+}
+
+#[test]
+fn plans_over_fences_agree_with_the_plain_closure(rt: HostRuntime) -> Result<(), Fail> {
+    let mut seed = 1;
+    for (alpha, s, p, fences, n) in FENCED {
+        let lattice = fenced((alpha, s, p), fences, n).ok_or("no lattice")?;
+        for percent in PERCENTS {
+            seed = step(seed);
+            let Damage { lost: _, left } = lose_blocks(rt.alloc(), &lattice, percent, seed)?;
+            let reached = closure(rt.alloc(), &lattice, left.as_slice())?;
+            let plan = plan_repair(rt.alloc(), &lattice, left.as_slice())?;
+            let steps = given_blocks(rt.alloc(), &plan)?;
+            assert!(rt;
+                is_plan_of(steps.as_slice(), left.as_slice(), reached.as_slice()),
+                "{lattice:?}, {percent} of 100, from {seed}"
+            );
         }
     }
     Ok(())

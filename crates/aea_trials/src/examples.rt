@@ -72,6 +72,7 @@ fn words_that_are_no_command_read_nothing(rt: HostRuntime) -> Result<(), Fail> {
         "drill 2 3 2 5",
         "drill 2 1 4 5",
         "drill 1 1 0 65537",
+        "drill 1 1 0 1048576",
         "drill 1 1 0 03",
         "drill 1 1 0 +3",
         "drill 1 1 0 4294967299",

@@ -1,4 +1,4 @@
-//! Damage lists of the greatest length, and the greatest lattice.
+//! Damage lists of the greatest length, and the greatest lattice of a drill.
 
 use crate::bench::{add_line, run_line, text_of};
 use aea_cli::Status;
@@ -45,7 +45,7 @@ fn one_byte_too_many_is_refused(rt: HostRuntime) -> Result<(), Fail> {
 }
 
 #[test]
-fn a_lost_site_of_the_greatest_lattice_is_peeled(rt: HostRuntime) -> Result<(), Fail> {
+fn a_lost_site_of_the_greatest_drill_is_peeled(rt: HostRuntime) -> Result<(), Fail> {
     let lattice = Lattice::new(3, 2, 5, 65_536).ok_or("no lattice")?;
     let mut list = String::new(rt.alloc());
     let mut want = String::new(rt.alloc());

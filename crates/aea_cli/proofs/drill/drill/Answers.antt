@@ -1,68 +1,100 @@
-use Rattle.aea_cli.specs.Marks.{AreMarks}
-use Rattle.aea_cli.specs.Drill.{is_listed, listed_blocks, printed_text}
-use Rattle.aea_cli.proofs.Outcomes.{mark_test, marks_themselves, printed_all, printed_part, reached_by_test, planned_outcome}
+use Rattle.std.proofs.Common.{◌≡◌, [], inl, inr, refl, Ok, Err, ap}
+use Rattle.std.specs.Prelude.{IsSome, unwrap_or}
+use Rattle.aea_cli.specs.declared.refusal.Failure.TheVariants as failure
+use Rattle.aea_cli.specs.Drill.{DamageCauses, is_listed, listed_blocks, printed_text}
+use Rattle.aea_cli.specs.Drill.Marks.{AreMarks}
+use Rattle.aea_cli.proofs.OpeningCases.{err_with}
+use Rattle.aea_cli.proofs.Refusing.{refuses_stopped, refuses_none, refuses_one}
+use Rattle.aea_cli.proofs.Texts.{text_printed, text_broken}
+use Rattle.aea_cli.proofs.Drilling.Refused.{told_is, accepted_not_refused, one_cause}
+use Rattle.aea_cli.proofs.Drilling.Outcomes.{mark_test, marks_themselves, reached_by_test, planned_outcome}
 use Rattle.aea_cli.proofs.drill.drill.Goals as goal
 
-pub returns-in-Ok-clause-outcome : goal.returns-in-Ok-clause-outcome
-returns-in-Ok-clause-outcome g c bytes told =
-    let O = g.O.Sink in
+pub returns-in_err-planned-clause-refuses : goal.returns-in_err-planned-clause-refuses
+returns-in_err-planned-clause-refuses g c =
+    let f = c.in_err-planned.field-0.0 in
+    let left = (g.S.Source.state c.args.input.now).left in
+    let told = IsSome left in
     let l = c.args.lattice.now in
-    let planned = c.in_ok-planned.ensures.planned bytes told in
-    let listed = c.in_ok-planned.planned.listed.items in
-    let reached = c.in_ok-planned.planned.reached.items in
-    let text = printed_text (mark_test l reached) (listed_blocks l bytes) in
-    let by_list : AreMarks l c.as_slice.result.now (is_listed bytes) = rw c.as_slice.ensures.value planned.listed_marks in
-    let by_reach : AreMarks l c.as_slice-2.result.now (mark_test l reached) = rw c.as_slice-2.ensures.value (marks_themselves l reached) in (
-      planned.accepted,
-      (
-        text,
-        planned_outcome l bytes listed reached c.in-Ok.status planned (c.in-Ok.ensures.status (is_listed bytes) (mark_test l reached) by_list by_reach),
-        printed_all (O.written c.args.out.now) (O.written c.print_outcome.new.out) (O.room c.args.out.now) (O.room c.print_outcome.new.out) (O.faults c.args.out.now) (O.faults c.print_outcome.new.out)
-            c.in-Ok.status text (c.in-Ok.ensures.prints (is_listed bytes) (mark_test l reached) by_list by_reach),
-      ),
-    )
+    let causes = DamageCauses l (unwrap_or left []) in
+    rw (err_with c.from_residual.result f c.from_residual.ensures.1)
+    (elim c.in_err-planned.ensures.faults [
+      | inl e ↦ refuses_stopped told causes (Err f) (inr (inl (ap Err e)))
+      | inr (inl e) ↦ refuses_stopped told causes (Err f) (inr (inr (ap Err e)))
+      | inr (inr why) ↦ refuses_one told causes (Err f) why.0 (ap Err why.1)
+          (λ some. c.in_err-planned.ensures.refused why.0 (ap Err why.1) (unwrap_or left []) (told_is left some))
+          (λ some other first. one_cause l (unwrap_or left []) other why.0 first (c.in_err-planned.ensures.refused why.0 (ap Err why.1) (unwrap_or left []) (told_is left some)))
+    ])
 
-pub returns-in-Ok-clause-output_kept : goal.returns-in-Ok-clause-output_kept
-returns-in-Ok-clause-output_kept g c =
+pub returns-in-Ok-clause-drills : goal.returns-in-Ok-clause-drills
+returns-in-Ok-clause-drills g c =
     let l = c.args.lattice.now in
-    (c.in-Ok.ensures.prints (mark_test l c.as_slice.result.now) (mark_test l c.as_slice-2.result.now) (marks_themselves l c.as_slice.result.now) (marks_themselves l c.as_slice-2.result.now)).cause.kept
+    let listed = c.in_ok-planned.planned.listed.marks in
+    let reached = c.in_ok-planned.planned.reached.marks in
+    record {
+      planned = λ e bytes told.
+          let planned = c.in_ok-planned.ensures.planned bytes told in
+          (planned.accepted, (_, _, planned_outcome l bytes listed reached _ planned refl));
+      outcome = λ bytes told.
+          let planned = c.in_ok-planned.ensures.planned bytes told in
+          let by_list : AreMarks l listed (is_listed bytes) = planned.listed_marks in
+          let by_reach : AreMarks l reached (mark_test l reached) = marks_themselves l reached in (
+            printed_text (mark_test l reached) (listed_blocks l bytes),
+            planned_outcome l bytes listed reached c.in-Ok.status planned (c.in-Ok.ensures.status (is_listed bytes) (mark_test l reached) by_list by_reach),
+          );
+      prints = λ bytes text status told outcome.
+          let planned = c.in_ok-planned.ensures.planned bytes told in
+          let by_list : AreMarks l listed (is_listed bytes) = planned.listed_marks in
+          let by_reach : AreMarks l reached outcome.reached = reached_by_test l bytes reached outcome.reached planned.reached_marks outcome.closure in
+          rw outcome.text (text_printed c.in-Ok.status (c.in-Ok.ensures.prints (is_listed bytes) outcome.reached by_list by_reach));
+      end = c.in_ok-planned.ensures.end;
+      most = c.in_ok-planned.ensures.most;
+    }
 
-pub returns-in-Ok-clause-in_room : goal.returns-in-Ok-clause-in_room
-returns-in-Ok-clause-in_room g c bytes text status room told outcome fits enough =
-    let l = c.args.lattice.now in
-    let planned = c.in_ok-planned.ensures.planned bytes told in
-    let by_list : AreMarks l c.as_slice.result.now (is_listed bytes) = rw c.as_slice.ensures.value planned.listed_marks in
-    let by_reach : AreMarks l c.as_slice-2.result.now outcome.reached = rw c.as_slice-2.ensures.value (reached_by_test l bytes c.in_ok-planned.planned.reached.items outcome.reached planned.reached_marks outcome.closure) in
-    (c.in-Ok.ensures.prints (is_listed bytes) outcome.reached by_list by_reach).steady room fits (rw outcome.text at enough)
+pub returns-in-Ok-clause-refuses : goal.returns-in-Ok-clause-refuses
+returns-in-Ok-clause-refuses g c =
+    let left = (g.S.Source.state c.args.input.now).left in
+    refuses_none _ _ _
+    (λ why e. let h : Ok c.in-Ok.status ≡ Err (failure.Refused why) = e in cc)
+    (λ some why first. accepted_not_refused c.args.lattice.now (unwrap_or left []) why (c.in_ok-planned.ensures.planned (unwrap_or left []) (told_is left some)).accepted first.stands)
 
-pub returns-clause-output_cause : goal.returns-clause-output_cause
-returns-clause-output_cause g c same =
+pub returns-in-Ok-clause-out_kept : goal.returns-in-Ok-clause-out_kept
+returns-in-Ok-clause-out_kept g c =
     let l = c.args.lattice.now in
-    (c.in-Err.ensures.prints (mark_test l c.as_slice.result.now) (mark_test l c.as_slice-2.result.now) (marks_themselves l c.as_slice.result.now) (marks_themselves l c.as_slice-2.result.now)).cause.rose
+    (c.in-Ok.ensures.prints (mark_test l c.in_ok-planned.planned.listed.marks) (mark_test l c.in_ok-planned.planned.reached.marks) (marks_themselves l c.in_ok-planned.planned.listed.marks) (marks_themselves l c.in_ok-planned.planned.reached.marks)).cause.kept
 
-pub returns-clause-output_part : goal.returns-clause-output_part
-returns-clause-output_part g c same bytes told =
-    let O = g.O.Sink in
+pub returns-clause-drills : goal.returns-clause-drills
+returns-clause-drills g c =
     let l = c.args.lattice.now in
-    let planned = c.in_ok-planned.ensures.planned bytes told in
-    let by_list : AreMarks l c.as_slice.result.now (is_listed bytes) = rw c.as_slice.ensures.value planned.listed_marks in (
-      planned.accepted,
-      λ text status outcome.
-          let by_reach : AreMarks l c.as_slice-2.result.now outcome.reached = rw c.as_slice-2.ensures.value (reached_by_test l bytes c.in_ok-planned.planned.reached.items outcome.reached planned.reached_marks outcome.closure) in
-          rw outcome.text
-          (printed_part (O.written c.args.out.now) (O.written c.print_outcome.new.out) (O.room c.args.out.now) (O.room c.print_outcome.new.out) (O.faults c.args.out.now) (O.faults c.print_outcome.new.out)
-          c.in-Err.field-0 (printed_text outcome.reached (listed_blocks l bytes)) (c.in-Err.ensures.prints (is_listed bytes) outcome.reached by_list by_reach)),
-    )
+    let listed = c.in_ok-planned.planned.listed.marks in
+    let reached = c.in_ok-planned.planned.reached.marks in
+    record {
+      planned = λ e bytes told.
+          let planned = c.in_ok-planned.ensures.planned bytes told in
+          (planned.accepted, (_, _, planned_outcome l bytes listed reached _ planned refl));
+      outcome = tt;
+      prints = λ bytes text status told outcome.
+          let planned = c.in_ok-planned.ensures.planned bytes told in
+          let by_list : AreMarks l listed (is_listed bytes) = planned.listed_marks in
+          let by_reach : AreMarks l reached outcome.reached = reached_by_test l bytes reached outcome.reached planned.reached_marks outcome.closure in
+          rw outcome.text (text_broken (c.in-Err.ensures.prints (is_listed bytes) outcome.reached by_list by_reach));
+      end = tt;
+      most = c.in_ok-planned.ensures.most;
+    }
 
-pub returns-clause-output_kept : goal.returns-clause-output_kept
-returns-clause-output_kept g c =
-    let l = c.args.lattice.now in
-    (c.in-Err.ensures.prints (mark_test l c.as_slice.result.now) (mark_test l c.as_slice-2.result.now) (marks_themselves l c.as_slice.result.now) (marks_themselves l c.as_slice-2.result.now)).cause.kept
+pub returns-clause-refuses : goal.returns-clause-refuses
+returns-clause-refuses g c =
+    let left = (g.S.Source.state c.args.input.now).left in
+    refuses_none _ _ _
+    (λ why e. let h : Err failure.Output ≡ Err (failure.Refused why) = e in cc)
+    (λ some why first. accepted_not_refused c.args.lattice.now (unwrap_or left []) why (c.in_ok-planned.ensures.planned (unwrap_or left []) (told_is left some)).accepted first.stands)
 
-pub returns-clause-in_room : goal.returns-clause-in_room
-returns-clause-in_room g c bytes text status room told outcome fits enough =
+pub returns-clause-out_kept : goal.returns-clause-out_kept
+returns-clause-out_kept g c =
     let l = c.args.lattice.now in
-    let planned = c.in_ok-planned.ensures.planned bytes told in
-    let by_list : AreMarks l c.as_slice.result.now (is_listed bytes) = rw c.as_slice.ensures.value planned.listed_marks in
-    let by_reach : AreMarks l c.as_slice-2.result.now outcome.reached = rw c.as_slice-2.ensures.value (reached_by_test l bytes c.in_ok-planned.planned.reached.items outcome.reached planned.reached_marks outcome.closure) in
-    (c.in-Err.ensures.prints (is_listed bytes) outcome.reached by_list by_reach).steady room fits (rw outcome.text at enough)
+    (c.in-Err.ensures.prints (mark_test l c.in_ok-planned.planned.listed.marks) (mark_test l c.in_ok-planned.planned.reached.marks) (marks_themselves l c.in_ok-planned.planned.listed.marks) (marks_themselves l c.in_ok-planned.planned.reached.marks)).cause.kept
+
+pub returns-clause-out_cause : goal.returns-clause-out_cause
+returns-clause-out_cause g c same =
+    let l = c.args.lattice.now in
+    (c.in-Err.ensures.prints (mark_test l c.in_ok-planned.planned.listed.marks) (mark_test l c.in_ok-planned.planned.reached.marks) (marks_themselves l c.in_ok-planned.planned.listed.marks) (marks_themselves l c.in_ok-planned.planned.reached.marks)).cause.rose

@@ -1,6 +1,6 @@
 use Rattle.std.proofs.Common.{sym, ◌∙◌}
 use Rattle.aea_cli.specs.Drill.{is_left, is_listed}
-use Rattle.aea_cli.proofs.StepMarks.{twice}
+use Rattle.aea_cli.proofs.Drilling.StepMarks.{twice}
 use Rattle.aea_cli.proofs.drill.plan_marks.Goals as goal
 
 pub returns-clause-planned : goal.returns-clause-planned
@@ -10,5 +10,5 @@ returns-clause-planned c =
       accepted = (c.requires, c.in_ok-listed.ensures.named);
       listed_marks = c.in_ok-listed.ensures.marks;
       reached_marks = c.in-Ok.ensures.reached (is_left list)
-          (λ b inside. rw c.as_slice.ensures.value (c.in_ok-listed.ensures.marks b inside ∙ sym (twice (is_listed list b))));
+          (λ b inside. c.in_ok-listed.ensures.marks b inside ∙ sym (twice (is_listed list b)));
     }

@@ -1,7 +1,7 @@
 use Rattle.std.proofs.Common.{◌∙◌, ap}
 use Rattle.std.proofs.lemmas.Result.{IfOk-weaker}
 use Rattle.serde_json.specs.Written.{compact_text, has_float}
-use Rattle.aea_cli.proofs.StatTexts.{text_is, no_float}
+use Rattle.aea_cli.proofs.Stating.StatTexts.{text_is, no_float}
 use Rattle.aea_cli.proofs.stat.text_of.Goals as goal
 
 pub returns : goal.returns

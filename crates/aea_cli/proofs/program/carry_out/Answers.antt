@@ -1,0 +1,13 @@
+use Rattle.aea_cli.proofs.Drilling.Running.{drill_runs}
+use Rattle.aea_cli.proofs.Creating.Running.{create_runs}
+use Rattle.aea_cli.proofs.Stating.Running.{stat_runs}
+use Rattle.aea_cli.proofs.program.carry_out.Goals as goal
+
+pub returns-in-Drill-clause-runs : goal.returns-in-Drill-clause-runs
+returns-in-Drill-clause-runs g c = rw c.in-Drill.is (drill_runs _ _ _ _ _ _ _ _ c.drill.ensures.drills c.drill.ensures.refuses c.drill.ensures.disk)
+
+pub returns-in-Create-clause-runs : goal.returns-in-Create-clause-runs
+returns-in-Create-clause-runs g c = rw c.in-Create.is (create_runs _ _ _ _ _ _ _ _ c.create.ensures.creates c.create.ensures.refuses c.create.ensures.writes)
+
+pub returns-in-Stat-clause-runs : goal.returns-in-Stat-clause-runs
+returns-in-Stat-clause-runs g c = rw c.in-Stat.is (stat_runs _ _ _ _ _ _ _ c.stat.ensures.stats c.stat.ensures.refuses)

@@ -1,0 +1,29 @@
+-- Why commands are refused, in the order of refusals.
+use Rattle.std.specs.Prelude.{◌≡◌, ◌<◌, ◌⊎◌, ℕ, Result, Err}
+use Rattle.aea_cli.specs.declared.refusal.Refusal.{Refusal}
+use Rattle.aea_cli.specs.declared.refusal.Refusal.TheVariants.{InputTooLong, BadBlock, NoArchive, LedgerBad, Occupied}
+use Rattle.aea_cli.specs.declared.refusal.Failure.{Failure}
+use Rattle.aea_cli.specs.declared.refusal.Failure.TheVariants as failure
+
+-- the place of a refusal in the order of refusals
+abbrev pub place_of : Refusal → ℕ
+place_of NoArchive = 0
+place_of (LedgerBad at) = 1
+place_of Occupied = 2
+place_of InputTooLong = 3
+place_of (BadBlock k) = 4
+
+-- the cause stands, and none that comes before it
+pub record IsFirst (causes : Refusal → Type 0) (why : Refusal) : Type 0 where
+  pub stands : causes why
+  pub none : (other : Refusal) → place_of other < place_of why → causes other → ⊥
+
+-- the disk or the input failed, or memory was wanting
+abbrev pub IsStopped : {T : Type 0} → Result T Failure → Type 0
+IsStopped answer = (answer ≡ Err failure.Disk) ⊎ ((answer ≡ Err failure.Input) ⊎ (answer ≡ Err failure.Memory))
+
+-- How an answer tells why it is a refusal, where the contents that decide it are told: it is one only for the first
+-- cause that stands, and where there is such a cause it is that refusal, but for faults and want of memory.
+pub record Refuses {T : Type 0} (told : Type 0) (causes : Refusal → Type 0) (answer : Result T Failure) : Type 0 where
+  pub only : (why : Refusal) → answer ≡ Err (failure.Refused why) → told → IsFirst causes why
+  pub always : (why : Refusal) → told → IsFirst causes why → (answer ≡ Err (failure.Refused why)) ⊎ IsStopped answer

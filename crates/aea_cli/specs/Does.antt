@@ -1,0 +1,87 @@
+-- The table of the commands: what each touches, why it is refused, and what a run of it does.
+use Rattle.std.specs.Prelude.{◌≡◌, ◌≢◌, ℕ, List, [], Err, IsSome, unwrap_or}
+use Rattle.aea_disk.specs.Files.{KeepsFiles}
+use Rattle.aea_disk.specs.State.{KeepsWhere, HasRoom, HasRoomTo}
+use Rattle.aea_ledger.specs.Stops.{HasOpening}
+use Rattle.aea_cli.specs.declared.command.Command.{Command}
+use Rattle.aea_cli.specs.declared.command.Command.TheVariants.{Drill, Create, Stat}
+use Rattle.aea_cli.specs.declared.refusal.Refusal.{Refusal}
+use Rattle.aea_cli.specs.declared.refusal.Failure.TheVariants as failure
+use Rattle.aea_cli.specs.declared.status.Status.{Status}
+use Rattle.aea_cli.specs.Create.{CreateCauses, Creates, created_line}
+use Rattle.aea_cli.specs.Drill.{DamageCauses, Drills, IsOutcome}
+use Rattle.aea_cli.specs.Stat.{Stats, IsStatOf}
+use Rattle.aea_cli.specs.Causes.{Refuses}
+use Rattle.aea_cli.specs.Failures.{Answer}
+use Rattle.aea_cli.specs.Openings.{OpeningCauses}
+use Rattle.aea_cli.specs.Printed.{FitsText}
+use Rattle.aea_cli.specs.Worlds.{World}
+
+-- the command reads the input
+abbrev pub ReadsInput : Command → Type 0
+ReadsInput (Drill l) = Unit {0}
+ReadsInput (Create shape) = ⊥
+ReadsInput Stat = ⊥
+
+-- the command makes calls of the disk
+abbrev pub UsesDisk : Command → Type 0
+UsesDisk (Drill l) = ⊥
+UsesDisk (Create shape) = Unit {0}
+UsesDisk Stat = Unit {0}
+
+-- the command may change the file
+abbrev pub MayChange : Command → ℕ → Type 0
+MayChange (Drill l) file = ⊥
+MayChange (Create shape) file = file ≡ 0
+MayChange Stat file = ⊥
+
+-- it leaves the file
+abbrev pub Keeps : Command → ℕ → Type 0
+Keeps command file = MayChange command file → ⊥
+
+-- the bytes of the input, where it tells them
+abbrev pub input_of : World → List ℕ
+input_of w = unwrap_or w.input.left []
+
+-- why a run of the command in this world is refused
+abbrev pub Causes : Command → World → Refusal → Type 0
+Causes (Drill l) w = DamageCauses l (input_of w)
+Causes (Create shape) w = CreateCauses (w.disk.files 0)
+Causes Stat w = OpeningCauses (w.disk.files 0)
+
+-- the disk has room for all that a run of the command writes
+abbrev pub FitsDisk : Command → World → Type 0
+FitsDisk (Drill l) w = Unit {0}
+FitsDisk (Create shape) w = HasRoomTo w.disk 0 18
+FitsDisk Stat w = HasRoom w.disk
+
+-- the output has room for all that a run of the command prints
+abbrev pub FitsOutput : Command → World → Type 0
+FitsOutput (Drill l) w = (text : List ℕ) (status : Status) → IsOutcome l (input_of w) text status → FitsText w.out text
+FitsOutput (Create shape) w = FitsText w.out (created_line shape)
+FitsOutput Stat w = (text : List ℕ) → IsStatOf (w.disk.files 0) text → FitsText w.out text
+
+-- what a run of the command did
+abbrev pub Does : Command → World → World → Answer → Type 0
+Does (Drill l) old new answer = Drills l old.input new.input old.out new.out answer
+Does (Create shape) old new answer = Creates shape old.tells old.disk new.disk old.out new.out answer
+Does Stat old new answer = Stats old.tells old.disk new.disk old.out new.out answer
+
+-- what the command uses of the disk and of the input tells its contents
+pub record IsTold (command : Command) (w : World) : Type 0 where
+  pub disk : UsesDisk command → w.tells
+  pub input : ReadsInput command → IsSome w.input.left
+
+-- Of a run of the command, whichever it is:
+pub record Runs (command : Command) (old new : World) (answer : Answer) : Type 0 where
+  -- what it did
+  pub does : Does command old new answer
+  -- when it is refused
+  pub refuses : Refuses (IsTold command old) (Causes command old) answer
+  -- it does not fail where there is room
+  pub disk_fits : FitsDisk command old → answer ≢ Err failure.Disk
+  pub output_fits : IsTold command old → FitsOutput command old → answer ≢ Err failure.Output
+  -- the files that it may not change stay; and from the moment at which its first sync has succeeded every image has each
+  -- of them as it read before
+  pub stays : KeepsWhere old.tells (Keeps command) old.disk new.disk
+  pub opens : old.tells → HasOpening old.disk new.disk (KeepsFiles (Keeps command) old.disk.files)

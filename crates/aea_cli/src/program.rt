@@ -1,0 +1,123 @@
+//! The top call.
+
+ghost use Rattle.std.specs.Prelude.{◌≡◌, ◌≢◌, ◌≤◌, ◌↔◌, map, string_bytes};
+ghost use Rattle.aea_faults.specs.Faults.{Rose};
+ghost use Rattle.aea_io.specs.Written.{IsFlushed};
+ghost use Rattle.aea_disk.specs.State.{Passes};
+ghost use Rattle.aea_cli.specs.declared.command.Command.{Command};
+ghost use Rattle.aea_cli.specs.Does.{ReadsInput, UsesDisk, Runs};
+ghost use Rattle.aea_cli.specs.Ends.{IsSound, Ends};
+ghost use Rattle.aea_cli.specs.Failures.{IsWell};
+ghost use Rattle.aea_cli.specs.Words.{AreNoCommand, Means};
+ghost use Rattle.aea_cli.specs.Worlds.{world};
+
+use crate::command::{Command, parse_words};
+use crate::create::create;
+use crate::drill::drill;
+use crate::refusal::Failure;
+use crate::report::report;
+use crate::stat::stat;
+use crate::status::Status;
+use aea_disk::Disk;
+use aea_io::{Sink, Source};
+use std::alloc::Global;
+
+// Carries out the command.
+fn carry_out<D: Disk, S: Source, O: Sink>(
+    alloc: Global,
+    command: &Command,
+    disk: &mut D,
+    input: &mut S,
+    out: &mut O,
+) -> Result<Status, Failure>
+    ensures runs { Runs command.now
+        (world D.tells (D.state disk.old) (S.state input.old) (O.state out.old))
+        (world D.tells (D.state disk.new) (S.state input.new) (O.state out.new)) result }
+    ensures sound { IsSound
+        (world D.tells (D.state disk.old) (S.state input.old) (O.state out.old))
+        (world D.tells (D.state disk.new) (S.state input.new) (O.state out.new)) result }
+    ensures words { result ≢ Err Failure.Words }
+    ensures input { (ReadsInput command.now → ⊥) → (input.new ≡ input.old) × (result ≢ Err Failure.Input) }
+    ensures disk { (UsesDisk command.now → ⊥) → (disk.new ≡ disk.old) × (result ≢ Err Failure.Disk) }
+{
+    match command {
+        Command::Drill { lattice } => drill(alloc, lattice, input, out),
+        Command::Create { shape } => create(alloc, shape, disk, out),
+        Command::Stat => stat(alloc, disk, out),
+    }
+}
+
+// Carries out the command that the words mean.
+fn execute<D: Disk, S: Source, O: Sink>(
+    alloc: Global,
+    words: &[String],
+    disk: &mut D,
+    input: &mut S,
+    out: &mut O,
+) -> Result<Status, Failure>
+    ensures words { (result ≡ Err Failure.Words) ↔ AreNoCommand (map string_bytes words.now) }
+    ensures words_leave { AreNoCommand (map string_bytes words.now) → (disk.new ≡ disk.old) × (input.new ≡ input.old) × (out.new ≡ out.old) }
+    ensures runs { (command : Command) → Means (map string_bytes words.now) command → Runs command
+        (world D.tells (D.state disk.old) (S.state input.old) (O.state out.old))
+        (world D.tells (D.state disk.new) (S.state input.new) (O.state out.new)) result }
+    ensures sound { IsSound
+        (world D.tells (D.state disk.old) (S.state input.old) (O.state out.old))
+        (world D.tells (D.state disk.new) (S.state input.new) (O.state out.new)) result }
+    ensures input { (command : Command) → Means (map string_bytes words.now) command → (ReadsInput command → ⊥)
+        → (input.new ≡ input.old) × (result ≢ Err Failure.Input) }
+    ensures disk { (command : Command) → Means (map string_bytes words.now) command → (UsesDisk command → ⊥)
+        → (disk.new ≡ disk.old) × (result ≢ Err Failure.Disk) }
+{
+    let Ok(parsed) = parse_words(alloc, words) else {
+        return Err(Failure::Memory);
+    };
+    let Some(command) = parsed else {
+        return Err(Failure::Words);
+    };
+    carry_out(alloc, &command, disk, input, out)
+}
+
+/// Does all that the program does: takes the words of the command line, the disk and the three streams, and answers
+/// the status. What is printed stands on `out`, and a line that says why a command did not end well on `err`. Want of
+/// memory may be answered at any time before the first byte is printed.
+pub fn run<D: Disk, S: Source, O: Sink, E: Sink>(
+    alloc: Global,
+    words: &[String],
+    disk: &mut D,
+    input: &mut S,
+    out: &mut O,
+    err: &mut E,
+) -> Status
+    // Words that are no command.
+    ensures words { (result ≡ Status.Words) ↔ AreNoCommand (map string_bytes words.now) }
+    ensures words_leave { AreNoCommand (map string_bytes words.now) → (disk.new ≡ disk.old) × (input.new ≡ input.old) × (out.new ≡ out.old) }
+
+    // Any words: what was done, the status, and the line of a failure on `err`.
+    ensures ends { Ends (map string_bytes words.now)
+        (world D.tells (D.state disk.old) (S.state input.old) (O.state out.old))
+        (world D.tells (D.state disk.new) (S.state input.new) (O.state out.new))
+        (E.state err.old) (E.state err.new) result }
+    ensures input { (command : Command) → Means (map string_bytes words.now) command → (ReadsInput command → ⊥)
+        → (input.new ≡ input.old) × (result ≢ Status.Input) }
+    ensures disk { (command : Command) → Means (map string_bytes words.now) command → (UsesDisk command → ⊥)
+        → (disk.new ≡ disk.old) × (result ≢ Status.Disk) }
+
+    // Where all work was done.
+    ensures flushed { IsWell result → IsFlushed (O.state out.new) }
+    ensures err_unused { IsWell result → err.new ≡ err.old }
+
+    // Where something failed.
+    ensures disk_cause { result ≡ Status.Disk → Rose (D.state disk.old).faults (D.state disk.new).faults }
+    ensures input_cause { result ≡ Status.Input → Rose (S.state input.old).faults (S.state input.new).faults }
+    ensures out_cause { result ≡ Status.Output → Rose (O.state out.old).faults (O.state out.new).faults }
+    ensures disk_kept { (D.state disk.old).faults ≤ (D.state disk.new).faults }
+    ensures input_kept { (S.state input.old).faults ≤ (S.state input.new).faults }
+    ensures out_kept { (O.state out.old).faults ≤ (O.state out.new).faults }
+    ensures err_kept { (E.state err.old).faults ≤ (E.state err.new).faults }
+    ensures time { Passes (D.state disk.old) (D.state disk.new) }
+{
+    match execute(alloc, words, disk, input, out) {
+        Ok(status) => status,
+        Err(failure) => report(err, failure),
+    }
+}

@@ -1,0 +1,4 @@
+pub mod Columns
+pub mod Given
+pub mod Bits
+pub mod Determined

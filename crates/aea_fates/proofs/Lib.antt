@@ -1,0 +1,12 @@
+pub mod Kept
+pub mod Standing
+pub mod SumReading
+pub mod WordReading
+pub mod Rows
+pub mod Only
+pub mod Stay
+pub mod Given
+pub mod Parts
+pub mod Rising
+pub mod Compact
+pub mod Small

@@ -1,0 +1,5 @@
+pub mod Sums
+pub mod Starts
+pub mod Readings
+pub mod Laws
+pub mod Small

@@ -1,0 +1,4 @@
+pub mod Turning
+pub mod Filling
+pub mod Reading
+pub mod OneList

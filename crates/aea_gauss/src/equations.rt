@@ -1,0 +1,147 @@
+ghost use Rattle.std.specs.Prelude.{◌≡◌, ◌<◌, ◌^◌, Bool, not, ◌++◌, [], ◌∷◌, if◌then◌else◌, length, map, filter, All, IfOk, OnOk};
+ghost use Rattle.std.specs.List.{list_any};
+ghost use Rattle.aea_lattice.specs.Blocks.{HasBlock, classes};
+ghost use Rattle.aea_lattice.specs.Equations.{HasEquation, equation_of, equations_of};
+ghost use Rattle.aea_view.specs.Marked.{is_marked};
+ghost use Rattle.aea_fates.specs.Starts.{is_live, live_equations};
+ghost use Rattle.aea_fates.specs.Small.{unknown_blocks, AreListed};
+
+use aea_fates::unknown_are_listed;
+use aea_lattice::{BlockId, Class, EqId, Lattice};
+use aea_view::Marks;
+use std::alloc::{AllocError, Global};
+
+// Whether the block is known.
+pub(crate) fn is_known(lattice: &Lattice, known: &Marks, b: BlockId) -> bool
+    requires same { known.now.lattice ≡ lattice.now }
+    requires block { HasBlock lattice.now b }
+    ensures { result ≡ is_marked known.now b }
+{
+    known.get(b)
+}
+
+// Puts the equations of the node last.
+fn push_equations(lattice: &Lattice, equations: &mut Vec<EqId>, node: u32) -> Result<(), AllocError>
+    ensures { OnOk result (equations.new.items ≡ equations.old.items ++ map (equation_of node) (classes lattice.now)) }
+{
+    let class = Class::Horiz;
+    equations.push(EqId { node, class })?;
+    if lattice.alpha < 2 {
+        return Ok(());
+    }
+    let class = Class::Right;
+    equations.push(EqId { node, class })?;
+    if lattice.alpha < 3 {
+        return Ok(());
+    }
+    let class = Class::Left;
+    equations.push(EqId { node, class })?;
+    Ok(())
+}
+
+// The equations of the lattice, in equation order.
+pub(crate) fn all_equations(alloc: Global, lattice: &Lattice) -> Result<Vec<EqId>, AllocError>
+    ensures all { IfOk result (λ equations. equations.items ≡ equations_of lattice.now) }
+    ensures inside { IfOk result (λ equations. All (HasEquation lattice.now) equations.items) }
+{
+    let mut equations = Vec::new(alloc);
+    for node in 1..lattice.n + 1 {
+        push_equations(lattice, &mut equations, node)?;
+    }
+    Ok(equations)
+}
+
+// Whether one of the two blocks is not known.
+fn either_unknown(lattice: &Lattice, known: &Marks, first: BlockId, second: BlockId) -> bool
+    requires same { known.now.lattice ≡ lattice.now }
+    requires first { HasBlock lattice.now first }
+    requires second { HasBlock lattice.now second }
+    ensures { result ≡ list_any (λ d. not (is_marked known.now d)) (first ∷ second ∷ []) }
+{
+    !is_known(lattice, known, first) || !is_known(lattice, known, second)
+}
+
+// Whether the equation has a block that is not known.
+fn is_live(lattice: &Lattice, known: &Marks, e: EqId) -> bool
+    requires same { known.now.lattice ≡ lattice.now }
+    requires equation { HasEquation lattice.now e }
+    ensures { result ≡ is_live lattice.now (is_marked known.now) e }
+{
+    let q = lattice.equation(e);
+    match q.input {
+        Some(g) => !is_known(lattice, known, g)
+            || either_unknown(lattice, known, q.datum, q.output),
+        None => either_unknown(lattice, known, q.datum, q.output),
+    }
+}
+
+// Puts the equation last, if it has a block that is not known.
+fn keep_live(
+    lattice: &Lattice,
+    known: &Marks,
+    live: &mut Vec<EqId>,
+    e: EqId,
+) -> Result<(), AllocError>
+    requires same { known.now.lattice ≡ lattice.now }
+    requires equation { HasEquation lattice.now e }
+    ensures { OnOk result (live.new.items ≡ live.old.items ++ (if is_live lattice.now (is_marked known.now) e then e ∷ [] else [])) }
+{
+    if is_live(lattice, known, e) {
+        live.push(e)?;
+    }
+    Ok(())
+}
+
+// The equations that have a block that is not known, in equation order.
+pub(crate) fn live_equations(
+    alloc: Global,
+    lattice: &Lattice,
+    known: &Marks,
+) -> Result<Vec<EqId>, AllocError>
+    requires same { known.now.lattice ≡ lattice.now }
+    ensures live { IfOk result (λ live. live.items ≡ live_equations lattice.now (is_marked known.now)) }
+    ensures inside { IfOk result (λ live. All (HasEquation lattice.now) live.items) }
+    ensures few { IfOk result (λ live. length live.items < 2 ^ 23) }
+{
+    let all = all_equations(alloc, lattice)?;
+    let mut live = Vec::new(alloc);
+    for e in all.as_slice() {
+        keep_live(lattice, known, &mut live, *e)?;
+    }
+    Ok(live)
+}
+
+// Puts the block last, if it is not known.
+fn keep_unknown(
+    lattice: &Lattice,
+    known: &Marks,
+    blocks: &mut Vec<BlockId>,
+    b: BlockId,
+) -> Result<(), AllocError>
+    requires same { known.now.lattice ≡ lattice.now }
+    requires block { HasBlock lattice.now b }
+    ensures { OnOk result (blocks.new.items ≡ blocks.old.items ++ (if not (is_marked known.now b) then b ∷ [] else [])) }
+{
+    if !is_known(lattice, known, b) {
+        blocks.push(b)?;
+    }
+    Ok(())
+}
+
+// The blocks that are not known, in number order.
+pub(crate) fn unknown_blocks(
+    alloc: Global,
+    lattice: &Lattice,
+    known: &Marks,
+) -> Result<Vec<BlockId>, AllocError>
+    requires same { known.now.lattice ≡ lattice.now }
+    ensures all { IfOk result (λ blocks. blocks.items ≡ unknown_blocks lattice.now (is_marked known.now)) }
+    ensures listed { IfOk result (λ blocks. AreListed lattice.now blocks.items) }
+{
+    unknown_are_listed();
+    let mut blocks = Vec::new(alloc);
+    for k in 0..lattice.blocks() {
+        keep_unknown(lattice, known, &mut blocks, lattice.block(k))?;
+    }
+    Ok(blocks)
+}

@@ -1,0 +1,15 @@
+//! Elimination over the field of two elements: what becomes of each block that is not known, as a sum of equations or
+//! as a codeword.
+#![tactic(auto)]
+
+mod columns;
+mod equations;
+pub mod fates;
+pub mod laws;
+mod leads;
+mod read;
+mod rows;
+mod small;
+
+pub use fates::{Fate, FateList, solve};
+pub use laws::fates_are_one;

@@ -1,0 +1,16 @@
+//! Trials of elimination: packed rows, the fates of worked examples, damage by chance against a plain elimination, and
+//! the smallest patterns of two nodes.
+#![tactic(auto)]
+
+#[cfg(test)]
+mod bench;
+#[cfg(test)]
+mod chance;
+#[cfg(test)]
+mod examples;
+#[cfg(test)]
+mod patterns;
+#[cfg(test)]
+mod plain;
+#[cfg(test)]
+mod words;

@@ -61,6 +61,7 @@ impl From<AllocError> for OpenFault {
 
 // The shape in the header with which the file begins; of the file it takes 18 bytes, or all that there are.
 fn header_in(window: &[u8]) -> Result<Shape, OpenFault>
+    requires few { length window.now ≤ 18 }
     ensures there { OnOk result (18 ≤ length window.now) }
     ensures header { IfOk result (λ shape. take 17 window.now ≡ header shape) }
     ensures fault { IfErr result (λ fault. (file : List ℕ) → window.now ≡ take 18 file → Answers file (Err fault)) }

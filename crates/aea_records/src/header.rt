@@ -87,7 +87,7 @@ fn fields_in(window: &[u8]) -> Result<Shape, u64>
 /// The shape in the header with which a file begins, or the place of its first bad field. The window is the first 18 bytes
 /// of the file, and its gate is open.
 pub fn shape_in(window: &[u8]) -> Result<Shape, u64>
-    requires long { 18 ≤ length window.now }
+    requires long { length window.now ≡ 18 }
     requires gate { slice_index window.now 0 ≡ open_gate }
     ensures header { IfOk result (λ shape. take 17 window.now ≡ header shape) }
     ensures bad { IfErr result (λ at. (file : List ℕ) → window.now ≡ take 18 file → IsBadAt file at) }

@@ -256,6 +256,7 @@ pub fn gate_in(
     raised: bool,
     window: &[u8],
 ) -> Result<Option<Found>, u64>
+    requires few { length window.now ≤ 315 }
     ensures bad { IfErr result (λ at. IsBadWindow shape.now (known_in catalog.now.objects lattice.now.n lattice.now.fences raised) window.now at) }
     ensures near { IfErr result (λ at. at ≤ 315) }
     ensures closed { IfOk result (λ found. IfNone found (IsClosed window.now)) }

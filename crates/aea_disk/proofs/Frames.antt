@@ -5,67 +5,73 @@ use Rattle.aea_disk.specs.Files.{Files, ChangesFile, Holds, Torn, IsCut, MayBeCu
 use Rattle.aea_disk.specs.Steps.{holds_torn, changes_wider}
 use Rattle.aea_disk.specs.State.{State, Passes, Follows, KeepsImages, Settles, HasEarlier, HasRoom, HasRoomTo, NeverFails, IsSure, IsSynced, KeepsOthers, KeepsWhere}
 use Rattle.aea_disk.specs.Frames.{OnlyReads, OnlyWrites}
-use Rattle.aea_disk.proofs.Moments.{passes_none, passes_both, during_none, during_both, during_kept, during_end, during_then_kept, earlier_none, earlier_step, earlier_both}
+use Rattle.aea_disk.proofs.Moments.{passes_none, passes_both, during_none, during_both, during_kept, during_end, during_then_kept, earlier_none, earlier_step, earlier_kept, earlier_both}
 
--- no call
-pub reads_none : (tells : Type 0) (s : State) → OnlyReads tells ⊥ s s
-reads_none tells s = record {
+-- no call, and no fault
+pub reads_none : (tells fault : Type 0) (s : State) → (fault → ⊥) → OnlyReads tells fault s s
+reads_none tells fault s fine = record {
   contents = λ _. refl;
   crash = during_none s (s.image s.moment) (λ c here. here);
   time = passes_none s;
+  earlier = earlier_none s;
   kept = omega arith;
-  cause = λ none. absurd none;
-  sure = λ room. (λ none. none, refl);
+  cause = λ is. absurd (fine is);
+  sure = λ room. (fine, refl);
 }
 
 -- one call that did not fail
-pub reads_ok : (tells : Type 0) (old new : State) → (tells → new.files ≡ old.files) → KeepsImages old new → Passes old new → old.faults ≤ new.faults → (HasRoom old → new.faults ≡ old.faults) → OnlyReads tells ⊥ old new
-reads_ok tells old new contents crash time kept sure = record {
+pub reads_ok : (tells : Type 0) (old new : State) → (tells → new.files ≡ old.files) → KeepsImages old new → Settles old new → Passes old new → old.faults ≤ new.faults → (HasRoom old → new.faults ≡ old.faults) → OnlyReads tells ⊥ old new
+reads_ok tells old new contents crash settled time kept sure = record {
   contents = contents;
   crash = crash;
   time = time;
+  earlier = earlier_kept old new crash settled time;
   kept = kept;
   cause = λ none. absurd none;
   sure = λ room. (λ none. none, sure room);
 }
 
 -- one call, by the clauses of the disk
-pub reads_one : {T E : Type 0} (tells : Type 0) (old new : State) (result : Result T E) → (tells → new.files ≡ old.files) → KeepsImages old new → Passes old new → HasCause old.faults new.faults result → IsSure (HasRoom old) old new result → OnlyReads tells (IsErr result) old new
-reads_one tells old new (Ok v) contents crash time cause sure = record {
+pub reads_one : {T E : Type 0} (tells : Type 0) (old new : State) (result : Result T E) → (tells → new.files ≡ old.files) → KeepsImages old new → Settles old new → Passes old new → HasCause old.faults new.faults result → IsSure (HasRoom old) old new result → OnlyReads tells (IsErr result) old new
+reads_one tells old new (Ok v) contents crash settled time cause sure = record {
   contents = contents;
   crash = crash;
   time = time;
+  earlier = earlier_kept old new crash settled time;
   kept = cause.kept;
   cause = λ none. absurd (cc);
   sure = λ room. (λ none. cc, (sure room).1);
 }
-reads_one tells old new (Err e) contents crash time cause sure = record {
+reads_one tells old new (Err e) contents crash settled time cause sure = record {
   contents = contents;
   crash = crash;
   time = time;
+  earlier = earlier_kept old new crash settled time;
   kept = cause.kept;
   cause = λ is. cause.rose;
   sure = λ room. (λ is. let ok = (sure room).0 in cc, (sure room).1);
 }
 
 -- one call that failed, whatever is then answered
-pub reads_failed : {T E : Type 0} (tells fault : Type 0) (old new : State) (result : Result T E) → IsErr result → (tells → new.files ≡ old.files) → KeepsImages old new → Passes old new → HasCause old.faults new.faults result → IsSure (HasRoom old) old new result → OnlyReads tells fault old new
-reads_failed tells fault old new (Ok v) failed contents crash time cause sure = absurd (cc)
-reads_failed tells fault old new (Err e) failed contents crash time cause sure = record {
+pub reads_failed : {T E : Type 0} (tells fault : Type 0) (old new : State) (result : Result T E) → IsErr result → (tells → new.files ≡ old.files) → KeepsImages old new → Settles old new → Passes old new → HasCause old.faults new.faults result → IsSure (HasRoom old) old new result → OnlyReads tells fault old new
+reads_failed tells fault old new (Ok v) failed contents crash settled time cause sure = absurd (cc)
+reads_failed tells fault old new (Err e) failed contents crash settled time cause sure = record {
   contents = contents;
   crash = crash;
   time = time;
+  earlier = earlier_kept old new crash settled time;
   kept = cause.kept;
   cause = λ is. cause.rose;
   sure = λ room. (λ is. let ok = (sure room).0 in cc, (sure room).1);
 }
 
 -- one call that did not fail, where no fault is answered
-pub reads_made : {T E : Type 0} (tells fault : Type 0) (old new : State) (result : Result T E) → (fault → ⊥) → (tells → new.files ≡ old.files) → KeepsImages old new → Passes old new → HasCause old.faults new.faults result → IsSure (HasRoom old) old new result → OnlyReads tells fault old new
-reads_made tells fault old new result fine contents crash time cause sure = record {
+pub reads_made : {T E : Type 0} (tells fault : Type 0) (old new : State) (result : Result T E) → (fault → ⊥) → (tells → new.files ≡ old.files) → KeepsImages old new → Settles old new → Passes old new → HasCause old.faults new.faults result → IsSure (HasRoom old) old new result → OnlyReads tells fault old new
+reads_made tells fault old new result fine contents crash settled time cause sure = record {
   contents = contents;
   crash = crash;
   time = time;
+  earlier = earlier_kept old new crash settled time;
   kept = cause.kept;
   cause = λ is. absurd (fine is);
   sure = λ room. (fine, (sure room).1);
@@ -77,6 +83,7 @@ reads_as tells fault other old new so reads = record {
   contents = reads.contents;
   crash = reads.crash;
   time = reads.time;
+  earlier = reads.earlier;
   kept = reads.kept;
   cause = λ is. reads.cause (so is);
   sure = λ room. (λ is. (reads.sure room).0 (so is), (reads.sure room).1);
@@ -92,6 +99,7 @@ reads_both tells first second old mid new early late = record {
   contents = λ tell. late.contents tell ∙ early.contents tell;
   crash = during_then_kept old mid new (old.image old.moment) early.time late.time late.crash early.crash;
   time = passes_both old mid new early.time late.time;
+  earlier = earlier_both old mid new early.time late.time early.earlier late.earlier;
   kept = omega (arith, early.kept, late.kept);
   cause = λ is. let rose : Rose mid.faults new.faults = late.cause is in omega (arith, early.kept, rose);
   sure = λ room.
@@ -105,12 +113,12 @@ reads_synced tells fault old new tell reads synced = λ c here f.
     synced c (reads.crash new.moment c reads.time.later (omega arith) here) f ∙ sym (ap (λ (files : Files). files f) (reads.contents tell))
 
 -- calls that only read take any step that may leave the files
-pub reads_writes : (tells fits fault : Type 0) (step : Files → Files → Type 0) (old new : State) → (fits → HasRoom old) → ((c : Files) → step c c) → HasEarlier old new → OnlyReads tells fault old new → OnlyWrites tells fits fault step old new
-reads_writes tells fits fault step old new room none earlier reads = record {
+pub reads_writes : (tells fits fault : Type 0) (step : Files → Files → Type 0) (old new : State) → (fits → HasRoom old) → ((c : Files) → step c c) → OnlyReads tells fault old new → OnlyWrites tells fits fault step old new
+reads_writes tells fits fault step old new room none reads = record {
   contents = λ tell. subst (step old.files) (sym (reads.contents tell)) (none old.files);
   crash = λ t c from to here. (c, reads.crash t c from to here, none c);
   time = reads.time;
-  earlier = earlier;
+  earlier = reads.earlier;
   kept = reads.kept;
   cause = reads.cause;
   sure = λ fit. reads.sure (room fit);
@@ -224,13 +232,13 @@ writes_both tells fits first_fits second_fits first second one two all old mid n
 }
 
 -- calls that change the files, and others that only read
-pub writes_then_reads : (tells fits first second : Type 0) (step : Files → Files → Type 0) (old mid new : State) → (fits → HasRoom old) → HasEarlier mid new → OnlyWrites tells fits first step old mid → OnlyReads tells second mid new → OnlyWrites tells fits second step old new
-writes_then_reads tells fits first second step old mid new room earlier early late = record {
+pub writes_then_reads : (tells fits first second : Type 0) (step : Files → Files → Type 0) (old mid new : State) → (fits → HasRoom old) → OnlyWrites tells fits first step old mid → OnlyReads tells second mid new → OnlyWrites tells fits second step old new
+writes_then_reads tells fits first second step old mid new room early late = record {
   contents = λ tell. subst (step old.files) (sym (late.contents tell)) (early.contents tell);
   crash =
       during_then_kept old mid new (λ c. (d : Files) × old.image old.moment d × step d c) early.time late.time late.crash early.crash;
   time = passes_both old mid new early.time late.time;
-  earlier = earlier_both old mid new early.time late.time early.earlier earlier;
+  earlier = earlier_both old mid new early.time late.time early.earlier late.earlier;
   kept = omega (arith, early.kept, late.kept);
   cause = λ is. let rose : Rose mid.faults new.faults = late.cause is in omega (arith, early.kept, rose);
   sure = λ fit.
@@ -240,8 +248,8 @@ writes_then_reads tells fits first second step old mid new room earlier early la
 }
 
 -- calls that only read, and others that change the files by a step that may leave them
-pub reads_then_writes : (tells fits late_fits first second : Type 0) (step : Files → Files → Type 0) (old mid new : State) → ((c : Files) → step c c) → (fits → HasRoom old) → (fits → Passes old mid → late_fits) → HasEarlier old mid → OnlyReads tells first old mid → OnlyWrites tells late_fits second step mid new → OnlyWrites tells fits second step old new
-reads_then_writes tells fits late_fits first second step old mid new none room fits_late earlier early late = record {
+pub reads_then_writes : (tells fits late_fits first second : Type 0) (step : Files → Files → Type 0) (old mid new : State) → ((c : Files) → step c c) → (fits → HasRoom old) → (fits → Passes old mid → late_fits) → OnlyReads tells first old mid → OnlyWrites tells late_fits second step mid new → OnlyWrites tells fits second step old new
+reads_then_writes tells fits late_fits first second step old mid new none room fits_late early late = record {
   contents = λ tell. subst (λ (c : Files). step c new.files) (early.contents tell) (late.contents tell);
   crash =
       during_both old mid new (λ c. (d : Files) × old.image old.moment d × step d c) early.time late.time
@@ -250,7 +258,7 @@ reads_then_writes tells fits late_fits first second step old mid new none room f
       let was = late.crash t c from to here in
       (was.0, early.crash mid.moment was.0 early.time.later (omega arith) was.1, was.2));
   time = passes_both old mid new early.time late.time;
-  earlier = earlier_both old mid new early.time late.time earlier late.earlier;
+  earlier = earlier_both old mid new early.time late.time early.earlier late.earlier;
   kept = omega (arith, early.kept, late.kept);
   cause = λ is. let rose : Rose mid.faults new.faults = late.cause is in omega (arith, early.kept, rose);
   sure = λ fit.

@@ -21,7 +21,7 @@
 //!
 //! The frames of `specs/Frames.antt` go together by these lemmas of `Rattle.aea_disk.proofs.Frames`.
 //!
-//! - calls that only read: `reads_none` before the first call; `reads_one` for one call, `reads_ok` and `reads_made` where
+//! - calls that only read: `reads_none` where no call was made; `reads_one` for one call, `reads_ok` and `reads_made` where
 //!   it did not fail, `reads_failed` where it did; `reads_both` for two runs; `reads_as` and `reads_faulted` for another
 //!   name of the fault; `reads_synced` for what is sure
 //! - calls that change the files by one step: `writes_none`, `writes_one`, `writes_failed`, `writes_both`, `writes_as`,

@@ -2,7 +2,7 @@
 
 ghost use Rattle.std.specs.Prelude.{◌≡◌, ◌≢◌, ◌↔◌, ◌+◌, ◌≤◌, [], ◌∷◌, length, drop, max, IsErr, IsTrue, IfOk, OnOk};
 ghost use Rattle.aea_disk.specs.Files.{ChangesFile, ChangesOnly, MayBeCut};
-ghost use Rattle.aea_disk.specs.State.{KeepsImages, HasEarlier, During, IsSynced, IsFixed, HasRoom, HasRoomTo, NeverFails};
+ghost use Rattle.aea_disk.specs.State.{KeepsImages, During, IsSynced, IsFixed, HasRoom, HasRoomTo, NeverFails};
 ghost use Rattle.aea_disk.specs.Frames.{OnlyReads, OnlyWrites};
 ghost use Rattle.aea_records.specs.Faults.{HasOpenHeader, IsNoArchive};
 ghost use Rattle.aea_ledger.specs.Stops.{empty_ledger, IsNoneOrEmpty, IsBeingMade, MakesArchive, IsOpened, HasOpening};
@@ -34,7 +34,6 @@ impl From<DiskFault> for CreateFault {
 fn is_occupied<D: Disk>(disk: &mut D) -> Result<bool, DiskFault>
     ensures occupied { IfOk result (λ found. D.tells → IsTrue found ↔ HasOpenHeader ((D.state disk.old).files 0)) }
     ensures durable { OnOk result (D.tells → IsSynced (D.state disk.new)) }
-    ensures earlier { HasEarlier (D.state disk.old) (D.state disk.new) }
     ensures reads { OnlyReads D.tells (IsErr result) (D.state disk.old) (D.state disk.new) }
 {
     disk.sync()?;

@@ -1,7 +1,6 @@
 use Rattle.std.proofs.Common.{◌+◌, length, refl}
 use Rattle.aea_disk.specs.Files.{ChangesFile, Torn}
 use Rattle.aea_disk.specs.State.{HasRoomTo}
-use Rattle.aea_disk.proofs.Moments.{earlier_kept}
 use Rattle.aea_disk.proofs.Frames.{reads_one, writes_one, writes_failed, writes_then_reads, torn_anyway}
 use Rattle.aea_ledger.proofs.Writes.{settles_then_kept}
 use Rattle.aea_ledger.proofs.commit.write_through.Goals as goal
@@ -30,8 +29,7 @@ returns-clause-writes g c =
     let fits = HasRoomTo first 0 (c.args.at + length bytes) in
     let step = ChangesFile 0 (Torn c.args.at (length bytes)) in
     writes_then_reads tells fits _ _ step first second third (λ fit. (0, c.args.at + length bytes, fit))
-    (earlier_kept second third c.sync.ensures.crash c.sync.ensures.settled c.sync.ensures.time)
     (writes_one tells fits step first second c.write.result
     (torn_anyway tells 0 c.args.at bytes first.files second.files c.write.result c.write.ensures.written c.write.ensures.torn)
     c.write.ensures.crash c.write.ensures.settled c.write.ensures.time c.write.ensures.cause c.write.ensures.sure)
-    (reads_one tells second third c.sync.result c.sync.ensures.contents c.sync.ensures.crash c.sync.ensures.time c.sync.ensures.cause c.sync.ensures.sure)
+    (reads_one tells second third c.sync.result c.sync.ensures.contents c.sync.ensures.crash c.sync.ensures.settled c.sync.ensures.time c.sync.ensures.cause c.sync.ensures.sure)

@@ -23,7 +23,7 @@ returns-in_err-make-clause-writes g c =
     let second = g.D.Disk.state c.is_occupied.new.disk in
     let third = g.D.Disk.state c.make.new.disk in
     reads_then_writes g.D.Disk.tells (HasRoomTo first 0 18) (HasRoomTo second 0 18) _ _ (ChangesOnly 0) first second third (λ d f other. refl) (λ fit. (0, 18, fit)) (λ fit passes. passes.room 0 18 fit)
-    c.is_occupied.ensures.earlier c.is_occupied.ensures.reads (writes_faulted g.D.Disk.tells (HasRoomTo second 0 18) _ _ (ChangesOnly 0) second third c.in_err-make.ensures.writes refl)
+    c.is_occupied.ensures.reads (writes_faulted g.D.Disk.tells (HasRoomTo second 0 18) _ _ (ChangesOnly 0) second third c.in_err-make.ensures.writes refl)
 
 pub returns-clause-stops : goal.returns-clause-stops
 returns-clause-stops g c told =
@@ -45,18 +45,18 @@ returns-clause-writes g c =
     let second = g.D.Disk.state c.is_occupied.new.disk in
     let third = g.D.Disk.state c.make.new.disk in
     reads_then_writes g.D.Disk.tells (HasRoomTo first 0 18) (HasRoomTo second 0 18) _ _ (ChangesOnly 0) first second third (λ d f other. refl) (λ fit. (0, 18, fit)) (λ fit passes. passes.room 0 18 fit)
-    c.is_occupied.ensures.earlier c.is_occupied.ensures.reads (writes_as g.D.Disk.tells (HasRoomTo second 0 18) _ _ (ChangesOnly 0) second third (λ is. absurd (cc)) c.in_ok-make.ensures.writes)
+    c.is_occupied.ensures.reads (writes_as g.D.Disk.tells (HasRoomTo second 0 18) _ _ (ChangesOnly 0) second third (λ is. absurd (cc)) c.in_ok-make.ensures.writes)
 
 pub returns-in_err-is_occupied-clause-writes : goal.returns-in_err-is_occupied-clause-writes
 returns-in_err-is_occupied-clause-writes g c =
     let first = g.D.Disk.state c.args.disk.now in
     let second = g.D.Disk.state c.is_occupied.new.disk in
-    reads_writes g.D.Disk.tells (HasRoomTo first 0 18) _ (ChangesOnly 0) first second (λ fit. (0, 18, fit)) (λ d f other. refl) c.is_occupied.ensures.earlier
+    reads_writes g.D.Disk.tells (HasRoomTo first 0 18) _ (ChangesOnly 0) first second (λ fit. (0, 18, fit)) (λ d f other. refl)
     (reads_faulted g.D.Disk.tells _ _ first second c.in_err-is_occupied.ensures.reads refl)
 
 pub returns-then-branch-clause-writes : goal.returns-then-branch-clause-writes
 returns-then-branch-clause-writes g c =
     let first = g.D.Disk.state c.args.disk.now in
     let second = g.D.Disk.state c.is_occupied.new.disk in
-    reads_writes g.D.Disk.tells (HasRoomTo first 0 18) _ (ChangesOnly 0) first second (λ fit. (0, 18, fit)) (λ d f other. refl) c.is_occupied.ensures.earlier
+    reads_writes g.D.Disk.tells (HasRoomTo first 0 18) _ (ChangesOnly 0) first second (λ fit. (0, 18, fit)) (λ d f other. refl)
     (reads_as g.D.Disk.tells _ _ first second (λ is. absurd (cc)) c.in_ok-is_occupied.ensures.reads)

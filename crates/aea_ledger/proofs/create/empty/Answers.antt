@@ -1,7 +1,6 @@
 use Rattle.std.proofs.Common.{refl}
 use Rattle.aea_disk.specs.Files.{ChangesFile, MayBeCut}
 use Rattle.aea_disk.specs.State.{HasRoom}
-use Rattle.aea_disk.proofs.Moments.{earlier_kept}
 use Rattle.aea_disk.proofs.Frames.{reads_one, writes_one, writes_failed, writes_then_reads, cut_anyway}
 use Rattle.aea_ledger.proofs.create.empty.Goals as goal
 
@@ -20,8 +19,7 @@ returns-clause-writes g c =
     let second = g.D.Disk.state c.cut.new.self in
     let third = g.D.Disk.state c.sync.new.self in
     writes_then_reads tells (HasRoom first) _ _ (ChangesFile 0 (MayBeCut 0)) first second third (λ fit. fit)
-    (earlier_kept second third c.sync.ensures.crash c.sync.ensures.settled c.sync.ensures.time)
     (writes_one tells (HasRoom first) (ChangesFile 0 (MayBeCut 0)) first second c.cut.result
     (cut_anyway tells 0 0 first.files second.files c.cut.result c.cut.ensures.cut c.cut.ensures.torn)
     c.cut.ensures.crash c.cut.ensures.settled c.cut.ensures.time c.cut.ensures.cause c.cut.ensures.sure)
-    (reads_one tells second third c.sync.result c.sync.ensures.contents c.sync.ensures.crash c.sync.ensures.time c.sync.ensures.cause c.sync.ensures.sure)
+    (reads_one tells second third c.sync.result c.sync.ensures.contents c.sync.ensures.crash c.sync.ensures.settled c.sync.ensures.time c.sync.ensures.cause c.sync.ensures.sure)

@@ -1,6 +1,6 @@
-use Rattle.std.proofs.Common.{ℕ, List, ap}
+use Rattle.std.proofs.Common.{ℕ, List, ap, rules}
 use Rattle.aea_ledger.proofs.Passed.{parts_push, parts_in}
-use Rattle.aea_disk.proofs.Frames.{reads_both, reads_as}
+use Rattle.aea_disk.proofs.Frames.{reads_both, reads_as, reads_none}
 use Rattle.aea_ledger.proofs.input.read_parts.Goals as goal
 
 pub loop-preserved : goal.loop-preserved
@@ -12,3 +12,12 @@ loop-preserved g c =
       reads_both g.D.Disk.tells ⊥ ⊥ (g.D.Disk.state c.args.disk.now) (g.D.Disk.state c.loop.disk) (g.D.Disk.state c.read_part.new.disk) early
           (reads_as g.D.Disk.tells _ ⊥ _ _ (λ none. absurd none) c.in_ok-read_part.ensures.reads),
     )
+
+pub loop-init : goal.loop-init
+loop-init g c = (search rules, reads_none g.D.Disk.tells ⊥ (g.D.Disk.state c.args.disk.now) (λ none. none))
+
+pub returns-in_err-read_part-clause-reads : goal.returns-in_err-read_part-clause-reads
+returns-in_err-read_part-clause-reads g c = reads_both g.D.Disk.tells ⊥ _ (g.D.Disk.state c.args.disk.now) (g.D.Disk.state c.loop.disk) (g.D.Disk.state c.read_part.new.disk) c.loop.invariant.1 (reads_as g.D.Disk.tells _ _ _ _ (λ e. search rules) c.in_err-read_part.ensures.reads)
+
+pub returns-then-not-branch-clause-reads : goal.returns-then-not-branch-clause-reads
+returns-then-not-branch-clause-reads g c = reads_both g.D.Disk.tells ⊥ _ (g.D.Disk.state c.args.disk.now) (g.D.Disk.state c.loop.disk) (g.D.Disk.state c.read_part.new.disk) c.loop.invariant.1 (reads_as g.D.Disk.tells _ _ _ _ (λ e. absurd (cc)) c.in_ok-read_part.ensures.reads)

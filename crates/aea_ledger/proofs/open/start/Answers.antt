@@ -1,4 +1,5 @@
-use Rattle.std.proofs.Common.{◌∙◌, ◌+◌, ℕ, List, [], take, drop, length, arith, refl, sym, ap, subst}
+use Rattle.aea_disk.proofs.Frames.{reads_made, reads_failed, reads_as, reads_both}
+use Rattle.std.proofs.Common.{◌∙◌, ◌+◌, ℕ, List, [], take, drop, length, arith, refl, sym, ap, subst, rules}
 use Rattle.std.proofs.lemmas.Result.{err_from_is_err_and}
 use Rattle.std.proofs.lemmas.List.{take-take, length-take}
 use Rattle.sha2.specs.Hashers.{Holds256}
@@ -28,3 +29,21 @@ returns-clause-reading g c =
     (λ tells. c.window.ensures ∙ e.window tells ∙ ap (λ (n : ℕ). take 18 (drop n between)) c.in_ok-new.ensures.place ∙ ap (λ (f : ℕ → List ℕ). take 18 (f 0)) (c.in_ok-bytes.ensures.contents tells))
     (λ tells. c.pass.ensures.told file
     (subst (λ (f : ℕ → List ℕ). IsAhead c.fill.new.self (f 0)) (e.reads.contents tells ∙ c.in_ok-bytes.ensures.contents tells) (e.told tells)))
+
+pub returns-in_err-bytes-clause-reads : goal.returns-in_err-bytes-clause-reads
+returns-in_err-bytes-clause-reads g c = reads_failed g.D.Disk.tells _ (g.D.Disk.state c.args.disk.now) (g.D.Disk.state c.len.new.self) _ refl c.in_err-bytes.ensures.contents c.in_err-bytes.ensures.crash c.in_err-bytes.ensures.settled c.in_err-bytes.ensures.time c.in_err-bytes.ensures.cause c.in_err-bytes.ensures.sure
+
+pub returns-in_err-new-clause-reads : goal.returns-in_err-new-clause-reads
+returns-in_err-new-clause-reads g c = reads_as g.D.Disk.tells ⊥ _ (g.D.Disk.state c.args.disk.now) (g.D.Disk.state c.len.new.self) (λ e. search rules) (reads_made g.D.Disk.tells ⊥ _ _ _ (λ is. is) c.in_ok-bytes.ensures.contents c.in_ok-bytes.ensures.crash c.in_ok-bytes.ensures.settled c.in_ok-bytes.ensures.time c.in_ok-bytes.ensures.cause c.in_ok-bytes.ensures.sure)
+
+pub returns-in_err-count-clause-reads : goal.returns-in_err-count-clause-reads
+returns-in_err-count-clause-reads g c = reads_both g.D.Disk.tells ⊥ _ (g.D.Disk.state c.args.disk.now) (g.D.Disk.state c.len.new.self) (g.D.Disk.state c.fill.new.disk) (reads_made g.D.Disk.tells ⊥ _ _ _ (λ is. is) c.in_ok-bytes.ensures.contents c.in_ok-bytes.ensures.crash c.in_ok-bytes.ensures.settled c.in_ok-bytes.ensures.time c.in_ok-bytes.ensures.cause c.in_ok-bytes.ensures.sure) (reads_as g.D.Disk.tells _ _ _ _ (λ e. search rules) c.in_err-count.ensures.reads)
+
+pub returns-in_err-shape-clause-reads : goal.returns-in_err-shape-clause-reads
+returns-in_err-shape-clause-reads g c = reads_both g.D.Disk.tells ⊥ _ (g.D.Disk.state c.args.disk.now) (g.D.Disk.state c.len.new.self) (g.D.Disk.state c.fill.new.disk) (reads_made g.D.Disk.tells ⊥ _ _ _ (λ is. is) c.in_ok-bytes.ensures.contents c.in_ok-bytes.ensures.crash c.in_ok-bytes.ensures.settled c.in_ok-bytes.ensures.time c.in_ok-bytes.ensures.cause c.in_ok-bytes.ensures.sure) (reads_as g.D.Disk.tells _ _ _ _ (λ e. search rules) c.in_ok-count.ensures.reads)
+
+pub returns-in_err-digests-clause-reads : goal.returns-in_err-digests-clause-reads
+returns-in_err-digests-clause-reads g c = reads_both g.D.Disk.tells ⊥ _ (g.D.Disk.state c.args.disk.now) (g.D.Disk.state c.len.new.self) (g.D.Disk.state c.fill.new.disk) (reads_made g.D.Disk.tells ⊥ _ _ _ (λ is. is) c.in_ok-bytes.ensures.contents c.in_ok-bytes.ensures.crash c.in_ok-bytes.ensures.settled c.in_ok-bytes.ensures.time c.in_ok-bytes.ensures.cause c.in_ok-bytes.ensures.sure) (reads_as g.D.Disk.tells _ _ _ _ (λ e. search rules) c.in_ok-count.ensures.reads)
+
+pub returns-clause-reads : goal.returns-clause-reads
+returns-clause-reads g c = reads_both g.D.Disk.tells ⊥ _ (g.D.Disk.state c.args.disk.now) (g.D.Disk.state c.len.new.self) (g.D.Disk.state c.fill.new.disk) (reads_made g.D.Disk.tells ⊥ _ _ _ (λ is. is) c.in_ok-bytes.ensures.contents c.in_ok-bytes.ensures.crash c.in_ok-bytes.ensures.settled c.in_ok-bytes.ensures.time c.in_ok-bytes.ensures.cause c.in_ok-bytes.ensures.sure) (reads_as g.D.Disk.tells _ _ _ _ (λ e. absurd (cc)) c.in_ok-count.ensures.reads)

@@ -1,3 +1,4 @@
+use Rattle.aea_disk.proofs.Frames.{reads_none}
 use Rattle.std.proofs.Common.{◌≡◌, ◌-◌, ℕ, List, length, take, drop, min, ap, ◌∙◌, sym, arith}
 use Rattle.std.proofs.lemmas.List.{length-take}
 use Rattle.std.proofs.Common.{length-drop}
@@ -20,3 +21,6 @@ returns-clause-window g c = λ tells.
     let size : c.min.result ≡ min c.args.count (length c.refill.new.self.bytes) =
     omega (arith, c.min.ensures, ap (λ (a : Ahead). length a.bytes) c.self-2.view_is, length-take (i.end - i.start) (drop i.start i.buffer.items), length-drop i.start i.buffer.items, c.self-2.invariant.0, c.self-2.invariant.1, c.self-2.invariant.2) in
     ap (λ (k : ℕ). take k c.refill.new.self.bytes) size ∙ take_within _ _ c.args.count 65536 c.requires.few (e.bytes tells)
+
+pub returns-then-count-self-clause-reads : goal.returns-then-count-self-clause-reads
+returns-then-count-self-clause-reads g c = reads_none g.D.Disk.tells _ (g.D.Disk.state c.args.disk.now) (λ is. absurd (cc))

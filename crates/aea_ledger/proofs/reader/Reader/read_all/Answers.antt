@@ -1,6 +1,6 @@
-use Rattle.std.proofs.Common.{ℕ, List, ap}
+use Rattle.std.proofs.Common.{ℕ, List, ap, rules}
 use Rattle.aea_ledger.proofs.Gates.{reading_in}
-use Rattle.aea_disk.proofs.Frames.{reads_both, reads_as}
+use Rattle.aea_disk.proofs.Frames.{reads_both, reads_as, reads_none}
 use Rattle.aea_ledger.proofs.reader.Reader.read_all.Goals as goal
 
 pub returns-then-not-branch-clause-reads : goal.returns-then-not-branch-clause-reads
@@ -15,3 +15,9 @@ gates-preserved g c = (
   reads_both g.D.Disk.tells ⊥ ⊥ (g.D.Disk.state c.args.disk.now) (g.D.Disk.state c.gates.disk) (g.D.Disk.state c.read_gate.new.disk) c.gates.invariant.1
       (reads_as g.D.Disk.tells _ ⊥ (g.D.Disk.state c.gates.disk) (g.D.Disk.state c.read_gate.new.disk) (λ none. absurd none) c.in_ok-read_gate.ensures.reads),
 )
+
+pub gates-init : goal.gates-init
+gates-init g c = (search rules, reads_none g.D.Disk.tells ⊥ (g.D.Disk.state c.args.disk.now) (λ none. none))
+
+pub returns-in_err-read_gate-clause-reads : goal.returns-in_err-read_gate-clause-reads
+returns-in_err-read_gate-clause-reads g c = reads_both g.D.Disk.tells ⊥ _ (g.D.Disk.state c.args.disk.now) (g.D.Disk.state c.gates.disk) (g.D.Disk.state c.read_gate.new.disk) c.gates.invariant.1 (reads_as g.D.Disk.tells _ _ _ _ (λ e. search rules) c.in_err-read_gate.ensures.reads)

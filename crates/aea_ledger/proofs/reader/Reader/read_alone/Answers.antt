@@ -1,4 +1,5 @@
-use Rattle.std.proofs.Common.{◌++◌, ◌+◌, ℕ, sym, ap, ◌∙◌, refl}
+use Rattle.aea_disk.proofs.Frames.{reads_none}
+use Rattle.std.proofs.Common.{◌++◌, ◌+◌, ℕ, sym, ap, ◌∙◌, refl, rules}
 use Rattle.std.specs.FinMap.{get, insert}
 use Rattle.aea_catalog.specs.Catalogs.{Objects, placed_alone}
 use Rattle.aea_records.specs.Fields.{pieces}
@@ -29,3 +30,6 @@ returns-clause-more g c =
     alone_read g.D.Disk.tells ((g.D.Disk.state c.args.disk.now).files 0) c.args.self.now _ c.args.object.now c.args.bytes ds.text c.in_ok-name.name.items c.object_ref.result c.requires.stands (alone_goes g.D.Disk.tells ((g.D.Disk.state c.args.disk.now).files 0) c.args.self.now c.pass.new.self c.read_digests.new.input c.args.object.now c.args.bytes _ _ _ c.tails_are_spelled.ensures c.requires.stands (passed_over g.D.Disk.tells ((g.D.Disk.state c.args.disk.now).files 0) c.args.self.now.input c.args.self.now.input c.pass.new.self (object_end c.args.object.now) refl (λ message held. held) (λ tells. (c.requires.stands.told tells).ahead) c.requires.stands.within c.pass.ensures.are c.pass.ensures.holds c.pass.ensures.place c.pass.ensures.told) (c.in_ok-read_digests.ensures.more c.if-not-branch.false) c.blocks_of-count.ensures.value (sym c.from.ensures ∙ c.if-from-object.false)) refl c.more_nodes-self.ensures c.in_ok-name.ensures c.object_ref.ensures
     (c.insert_owned.ensures.objects ∙ ap (λ (m : Objects). insert m c.in_ok-name.name.items (placed_alone c.object_ref.result)) c.in_ok-reserve.ensures.objects) refl
     (ds.digests ∙ ap (λ (n : ℕ). c.args.self.now.digests.items ++ pieces 32 n ds.text) c.blocks_of-count.ensures.value)
+
+pub returns-in_err-name-clause-reads : goal.returns-in_err-name-clause-reads
+returns-in_err-name-clause-reads g c = reads_none g.D.Disk.tells _ (g.D.Disk.state c.args.disk.now) (λ is. search rules)

@@ -1,4 +1,5 @@
-use Rattle.std.proofs.Common.{◌+◌, ℕ, List, take, drop, sym, ap, ◌∙◌, subst, arith}
+use Rattle.aea_disk.proofs.Frames.{reads_both, reads_as}
+use Rattle.std.proofs.Common.{◌+◌, ℕ, List, take, drop, sym, ap, ◌∙◌, subst, arith, rules}
 use Rattle.aea_records.specs.Grammar.{IsLedger}
 use Rattle.aea_ledger.proofs.Gates.{with_cursor, read_on, told_on, window_is, bad_gate, at_head, ends_at, place_small}
 use Rattle.aea_ledger.proofs.reader.Reader.read_gate.Goals as goal
@@ -36,3 +37,9 @@ returns-in-Ok-None-clause-last g c = λ _.
       told = λ tells. subst (λ (k : ℕ). IsLedger ((g.D.Disk.state c.args.disk.now).files 0) c.args.self.now.shape c.requires.reading.records k) (sym c.in_ok-size.ensures.place)
           (ends_at c.args.self.now c.requires.reading.records ((g.D.Disk.state c.args.disk.now).files 0) c.window.result.now c.requires.reading.read (c.requires.reading.told tells) (c.window.ensures ∙ c.in_ok-size.ensures.window tells) closed);
     }
+
+pub returns-in_err-read_record-in-Ok-Some-clause-reads : goal.returns-in_err-read_record-in-Ok-Some-clause-reads
+returns-in_err-read_record-in-Ok-Some-clause-reads g c = reads_both g.D.Disk.tells _ _ (g.D.Disk.state c.args.disk.now) (g.D.Disk.state c.fill.new.disk) (g.D.Disk.state c.read_record.new.disk) (reads_as g.D.Disk.tells _ ⊥ _ _ (λ none. absurd none) c.in_ok-size.ensures.reads) (reads_as g.D.Disk.tells _ _ _ _ (λ e. search rules) c.in_err-read_record-in-Ok-Some.ensures.reads)
+
+pub returns-in_ok-read_record-in-Ok-Some-clause-reads : goal.returns-in_ok-read_record-in-Ok-Some-clause-reads
+returns-in_ok-read_record-in-Ok-Some-clause-reads g c = reads_both g.D.Disk.tells _ _ (g.D.Disk.state c.args.disk.now) (g.D.Disk.state c.fill.new.disk) (g.D.Disk.state c.read_record.new.disk) (reads_as g.D.Disk.tells _ ⊥ _ _ (λ none. absurd none) c.in_ok-size.ensures.reads) (reads_as g.D.Disk.tells _ _ _ _ (λ e. absurd (cc)) c.in_ok-read_record-in-Ok-Some.ensures.reads)

@@ -1,10 +1,10 @@
-use Rattle.std.proofs.Common.{◌++◌, ◌<◌, ◌==◌, ◌+◌, ◌*◌, ℕ, List, drop, length, sym, ap, ◌∙◌, subst, arith, refl}
+use Rattle.std.proofs.Common.{◌++◌, ◌<◌, ◌==◌, ◌+◌, ◌*◌, ℕ, List, drop, length, sym, ap, ◌∙◌, subst, arith, refl, rules}
 use Rattle.std.specs.FinMap.{get, insert}
 use Rattle.aea_catalog.specs.Catalogs.{Objects}
 use Rattle.aea_records.specs.Fields.{pieces, are_parts, extents}
 use Rattle.aea_records.specs.Reads.{object_end}
 use Rattle.aea_ledger.proofs.Passed.{passed_over, digests_in, length-extents}
-use Rattle.aea_disk.proofs.Frames.{reads_both, reads_as}
+use Rattle.aea_disk.proofs.Frames.{reads_both, reads_as, reads_none}
 use Rattle.aea_ledger.proofs.Small.{few_nodes}
 use Rattle.std.proofs.lemmas.Result.{err_from_is_err_and}
 use Rattle.std.proofs.lemmas.Bool.{and_parts}
@@ -85,3 +85,6 @@ returns-clause-more g c =
 
 pub returns-clause-reads : goal.returns-clause-reads
 returns-clause-reads g c = reads_both g.D.Disk.tells _ _ (g.D.Disk.state c.args.disk.now) (g.D.Disk.state c.read_parts.new.disk) (g.D.Disk.state c.read_digests.new.disk) c.in_ok-read_parts.ensures.reads (reads_as g.D.Disk.tells _ _ (g.D.Disk.state c.read_parts.new.disk) (g.D.Disk.state c.read_digests.new.disk) (λ e. absurd (cc)) c.in_ok-read_digests.ensures.reads)
+
+pub returns-in_err-name-clause-reads : goal.returns-in_err-name-clause-reads
+returns-in_err-name-clause-reads g c = reads_none g.D.Disk.tells _ (g.D.Disk.state c.args.disk.now) (λ is. search rules)

@@ -1,3 +1,4 @@
+use Rattle.aea_disk.proofs.Frames.{reads_none}
 use Rattle.std.proofs.Common.{◌+◌, ℕ, refl, ap, subst}
 use Rattle.aea_records.specs.declared.heads.HeadFields.{HeadFields}
 use Rattle.aea_records.specs.declared.heads.HeadFields.TheVariants.{Fenced, Raised}
@@ -23,3 +24,15 @@ pub returns-else-found-ne4-2-clause-more : goal.returns-else-found-ne4-2-clause-
 returns-else-found-ne4-2-clause-more g c =
     let stands : IsAtHead g.D.Disk.tells ((g.D.Disk.state c.args.disk.now).files 0) c.args.self.now (record { bytes = c.args.found.now.bytes; fields = Raised }) = (subst (λ (f : HeadFields). IsAtHead g.D.Disk.tells ((g.D.Disk.state c.args.disk.now).files 0) c.args.self.now (record { bytes = c.args.found.now.bytes; fields = f })) c.in-Raised.is c.requires.stands) in
     (raise_read g.D.Disk.tells ((g.D.Disk.state c.args.disk.now).files 0) c.args.self.now _ c.args.found.now.bytes c.tails_are_spelled.ensures stands (passed_over g.D.Disk.tells ((g.D.Disk.state c.args.disk.now).files 0) c.args.self.now.input c.args.self.now.input c.pass-in-Raised.new.self 10 refl (λ message held. held) (λ tells. (stands.told tells).ahead) stands.within c.pass-in-Raised.ensures.are c.pass-in-Raised.ensures.holds c.pass-in-Raised.ensures.place c.pass-in-Raised.ensures.told) c.if-found-ne4-2.false refl refl refl refl refl).0
+
+pub returns-then-found-ne4-clause-reads : goal.returns-then-found-ne4-clause-reads
+returns-then-found-ne4-clause-reads g c = reads_none g.D.Disk.tells _ (g.D.Disk.state c.args.disk.now) (λ is. absurd (cc))
+
+pub returns-then-found-ne4-2-clause-reads : goal.returns-then-found-ne4-2-clause-reads
+returns-then-found-ne4-2-clause-reads g c = reads_none g.D.Disk.tells _ (g.D.Disk.state c.args.disk.now) (λ is. absurd (cc))
+
+pub returns-else-found-ne4-clause-reads : goal.returns-else-found-ne4-clause-reads
+returns-else-found-ne4-clause-reads g c = reads_none g.D.Disk.tells _ (g.D.Disk.state c.args.disk.now) (λ is. absurd (cc))
+
+pub returns-else-found-ne4-2-clause-reads : goal.returns-else-found-ne4-2-clause-reads
+returns-else-found-ne4-2-clause-reads g c = reads_none g.D.Disk.tells _ (g.D.Disk.state c.args.disk.now) (λ is. absurd (cc))

@@ -1,3 +1,5 @@
 pub mod Filling
 pub mod Forcing
+pub mod Lowest
+pub mod Nexts
 pub mod Packed

@@ -1,6 +1,6 @@
 -- Truth values that are packed into words, one by one.
-use Rattle.std.proofs.Common.{◌≡◌, ◌≢◌, ℕ, ◌+◌, ◌/◌, ◌%◌, ◌<◌, Bool, true, false, ◌==◌, not, cond, List, count_by, length, get_or, set, replicate, refl, sym, ◌∙◌, ap, arith, inl, inr, get_or-set_other, get_or-set_same}
-use Rattle.std.proofs.lemmas.List.{same_lists, get_or_default, get_or-replicate, get_or_past, length-set, length-replicate}
+use Rattle.std.proofs.Common.{◌≡◌, ◌≢◌, ℕ, ◌+◌, ◌/◌, ◌%◌, ◌*◌, ◌<◌, ◌≤◌, Bool, true, false, ◌==◌, not, cond, List, map, count_by, length, get_or, set, replicate, refl, sym, ◌∙◌, ap, arith, inl, inr, get_or-set_other, get_or-set_same}
+use Rattle.std.proofs.lemmas.List.{same_lists, get_or_default, get_or-replicate, get_or_past, get_or-map, length-set, length-map, length-replicate}
 use Rattle.std.proofs.lemmas.List.FromFn.{length-map-range_with_len, get_or-map-range_with_len, sum_by-map-range_with_len_more}
 use Rattle.std.proofs.lemmas.Bool.{cases_eq, cases_lt}
 use Rattle.std.proofs.lemmas.Nat.Bits.{bit_at-zero}
@@ -85,3 +85,14 @@ bits-more n words =
     one : (b : Bool) → ◌≡◌ {A = ℕ} (cond (not b) 1 0) (cond b 0 1)
     one true = refl
     one false = refl
+
+-- turned words have the truth values turned
+pub bits-turned : (n : ℕ) (words turned : List ℕ) → n ≤ 64 * length words
+    → ((k : ℕ) → k < 64 * length words → is_bit turned k ≡ not (is_bit words k)) → bits_of n turned ≡ map not (bits_of n words)
+bits-turned n words turned room are =
+    same-bits n turned (map not (bits_of n words))
+    (length-map (bits_of n words) not ∙ bits-length n words)
+    (λ k less.
+    are k (omega arith)
+    ∙ ap not (sym (bits-get n words k false less))
+    ∙ sym (get_or-map not (bits_of n words) k false false (let long = bits-length n words in omega arith)))

@@ -1,5 +1,5 @@
 -- Marks: what a contract sees of them, which blocks are marked, and what an equation forces beyond them.
-use Rattle.std.specs.Prelude.{◌≡◌, ℕ, Bool, true, false, not, List, length, get_or, count_by, refl}
+use Rattle.std.specs.Prelude.{◌≡◌, ◌<◌, ◌≤◌, ℕ, Bool, true, false, not, List, length, get_or, count_by, refl}
 use Rattle.std.specs.Coded.{Coded, code_by, coded×, coded_list, coded_bool}
 use Rattle.aea_lattice.specs.declared.blocks.BlockId.{BlockId}
 use Rattle.aea_lattice.specs.declared.blocks.EqId.{EqId}
@@ -36,6 +36,17 @@ AreMarks m test = (b : BlockId) → HasBlock m.lattice b → is_marked m b ≡ t
 -- the number of blocks that are not marked
 abbrev pub unmarked : Marked → ℕ
 unmarked m = count_by not m.marks
+
+-- the blocks of these numbers, up to the end and without it, are not marked
+abbrev pub AreClear : Marked → ℕ → ℕ → Type 0
+AreClear m from end = (k : ℕ) → from ≤ k → k < end → get_or m.marks k false ≡ false
+
+-- of the blocks of this number and of later ones, the one of number k is the first that is marked
+pub record IsNextMarked (m : Marked) (from k : ℕ) : Type 0 where
+  pub later : from ≤ k
+  pub inside : k < blocks_count m.lattice
+  pub marked : get_or m.marks k false ≡ true
+  pub clear : AreClear m from k
 
 -- the equation forces no block that is not marked
 abbrev pub IsSpent : Marked → EqId → Type 0

@@ -1,11 +1,11 @@
-ghost use Rattle.std.specs.Prelude.{◌≡◌, ℕ, ◌<◌, ◌*◌, ◌+◌, Bool, false, replicate, slice_set, IfOk, IfSome, IfNone, MatchOption, true};
+ghost use Rattle.std.specs.Prelude.{◌≡◌, ℕ, ◌<◌, ◌*◌, ◌+◌, Bool, false, replicate, slice_set, IfOk, IfSome, IfNone, MatchOption, true, not, map};
 ghost use Rattle.std.specs.Option.{ForSome};
 ghost use Rattle.aea_lattice.specs.Blocks.{HasBlock, blocks_count, number_of};
 ghost use Rattle.aea_lattice.specs.Closure.{IsForcedBy};
 ghost use Rattle.aea_lattice.specs.Equations.{HasEquation};
-ghost use Rattle.aea_view.specs.Marked.{IsWhole, is_marked, unmarked, IsSpent};
+ghost use Rattle.aea_view.specs.Marked.{IsWhole, is_marked, unmarked, IsSpent, AreClear, IsNextMarked};
 
-use crate::words::{bit, count_clear, with_bit};
+use crate::words::{all_turned, bit, count_clear, next_set, with_bit};
 use aea_lattice::{BlockId, EqId, Lattice};
 use std::alloc::{AllocError, Global};
 use std::marker::Model;
@@ -82,6 +82,27 @@ impl Marks {
         ensures { result ≡ unmarked self.now }
     {
         count_clear(self.words.as_slice(), self.lattice.blocks())
+    }
+
+    /// Marks of the same lattice at the blocks that have none here. They keep a bit of memory a block.
+    pub fn complement(&self, alloc: Global) -> Result<Marks, AllocError>
+        ensures lattice { IfOk result (λ m. m.lattice ≡ self.now.lattice) }
+        ensures marks { IfOk result (λ m. m.marks ≡ map not self.now.marks) }
+        ensures whole { IfOk result IsWhole }
+    {
+        let words = all_turned(alloc, self.words.as_slice())?;
+        Ok(Marks {
+            lattice: self.lattice,
+            words,
+        })
+    }
+
+    /// The number of the first marked block of this number or a later one, None where there is none.
+    pub fn next_marked(&self, from: u32) -> Option<u32>
+        ensures found { IfSome result (IsNextMarked self.now from) }
+        ensures none { IfNone result (AreClear self.now from (blocks_count self.now.lattice)) }
+    {
+        next_set(self.words.as_slice(), self.lattice.blocks(), from)
     }
 
     // Whether the input of an equation is marked, true where there is none.

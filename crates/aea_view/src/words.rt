@@ -1,7 +1,9 @@
 //! Bits of words of 64.
 
-ghost use Rattle.std.specs.Prelude.{◌≡◌, ◌≢◌, ℕ, ◌<◌, not, length, count_by};
-ghost use Rattle.aea_view.specs.Bits.{has_bit, words_for, bits_of};
+ghost use Rattle.std.specs.Prelude.{◌≡◌, ◌≢◌, ℕ, ◌<◌, ◌≤◌, ◌*◌, ◌^◌, true, false, not, length, count_by, IfOk, IfSome, IfNone};
+ghost use Rattle.aea_view.specs.Bits.{has_bit, is_bit, words_for, bits_of};
+
+use std::alloc::{AllocError, Global};
 
 // The bit of the word at this place, counted from the lowest.
 pub(crate) fn bit(word: u64, place: u32) -> bool
@@ -36,4 +38,60 @@ pub(crate) fn count_clear(words: &[u64], n: u32) -> u32
         }
     }
     count
+}
+
+// The word with each bit turned.
+fn turned(word: u64) -> u64
+    ensures { (k : ℕ) → k < 64 → has_bit result k ≡ not (has_bit word k) }
+{
+    !word
+}
+
+// Words with each bit turned.
+pub(crate) fn all_turned(alloc: Global, words: &[u64]) -> Result<Vec<u64>, AllocError>
+    ensures long { IfOk result (λ turned. length turned.items ≡ length words.now) }
+    ensures turned { IfOk result (λ turned. (k : ℕ) → k < 64 * length words.now → is_bit turned.items k ≡ not (is_bit words.now k)) }
+{
+    let mut turned_words = Vec::with_capacity(alloc, words.len())?;
+    for k in 0..words.len() {
+        turned_words.push(turned(words[k]))?;
+    }
+    Ok(turned_words)
+}
+
+// The place of the first bit that is set at this place of the word or above it, None where there is none.
+fn set_from(word: u64, place: u32) -> Option<u32>
+    requires { place < 64 }
+    ensures inside { IfSome result (λ k. (place ≤ k) × (k < 64)) }
+    ensures set { IfSome result (λ k. has_bit word k ≡ true) }
+    ensures before { IfSome result (λ k. (j : ℕ) → place ≤ j → j < k → has_bit word j ≡ false) }
+    ensures none { IfNone result ((j : ℕ) → place ≤ j → j < 64 → has_bit word j ≡ false) }
+{
+    let rest = word >> place;
+    if rest == 0 {
+        None
+    } else {
+        Some(place + rest.trailing_zeros())
+    }
+}
+
+// The place of the first of n truth values that is true at this place or later, None where there is none.
+pub(crate) fn next_set(words: &[u64], n: u32, from: u32) -> Option<u32>
+    requires long { length words.now ≡ words_for n }
+    requires few { n < 2 ^ 31 }
+    ensures inside { IfSome result (λ k. (from ≤ k) × (k < n)) }
+    ensures set { IfSome result (λ k. is_bit words.now k ≡ true) }
+    ensures before { IfSome result (λ k. (j : ℕ) → from ≤ j → j < k → is_bit words.now j ≡ false) }
+    ensures none { IfNone result ((j : ℕ) → from ≤ j → j < n → is_bit words.now j ≡ false) }
+{
+    let mut at = from;
+    while at < n {
+        let low = at % 64;
+        if let Some(place) = set_from(words[(at / 64) as usize], low) {
+            let found = at - low + place;
+            return if found < n { Some(found) } else { None };
+        }
+        at += 64 - low;
+    }
+    None
 }

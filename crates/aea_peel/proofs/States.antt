@@ -18,7 +18,7 @@ use Rattle.aea_lattice.proofs.Equations.{same_block-equal, same_block-refl, numb
 use Rattle.aea_lattice.proofs.Derivations.{reached-known, reached-forced, reached-within, forced-more}
 use Rattle.aea_view.specs.Marked.{Marked}
 use Rattle.aea_peel.specs.declared.plan.Step.{Step}
-use Rattle.aea_peel.specs.Plans.{blocks_given, is_had, IsPlan}
+use Rattle.aea_peel.specs.Plans.{blocks_given, is_had, IsPlan, AreReached}
 use Rattle.aea_peel.specs.Queue.{is_marked, IsState, IsSpent}
 
 -- ---- blocks in lists of steps
@@ -197,6 +197,18 @@ IsPlan-end l known steps marks spent state = record {
   whole = λ b. (state.given b, λ h. given-whole l known steps marks spent state b h.1 h.2);
   forced = state.forced;
 }
+
+-- and what is marked is the closure
+pub AreReached-end : (l : Lattice) (known : BlockId → Bool) (steps : List Step) (marks : List Bool)
+    → ((e : EqId) → HasEquation l e → IsSpent l marks e) → IsState l known steps marks
+    → AreReached (record { lattice = l; marks = marks }) known
+AreReached-end l known steps marks spent state b inside = (
+  λ marked. had-reached l known steps (λ d given. (state.given d given).2) b (sym (state.marked b inside) ∙ marked),
+  λ reached.
+      state.marked b inside
+      ∙ reached-within l known (is_had known steps) (λ d k. or_left (known d) (is_among (blocks_given steps) d) k)
+      (had-closed l known steps marks spent state) b reached,
+)
 
 -- marks of a lattice are those of their list in it
 pub marks-of : (m : Marked) (l : Lattice) → m.lattice ≡ l → m ≡ record { lattice = l; marks = m.marks }

@@ -5,6 +5,7 @@ use Rattle.aea_lattice.specs.declared.blocks.BlockId.{BlockId}
 use Rattle.aea_lattice.specs.declared.grid.Lattice.{Lattice}
 use Rattle.aea_lattice.specs.Blocks.{HasBlock, same_block}
 use Rattle.aea_lattice.specs.Closure.{IsForcedBy, IsReached, is_among}
+use Rattle.aea_view.specs.Marked.{Marked, is_marked}
 use Rattle.aea_peel.specs.declared.plan.Step.{Step}
 
 -- the blocks that steps give, in order
@@ -23,3 +24,7 @@ pub record IsPlan (l : Lattice) (known : BlockId → Bool) (steps : List Step) :
   pub whole : (b : BlockId) → IsTrue (is_among (blocks_given steps) b) ↔ (HasBlock l b × (known b ≡ false) × IsReached l known b)
   -- the equation of a step contains its block, and its other blocks are known or given by an earlier step
   pub forced : (k : ℕ) (s : Step) → slice_get steps k ≡ Some s → IsForcedBy l (is_had known (take k steps)) s.block s.by
+
+-- the marked blocks are those of the closure of the known ones
+abbrev pub AreReached : Marked → (BlockId → Bool) → Type 0
+AreReached m known = (b : BlockId) → HasBlock m.lattice b → IsTrue (is_marked m b) ↔ IsReached m.lattice known b

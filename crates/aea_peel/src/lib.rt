@@ -8,5 +8,5 @@
 pub mod plan;
 pub mod worklist;
 
-pub use plan::{Plan, Step, StepList};
-pub use worklist::peel;
+pub use plan::{Peeled, Plan, Step, StepList};
+pub use worklist::{peel, peel_marks};

@@ -6,11 +6,11 @@ ghost use Rattle.aea_lattice.specs.Blocks.{HasBlock, HasNode, HasParity, class_n
 ghost use Rattle.aea_lattice.specs.Equations.{HasEquation, equation_of, is_in_equation};
 ghost use Rattle.aea_lattice.specs.Closure.{IsForcedBy};
 ghost use Rattle.aea_view.specs.Presence.{IsCallable, AnswersAs};
-ghost use Rattle.aea_peel.specs.Plans.{IsPlan};
-ghost use Rattle.aea_view.specs.Marked.{unmarked};
+ghost use Rattle.aea_peel.specs.Plans.{IsPlan, AreReached};
+ghost use Rattle.aea_view.specs.Marked.{AreMarks, unmarked};
 ghost use Rattle.aea_peel.specs.Queue.{is_marked, IsState, IsSpent, WaitsOrIsSpent, IsQueue, Adds};
 
-use crate::plan::{Plan, Step, StepList};
+use crate::plan::{Peeled, Plan, Step, StepList};
 use aea_lattice::{BlockId, Class, EqId, Lattice};
 use aea_view::{Marks, View};
 use std::alloc::{AllocError, Global};
@@ -152,9 +152,34 @@ fn take_step(
     }
 }
 
-/// The plan that gives, by single equations, every block that follows so from the present ones. The order of the
-/// steps is free but for what each needs. The time is linear in the number of blocks. Beside the view about 6 bytes a
-/// block are taken while it works, and 16 bytes an absent block for the plan.
+/// What follows from marked blocks: the plan that gives, by single equations, every block that follows so from them,
+/// and the marks of all of these, which are those of the closure. The order of the steps is free but for what each
+/// needs. The time is linear in the number of blocks. Beside the marks about 6 bytes a block are taken while it works,
+/// and 16 bytes a block that is not marked for the plan.
+pub fn peel_marks(alloc: Global, mut marks: Marks) -> Result<Peeled, AllocError>
+    ensures plan { IfOk result (λ p. (known : BlockId → Bool) → AreMarks marks known → IsPlan marks.lattice known p.plan.steps) }
+    ensures lattice { IfOk result (λ p. p.marks.lattice ≡ marks.lattice) }
+    ensures reached { IfOk result (λ p. (known : BlockId → Bool) → AreMarks marks known → AreReached p.marks known) }
+{
+    let lattice = *marks.lattice();
+    let mut steps = StepList::with_capacity(alloc, marks.unmarked() as usize)?;
+    let mut waiting = first_equations(alloc, &lattice, &marks)?;
+
+    // At each turn, what is marked is present or given by a step so far, and each equation of the lattice waits on
+    // the list or forces no unmarked block. At the end none waits, so what marked blocks force is marked, and by
+    // induction on a derivation each block of the closure is. An equation waits at most once, when its last but one
+    // unmarked block has got its mark, so the list never grows past its first room.
+    while let Some(e) = waiting.pop() {
+        take_step(&lattice, &mut marks, &mut steps, &mut waiting, e)?;
+    }
+    Ok(Peeled {
+        plan: Plan { steps },
+        marks,
+    })
+}
+
+/// The plan that gives, by single equations, every block that follows so from the present ones, as `peel_marks` has it
+/// of their marks. Beside the view it takes a bit of memory a block for these.
 pub fn peel<F: Fn(BlockId) -> bool>(
     alloc: Global,
     lattice: &Lattice,
@@ -165,18 +190,8 @@ pub fn peel<F: Fn(BlockId) -> bool>(
     ensures plan { IfOk result (λ plan. (known : BlockId → Bool) → AnswersAs F.post lattice.now view.now.predicate known
         → IsPlan lattice.now known plan.steps) }
 {
-    let mut marks = view.marks(alloc)?;
-    let mut steps = StepList::with_capacity(alloc, marks.unmarked() as usize)?;
-    let mut waiting = first_equations(alloc, lattice, &marks)?;
-
-    // At each turn, what is marked is present or given by a step so far, and each equation of the lattice waits on
-    // the list or forces no unmarked block. At the end none waits, so what marked blocks force is marked, and by
-    // induction on a derivation each block of the closure is. An equation waits at most once, when its last but one
-    // unmarked block has got its mark, so the list never grows past its first room.
-    while let Some(e) = waiting.pop() {
-        take_step(lattice, &mut marks, &mut steps, &mut waiting, e)?;
-    }
-    Ok(Plan { steps })
+    let peeled = peel_marks(alloc, view.marks(alloc)?)?;
+    Ok(peeled.plan)
 }
 
 #[cfg(test)]

@@ -60,3 +60,17 @@ fn a_datum_follows_from_a_parity_that_a_step_gives(rt: HostRuntime) -> Result<()
     assert_eq!(rt; plan.steps.get(2), None);
     Ok(())
 }
+
+#[test]
+fn the_marks_are_those_of_the_closure(rt: HostRuntime) -> Result<(), Fail> {
+    let lattice = Lattice::new(1, 1, 0, 4).ok_or("no lattice")?;
+    let view = View::new(&lattice, |b: BlockId| b.node == 2);
+    let peeled = peel_marks(rt.alloc(), view.marks(rt.alloc())?)?;
+    for k in 0..lattice.blocks() {
+        // h1 follows from d2 and h2, and d1 from h1; two blocks of each later equation are wanting
+        let marked = peeled.marks.get(lattice.block(k));
+        assert_eq!(rt; marked, k < 4, "block {k}");
+    }
+    assert_eq!(rt; peeled.plan.steps.len(), 2);
+    Ok(())
+}

@@ -1,8 +1,9 @@
 -- Drills: their lines, their marks, and their outcomes.
 pub mod BlockLines
 pub mod DamageLines
+pub mod LeftMarks
 pub mod Outcomes
 pub mod Refused
 pub mod Running
-pub mod StepMarks
+pub mod Skipping
 pub mod TextLines

@@ -1,5 +1,5 @@
 -- The lines of the listed blocks, one block after the other.
-use Rattle.std.proofs.Common.{◌≡◌, ℕ, suc, zero, ◌+◌, List, [], ◌∷◌, ◌++◌, length, length-append, take, drop, get_or, arith, refl, sym, ◌∙◌, ap, Some, None, Bool, true, false, cond}
+use Rattle.std.proofs.Common.{◌≡◌, ℕ, suc, zero, ◌+◌, ◌<◌, List, [], ◌∷◌, ◌++◌, length, length-append, take, drop, arith, refl, sym, ◌∙◌, ap, Some, None, Bool, true, false, cond}
 use Rattle.std.specs.Prelude.{◌&&◌, ◌==◌, slice_get, filter, count_by, not}
 use Rattle.std.specs.List.{flat_map, list_any}
 use Rattle.std.proofs.lemmas.List.{append-nil, take-append-drop}
@@ -9,7 +9,7 @@ use Rattle.std.proofs.lemmas.Bool.Decides.{nat_tests}
 use Rattle.std.proofs.lemmas.Grind.{flat_map-append}
 use Rattle.aea_lattice.specs.declared.blocks.BlockId.{BlockId}
 use Rattle.aea_lattice.specs.declared.grid.Lattice.{Lattice}
-use Rattle.aea_lattice.specs.Blocks.{HasBlock, number_of}
+use Rattle.aea_lattice.specs.Blocks.{HasBlock}
 use Rattle.aea_view.specs.Marked.{Marked, is_marked}
 use Rattle.aea_cli.specs.Drill.Marks.{marks_in, AreMarks}
 use Rattle.aea_cli.specs.declared.drill.counts.Counts.{Counts}
@@ -25,11 +25,16 @@ take-suc_at [] k x here = let h : None ≡ Some x = here in cc
 take-suc_at (y ∷ ys) zero x here = let h : Some y ≡ Some x = here in let e : y ≡ x = cc in ap (λ z. z ∷ []) e
 take-suc_at (y ∷ ys) (suc k) x here = ap (λ zs. y ∷ zs) (take-suc_at ys k x here)
 
+pub within_some : {X : Type 0} → (xs : List X) (k : ℕ) → k < length xs → slice_get xs k ≡ None → ⊥
+within_some [] k below none = omega arith
+within_some (x ∷ xs) zero below none = let h : Some x ≡ None = none in cc
+within_some (x ∷ xs) (suc k) below none = within_some xs k (omega arith) none
+
 -- one item more
 pub take-more : {X : Type 0} → (xs : List X) (k : ℕ) (x : X) → slice_get xs k ≡ Some x → take (k + 1) xs ≡ take k xs ++ x ∷ []
 take-more xs k x here = ap (λ n. take n xs) (one_more k) ∙ take-suc_at xs k x here
 
-filter-more : (listed : BlockId → Bool) (xs : List BlockId) (b : BlockId) (v : Bool) → listed b ≡ v → filter listed (xs ++ b ∷ []) ≡ filter listed xs ++ cond v (b ∷ []) []
+pub filter-more : (listed : BlockId → Bool) (xs : List BlockId) (b : BlockId) (v : Bool) → listed b ≡ v → filter listed (xs ++ b ∷ []) ≡ filter listed xs ++ cond v (b ∷ []) []
 filter-more listed xs b true e = filter-append listed xs (b ∷ []) ∙ (rw e)
 filter-more listed xs b false e = filter-append listed xs (b ∷ []) ∙ (rw e)
 

@@ -38,28 +38,23 @@ fn print_line<O: Sink>(
     print(out, page, b"\n")
 }
 
-// Prints the line of the block and counts it, where it is listed.
-fn print_numbered<O: Sink>(
+// Prints the line of the block and counts it.
+fn print_listed<O: Sink>(
     out: &mut O,
     page: &mut Page,
     counts: &mut Counts,
     block: BlockId,
-    listed: bool,
     peeled: bool,
 ) -> Result<(), WriteFault>
     requires node { 1 ≤ block.node }
     requires listed { counts.old.listed < 2 ^ 32 - 1 }
     requires peeled { counts.old.peeled < 2 ^ 32 - 1 }
     requires stuck { counts.old.stuck < 2 ^ 32 - 1 }
-    ensures prints { Prints (O.state out.old) page.old (O.state out.new) page.new result
-        (cond listed (block_line peeled block) []) }
-    ensures listed { OnOk result (counts.new.listed ≡ counts.old.listed + cond listed 1 0) }
-    ensures peeled { OnOk result (counts.new.peeled ≡ counts.old.peeled + cond (listed && peeled) 1 0) }
-    ensures stuck { OnOk result (counts.new.stuck ≡ counts.old.stuck + cond (listed && not peeled) 1 0) }
+    ensures prints { Prints (O.state out.old) page.old (O.state out.new) page.new result (block_line peeled block) }
+    ensures listed { OnOk result (counts.new.listed ≡ counts.old.listed + 1) }
+    ensures peeled { OnOk result (counts.new.peeled ≡ counts.old.peeled + cond peeled 1 0) }
+    ensures stuck { OnOk result (counts.new.stuck ≡ counts.old.stuck + cond peeled 0 1) }
 {
-    if !listed {
-        return Ok(());
-    }
     print_line(out, page, block, peeled)?;
     counts.add(peeled);
     Ok(())
@@ -88,16 +83,11 @@ pub fn print_blocks<O: Sink>(
         peeled: 0,
         stuck: 0,
     };
-    for k in 0..lattice.blocks() {
+    let mut from = 0;
+    while let Some(k) = listed.next_marked(from) {
         let block = lattice.block(k);
-        print_numbered(
-            out,
-            page,
-            &mut counts,
-            block,
-            listed.get(block),
-            reached.get(block),
-        )?;
+        print_listed(out, page, &mut counts, block, reached.get(block))?;
+        from = k + 1;
     }
     Ok(counts)
 }

@@ -1,6 +1,6 @@
 use Rattle.std.proofs.Common.{sym, ◌∙◌}
 use Rattle.aea_cli.specs.Drill.{is_left, is_listed}
-use Rattle.aea_cli.proofs.Drilling.StepMarks.{twice}
+use Rattle.aea_cli.proofs.Drilling.LeftMarks.{twice}
 use Rattle.aea_cli.proofs.drill.plan_marks.Goals as goal
 
 pub returns-clause-planned : goal.returns-clause-planned

@@ -1,6 +1,6 @@
 use Rattle.std.proofs.Common.{◌≡◌, ◌+◌, arith, sym, ◌∙◌}
 use Rattle.aea_cli.proofs.Drilling.DamageLines.{taken_bad, taken_start, taken_more, taken_all, empty_list}
-use Rattle.aea_cli.proofs.Drilling.StepMarks.{set_in}
+use Rattle.aea_cli.proofs.Drilling.LeftMarks.{set_in}
 use Rattle.aea_cli.proofs.drill.damage.listed_marks.Goals as goal
 
 pub returns-in_default-clause-bad : goal.returns-in_default-clause-bad

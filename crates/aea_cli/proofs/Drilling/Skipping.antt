@@ -1,0 +1,91 @@
+-- Blocks that are passed over: those from one number to another, where none of them is marked.
+use Rattle.std.proofs.Common.{◌≡◌, ℕ, zero, suc, ◌+◌, ◌-◌, ◌*◌, ◌/◌, ◌%◌, ◌<◌, ◌≤◌, List, take, length, get_or, inl, inr, Some, None, Option, Bool, false, refl, sym, ◌∙◌, ap, arith}
+use Rattle.std.specs.Prelude.{slice_get, filter}
+use Rattle.std.proofs.lemmas.List.{append-nil}
+use Rattle.std.proofs.Math.Nat.{mod-lt, div-lt_iff_lt-mul, div-mul-le_self, mod-eq-sub-div-mul}
+use Rattle.aea_lattice.specs.declared.blocks.BlockId.{BlockId}
+use Rattle.aea_lattice.specs.declared.blocks.Class.{Class}
+use Rattle.aea_lattice.specs.declared.blocks.Class.TheVariants.{Datum, Horiz, Right, Left}
+use Rattle.aea_lattice.specs.declared.grid.Lattice.{Lattice}
+use Rattle.aea_lattice.specs.Blocks.{HasBlock, class_number, block_of, number_of, blocks_count, blocks_of}
+use Rattle.aea_lattice.proofs.Numbers.{one_to_three, length-blocks_of, slice_get-blocks_of}
+use Rattle.aea_view.specs.Marked.{Marked, AreClear}
+use Rattle.aea_cli.specs.Drill.Marks.{AreMarks}
+use Rattle.aea_cli.proofs.Drilling.BlockLines.{filter-more, take-more, within_some}
+
+class_at : ℕ → Class
+class_at zero = Datum
+class_at (suc zero) = Horiz
+class_at (suc (suc zero)) = Right
+class_at (suc (suc (suc place))) = Left
+
+class_at_number : (place : ℕ) → place < 4 → class_number (class_at place) ≡ place
+unfolding class_at
+class_at_number zero less = refl
+class_at_number (suc zero) less = refl
+class_at_number (suc (suc zero)) less = refl
+class_at_number (suc (suc (suc zero))) less = refl
+class_at_number (suc (suc (suc (suc place)))) less = absurd (omega arith)
+
+most_classes : (l : Lattice) → l.alpha ≤ 3
+most_classes l = elim (one_to_three l) [ inl e ↦ omega arith | inr more ↦ elim more [ inl e ↦ omega arith | inr e ↦ omega arith ] ]
+
+-- each number below their count is that of a block
+numbered : (l : Lattice) (j : ℕ) → j < blocks_count l → (b : BlockId) × HasBlock l b × (number_of l b ≡ j)
+numbered l j less =
+    let wide = 1 + l.alpha in
+    let row = j / wide in
+    let place = j % wide in
+    let some : 0 < wide = omega arith in
+    let within : place < wide = mod-lt j some in
+    let most = most_classes l in
+    let class : class_number (class_at place) ≡ place = class_at_number place (omega arith) in
+    let last : row < l.n = (div-lt_iff_lt-mul some).1 less in
+    let node : row + 1 - 1 ≡ row = omega arith in
+    let whole : row * wide + place ≡ j = omega (arith, mod-eq-sub-div-mul j wide, div-mul-le_self j wide) in (
+      block_of (row + 1) (class_at place),
+      record { first = omega arith; last = omega arith; used = omega arith },
+      ap (λ i. i * wide + class_number (class_at place)) node ∙ ap (λ k. row * wide + k) class ∙ whole,
+    )
+
+same_item : {X : Type 0} → (r : Option X) (x y : X) → r ≡ Some x → r ≡ Some y → x ≡ y
+same_item r x y one other = let e : Some x ≡ Some y = sym one ∙ other in cc
+
+-- a block whose mark is not set does not pass the test of the marks
+unlisted : (l : Lattice) (m : Marked) (test : BlockId → Bool) (from end j : ℕ) (x : BlockId) → AreMarks l m.marks test → AreClear m from end
+    → from ≤ j → j < end → j < blocks_count l → slice_get (blocks_of l) j ≡ Some x → test x ≡ false
+unlisted l m test from end j x are clear after below less here =
+    let b = numbered l j less in
+    let place : slice_get (blocks_of l) j ≡ Some b.0 = ap (slice_get (blocks_of l)) (sym b.2) ∙ slice_get-blocks_of l b.0 b.1 in
+    ap test (same_item (slice_get (blocks_of l) j) x b.0 here place)
+    ∙ sym (are b.0 b.1)
+    ∙ ap (λ k. get_or m.marks k false) b.2
+    ∙ clear j after below
+
+step_over : (test : BlockId → Bool) (blocks : List BlockId) (k : ℕ) (r : Option BlockId) → slice_get blocks k ≡ r → k < length blocks
+    → ((x : BlockId) → slice_get blocks k ≡ Some x → test x ≡ false) → filter test (take (k + 1) blocks) ≡ filter test (take k blocks)
+step_over test blocks k None here less fails = absurd (within_some blocks k less here)
+step_over test blocks k (Some x) here less fails =
+    ap (filter test) (take-more blocks k x here)
+    ∙ filter-more test (take k blocks) x false (fails x here)
+    ∙ append-nil (filter test (take k blocks))
+
+pass_over : (test : BlockId → Bool) (blocks : List BlockId) (from d : ℕ) → from + d ≤ length blocks
+    → ((j : ℕ) (x : BlockId) → from ≤ j → j < from + d → slice_get blocks j ≡ Some x → test x ≡ false)
+    → filter test (take (from + d) blocks) ≡ filter test (take from blocks)
+pass_over test blocks from zero room fail = let e : from + 0 ≡ from = omega arith in ap (λ n. filter test (take n blocks)) e
+pass_over test blocks from (suc d) room fail =
+    let e : from + suc d ≡ (from + d) + 1 = omega arith in
+    ap (λ n. filter test (take n blocks)) e
+    ∙ step_over test blocks (from + d) (slice_get blocks (from + d)) refl (omega arith) (λ x here. fail (from + d) x (omega arith) (omega arith) here)
+    ∙ pass_over test blocks from d (omega arith) (λ j x after below here. fail j x after (omega arith) here)
+
+-- the blocks that pass the test of the marks, up to the next marked one
+pub passing-skip : (l : Lattice) (m : Marked) (test : BlockId → Bool) (from k : ℕ) → AreMarks l m.marks test → AreClear m from k
+    → from ≤ k → k ≤ blocks_count l → filter test (take k (blocks_of l)) ≡ filter test (take from (blocks_of l))
+passing-skip l m test from k are clear up within =
+    let e : from + (k - from) ≡ k = omega arith in
+    let long = length-blocks_of l in
+    sym (ap (λ n. filter test (take n (blocks_of l))) e)
+    ∙ pass_over test (blocks_of l) from (k - from) (omega arith)
+    (λ j x after below here. unlisted l m test from k j x are clear after (omega arith) (omega arith) here)

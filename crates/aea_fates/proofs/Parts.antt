@@ -25,12 +25,12 @@ use Rattle.aea_fates.proofs.Only.{greatest, nothing, find_greatest}
 -- ---- items of lists
 
 -- an item that passes
-record Passing (p : BlockId → Bool) (bs : List BlockId) : Type 0 where
+pub record Passing (p : BlockId → Bool) (bs : List BlockId) : Type 0 where
   pub item : BlockId
   pub stands : list_any (same_block item) bs ≡ true
   pub passes : p item ≡ true
 
-any_some : (p : BlockId → Bool) (bs : List BlockId) → list_any p bs ≡ true → Passing p bs
+pub any_some : (p : BlockId → Bool) (bs : List BlockId) → list_any p bs ≡ true → Passing p bs
 any_some p [] h = absurd (false≢true h)
 any_some p (b ∷ bs) h = elim (or_cases (p b) (list_any p bs) h) [
   | inl here ↦ record { item = b; stands = or_left (same_block b b) (list_any (same_block b) bs) (same_block-refl b); passes = here }

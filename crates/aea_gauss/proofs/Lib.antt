@@ -2,3 +2,5 @@ pub mod Turning
 pub mod Filling
 pub mod Reading
 pub mod OneList
+pub mod Joining
+pub mod Parting

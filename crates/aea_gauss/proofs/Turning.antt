@@ -89,7 +89,7 @@ turns_same begin wide s t old new same h = record {
 
 module _ (l : Lattice) (blocks : List BlockId) (listed : AreListed l blocks) where
   -- no block stands in the list twice
-  once : (a c : ℕ) → a < length blocks → c < length blocks → block_in blocks a ≡ block_in blocks c → a ≡ c
+  pub once : (a c : ℕ) → a < length blocks → c < length blocks → block_in blocks a ≡ block_in blocks c → a ≡ c
   once a c a_less c_less same = elim (cases_lt a c) [
     | inl before ↦ (let up = listed.rise a c before c_less in let eq = ap (number_of l) same in absurd (omega arith))
     | inr not_before ↦ elim (cases_lt c a) [

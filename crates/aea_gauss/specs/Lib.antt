@@ -1,3 +1,4 @@
 pub mod Fates
 pub mod Fills
 pub mod Told
+pub mod Parts

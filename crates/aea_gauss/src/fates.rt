@@ -1,9 +1,12 @@
-ghost use Rattle.std.specs.Prelude.{◌≡◌, ◌++◌, [], ◌∷◌, ◌≤◌, length, slice_get, IfOk, OnOk, OnErr, MatchOption, Some};
-ghost use Rattle.aea_gauss.specs.Fates.{AreFates};
+ghost use Rattle.std.specs.Prelude.{◌≡◌, ◌++◌, [], ◌∷◌, ◌<◌, ◌≤◌, length, slice_get, slice_set, IfOk, OnOk, OnErr, MatchOption, Some};
+ghost use Rattle.aea_gauss.specs.Fates.{AreFates, block_of_fate};
 ghost use Rattle.aea_view.specs.Marked.{is_marked};
 
+use crate::buckets::bucket_at;
+use crate::columns::set_columns;
 use crate::equations::{live_equations, unknown_blocks};
-use crate::small::solve_small;
+use crate::parts::{open_fates, parts_of, solve_part};
+use aea_fates::unknown_are_listed;
 use aea_lattice::{BlockId, EqList, Lattice, NodeList};
 use aea_view::Marks;
 use std::alloc::{AllocError, Global};
@@ -21,6 +24,18 @@ pub enum Fate {
 #[derive(Debug, Drop)]
 pub struct FateList {
     items: Vec<Fate>,
+}
+
+impl Fate {
+    /// The block whose fate it is.
+    pub fn block(&self) -> BlockId
+        ensures { result ≡ block_of_fate self.now }
+    {
+        match self {
+            Fate::Sum { block, eqs: _ } => *block,
+            Fate::Word { block, nodes: _ } => *block,
+        }
+    }
 }
 
 impl Model for FateList {
@@ -64,23 +79,58 @@ impl FateList {
         self.items.push(fate)?;
         Ok(())
     }
+
+    // Takes the last fate.
+    pub(crate) fn pop(&mut self) -> Option<Fate>
+        ensures { MatchOption result ((self.old ≡ []) × (self.new ≡ [])) (λ fate. self.old ≡ self.new ++ fate ∷ []) }
+    {
+        self.items.pop()
+    }
+
+    // Puts a fate in the place of another.
+    pub(crate) fn put(&mut self, k: usize, fate: Fate)
+        requires { k < length self.old }
+        ensures { self.new ≡ slice_set self.old k fate }
+    {
+        self.items[k] = fate;
+    }
 }
 
-/// The fate of each block that is not marked, in number order.
+/// The fate of each block that is not marked, in number order. Part by part: blocks that an equation has together are in
+/// one part, and each part has an elimination of its own. Beside the fates it takes 8 bytes for each block of the lattice,
+/// at most 96 bytes for each block that is not marked, 12 bytes for each equation, and the rows of one part at a time: of
+/// b blocks and e equations, (b + e) bits for each of the e equations. An error is want of memory.
 pub fn solve(alloc: Global, lattice: &Lattice, known: &Marks) -> Result<FateList, AllocError>
     requires same { known.now.lattice ≡ lattice.now }
     ensures { IfOk result (λ fates. AreFates lattice.now (is_marked known.now) fates) }
 {
+    unknown_are_listed();
     let blocks = unknown_blocks(alloc, lattice, known)?;
+    if blocks.is_empty() {
+        return Ok(FateList::new(alloc));
+    }
     let equations = live_equations(alloc, lattice, known)?;
     let mut columns = vec![in alloc; 0; lattice.blocks() as usize]?;
+    let mut scratch = vec![in alloc; 0; lattice.blocks() as usize]?;
+    let blocks = blocks.as_slice();
     let columns = columns.as_mut_slice();
-    let fates = solve_small(
-        alloc,
-        lattice,
-        columns,
-        blocks.as_slice(),
-        equations.as_slice(),
-    )?;
+    set_columns(lattice, columns, blocks);
+    let parts = parts_of(alloc, lattice, known, columns, blocks, equations.as_slice())?;
+    let scratch = scratch.as_mut_slice();
+    let mut fates = open_fates(alloc, blocks)?;
+    for label in 0..blocks.len() {
+        let part_blocks = bucket_at(parts.blocks.as_slice(), label);
+        let part_equations = bucket_at(parts.equations.as_slice(), label);
+        solve_part(
+            alloc,
+            lattice,
+            columns,
+            scratch,
+            blocks,
+            part_blocks,
+            part_equations,
+            &mut fates,
+        )?;
+    }
     Ok(fates)
 }

@@ -2,11 +2,14 @@
 //! as a codeword.
 #![tactic(auto)]
 
+mod buckets;
 mod columns;
 mod equations;
 pub mod fates;
+mod labels;
 pub mod laws;
 mod leads;
+mod parts;
 mod read;
 mod rows;
 mod small;

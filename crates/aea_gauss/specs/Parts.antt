@@ -1,0 +1,76 @@
+-- Parts of what is not known: blocks that an equation has together get one label.
+use Rattle.std.specs.Prelude.{◌≡◌, ℕ, suc, ◌<◌, ◌≤◌, Bool, cond, List, [], ◌∷◌, length, get_or, IsTrue}
+use Rattle.aea_lattice.specs.declared.blocks.Class.TheVariants.{Datum}
+use Rattle.aea_lattice.specs.declared.blocks.BlockId.{BlockId}
+use Rattle.aea_lattice.specs.declared.blocks.EqId.{EqId}
+use Rattle.aea_lattice.specs.declared.grid.Lattice.{Lattice}
+use Rattle.aea_lattice.specs.Equations.{is_in_equation}
+use Rattle.aea_lattice.specs.Blocks.{block_of}
+use Rattle.aea_fates.specs.Starts.{live_equations}
+use Rattle.aea_fates.specs.Small.{block_in, equation_in, unknown_blocks}
+use Rattle.aea_fates.specs.Laws.{IsPart, known_or_outside}
+use Rattle.aea_gauss.specs.declared.fates.Fate.{Fate}
+use Rattle.aea_gauss.specs.declared.fates.Fate.TheVariants.{Word}
+use Rattle.aea_gauss.specs.Fates.{IsFate}
+
+-- the items at the places that pass, in order
+abbrev pub items_at : {A : Type 0} → (ℕ → Bool) → List A → List A
+items_at p [] = []
+items_at p (x ∷ xs) = cond (p 0) (x ∷ items_at (λ k. p (suc k)) xs) (items_at (λ k. p (suc k)) xs)
+
+-- Parents of places: each place has one that is not greater. A place that is its own parent is the end of chains.
+abbrev pub AreParents : List ℕ → Type 0
+AreParents parents = (k : ℕ) → k < length parents → get_or parents k 0 ≤ k
+
+-- the place is its own parent
+pub record IsRoot (parents : List ℕ) (k : ℕ) : Type 0 where
+  pub inside : k < length parents
+  pub own : get_or parents k 0 ≡ k
+
+-- The labels are the same at each place and its parent.
+abbrev pub Follows : (ℕ → ℕ) → List ℕ → Type 0
+Follows label parents = (k : ℕ) → k < length parents → label k ≡ label (get_or parents k 0)
+
+-- Labels of places that are the same for all blocks of the list that stand in the equation.
+abbrev pub JoinsEquation : Lattice → List BlockId → EqId → (ℕ → ℕ) → Type 0
+JoinsEquation l blocks e label =
+    (a b : ℕ) → a < length blocks → b < length blocks → IsTrue (is_in_equation l e (block_in blocks a)) → IsTrue (is_in_equation l e (block_in blocks b))
+    → label a ≡ label b
+
+-- the same for the two blocks, where both stand in the list
+abbrev pub JoinsBlocks : List BlockId → BlockId → BlockId → (ℕ → ℕ) → Type 0
+JoinsBlocks blocks first second label =
+    (a b : ℕ) → a < length blocks → b < length blocks → block_in blocks a ≡ first → block_in blocks b ≡ second → label a ≡ label b
+
+-- the same for each of the first equations
+abbrev pub JoinsEach : Lattice → List BlockId → List EqId → ℕ → (ℕ → ℕ) → Type 0
+JoinsEach l blocks equations count label = (i : ℕ) → i < count → JoinsEquation l blocks (equation_in equations i) label
+
+-- the label that stands at a place
+abbrev pub label_at : List ℕ → ℕ → ℕ
+label_at labels k = get_or labels k 0
+
+-- the label is that of each block of the list that stands in the equation
+abbrev pub IsLabelOf : Lattice → List BlockId → List ℕ → EqId → ℕ → Type 0
+IsLabelOf l blocks labels e label = (a : ℕ) → a < length blocks → IsTrue (is_in_equation l e (block_in blocks a)) → get_or labels a 0 ≡ label
+
+-- The blocks and the equations are those of a part: all unknown blocks of a set that shares no equation with the others,
+-- and all equations that have one.
+pub record ArePart (l : Lattice) (known : BlockId → Bool) (blocks : List BlockId) (equations : List EqId) : Type 0 where
+  pub within : BlockId → Bool
+  pub part : IsPart l known within
+  pub blocks_are : blocks ≡ unknown_blocks l (known_or_outside known within)
+  pub equations_are : equations ≡ live_equations l (known_or_outside known within)
+
+-- the block stands in the list
+abbrev pub StandsIn : List BlockId → BlockId → Type 0
+StandsIn blocks b = (a : ℕ) × (a < length blocks) × (block_in blocks a ≡ b)
+
+-- the fate at a place
+abbrev pub fate_in : List Fate → ℕ → Fate
+fate_in fates a = get_or fates a (Word (block_of 0 Datum) [])
+
+-- The fates of the blocks of a part are right now, and those that were right still are.
+pub record Rights (l : Lattice) (known : BlockId → Bool) (blocks part : List BlockId) (old new : List Fate) : Type 0 where
+  pub kept : (a : ℕ) → a < length blocks → IsFate l known (fate_in old a) → IsFate l known (fate_in new a)
+  pub put : (a : ℕ) → a < length blocks → StandsIn part (block_in blocks a) → IsFate l known (fate_in new a)

@@ -1,4 +1,4 @@
--- Bytes added one after the other, and blocks within a list of bytes.
+-- Blocks within a list of bytes.
 use Rattle.std.proofs.Common.{◌≡◌, ℕ, zero, suc, ◌+◌, ◌-◌, ◌*◌, ◌<◌, ◌≤◌, inl, inr, List, [], ◌∷◌, ◌++◌, take, drop, length, replicate, bit_xor, get_or, refl, sym, ◌∙◌, ap, arith, append_assoc}
 use Rattle.std.proofs.Math.ListN.{set}
 use Rattle.std.proofs.Math.Nat.{mul-le-mul_right}
@@ -7,18 +7,6 @@ use Rattle.std.proofs.lemmas.Bool.{cases_lt}
 use Rattle.std.proofs.lemmas.List.{drop-drop, take_at, drop_at, length-drop, length-take, take-replicate, drop-replicate}
 use Rattle.aea_lattice.specs.Data.{xor_bytes}
 use Rattle.aea_weave.specs.Stored.{pieces}
-
--- one more byte is added
-pub xor-step : (xs ys : List ℕ) (k : ℕ) → k < length xs → length xs ≡ length ys
-    → set (xor_bytes (take k xs) (take k ys) ++ drop k xs) k (bit_xor (get_or (xor_bytes (take k xs) (take k ys) ++ drop k xs) k 0) (get_or ys k 0))
-    ≡ xor_bytes (take (suc k) xs) (take (suc k) ys) ++ drop (suc k) xs
-xor-step [] ys k inside same = absurd (omega arith)
-xor-step (x ∷ xs) [] k inside same = absurd (omega arith)
-xor-step (x ∷ xs) (y ∷ ys) zero inside same = refl
-xor-step (x ∷ xs) (y ∷ ys) (suc k) inside same =
-    let long : length xs ≡ length ys = omega arith in
-    let within : k < length xs = omega arith in
-    ap (λ rest. bit_xor x y ∷ rest) (xor-step xs ys k within long)
 
 -- the list in which the part of w bytes at a is the block
 abbrev pub put_block : ℕ → ℕ → List ℕ → List ℕ → List ℕ

@@ -1,3 +1,4 @@
 pub mod Woven
 pub mod Sums
 pub mod Stored
+pub mod Runs

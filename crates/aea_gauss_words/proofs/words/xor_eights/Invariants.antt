@@ -1,5 +1,5 @@
 use Rattle.std.proofs.Common.{◌*◌}
-use Rattle.aea_gauss_words.specs.Words.{Xors}
+use Rattle.aea_weave.specs.Runs.{Xors}
 use Rattle.aea_gauss_words.proofs.words.xor_eights.Given as goal
 
 abbrev pub invariant-loop-eight : goal.invariant-loop-eight

@@ -1,7 +1,7 @@
 use Rattle.std.proofs.Common.{◌≡◌, length, sym, subst, arith}
-use Rattle.aea_gauss_words.specs.Words.{Xors}
+use Rattle.aea_weave.specs.Runs.{Xors}
 use Rattle.aea_gauss_words.proofs.words.xor_words.Goals as goal
-use Rattle.aea_gauss_words.proofs.Lanes.{xors_whole}
+use Rattle.aea_weave.proofs.Lanes.{xors_whole}
 
 pub returns : goal.returns
 returns c =

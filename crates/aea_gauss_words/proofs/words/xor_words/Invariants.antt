@@ -1,4 +1,4 @@
-use Rattle.aea_gauss_words.specs.Words.{Xors}
+use Rattle.aea_weave.specs.Runs.{Xors}
 use Rattle.aea_gauss_words.proofs.words.xor_words.Given as goal
 
 abbrev pub invariant-loop-k : goal.invariant-loop-k

@@ -1,0 +1,8 @@
+pub mod Cells
+pub mod Stretches
+pub mod Values
+pub mod Pieces
+mod Objects
+mod Digests
+pub mod Records
+mod Runs

@@ -1,0 +1,32 @@
+//! The archive: what its ledger and its cells are together.
+//!
+//! `specs/Blocks.antt` says which digest the ledger keeps of a block and which blocks are intact by it, `specs/Lasts.antt`
+//! what the last parities are that enter the next node, `specs/Next.antt` what the next record of an object is, told by
+//! the payloads of blocks, `specs/Cells.antt` what changes of the files leave of the blocks, `specs/Stretches.antt` what a
+//! stretch of a run leaves in which records are added, and `specs/Data.antt` what of the data survivors have.
+//!
+//! A function that adds records gets its clauses from those of its calls by these lemmas of
+//! `Rattle.aea_archive.proofs.Stretches`. Each takes the states before, between and after.
+//!
+//! - `adds_nothing` for a stretch in which every image has the old records; `adds_append` for the commit of a record before
+//!   which every image has the cells of its blocks; `adds_both` for two stretches, and `adds_later` for one that adds
+//!   nothing and another behind it
+//! - what a file has: `at_none`, `at_all` and `all_at` between a ledger and how many of the added records it has; `at_less`
+//!   for fewer of them; `not_more` where none is there; `has_ledger` of an opened ledger's bytes; `nodes_of-append` of the
+//!   nodes of two lists of records
+//!
+//! Calls that change the files have frames of `aea_disk` with the step `ChangesArchive`. By `Rattle.aea_archive.proofs.Cells`:
+//! `changes_none`, `changes_both` and `changes_less` put steps together; `changes_cell` is that of one cell, `changes_ledger`
+//! that of the ledger's file; `changes_shelf` is what they leave of the shelf; `file_kept` and `fixed_kept` speak of a file
+//! that stays; `room_some` and `room_later` of the room; `no_home` says that no home is in a file without cells.
+//!
+//! `Rattle.aea_archive.proofs.Values` has `last_inside`, `last-before` and `last-grown` on last parities of lattices that
+//! grow, `Rattle.aea_archive.proofs.Pieces` the lengths of an object's blocks (`cut-length`, `cut-bytes`), and
+//! `Rattle.aea_archive.proofs.Records` that there is one lattice of a shape (`lattice_equal`, `one_lattice`).
+#![tactic(auto)]
+
+pub mod laws;
+pub mod read;
+
+pub use laws::{next_records_more, none_record_none, objects_record_more, puts_record};
+pub use read::{read_block, recorded};

@@ -1,0 +1,61 @@
+//! A block of the archive that is read.
+
+ghost use Rattle.std.specs.Prelude.{◌≡◌, ◌↔◌, Bool, List, ℕ, length, take, IsTrue, IsErr, IfOk};
+ghost use Rattle.aea_lattice.specs.Blocks.{HasBlock};
+ghost use Rattle.aea_lattice.specs.Data.{value_of};
+ghost use Rattle.aea_envelope.specs.Cells.{block_digest, cell_of};
+ghost use Rattle.aea_disk.specs.State.{Settles};
+ghost use Rattle.aea_disk.specs.Frames.{OnlyReads};
+ghost use Rattle.aea_shelf.specs.Places.{cell_size, home_bytes, HasAtHome};
+ghost use Rattle.aea_shelf.specs.Intact.{payload_in};
+ghost use Rattle.aea_ledger.specs.Values.{HasSomeRecords};
+ghost use Rattle.aea_archive.specs.Blocks.{recorded_in, IsIntactBy};
+ghost use Rattle.aea_archive.specs.Data.{AreSomeHonest};
+
+use aea_disk::{Disk, DiskFault};
+use aea_lattice::BlockId;
+use aea_ledger::Ledger;
+use aea_shelf::{Cell, read_cell};
+
+/// The digest that the ledger keeps of a block of its lattice.
+pub fn recorded(ledger: &Ledger, b: BlockId) -> [u8; 32]
+    requires opened { HasSomeRecords ledger.now }
+    requires block { HasBlock ledger.now.lattice b }
+    ensures { result ≡ recorded_in ledger.now.shape ledger.now.digests b }
+{
+    ledger.digest(ledger.lattice().number(b))
+}
+
+/// Reads the cell of a block of the archive into the buffer, which has the bytes of a cell, B + 48, and compares its
+/// digest with the one that the ledger keeps. Of an intact cell the buffer has the payload at bytes 16 to 15+B.
+pub fn read_block<D: Disk>(
+    disk: &mut D,
+    ledger: &Ledger,
+    b: BlockId,
+    cell: &mut [u8],
+) -> Result<Cell, DiskFault>
+    requires opened { HasSomeRecords ledger.now }
+    requires block { HasBlock ledger.now.lattice b }
+    requires buffer { length cell.old ≡ cell_size ledger.now.shape }
+
+    ensures intact { IfOk result (λ r. D.tells → (r ≡ Cell.Intact) ↔ IsIntactBy ledger.now.shape ledger.now.digests (D.state disk.old).files b) }
+    ensures bad { IfOk result (λ r. D.tells → (r ≡ Cell.Bad) ↔ (¬ IsIntactBy ledger.now.shape ledger.now.digests (D.state disk.old).files b)) }
+
+    // Over any disk, the buffer then has this cell.
+    ensures cell { IfOk result (λ r. r ≡ Cell.Intact → cell.new ≡ cell_of b (payload_in ledger.now.shape cell.new)) }
+    ensures digest { IfOk result (λ r. r ≡ Cell.Intact → block_digest b (payload_in ledger.now.shape cell.new) ≡ recorded_in ledger.now.shape ledger.now.digests b) }
+    ensures bytes { IfOk result (λ r. r ≡ Cell.Intact → D.tells → HasAtHome ledger.now.shape b cell.new (D.state disk.old).files) }
+
+    // Of survivors that are honest for a data list, at least those of a test that picks this block, it is the cell of the
+    // block of the list's lattice.
+    ensures honest { IfOk result (λ r. r ≡ Cell.Intact → D.tells → (picks : BlockId → Bool) (datas : List (List ℕ)) → IsTrue (picks b) → AreSomeHonest picks ledger.now.shape ledger.now.lattice ledger.now.digests datas (D.state disk.old).files → payload_in ledger.now.shape cell.new ≡ value_of ledger.now.lattice ledger.now.shape.block datas b) }
+
+    // Also of a bad cell the buffer begins with what stands at the home, all within the file.
+    ensures home { IfOk result (λ r. D.tells → take (length (home_bytes ledger.now.shape b (D.state disk.old).files)) cell.new ≡ home_bytes ledger.now.shape b (D.state disk.old).files) }
+
+    ensures settled { Settles (D.state disk.old) (D.state disk.new) }
+    ensures reads { OnlyReads D.tells (IsErr result) (D.state disk.old) (D.state disk.new) }
+{
+    let want = recorded(ledger, b);
+    read_cell(disk, &ledger.shape(), b, &want, cell)
+}

@@ -12,8 +12,8 @@ use Rattle.aea_lattice.specs.Profile.{is_profile, is_shape, greatest_nodes}
 use Rattle.aea_lattice.specs.declared.grid.Lattice.{Lattice}
 use Rattle.aea_lattice.specs.declared.shape.Shape.{Shape}
 use Rattle.aea_cli.specs.declared.command.Command.{Command}
-use Rattle.aea_cli.specs.declared.command.Command.TheVariants.{Drill, Create, Stat}
-use Rattle.aea_cli.specs.Words.{Means, AreNoDrill, AreNoCreate, AreNoCommand, IsDrilled}
+use Rattle.aea_cli.specs.declared.command.Command.TheVariants.{Drill, Create, Stat, Fence, Upgrade}
+use Rattle.aea_cli.specs.Words.{Means, AreNoDrill, AreNoCreate, IsDrilled}
 
 -- the numbers of a lattice fit 32 bits
 pub record AreSmall (l : Lattice) : Type 0 where
@@ -185,11 +185,18 @@ kind : Command → ℕ
 kind (Drill l) = 0
 kind (Create shape) = 1
 kind Stat = 2
+kind Fence = 3
+kind Upgrade = 4
 
 -- the kind that the first word names
 kind_by : List (List ℕ) → ℕ
-kind_by [] = 3
-kind_by (word ∷ words) = if bytes_eq word (codes "drill") then 0 else if bytes_eq word (codes "create") then 1 else 2
+kind_by [] = 5
+kind_by (word ∷ words) =
+    if bytes_eq word (codes "drill")
+    then 0
+    else if bytes_eq word (codes "create")
+    then 1
+    else if bytes_eq word (codes "stat") then 2 else if bytes_eq word (codes "fence") then 3 else 4
 
 -- the first word tells the kind
 kind_is : (words : List (List ℕ)) (a : Command) → Means words a → kind_by words ≡ kind a
@@ -197,6 +204,8 @@ unfolding kind kind_by
 kind_is words (Drill l) means = ap kind_by means.0
 kind_is words (Create shape) means = ap kind_by means
 kind_is words Stat means = ap kind_by means
+kind_is words Fence means = ap kind_by means
+kind_is words Upgrade means = ap kind_by means
 
 -- words mean one command at most
 pub one_command : (words : List (List ℕ)) (a b : Command) → Means words a → Means words b → a ≡ b
@@ -204,4 +213,6 @@ unfolding kind
 one_command words (Drill a) (Drill b) one two = ap Drill (drills_equal words a b one two)
 one_command words (Create a) (Create b) one two = ap Create (shapes_equal words a b one two)
 one_command words Stat Stat one two = refl
+one_command words Fence Fence one two = refl
+one_command words Upgrade Upgrade one two = refl
 one_command words a b one two = let same : kind a ≡ kind b = sym (kind_is words a one) ∙ kind_is words b two in cc

@@ -12,7 +12,7 @@ use Rattle.aea_ledger.specs.declared.create.CreateFault.TheVariants as creation
 use Rattle.aea_records.specs.Faults.{HasOpenHeader, IsNoArchive}
 use Rattle.aea_ledger.specs.Stops.{IsBeingMade, MakesArchive, IsOpened, HasOpening}
 use Rattle.aea_cli.specs.declared.refusal.Refusal.{Refusal}
-use Rattle.aea_cli.specs.declared.refusal.Refusal.TheVariants.{InputTooLong, BadBlock, NoArchive, LedgerBad, Occupied}
+use Rattle.aea_cli.specs.declared.refusal.Refusal.TheVariants.{Occupied}
 use Rattle.aea_cli.specs.declared.refusal.Failure.{Failure}
 use Rattle.aea_cli.specs.declared.refusal.Failure.TheVariants as failure
 use Rattle.aea_cli.specs.declared.status.Status.{Status}
@@ -91,17 +91,11 @@ creates_failed shape tells old new out creation.DiskFault unmade = record {
 
 one_cause : (bytes : List ℕ) (why : Refusal) → IsFirst (CreateCauses bytes) why → why ≡ Occupied
 one_cause bytes Occupied first = refl
-one_cause bytes InputTooLong first = absurd first.stands
-one_cause bytes (BadBlock k) first = absurd first.stands
-one_cause bytes NoArchive first = absurd first.stands
-one_cause bytes (LedgerBad at) first = absurd first.stands
+one_cause bytes why first = absurd first.stands
 
 none_before : (bytes : List ℕ) (other : Refusal) → place_of other < place_of Occupied → CreateCauses bytes other → ⊥
 none_before bytes Occupied before cause = omega arith
-none_before bytes InputTooLong before cause = cause
-none_before bytes (BadBlock k) before cause = cause
-none_before bytes NoArchive before cause = cause
-none_before bytes (LedgerBad at) before cause = cause
+none_before bytes other before cause = cause
 
 -- how making an archive tells why it failed
 pub create_refuses : (tells : Type 0) (bytes : List ℕ) (fault : CreateFault) → (fault ≡ creation.Occupied → tells → HasOpenHeader bytes) → Refuses {T = Status} tells (CreateCauses bytes) (Err (creation_failure fault))
@@ -111,10 +105,7 @@ create_refuses tells bytes creation.DiskFault header = refuses_stopped tells (Cr
 
 never_created : (bytes : List ℕ) (why : Refusal) → IsNoArchive bytes → CreateCauses bytes why → ⊥
 never_created bytes Occupied none cause = header_or_none bytes cause none
-never_created bytes InputTooLong none cause = cause
-never_created bytes (BadBlock k) none cause = cause
-never_created bytes NoArchive none cause = cause
-never_created bytes (LedgerBad at) none cause = cause
+never_created bytes why none cause = cause
 
 -- what it gave, where it was done
 pub record IsMade (shape : Shape) (tells : Type 0) (old new : State) : Type 0 where
@@ -128,12 +119,12 @@ pub record IsMade (shape : Shape) (tells : Type 0) (old new : State) : Type 0 wh
 abbrev pub IsPrinting : Answer → Type 0
 IsPrinting answer = (answer ≡ Ok Done) ⊎ (answer ≡ Err failure.Output)
 
-printing_done : (answer : Answer) → IsPrinting answer → IfOk answer (λ status. status ≡ Done)
+pub printing_done : (answer : Answer) → IsPrinting answer → IfOk answer (λ status. status ≡ Done)
 printing_done (Ok s) (inl e) = cc
 printing_done (Ok s) (inr e) = let h : Ok s ≡ Err failure.Output = e in cc
 printing_done (Err f) printing = tt
 
-printing_never : (answer : Answer) (f : Failure) → IsPrinting answer → f ≢ failure.Output → answer ≡ Err f → ⊥
+pub printing_never : (answer : Answer) (f : Failure) → IsPrinting answer → f ≢ failure.Output → answer ≡ Err f → ⊥
 printing_never answer f (inl e) differs is = let h : Ok Done ≡ Err f = sym e ∙ is in cc
 printing_never answer f (inr e) differs is = let h : Err failure.Output ≡ Err f = sym e ∙ is in differs cc
 

@@ -6,3 +6,7 @@ pub mod FailureCases
 pub mod OpeningCases
 pub mod Creating
 pub mod Stating
+pub mod Behind
+pub mod Adding
+pub mod Fencing
+pub mod Upgrading

@@ -1,16 +1,17 @@
 -- What a call that opens the archive answers, by the fault of the opening.
 use Rattle.std.proofs.Common.{◌≡◌, ℕ, ◌⊎◌, inl, inr, List, ◌<◌, arith, refl, sym, ◌∙◌, ap, subst, Ok, Err}
 use Rattle.std.specs.Prelude.{Result, IsErrAnd}
+use Rattle.std.proofs.lemmas.Bool.{cases_lt}
 use Rattle.aea_disk.specs.Files.{Files}
-use Rattle.aea_disk.specs.State.{State, KeepsImages}
-use Rattle.aea_ledger.specs.Stops.{HasOpening}
+use Rattle.aea_disk.specs.State.{State, Passes, During, KeepsImages}
+use Rattle.aea_ledger.specs.Stops.{IsOpened, HasOpening}
 use Rattle.aea_ledger.specs.declared.open.OpenFault.{OpenFault}
 use Rattle.aea_ledger.specs.declared.open.OpenFault.TheVariants as opening
 use Rattle.aea_records.specs.Faults.{HasOpenHeader, IsNoArchive, IsBadAt}
 use Rattle.aea_ledger.specs.Openings.{Answers, IsAnswered}
 use Rattle.aea_ledger.specs.Values.{Opened}
 use Rattle.aea_cli.specs.declared.refusal.Refusal.{Refusal}
-use Rattle.aea_cli.specs.declared.refusal.Refusal.TheVariants.{InputTooLong, BadBlock, NoArchive, LedgerBad, Occupied}
+use Rattle.aea_cli.specs.declared.refusal.Refusal.TheVariants.{NoArchive, LedgerBad}
 use Rattle.aea_cli.specs.declared.refusal.Failure.{Failure}
 use Rattle.aea_cli.specs.declared.refusal.Failure.TheVariants as failure
 use Rattle.aea_cli.specs.Failures.{opening_failure}
@@ -31,16 +32,33 @@ images_same s t c from to here = let e : t ≡ s.moment = omega arith in subst_i
     subst_image s t c e h = rw e at h
 
 -- from the first sync on each image has what follows, too
-pub opening_more : (old new : State) (P Q : Files → Type 0) → ((c : Files) → P c → Q c) → HasOpening old new P → HasOpening old new Q
-opening_more old new P Q from (inl kept) = inl kept
-opening_more old new P Q from (inr opened) = inr (record {
+pub opened_more : (old new : State) (P Q : Files → Type 0) → ((c : Files) → P c → Q c) → IsOpened old new P → IsOpened old new Q
+opened_more old new P Q from opened = record {
   moment = opened.moment;
   from = opened.from;
   to = opened.to;
   before = opened.before;
   sure = opened.sure;
   later = λ t c after before here. from c (opened.later t c after before here);
-})
+}
+
+pub opening_more : (old new : State) (P Q : Files → Type 0) → ((c : Files) → P c → Q c) → HasOpening old new P → HasOpening old new Q
+opening_more old new P Q from (inl kept) = inl kept
+opening_more old new P Q from (inr opened) = inr (opened_more old new P Q from opened)
+
+-- and so it is with further calls
+pub opened_then : (old mid new : State) (P Q : Files → Type 0) → Passes old mid → Passes mid new → ((c : Files) → P c → Q c) → During mid new Q → IsOpened old mid P → IsOpened old new Q
+opened_then old mid new P Q first second from during opened = record {
+  moment = opened.moment;
+  from = opened.from;
+  to = omega (arith, opened.to, second.later);
+  before = λ t c after before here. opened.before t c after before ((second.keeps t c (omega (arith, opened.to))).0 here);
+  sure = λ c here. opened.sure c ((second.keeps opened.moment c opened.to).0 here);
+  later = λ t c after before here. elim (cases_lt t mid.moment) [
+    | inl early ↦ from c (opened.later t c after (omega arith) ((second.keeps t c (omega arith)).0 here))
+    | inr late ↦ during t c (omega arith) before here
+  ];
+}
 
 -- an answer that is an error with this failure
 pub err_with : {T : Type 0} (r : Result T Failure) (f : Failure) → IsErrAnd r (λ e. e ≡ f) → r ≡ Err f
@@ -63,9 +81,7 @@ opening_refusal bytes fault r is answered (LedgerBad at) refusal = elim (answere
   | inr (inl e) ↦ inr (inl (with_fault r fault opening.DiskFault is cc))
   | inr (inr e) ↦ inr (inr (inr (with_fault r fault opening.NoMemory is cc)))
 ]
-opening_refusal bytes fault r is answered InputTooLong refusal = absurd refusal
-opening_refusal bytes fault r is answered (BadBlock k) refusal = absurd refusal
-opening_refusal bytes fault r is answered Occupied refusal = absurd refusal
+opening_refusal bytes fault r is answered why refusal = absurd refusal
 
 -- an archive was opened, so there is no such reason
 opened_refusal : (bytes : List ℕ) (v : Opened) → IsAnswered bytes (Ok v) → (why : Refusal) → OpeningCauses bytes why → ⊥
@@ -79,17 +95,13 @@ opened_refusal bytes v answered (LedgerBad at) refusal = elim (answered.bad at r
   | inr (inl e) ↦ cc
   | inr (inr e) ↦ cc
 ]
-opened_refusal bytes v answered InputTooLong refusal = refusal
-opened_refusal bytes v answered (BadBlock k) refusal = refusal
-opened_refusal bytes v answered Occupied refusal = refusal
+opened_refusal bytes v answered why refusal = refusal
 
 -- what is bad is an archive, so nothing comes before that
 none_before_bad : (bytes : List ℕ) (at : ℕ) → IsBadAt bytes at → (other : Refusal) → place_of other < 1 → OpeningCauses bytes other → ⊥
 none_before_bad bytes at bad NoArchive before cause = header_or_none bytes bad.header cause
 none_before_bad bytes at bad (LedgerBad place) before cause = omega arith
-none_before_bad bytes at bad InputTooLong before cause = cause
-none_before_bad bytes at bad (BadBlock k) before cause = cause
-none_before_bad bytes at bad Occupied before cause = cause
+none_before_bad bytes at bad other before cause = cause
 
 -- the reason that an opening gives is the first that stands
 first_reason : (bytes : List ℕ) (fault : OpenFault) (why : Refusal) → Answers bytes (Err fault) → opening_failure fault ≡ failure.Refused why → IsFirst (OpeningCauses bytes) why
@@ -122,3 +134,14 @@ disk_fault opening.NoArchive e = let h : failure.Refused NoArchive ≡ failure.D
 disk_fault (opening.LedgerBad at) e = let h : failure.Refused (LedgerBad at) ≡ failure.Disk = e in cc
 disk_fault opening.DiskFault e = refl
 disk_fault opening.NoMemory e = let h : failure.Memory ≡ failure.Disk = e in cc
+
+-- a reason of the opening is the first one, and comes before all others
+pub opening_first : (bytes : List ℕ) (why : Refusal) → OpeningCauses bytes why → IsFirst (OpeningCauses bytes) why
+opening_first bytes NoArchive cause = record { stands = cause; none = λ other before. absurd (omega arith) }
+opening_first bytes (LedgerBad at) cause = record { stands = cause; none = none_before_bad bytes at cause }
+opening_first bytes why cause = absurd cause
+
+pub opening_early : (bytes : List ℕ) (why : Refusal) → OpeningCauses bytes why → place_of why < 2
+opening_early bytes NoArchive cause = omega arith
+opening_early bytes (LedgerBad at) cause = omega arith
+opening_early bytes why cause = absurd cause

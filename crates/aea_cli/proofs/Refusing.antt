@@ -1,5 +1,5 @@
 -- How answers tell why they are refusals.
-use Rattle.std.proofs.Common.{◌≡◌, inl, inr, sym, ◌∙◌, ap, subst, Err}
+use Rattle.std.proofs.Common.{◌≡◌, inl, inr, sym, ◌∙◌, ap, subst, Ok, Err}
 use Rattle.std.specs.Prelude.{Result}
 use Rattle.aea_cli.specs.declared.refusal.Refusal.{Refusal}
 use Rattle.aea_cli.specs.declared.refusal.Failure.{Failure}
@@ -55,3 +55,12 @@ refuses_told told more causes answer from refuses = record {
   only = λ why is m. refuses.only why is (from m);
   always = λ why m. refuses.always why (from m);
 }
+
+-- what was done had no cause against it, and what follows is no refusal
+pub refuses_done : {T U : Type 0} (told : Type 0) (causes : Refusal → Type 0) (v : T) (answer : Result U Failure) → ((why : Refusal) → answer ≡ Err (failure.Refused why) → ⊥) → Refuses {T = T} told causes (Ok v) → Refuses told causes answer
+refuses_done {T} {U} told causes v answer never refuses = refuses_none told causes answer never (λ told' why first. elim (refuses.always why told' first) [
+  | inl e ↦ let h : Ok v ≡ Err (failure.Refused why) = e in cc
+  | inr (inl e) ↦ let h : Ok v ≡ Err failure.Disk = e in cc
+  | inr (inr (inl e)) ↦ let h : Ok v ≡ Err failure.Input = e in cc
+  | inr (inr (inr e)) ↦ let h : Ok v ≡ Err failure.Memory = e in cc
+])

@@ -6,7 +6,7 @@ use Rattle.aea_disk.specs.State.{State, KeepsImages, IsSynced, HasRoom, HasRoomT
 use Rattle.aea_records.specs.Faults.{HasOpenHeader, IsNoArchive}
 use Rattle.aea_ledger.specs.Stops.{empty_ledger, IsBeingMade, MakesArchive, IsOpened, HasOpening}
 use Rattle.aea_cli.specs.declared.refusal.Refusal.{Refusal}
-use Rattle.aea_cli.specs.declared.refusal.Refusal.TheVariants.{InputTooLong, BadBlock, NoArchive, LedgerBad, Occupied}
+use Rattle.aea_cli.specs.declared.refusal.Refusal.TheVariants.{Occupied}
 use Rattle.aea_cli.specs.declared.refusal.Failure.TheVariants as failure
 use Rattle.aea_cli.specs.declared.status.Status.TheVariants.{Done}
 use Rattle.aea_cli.specs.Failures.{Answer}
@@ -28,10 +28,7 @@ pub record IsCreated (shape : Shape) (old new : State) : Type 0 where
 -- why no archive is made in a folder whose ledger file has these bytes: there is an archive, or what was one
 abbrev pub CreateCauses : List ℕ → Refusal → Type 0
 CreateCauses bytes Occupied = HasOpenHeader bytes
-CreateCauses bytes InputTooLong = ⊥
-CreateCauses bytes (BadBlock k) = ⊥
-CreateCauses bytes NoArchive = ⊥
-CreateCauses bytes (LedgerBad at) = ⊥
+CreateCauses bytes why = ⊥
 
 -- Of a run that makes an archive of this shape, with the disk and `out` before and after it, and its answer:
 pub record Creates (shape : Shape) (tells : Type 0) (old new : State) (before after : SinkState) (answer : Answer) : Type 0 where

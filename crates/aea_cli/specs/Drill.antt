@@ -14,7 +14,7 @@ use Rattle.aea_lattice.specs.Blocks.{HasBlock, blocks_of}
 use Rattle.aea_lattice.specs.Closure.{IsReached}
 use Rattle.aea_lattice.specs.Texts.{text_of}
 use Rattle.aea_cli.specs.declared.refusal.Refusal.{Refusal}
-use Rattle.aea_cli.specs.declared.refusal.Refusal.TheVariants.{InputTooLong, BadBlock, NoArchive, LedgerBad, Occupied}
+use Rattle.aea_cli.specs.declared.refusal.Refusal.TheVariants.{InputTooLong, BadBlock}
 use Rattle.aea_cli.specs.declared.refusal.Failure.TheVariants as failure
 use Rattle.aea_cli.specs.declared.status.Status.{Status}
 use Rattle.aea_cli.specs.declared.status.Status.TheVariants.{Done, Damage}
@@ -42,9 +42,7 @@ pub record IsFirstBad (l : Lattice) (text : List ℕ) (k : ℕ) : Type 0 where
 abbrev pub DamageCauses : Lattice → List ℕ → Refusal → Type 0
 DamageCauses l input InputTooLong = greatest_input < length input
 DamageCauses l input (BadBlock k) = IsFirstBad l input k
-DamageCauses l input NoArchive = ⊥
-DamageCauses l input (LedgerBad at) = ⊥
-DamageCauses l input Occupied = ⊥
+DamageCauses l input why = ⊥
 
 -- the damage list is not refused
 abbrev pub IsAccepted : Lattice → List ℕ → Type 0

@@ -4,6 +4,10 @@ use Rattle.aea_ledger.specs.declared.create.CreateFault.{CreateFault}
 use Rattle.aea_ledger.specs.declared.create.CreateFault.TheVariants as create
 use Rattle.aea_ledger.specs.declared.open.OpenFault.{OpenFault}
 use Rattle.aea_ledger.specs.declared.open.OpenFault.TheVariants as opening
+use Rattle.aea_ledger.specs.declared.fences.FenceFault.{FenceFault}
+use Rattle.aea_ledger.specs.declared.fences.FenceFault.TheVariants as fence
+use Rattle.aea_ledger.specs.declared.raise.UpgradeFault.{UpgradeFault}
+use Rattle.aea_ledger.specs.declared.raise.UpgradeFault.TheVariants as upgrade
 use Rattle.aea_cli.specs.declared.refusal.Refusal.TheVariants as refusal
 use Rattle.aea_cli.specs.declared.refusal.Failure.{Failure}
 use Rattle.aea_cli.specs.declared.refusal.Failure.TheVariants as failure
@@ -53,3 +57,14 @@ opening_failure opening.NoArchive = failure.Refused refusal.NoArchive
 opening_failure (opening.LedgerBad at) = failure.Refused (refusal.LedgerBad at)
 opening_failure opening.DiskFault = failure.Disk
 opening_failure opening.NoMemory = failure.Memory
+
+-- the failure where no fence was added
+abbrev pub fence_failure : FenceFault → Failure
+fence_failure (fence.AlreadyFenced nodes) = failure.Refused (refusal.AlreadyFenced nodes)
+fence_failure fence.TooManyFences = failure.Refused refusal.TooManyFences
+fence_failure fence.DiskFault = failure.Disk
+
+-- the failure where the limit was not raised
+abbrev pub upgrade_failure : UpgradeFault → Failure
+upgrade_failure upgrade.AlreadyUpgraded = failure.Refused refusal.AlreadyUpgraded
+upgrade_failure upgrade.DiskFault = failure.Disk

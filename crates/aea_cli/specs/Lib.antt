@@ -10,6 +10,9 @@ pub mod Openings
 pub mod Drill
 pub mod Create
 pub mod Stat
+pub mod Adding
+pub mod Fence
+pub mod Upgrade
 pub mod Does
 pub mod Ends
 pub mod Surely

@@ -8,7 +8,7 @@ use Rattle.aea_records.specs.Laws.{IsSomeLedger}
 use Rattle.aea_ledger.specs.Stops.{IsOpened, HasOpening, StaysAll}
 use Rattle.aea_ledger.specs.Values.{Opened, HasSomeRecords, IsThisOne}
 use Rattle.aea_cli.specs.declared.refusal.Refusal.{Refusal}
-use Rattle.aea_cli.specs.declared.refusal.Refusal.TheVariants.{InputTooLong, BadBlock, NoArchive, LedgerBad, Occupied}
+use Rattle.aea_cli.specs.declared.refusal.Refusal.TheVariants.{NoArchive, LedgerBad}
 use Rattle.aea_cli.specs.declared.refusal.Failure.{Failure}
 use Rattle.aea_cli.specs.declared.refusal.Failure.TheVariants as failure
 use Rattle.aea_cli.specs.Failures.{opening_failure}
@@ -18,9 +18,7 @@ use Rattle.aea_cli.specs.Causes.{Refuses, IsStopped}
 abbrev pub OpeningCauses : List ℕ → Refusal → Type 0
 OpeningCauses bytes NoArchive = IsNoArchive bytes
 OpeningCauses bytes (LedgerBad at) = IsBadAt bytes at
-OpeningCauses bytes InputTooLong = ⊥
-OpeningCauses bytes (BadBlock k) = ⊥
-OpeningCauses bytes Occupied = ⊥
+OpeningCauses bytes why = ⊥
 
 -- Of an opening, with the disk before and after it, and what it gave:
 pub record Opens (tells : Type 0) (old new : State) (opening : Result Opened Failure) : Type 0 where

@@ -3,14 +3,17 @@ use Rattle.std.specs.Prelude.{◌≡◌, ◌≤◌, ℕ, List, [], ◌∷◌, co
 use Rattle.aea_lattice.specs.declared.grid.Lattice.{Lattice}
 use Rattle.aea_lattice.specs.declared.shape.Shape.{Shape}
 use Rattle.aea_cli.specs.declared.command.Command.{Command}
-use Rattle.aea_cli.specs.declared.command.Command.TheVariants.{Drill, Create, Stat}
+use Rattle.aea_cli.specs.declared.command.Command.TheVariants.{Drill, Create, Stat, Fence, Upgrade}
 
--- The words of a command, each number in decimal: `drill A S P N`, `create A S P B M` and `stat`.
+-- The words of a command, each number in decimal: `drill A S P N`, `create A S P B M`, `stat`, `fence` and
+-- `upgrade`.
 abbrev pub words_of : Command → List (List ℕ)
 words_of (Drill l) = codes "drill" ∷ decimal l.alpha ∷ decimal l.s ∷ decimal l.p ∷ decimal l.n ∷ []
 words_of (Create shape) =
     codes "create" ∷ decimal shape.alpha ∷ decimal shape.s ∷ decimal shape.p ∷ decimal shape.block ∷ decimal shape.sites ∷ []
 words_of Stat = codes "stat" ∷ []
+words_of Fence = codes "fence" ∷ []
+words_of Upgrade = codes "upgrade" ∷ []
 
 -- the most nodes of a drill
 abbrev pub drill_limit : ℕ
@@ -26,6 +29,8 @@ abbrev pub Means : List (List ℕ) → Command → Type 0
 Means words (Drill l) = (words ≡ words_of (Drill l)) × IsDrilled l
 Means words (Create shape) = words ≡ words_of (Create shape)
 Means words Stat = words ≡ words_of Stat
+Means words Fence = words ≡ words_of Fence
+Means words Upgrade = words ≡ words_of Upgrade
 
 -- the words mean no drill
 abbrev pub AreNoDrill : List (List ℕ) → Type 0

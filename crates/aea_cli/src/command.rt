@@ -5,7 +5,7 @@ ghost use Rattle.aea_cli.specs.Words.{Means, AreNoCommand};
 
 use crate::create::parse_create;
 use crate::drill::parse_drill;
-use crate::stat::is_stat;
+use crate::words::is_word;
 use aea_lattice::{Lattice, Shape};
 use std::alloc::{AllocError, Global};
 
@@ -18,6 +18,10 @@ pub enum Command {
     Create { shape: Shape },
     /// Prints what stands in the archive.
     Stat,
+    /// Adds a fence behind the last node of the archive.
+    Fence,
+    /// Raises the archive's limit on nodes.
+    Upgrade,
 }
 
 // The command of the words, if they are one.
@@ -31,16 +35,21 @@ fn command_of(words: &[String]) -> Option<Command>
     if let Some(shape) = parse_create(words) {
         return Some(Command::Create { shape });
     }
-    if is_stat(words) {
-        Some(Command::Stat)
-    } else {
-        None
+    if is_word(words, "stat") {
+        return Some(Command::Stat);
     }
+    if is_word(words, "fence") {
+        return Some(Command::Fence);
+    }
+    if is_word(words, "upgrade") {
+        return Some(Command::Upgrade);
+    }
+    None
 }
 
 /// The command that the words mean, None where they mean none: `drill A S P N` with the numbers of a lattice,
-/// `create A S P B M` with those of the shape of an archive, and `stat`, each number in decimal without sign and
-/// leading zeros. Takes no memory today.
+/// `create A S P B M` with those of the shape of an archive, `stat`, `fence` and `upgrade`, each number in decimal
+/// without sign and leading zeros. Takes no memory today.
 pub fn parse_words(_alloc: Global, words: &[String]) -> Result<Option<Command>, AllocError>
     ensures sure { IsOk result }
     ensures found { IfOk result (λ answer. IfSome answer (Means (map string_bytes words.now))) }

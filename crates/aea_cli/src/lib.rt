@@ -5,6 +5,7 @@ mod archive;
 mod command;
 mod create;
 mod drill;
+mod fence;
 mod numbers;
 mod program;
 mod refusal;
@@ -12,6 +13,8 @@ mod report;
 mod stat;
 mod status;
 mod surely;
+mod upgrade;
+mod words;
 
 pub use command::{Command, parse_words};
 pub use program::run;

@@ -14,10 +14,12 @@ ghost use Rattle.aea_cli.specs.Worlds.{world};
 use crate::command::{Command, parse_words};
 use crate::create::create;
 use crate::drill::drill;
+use crate::fence::fence;
 use crate::refusal::Failure;
 use crate::report::report;
 use crate::stat::stat;
 use crate::status::Status;
+use crate::upgrade::upgrade;
 use aea_disk::Disk;
 use aea_io::{Sink, Source};
 use std::alloc::Global;
@@ -44,6 +46,8 @@ fn carry_out<D: Disk, S: Source, O: Sink>(
         Command::Drill { lattice } => drill(alloc, lattice, input, out),
         Command::Create { shape } => create(alloc, shape, disk, out),
         Command::Stat => stat(alloc, disk, out),
+        Command::Fence => fence(alloc, disk, out),
+        Command::Upgrade => upgrade(alloc, disk, out),
     }
 }
 

@@ -3,7 +3,7 @@
 ghost use Rattle.std.specs.Prelude.{◌≡◌};
 
 use aea_io::WriteFault;
-use aea_ledger::{CreateFault, OpenFault};
+use aea_ledger::{CreateFault, FenceFault, OpenFault, UpgradeFault};
 use std::alloc::AllocError;
 
 /// Why a command is refused.
@@ -19,6 +19,12 @@ pub enum Refusal {
     LedgerBad { at: u64 },
     /// There is an archive in the folder, or what was one.
     Occupied,
+    /// There is no node behind the last fence of the archive. The number of nodes.
+    AlreadyFenced { nodes: u32 },
+    /// The archive has 16 fences, the most that there may be.
+    TooManyFences,
+    /// The limit on nodes was raised before.
+    AlreadyUpgraded,
 }
 
 /// Why a command did not end well.
@@ -68,6 +74,39 @@ impl From<OpenFault> for Failure {
             },
             OpenFault::DiskFault => Failure::Disk,
             OpenFault::NoMemory => Failure::Memory,
+        }
+    }
+}
+
+impl From<FenceFault> for Failure {
+    ghost use Rattle.aea_cli.specs.Failures.{fence_failure};
+
+    ghost from_gives = { λ fault failure. failure ≡ fence_failure fault };
+
+    fn from(fault: FenceFault) -> Failure {
+        match fault {
+            FenceFault::AlreadyFenced { nodes } => Failure::Refused {
+                why: Refusal::AlreadyFenced { nodes },
+            },
+            FenceFault::TooManyFences => Failure::Refused {
+                why: Refusal::TooManyFences,
+            },
+            FenceFault::DiskFault => Failure::Disk,
+        }
+    }
+}
+
+impl From<UpgradeFault> for Failure {
+    ghost use Rattle.aea_cli.specs.Failures.{upgrade_failure};
+
+    ghost from_gives = { λ fault failure. failure ≡ upgrade_failure fault };
+
+    fn from(fault: UpgradeFault) -> Failure {
+        match fault {
+            UpgradeFault::AlreadyUpgraded => Failure::Refused {
+                why: Refusal::AlreadyUpgraded,
+            },
+            UpgradeFault::DiskFault => Failure::Disk,
         }
     }
 }

@@ -27,6 +27,12 @@ fn print_refusal<E: Sink>(err: &mut E, page: &mut Page, why: Refusal) -> Result<
             print(err, page, b"\n")
         }
         Refusal::Occupied => print(err, page, b"refused: occupied\n"),
+        Refusal::AlreadyFenced { nodes } => {
+            print_number(err, page, b"refused: already fenced at ", u64::from(nodes))?;
+            print(err, page, b"\n")
+        }
+        Refusal::TooManyFences => print(err, page, b"refused: too many fences\n"),
+        Refusal::AlreadyUpgraded => print(err, page, b"refused: already upgraded\n"),
     }
 }
 

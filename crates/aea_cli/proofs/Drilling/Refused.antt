@@ -6,7 +6,7 @@ use Rattle.std.proofs.lemmas.Option.{slice_get_within, get_or_from_slice_get}
 use Rattle.std.proofs.lemmas.Bool.{false≢true}
 use Rattle.aea_lattice.specs.declared.grid.Lattice.{Lattice}
 use Rattle.aea_cli.specs.declared.refusal.Refusal.{Refusal}
-use Rattle.aea_cli.specs.declared.refusal.Refusal.TheVariants.{InputTooLong, BadBlock, NoArchive, LedgerBad, Occupied}
+use Rattle.aea_cli.specs.declared.refusal.Refusal.TheVariants.{InputTooLong, BadBlock}
 use Rattle.aea_cli.specs.Lines.{lines_of}
 use Rattle.aea_cli.specs.Causes.{place_of, IsFirst}
 use Rattle.aea_cli.specs.Drill.{greatest_input, DamageCauses, IsAccepted, IsFirstBad, NamesBlock}
@@ -38,14 +38,12 @@ bad_once l text j k one two =
 -- an accepted list is not refused
 pub accepted_not_refused : (l : Lattice) (input : List ℕ) (why : Refusal) → IsAccepted l input → DamageCauses l input why → ⊥
 accepted_not_refused l input InputTooLong accepted refused = let short = accepted.0 in omega arith
-accepted_not_refused l input NoArchive accepted refused = refused
-accepted_not_refused l input (LedgerBad at) accepted refused = refused
-accepted_not_refused l input Occupied accepted refused = refused
 accepted_not_refused l input (BadBlock k) accepted refused =
     let bad = refused.bad in
     let lines = lines_of input in
     let at_line : get_or lines (k - 1) bad.0 ≡ bad.0 = get_or_from_slice_get lines (k - 1) bad.0 bad.0 bad.1 in
     bad.2 (subst (NamesBlock l) at_line (accepted.1 (k - 1) bad.0 (slice_get_within lines (k - 1) bad.0 bad.1)))
+accepted_not_refused l input why accepted refused = refused
 
 -- a list has one first cause
 pub one_cause : (l : Lattice) (input : List ℕ) (a b : Refusal) → IsFirst (DamageCauses l input) a → IsFirst (DamageCauses l input) b → a ≡ b
@@ -53,26 +51,19 @@ one_cause l input InputTooLong InputTooLong x y = refl
 one_cause l input InputTooLong (BadBlock k) x y = absurd (y.none InputTooLong (omega arith) x.stands)
 one_cause l input (BadBlock j) InputTooLong x y = absurd (x.none InputTooLong (omega arith) y.stands)
 one_cause l input (BadBlock j) (BadBlock k) x y = ap BadBlock (bad_once l input j k x.stands y.stands)
-one_cause l input NoArchive b x y = absurd x.stands
-one_cause l input (LedgerBad at) b x y = absurd x.stands
-one_cause l input Occupied b x y = absurd x.stands
-one_cause l input a NoArchive x y = absurd y.stands
-one_cause l input a (LedgerBad at) x y = absurd y.stands
-one_cause l input a Occupied x y = absurd y.stands
+one_cause l input InputTooLong b x y = absurd y.stands
+one_cause l input (BadBlock j) b x y = absurd y.stands
+one_cause l input a b x y = absurd x.stands
 
-none_before_long : (l : Lattice) (input : List ℕ) (other : Refusal) → place_of other < 3 → DamageCauses l input other → ⊥
+none_before_long : (l : Lattice) (input : List ℕ) (other : Refusal) → place_of other < place_of InputTooLong → DamageCauses l input other → ⊥
 none_before_long l input InputTooLong before cause = omega arith
 none_before_long l input (BadBlock k) before cause = omega arith
-none_before_long l input NoArchive before cause = cause
-none_before_long l input (LedgerBad at) before cause = cause
-none_before_long l input Occupied before cause = cause
+none_before_long l input other before cause = cause
 
-none_before_bad : (l : Lattice) (input : List ℕ) → length input ≤ greatest_input → (other : Refusal) → place_of other < 4 → DamageCauses l input other → ⊥
+none_before_bad : (l : Lattice) (input : List ℕ) → length input ≤ greatest_input → (other : Refusal) → place_of other < 7 → DamageCauses l input other → ⊥
 none_before_bad l input short InputTooLong before cause = omega arith
 none_before_bad l input short (BadBlock k) before cause = omega arith
-none_before_bad l input short NoArchive before cause = cause
-none_before_bad l input short (LedgerBad at) before cause = cause
-none_before_bad l input short Occupied before cause = cause
+none_before_bad l input short other before cause = cause
 
 -- a list that is too long
 pub long_first : (l : Lattice) (input : List ℕ) → greatest_input < length input → IsFirst (DamageCauses l input) InputTooLong

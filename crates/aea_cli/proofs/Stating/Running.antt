@@ -26,7 +26,7 @@ same_failure : (answer : Answer) (f g : Failure) → answer ≡ Err f → answer
 same_failure answer f g one two = let h : Err f ≡ Err g = sym one ∙ two in cc
 
 -- the opening does not fail by the output
-opening_not_output : (fault : OpenFault) → opening_failure fault ≡ failure.Output → ⊥
+pub opening_not_output : (fault : OpenFault) → opening_failure fault ≡ failure.Output → ⊥
 opening_not_output opening.NoArchive e = cc
 opening_not_output (opening.LedgerBad at) e = cc
 opening_not_output opening.DiskFault e = cc

@@ -11,8 +11,6 @@ ghost use Rattle.aea_cli.specs.Causes.{Refuses};
 ghost use Rattle.aea_cli.specs.Openings.{OpeningCauses};
 ghost use Rattle.aea_cli.specs.Stat.{stat_text, stat_line, Stats};
 
-mod words;
-
 use crate::archive::open;
 use crate::refusal::Failure;
 use crate::status::Status;
@@ -23,7 +21,6 @@ use aea_ledger::Ledger;
 use aea_records::objects_are_counted;
 use serde_json::{Value, json};
 use std::alloc::{AllocError, Global};
-pub use words::is_stat;
 
 // The JSON object of an archive of this shape with so many nodes and objects.
 fn value_of(alloc: Global, shape: &Shape, nodes: u32, objects: usize) -> Result<Value, AllocError>

@@ -1,6 +1,8 @@
 use Rattle.aea_cli.proofs.Drilling.Running.{drill_runs}
 use Rattle.aea_cli.proofs.Creating.Running.{create_runs}
 use Rattle.aea_cli.proofs.Stating.Running.{stat_runs}
+use Rattle.aea_cli.proofs.Fencing.Running.{fence_runs}
+use Rattle.aea_cli.proofs.Upgrading.Running.{upgrade_runs}
 use Rattle.aea_cli.proofs.program.carry_out.Goals as goal
 
 pub returns-in-Drill-clause-runs : goal.returns-in-Drill-clause-runs
@@ -11,3 +13,9 @@ returns-in-Create-clause-runs g c = rw c.in-Create.is (create_runs _ _ _ _ _ _ _
 
 pub returns-in-Stat-clause-runs : goal.returns-in-Stat-clause-runs
 returns-in-Stat-clause-runs g c = rw c.in-Stat.is (stat_runs _ _ _ _ _ _ _ c.stat.ensures.stats c.stat.ensures.refuses)
+
+pub returns-in-Fence-clause-runs : goal.returns-in-Fence-clause-runs
+returns-in-Fence-clause-runs g c = rw c.in-Fence.is (fence_runs _ _ _ _ _ _ _ c.fence.ensures.fences c.fence.ensures.refuses c.fence.ensures.rest)
+
+pub returns-in-Upgrade-clause-runs : goal.returns-in-Upgrade-clause-runs
+returns-in-Upgrade-clause-runs g c = rw c.in-Upgrade.is (upgrade_runs _ _ _ _ _ _ _ c.upgrade.ensures.upgrades c.upgrade.ensures.refuses c.upgrade.ensures.rest)

@@ -26,3 +26,17 @@ returns-in_err-print_number-in-LedgerBad g c =
 pub returns-in_ok-print_number-in-LedgerBad : goal.returns-in_ok-print_number-in-LedgerBad
 returns-in_ok-print_number-in-LedgerBad g c =
     rw c.in-LedgerBad.is (prints_then c.in_ok-print_number-in-LedgerBad.ensures c.print-in-LedgerBad.ensures)
+
+pub returns-in_err-print_number-in-AlreadyFenced : goal.returns-in_err-print_number-in-AlreadyFenced
+returns-in_err-print_number-in-AlreadyFenced g c =
+    rw c.in-AlreadyFenced.is (prints_stopped newline c.from_residual-in_err-print_number-in-AlreadyFenced.ensures.0 (rw c.from-in-AlreadyFenced.ensures at c.in_err-print_number-in-AlreadyFenced.ensures))
+
+pub returns-in_ok-print_number-in-AlreadyFenced : goal.returns-in_ok-print_number-in-AlreadyFenced
+returns-in_ok-print_number-in-AlreadyFenced g c =
+    rw c.in-AlreadyFenced.is (prints_then (rw c.from-in-AlreadyFenced.ensures at c.in_ok-print_number-in-AlreadyFenced.ensures) c.print-in-AlreadyFenced.ensures)
+
+pub returns-in-TooManyFences : goal.returns-in-TooManyFences
+returns-in-TooManyFences g c = rw c.in-TooManyFences.is c.print-in-TooManyFences.ensures
+
+pub returns-in-AlreadyUpgraded : goal.returns-in-AlreadyUpgraded
+returns-in-AlreadyUpgraded g c = rw c.in-AlreadyUpgraded.is c.print-in-AlreadyUpgraded.ensures

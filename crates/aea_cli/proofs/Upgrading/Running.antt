@@ -1,0 +1,48 @@
+-- What holds of a run of `upgrade`, from what its calls ensure.
+use Rattle.std.proofs.Common.{◌≡◌, ◌≢◌, Ok, Err}
+use Rattle.aea_io.specs.Streams.{SourceState, SinkState}
+use Rattle.aea_disk.specs.State.{State}
+use Rattle.aea_cli.specs.declared.command.Command.TheVariants.{Upgrade}
+use Rattle.aea_cli.specs.declared.refusal.Failure.{Failure}
+use Rattle.aea_cli.specs.declared.refusal.Failure.TheVariants as failure
+use Rattle.aea_cli.specs.Adding.{Adds, KeepsTheRest}
+use Rattle.aea_cli.specs.Causes.{Refuses}
+use Rattle.aea_cli.specs.Does.{Runs}
+use Rattle.aea_cli.specs.Failures.{Answer}
+use Rattle.aea_cli.specs.Printed.{PrintsText}
+use Rattle.aea_cli.specs.Upgrade.{next_raise, upgraded_line, UpgradeCauses, Upgrades}
+use Rattle.aea_cli.specs.Worlds.{world}
+use Rattle.aea_cli.proofs.Adding.{adds_as, agrees_failed}
+use Rattle.aea_cli.proofs.Adding.Running.{agrees_printed, rest_stays, adds_opens}
+use Rattle.aea_cli.proofs.Creating.{IsPrinting, printing_done}
+use Rattle.aea_cli.proofs.Refusing.{refuses_told}
+use Rattle.aea_cli.proofs.Texts.{text_unused}
+
+-- the limit was not raised
+pub upgrades_failed : {T : Type 0} (tells : Type 0) (old new : State) (out : SinkState) (f : Failure) → f ≢ failure.Output → Adds {T = T} next_raise tells old new (Err f) → Upgrades tells old new out out (Err f)
+upgrades_failed {T} tells old new out f output adds = record {
+  done = tt;
+  adds = adds_as next_raise tells old new (Err f) (Err f) (agrees_failed f) adds;
+  prints = text_unused out f upgraded_line output;
+}
+
+-- it was, and then the line was printed, or the output failed
+pub upgrades_added : {T : Type 0} (tells : Type 0) (old new : State) (before after : SinkState) (value : T) (answer : Answer) → IsPrinting answer
+    → Adds next_raise tells old new (Ok value) → PrintsText before after answer upgraded_line → Upgrades tells old new before after answer
+upgrades_added tells old new before after value answer printing adds prints = record {
+  done = printing_done answer printing;
+  adds = adds_as next_raise tells old new (Ok value) answer (agrees_printed value answer printing) adds;
+  prints = prints;
+}
+
+pub upgrade_runs : (tells : Type 0) (old new : State) (input : SourceState) (before after : SinkState) (answer : Answer)
+    → Upgrades tells old new before after answer → Refuses tells (UpgradeCauses (old.files 0)) answer → KeepsTheRest tells (answer ≡ Err failure.Disk) old new
+    → Runs Upgrade (world tells old input before) (world tells new input after) answer
+upgrade_runs tells old new input before after answer upgrades refuses rest = record {
+  does = upgrades;
+  refuses = refuses_told _ _ _ _ (λ told. told.disk tt) refuses;
+  disk_fits = λ fits. (upgrades.adds.in_room fits).0;
+  output_fits = λ told fits. (upgrades.prints.in_room fits.room fits.told fits.enough).0;
+  stays = rest_stays tells _ old new rest;
+  opens = adds_opens next_raise tells old new answer upgrades.adds;
+}

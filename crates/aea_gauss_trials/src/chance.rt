@@ -6,8 +6,8 @@ use aea_lattice::{BlockId, Lattice};
 use std::alloc::{AllocError, Global};
 use std::test::Fail;
 
-// α, s, p, and the nodes: the first and the second number have a fence each, where they are not 0.
-const SHAPES: [(u8, u8, u8, [u32; 3]); 14] = [
+/// α, s, p, and the nodes: the first and the second number have a fence each, where they are not 0.
+pub const SHAPES: [(u8, u8, u8, [u32; 3]); 14] = [
     (1, 1, 0, [0, 0, 1]),
     (1, 1, 0, [0, 0, 30]),
     (1, 1, 0, [4, 5, 20]),
@@ -27,14 +27,14 @@ const SHAPES: [(u8, u8, u8, [u32; 3]); 14] = [
 // How many of a hundred blocks are lost.
 const PERCENTS: [u64; 4] = [10, 30, 50, 75];
 
-// One step of the linear congruential generator of Knuth's MMIX.
-fn step(x: u64) -> u64 {
+/// One step of the linear congruential generator of Knuth's MMIX.
+pub fn step(x: u64) -> u64 {
     x.wrapping_mul(6_364_136_223_846_793_005)
         .wrapping_add(1_442_695_040_888_963_407)
 }
 
-// A lattice with fences at the first two numbers of nodes, where they are not 0.
-fn fenced(alpha: u8, s: u8, p: u8, nodes: [u32; 3]) -> Option<Lattice> {
+/// A lattice with fences at the first two numbers of nodes, where they are not 0.
+pub fn fenced(alpha: u8, s: u8, p: u8, nodes: [u32; 3]) -> Option<Lattice> {
     let [first, second, n] = nodes;
     let mut lattice = Lattice::new(alpha, s, p, 0)?;
     for fence in [first, second] {
@@ -45,8 +45,8 @@ fn fenced(alpha: u8, s: u8, p: u8, nodes: [u32; 3]) -> Option<Lattice> {
     lattice.grown(n)
 }
 
-// So many percent of the blocks, by the generator that begins with the seed.
-fn lost_blocks(
+/// So many percent of the blocks, by the generator that begins with the seed.
+pub fn lost_blocks(
     alloc: Global,
     lattice: &Lattice,
     percent: u64,

@@ -1,5 +1,5 @@
-//! Trials of elimination: packed rows, the fates of worked examples, damage by chance against a plain elimination, and
-//! the smallest patterns of two nodes.
+//! Trials of elimination: packed rows, the fates of worked examples, damage by chance against a plain elimination,
+//! parts alone, and the smallest patterns of two nodes.
 #![tactic(auto)]
 
 #[cfg(test)]
@@ -8,6 +8,8 @@ mod bench;
 mod chance;
 #[cfg(test)]
 mod examples;
+#[cfg(test)]
+mod parts;
 #[cfg(test)]
 mod patterns;
 #[cfg(test)]

@@ -1,9 +1,13 @@
 -- One more record of an opened ledger.
-use Rattle.std.proofs.Common.{◌≡◌, ℕ, ◌+◌, ◌*◌, ◌^◌, ◌<◌, ◌≤◌, Bool, true, false, ◌||◌, List, [], ◌∷◌, ◌++◌, length, All, Result, Ok, Err, is_ok, take, inl, sym, ap, subst, ◌∙◌, arith}
-use Rattle.std.specs.Prelude.{OnOk, None}
+use Rattle.std.proofs.Common.{◌≡◌, ℕ, ◌+◌, ◌*◌, ◌^◌, ◌<◌, ◌≤◌, Bool, true, false, ◌||◌, List, [], ◌∷◌, ◌++◌, length, All, Result, Ok, Err, is_ok, take, drop, inl, refl, sym, ap, subst, ◌∙◌, append_assoc, arith}
+use Rattle.std.specs.Prelude.{OnOk, IfSome, IsTrue, None, Some, Option, option_map, ◌==◌}
+use Rattle.std.proofs.lemmas.Bool.{and_parts}
+use Rattle.std.proofs.Common.{Bor}
+use Rattle.aea_catalog.specs.declared.objects.Extent.{Extent}
+use Rattle.aea_records.specs.Fields.{are_apart, are_parts}
 use Rattle.std.specs.List.{flat_map, sum_by}
 use Rattle.std.specs.FinMap.{get, len, empty}
-use Rattle.std.proofs.lemmas.List.{length-append}
+use Rattle.std.proofs.lemmas.List.{append-nil, length-append, take-append-drop}
 use Rattle.std.proofs.Math.Seq.{take-append_seam}
 use Rattle.sha2.specs.Hashers.{Holds256}
 use Rattle.sha2.specs.Sha256.{sha256}
@@ -13,15 +17,18 @@ use Rattle.aea_lattice.specs.Fences.{greatest_fences, last_fence}
 use Rattle.aea_catalog.specs.Catalogs.{Objects}
 use Rattle.aea_catalog.specs.Names.{IsName}
 use Rattle.aea_disk.specs.State.{State, IsFixed}
-use Rattle.aea_records.specs.Format.{Stored, Record, Object, Fence, Raise, first_limit, limit_of, fences_of, is_raise, greatest_objects, nodes_for, limit_when, stored_in, stored_of, nodes_of, fence_in, body, entry, spelled}
+use Rattle.aea_records.specs.Format.{Stored, Record, Object, Joined, Fence, Raise, first_limit, limit_of, fences_of, is_raise, greatest_objects, nodes_for, limit_when, stored_in, stored_of, nodes_of, fence_in, body, entry, spelled}
 use Rattle.aea_records.specs.Grammar.{MayBeStored, IsNext, AreRecords, IsLedger}
 use Rattle.aea_records.specs.Catalogued.{with_record}
 use Rattle.aea_records.specs.Laws.{FencesMayFollow, ObjectsAreCounted, NewNamesAreFree, RecordsAreFew}
 use Rattle.aea_ledger.specs.Values.{Opened, HasRecords, HasSomeRecords, IsThisOne}
-use Rattle.aea_ledger.specs.Next.{AreItsRecords}
-use Rattle.aea_ledger.specs.Stops.{HasLedger, IsAdded}
+use Rattle.aea_records.specs.declared.heads.ObjectFields.{ObjectFields}
+use Rattle.aea_ledger.specs.Next.{AreItsRecords, stored_as, made, HasNodes}
+use Rattle.aea_ledger.proofs.Steps.{one_count}
+use Rattle.aea_ledger.specs.Stops.{HasLedger, IsAdded, closed}
 use Rattle.aea_ledger.specs.Committing.{IsNextOf, HasTaken, LeavesOldOrNew}
-use Rattle.aea_ledger.proofs.Records.{MayFollow-push, nodes_of-push, fences_of-push, digests_of-push, raised-push, objects-push, spelled-push}
+use Rattle.aea_ledger.proofs.Small.{few_nodes, few_parts, limit_small}
+use Rattle.aea_ledger.proofs.Records.{or_false, MayFollow-push, nodes_of-push, fences_of-push, digests_of-push, raised-push, objects-push, spelled-push}
 
 -- what is asked of an object that is to be added
 pub record MayBeAdded (v : Opened) (o : Stored) : Type 0 where
@@ -55,6 +62,88 @@ may_be_stored v records o counted free may has =
 pub object_next : (v : Opened) (o : Stored) → ObjectsAreCounted → NewNamesAreFree → MayBeAdded v o → o.count ≡ nodes_for v.shape o.size → IsNextOf v (Object o)
 object_next v o counted free may count records has = record { stored = may_be_stored v records o counted free may has; count = count }
 
+-- the limit was raised
+pub joined_next : (v : Opened) (o : Stored) (parts : List Extent) → ObjectsAreCounted → NewNamesAreFree → MayBeAdded v o → v.raised ≡ true → IsTrue (are_parts v.shape o.size (v.lattice.n + o.count) parts) → IsNextOf v (Joined o parts)
+joined_next v o parts counted free may raised apart records has = record {
+  raised = ap limit_when (sym has.raised ∙ raised);
+  stored = may_be_stored v records o counted free may has;
+  apart = subst (λ (n : ℕ). IsTrue (are_parts v.shape o.size (n + o.count) parts)) has.lattice.n apart;
+}
+
+-- an object that may be added, with the nodes that it takes, may follow
+pub made_next : (v : Opened) (o : Stored) (parts : Option (List Extent)) → ObjectsAreCounted → NewNamesAreFree → MayBeAdded v o → HasNodes v o.size o.count parts → IsNextOf v (made o parts)
+made_next v o None counted free may nodes = object_next v o counted free may nodes
+made_next v o (Some parts) counted free may nodes = joined_next v o parts counted free may nodes.0 nodes.1
+
+-- its parts are few
+pub made_few : (v : Opened) (size count : ℕ) (parts : Option (Bor (List Extent))) → v.lattice.n + count ≤ limit_when v.raised → HasNodes v size count (option_map (λ e. e.now) parts)
+    → IfSome parts (λ e. length e.now ≤ 2 ^ 20)
+made_few v size count None fits nodes = tt
+made_few v size count (Some parts) fits nodes =
+    let apart = and_parts (are_apart 0 (v.lattice.n + count) parts.now) (sum_by (λ (e : Extent). e.count) parts.now == nodes_for v.shape size) nodes.1 in
+    omega (arith, few_parts 0 (v.lattice.n + count) parts.now apart.0, fits, limit_small v.raised)
+
+-- and so are their nodes
+pub made_small : (v : Opened) (size count : ℕ) (parts : Option (List Extent)) → v.lattice.n + count ≤ limit_when v.raised → HasNodes v size count parts → IfSome parts (λ e. sum_by (λ p. p.count) e < 2 ^ 32)
+made_small v size count None fits nodes = tt
+made_small v size count (Some parts) fits nodes =
+    let apart = and_parts (are_apart 0 (v.lattice.n + count) parts) (sum_by (λ (e : Extent). e.count) parts == nodes_for v.shape size) nodes.1 in
+    omega (arith, few_nodes 0 (v.lattice.n + count) parts apart.0, fits, limit_small v.raised)
+
+-- one opened ledger has what the other has, and what the record of the object adds
+pub record HasMade (v : Opened) (o : Stored) (parts : Option (List Extent)) (w : Opened) : Type 0 where
+  pub shape : w.shape ≡ v.shape
+  pub alpha : w.lattice.alpha ≡ v.lattice.alpha
+  pub s : w.lattice.s ≡ v.lattice.s
+  pub p : w.lattice.p ≡ v.lattice.p
+  pub n : w.lattice.n ≡ v.lattice.n + o.count
+  pub fences : w.lattice.fences ≡ v.lattice.fences
+  pub objects : w.objects ≡ with_record v.objects (made o parts)
+  pub raised : w.raised ≡ v.raised
+  pub digests : w.digests ≡ v.digests ++ o.digests
+  pub hasher : (m : List ℕ) → Holds256 v.hasher m → Holds256 w.hasher (m ++ entry (made o parts))
+  pub seal : (m : List ℕ) → Holds256 v.hasher m → w.seal ≡ sha256 (m ++ entry (made o parts))
+  pub end : w.end ≡ v.end + length (entry (made o parts))
+  pub live : w.live ≡ true
+
+-- a record of one object, and of nothing else
+taken_one : (v w : Opened) (o : Stored) (parts : Option (List Extent)) (r : Record) → r ≡ made o parts → stored_in r ≡ o ∷ [] → fence_in r ≡ [] → is_raise r ≡ false → HasMade v o parts w → HasTaken v r w
+taken_one v w o parts r is one no_fence no_raise has = record {
+  shape = has.shape;
+  alpha = has.alpha;
+  s = has.s;
+  p = has.p;
+  n = has.n ∙ ap (λ (n : ℕ). v.lattice.n + n) (sym (ap (sum_by (λ (q : Stored). q.count)) one ∙ one_count o));
+  fences = has.fences ∙ sym (ap (λ (l : List ℕ). v.lattice.fences ++ l) no_fence ∙ append-nil v.lattice.fences);
+  objects = has.objects ∙ ap (with_record v.objects) (sym is);
+  raised = has.raised ∙ sym (ap (λ (b : Bool). v.raised || b) no_raise ∙ or_false v.raised);
+  digests = has.digests ∙ ap (λ (l : List (List ℕ)). v.digests ++ l) (sym (ap (flat_map (λ (q : Stored). q.digests)) one ∙ append-nil o.digests));
+  hasher = λ m holds. subst (λ (q : Record). Holds256 w.hasher (m ++ entry q)) (sym is) (has.hasher m holds);
+  seal = λ m holds. has.seal m holds ∙ ap (λ (q : Record). sha256 (m ++ entry q)) (sym is);
+  end = has.end ∙ ap (λ (q : Record). v.end + length (entry q)) (sym is);
+  live = has.live;
+}
+
+pub made_taken : (v w : Opened) (o : Stored) (parts : Option (List Extent)) → HasMade v o parts w → HasTaken v (made o parts) w
+made_taken v w o None has = taken_one v w o None (Object o) refl refl refl refl has
+made_taken v w o (Some parts) has = taken_one v w o (Some parts) (Joined o parts) refl refl refl refl has
+
+-- the digests of an object are not kept with it
+pub with_made : (m : Objects) (name : List ℕ) (o : ObjectFields) (digests : List (List ℕ)) (parts : Option (List Extent)) → with_record m (made (stored_as name o []) parts) ≡ with_record m (made (stored_as name o digests) parts)
+with_made m name o digests None = refl
+with_made m name o digests (Some parts) = refl
+
+-- an opened ledger has no more objects than there may be
+pub few_objects : (v : Opened) → ObjectsAreCounted → RecordsAreFew → HasSomeRecords v → len v.objects ≤ greatest_objects
+few_objects v counted few has =
+    let number : len v.objects ≡ length (stored_of has.0) = ap len has.1.objects ∙ counted v.shape has.0 has.1.valid in
+    omega (arith, number, (few v.shape has.0 has.1.valid).objects)
+
+-- what a view of an option has, the option has
+pub of_view : {X Y : Type 0} (f : X → Y) (P : Y → Type 0) (o : Option X) → IfSome (option_map f o) P → IfSome o (λ x. P (f x))
+of_view f P None is = tt
+of_view f P (Some x) is = is
+
 -- what an opened ledger has that has taken one more record
 pub has_more : (v w : Opened) (records : List Record) (r : Record) → HasTaken v r w → HasRecords v records → IsNext v.shape records r → HasRecords w (records ++ r ∷ [])
 has_more v w records r taken has next =
@@ -83,13 +172,18 @@ short_end v records r law has next =
     let few = law v.shape (records ++ r ∷ []) (MayFollow-push v.shape [] records r has.valid next) in
     omega (arith, has.end, ap length (spelled-push v.shape records r), length-append (spelled v.shape records) (entry r), few.short, few.objects)
 
--- what stands behind the gate has as many bytes as the entry
-pub length-behind : (r : Record) (behind : List ℕ) → behind ≡ body r ++ 0 ∷ [] → length behind ≡ length (entry r)
-length-behind r behind is = ap length is ∙ omega (arith, length-append (body r) (0 ∷ []))
+-- two pieces of a body, and a closed gate
+pub closed_is : (front rest : List ℕ) (r : Record) → front ++ rest ≡ body r → closed front rest ≡ body r ++ 0 ∷ []
+closed_is front rest r is = sym (append_assoc front rest (0 ∷ [])) ∙ ap (λ (l : List ℕ). l ++ 0 ∷ []) is
 
--- and begins with the body
-pub front-behind : (r : Record) (behind : List ℕ) (n : ℕ) → behind ≡ body r ++ 0 ∷ [] → n ≡ length (body r) → take n behind ≡ body r
-front-behind r behind n is size = ap (λ (k : ℕ). take k behind) size ∙ ap (take (length (body r))) is ∙ take-append_seam (body r) (0 ∷ [])
+-- they have as many bytes as the entry
+pub length-closed : (front rest : List ℕ) (r : Record) → front ++ rest ≡ body r → length front + (length rest + 1) ≡ length (entry r)
+length-closed front rest r is = omega (arith, length-append front rest, ap length is)
+
+-- a body that a closed gate follows, cut in two pieces
+pub cut-behind : (r : Record) (behind : List ℕ) (n k : ℕ) → behind ≡ body r ++ 0 ∷ [] → n ≡ length (body r) → take k (take n behind) ++ drop k (take n behind) ≡ body r
+cut-behind r behind n k is size =
+    take-append-drop k (take n behind) ∙ ap (λ (m : ℕ). take m behind) size ∙ ap (take (length (body r))) is ∙ take-append_seam (body r) (0 ∷ [])
 
 -- it adds the record
 pub is_added : (v : Opened) (records : List Record) (r : Record) (bytes behind : List ℕ) (end : ℕ) → v.end ≡ end → IsNextOf v r → AreItsRecords v records bytes → behind ≡ body r ++ 0 ∷ []

@@ -10,3 +10,4 @@ pub mod Small
 pub mod Commits
 pub mod Bodies
 pub mod Appends
+pub mod Lying

@@ -32,15 +32,25 @@ few_nodes after nodes (e ∷ parts) apart =
     let c = and_parts (nat_lt after e.first) (nat_le 1 e.count) b.0 in
     omega (arith, ltb-true after e.first c.0, leb-true 1 e.count c.1, leb-true (e.first + e.count) (nodes + 1) b.1, few_nodes (e.first + e.count - 1) nodes parts a.1, sum_by-cons (λ (x : Extent). x.count) e parts)
 
+-- and are no more than these
+pub few_parts : (after nodes : ℕ) (parts : List Extent) → are_apart after nodes parts ≡ true → length parts ≤ nodes - after
+few_parts after nodes [] apart = omega arith
+few_parts after nodes (e ∷ parts) apart =
+    let a = and_parts (nat_lt after e.first && nat_le 1 e.count && nat_le (e.first + e.count) (nodes + 1)) (are_apart (e.first + e.count - 1) nodes parts) apart in
+    let b = and_parts (nat_lt after e.first && nat_le 1 e.count) (nat_le (e.first + e.count) (nodes + 1)) a.0 in
+    let c = and_parts (nat_lt after e.first) (nat_le 1 e.count) b.0 in
+    omega (arith, ltb-true after e.first c.0, leb-true 1 e.count c.1, leb-true (e.first + e.count) (nodes + 1) b.1, few_parts (e.first + e.count - 1) nodes parts a.1)
+
+-- the limit is not large
+pub limit_small : (raised : Bool) → limit_when raised ≤ 1048576
+limit_small true = omega arith
+limit_small false = omega arith
+
 -- so many digests of new nodes
 pub few_digests : (shape : Shape) (raised : Bool) (nodes count digests : ℕ) → nodes + count ≤ limit_when raised → digests ≡ count * (1 + shape.alpha) → digests ≤ 2 ^ 22
 few_digests shape raised nodes count digests fits long =
     let few : count * (1 + shape.alpha) ≤ 1048576 * 4 = mul-le count (1 + shape.alpha) 1048576 4 (omega (arith, fits, limit_small raised)) (omega (arith, alpha_small shape)) in
     omega (arith, few, long)
-  where
-    limit_small : (raised : Bool) → limit_when raised ≤ 1048576
-    limit_small true = omega arith
-    limit_small false = omega arith
 
 -- the last of some fences
 pub last-at : (fences : List ℕ) (k : ℕ) (f : ℕ) → length fences ≡ k + 1 → slice_get fences k ≡ Some f → last_fence fences ≡ f

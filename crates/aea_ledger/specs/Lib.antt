@@ -6,3 +6,4 @@ pub mod Reads
 pub mod Openings
 pub mod Readings
 pub mod Committing
+pub mod Lying

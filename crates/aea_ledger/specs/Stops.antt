@@ -30,6 +30,10 @@ pub record MakesArchive (shape : Shape) (old new : Files) : Type 0 where
 abbrev pub committed : List ℕ → ℕ → List ℕ → List ℕ
 committed file end behind = overwritten (overwritten file (end + 1) behind) end (open_gate ∷ [])
 
+-- what stands behind the gate of the last record, whose body is in two pieces: the body, and a gate that is not open
+abbrev pub closed : List ℕ → List ℕ → List ℕ
+closed front rest = front ++ (rest ++ 0 ∷ [])
+
 -- The file has these records, whatever stands behind its ending gate.
 abbrev pub HasLedger : Shape → List Record → List ℕ → Type 0
 HasLedger shape records bytes = IsLedger bytes shape records (length (spelled shape records))

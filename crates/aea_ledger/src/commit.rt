@@ -8,7 +8,7 @@ ghost use Rattle.aea_records.specs.Format.{Record, body};
 ghost use Rattle.aea_records.specs.Grammar.{IsLedger};
 ghost use Rattle.aea_ledger.specs.Values.{Opened, IsThisOne};
 ghost use Rattle.aea_ledger.specs.Committing.{IsNextOf, HasTaken, LeavesOldOrNew, HasCommitted};
-ghost use Rattle.aea_ledger.specs.Stops.{HasLedger, HasOldOrNew, IsAdded, IsStaged, committed};
+ghost use Rattle.aea_ledger.specs.Stops.{HasLedger, HasOldOrNew, IsAdded, IsStaged, closed, committed};
 
 use aea_disk::{Disk, DiskFault};
 
@@ -25,25 +25,54 @@ pub(crate) fn write_through<D: Disk>(disk: &mut D, at: u64, bytes: &[u8]) -> Res
     disk.sync()
 }
 
-// Writes the body of a record and the closed gate that is to follow behind the gate at `end`, and makes them sure.
+// Writes bytes of the ledger file and others behind them: those behind first, so that want of room shows at the first
+// call. It leaves what a write of both leaves.
+fn write_both<D: Disk>(disk: &mut D, at: u64, front: &[u8], back: &[u8]) -> Result<(), DiskFault>
+    requires { at + (length front.now + length back.now) ≤ 2 ^ 62 }
+    ensures written { OnOk result (D.tells → ChangesFile 0 (Holds at (front.now ++ back.now)) (D.state disk.old).files (D.state disk.new).files) }
+    ensures writes { OnlyWrites D.tells (HasRoomTo (D.state disk.old) 0 (at + (length front.now + length back.now))) (IsErr result) (ChangesFile 0 (Torn at (length front.now + length back.now))) (D.state disk.old) (D.state disk.new) }
+    ensures full { OnOk result (HasRoom (D.state disk.old) → HasRoomTo (D.state disk.old) 0 (at + (length front.now + length back.now))) }
+{
+    disk.write(0, at + front.len() as u64, back)?;
+    disk.write(0, at, front)
+}
+
+// Writes the body of a record, which is in two pieces, and a closed gate behind it, and makes them sure.
+fn write_closed<D: Disk>(disk: &mut D, at: u64, front: &[u8], rest: &[u8]) -> Result<(), DiskFault>
+    requires { at + (length front.now + (length rest.now + 1)) ≤ 2 ^ 62 }
+    ensures written { OnOk result (D.tells → ChangesFile 0 (Holds at (closed front.now rest.now)) (D.state disk.old).files (D.state disk.new).files) }
+    ensures durable { OnOk result (D.tells → IsSynced (D.state disk.new)) }
+    ensures writes { OnlyWrites D.tells (HasRoomTo (D.state disk.old) 0 (at + (length front.now + (length rest.now + 1)))) (IsErr result) (ChangesFile 0 (Torn at (length front.now + (length rest.now + 1)))) (D.state disk.old) (D.state disk.new) }
+    ensures full { OnOk result (HasRoom (D.state disk.old) → HasRoomTo (D.state disk.old) 0 (at + (length front.now + (length rest.now + 1)))) }
+{
+    write_both(disk, at + front.len() as u64, rest, &[0])?;
+    write_through(disk, at, front)
+}
+
+// Writes the body of a record, which is in two pieces, and a closed gate behind the gate at `end`, and makes them sure.
 // The ledger stays what it was.
-pub(crate) fn write_body<D: Disk>(disk: &mut D, end: u64, behind: &[u8]) -> Result<(), DiskFault>
-    requires range { end + length behind.now + 1 ≤ 2 ^ 62 }
+pub(crate) fn write_body<D: Disk>(
+    disk: &mut D,
+    end: u64,
+    front: &[u8],
+    rest: &[u8],
+) -> Result<(), DiskFault>
+    requires range { end + 1 + (length front.now + (length rest.now + 1)) ≤ 2 ^ 62 }
     requires fixed { D.tells → IsFixed (D.state disk.old) 0 }
 
     // The old ledger at each moment; at Ok the body stands behind its gate.
     ensures any_moment { D.tells → (shape : Shape) (records : List Record) → IsLedger ((D.state disk.old).files 0) shape records end → During (D.state disk.old) (D.state disk.new) (λ c. HasLedger shape records (c 0)) }
     ensures reads { D.tells → (shape : Shape) (records : List Record) → IsLedger ((D.state disk.old).files 0) shape records end → HasLedger shape records ((D.state disk.new).files 0) }
     ensures stays { D.tells → (shape : Shape) (records : List Record) (r : Record) → IsLedger ((D.state disk.old).files 0) shape records end → Stays (D.state disk.old) (D.state disk.new) (λ c. HasLedger shape (records ++ r ∷ []) (c 0)) }
-    ensures exactly { OnOk result (D.tells → (D.state disk.new).files 0 ≡ overwritten ((D.state disk.old).files 0) (end + 1) behind.now) }
-    ensures staged { OnOk result (D.tells → (shape : Shape) (records : List Record) (r : Record) → IsAdded shape records r ((D.state disk.old).files 0) end behind.now → IsStaged shape records r ((D.state disk.new).files 0) end) }
+    ensures exactly { OnOk result (D.tells → (D.state disk.new).files 0 ≡ overwritten ((D.state disk.old).files 0) (end + 1) (closed front.now rest.now)) }
+    ensures staged { OnOk result (D.tells → (shape : Shape) (records : List Record) (r : Record) → IsAdded shape records r ((D.state disk.old).files 0) end (closed front.now rest.now) → IsStaged shape records r ((D.state disk.new).files 0) end) }
     ensures durable { OnOk result (D.tells → IsSynced (D.state disk.new)) }
 
-    ensures length { D.tells → length ((D.state disk.new).files 0) ≤ max (length ((D.state disk.old).files 0)) (end + 1 + length behind.now) }
-    ensures writes { OnlyWrites D.tells (HasRoomTo (D.state disk.old) 0 (end + 1 + length behind.now)) (IsErr result) (ChangesOnly 0) (D.state disk.old) (D.state disk.new) }
-    ensures full { OnOk result (HasRoom (D.state disk.old) → HasRoomTo (D.state disk.old) 0 (end + 1 + length behind.now)) }
+    ensures length { D.tells → length ((D.state disk.new).files 0) ≤ max (length ((D.state disk.old).files 0)) (end + 1 + (length front.now + (length rest.now + 1))) }
+    ensures writes { OnlyWrites D.tells (HasRoomTo (D.state disk.old) 0 (end + 1 + (length front.now + (length rest.now + 1)))) (IsErr result) (ChangesOnly 0) (D.state disk.old) (D.state disk.new) }
+    ensures full { OnOk result (HasRoom (D.state disk.old) → HasRoomTo (D.state disk.old) 0 (end + 1 + (length front.now + (length rest.now + 1)))) }
 {
-    write_through(disk, end + 1, behind)
+    write_closed(disk, end + 1, front, rest)
 }
 
 // Opens the gate at `end`, behind which the body of a record stands, and makes that sure.
@@ -65,37 +94,47 @@ pub(crate) fn open_gate<D: Disk>(disk: &mut D, end: u64) -> Result<(), DiskFault
     write_through(disk, end, &[1])
 }
 
-// Commits a record: writes its body and the closed gate that is to follow behind the gate at `end`, makes them sure,
+// Commits a record: writes its body, which is in two pieces, and a closed gate behind the gate at `end`, makes them sure,
 // and then opens the gate, and makes that sure.
-pub(crate) fn commit<D: Disk>(disk: &mut D, end: u64, behind: &[u8]) -> Result<(), DiskFault>
-    requires range { end + length behind.now + 1 ≤ 2 ^ 62 }
+pub(crate) fn commit<D: Disk>(
+    disk: &mut D,
+    end: u64,
+    front: &[u8],
+    rest: &[u8],
+) -> Result<(), DiskFault>
+    requires range { end + 1 + (length front.now + (length rest.now + 1)) ≤ 2 ^ 62 }
     requires fixed { D.tells → IsFixed (D.state disk.old) 0 }
 
     // Where it adds the record r to these records: the old ledger or the new one at each moment, and the new one at Ok.
-    ensures any_moment { D.tells → (shape : Shape) (records : List Record) (r : Record) → IsAdded shape records r ((D.state disk.old).files 0) end behind.now → During (D.state disk.old) (D.state disk.new) (λ c. HasOldOrNew shape records r (c 0)) }
-    ensures stays { D.tells → (shape : Shape) (records : List Record) (r : Record) → IsAdded shape records r ((D.state disk.old).files 0) end behind.now → Stays (D.state disk.old) (D.state disk.new) (λ c. HasLedger shape (records ++ r ∷ []) (c 0)) }
-    ensures reads { D.tells → (shape : Shape) (records : List Record) (r : Record) → IsAdded shape records r ((D.state disk.old).files 0) end behind.now → HasOldOrNew shape records r ((D.state disk.new).files 0) }
+    ensures any_moment { D.tells → (shape : Shape) (records : List Record) (r : Record) → IsAdded shape records r ((D.state disk.old).files 0) end (closed front.now rest.now) → During (D.state disk.old) (D.state disk.new) (λ c. HasOldOrNew shape records r (c 0)) }
+    ensures stays { D.tells → (shape : Shape) (records : List Record) (r : Record) → IsAdded shape records r ((D.state disk.old).files 0) end (closed front.now rest.now) → Stays (D.state disk.old) (D.state disk.new) (λ c. HasLedger shape (records ++ r ∷ []) (c 0)) }
+    ensures reads { D.tells → (shape : Shape) (records : List Record) (r : Record) → IsAdded shape records r ((D.state disk.old).files 0) end (closed front.now rest.now) → HasOldOrNew shape records r ((D.state disk.new).files 0) }
     // At Ok the file is the old one with these bytes behind the gate, and the gate opened.
-    ensures exactly { OnOk result (D.tells → (D.state disk.new).files 0 ≡ committed ((D.state disk.old).files 0) end behind.now) }
-    ensures appended { OnOk result (D.tells → (shape : Shape) (records : List Record) (r : Record) → IsAdded shape records r ((D.state disk.old).files 0) end behind.now → HasLedger shape (records ++ r ∷ []) ((D.state disk.new).files 0)) }
+    ensures exactly { OnOk result (D.tells → (D.state disk.new).files 0 ≡ committed ((D.state disk.old).files 0) end (closed front.now rest.now)) }
+    ensures appended { OnOk result (D.tells → (shape : Shape) (records : List Record) (r : Record) → IsAdded shape records r ((D.state disk.old).files 0) end (closed front.now rest.now) → HasLedger shape (records ++ r ∷ []) ((D.state disk.new).files 0)) }
     ensures durable { OnOk result (D.tells → IsSynced (D.state disk.new)) }
 
-    ensures length { D.tells → length ((D.state disk.new).files 0) ≤ max (length ((D.state disk.old).files 0)) (end + 1 + length behind.now) }
-    ensures writes { OnlyWrites D.tells (HasRoomTo (D.state disk.old) 0 (end + 1 + length behind.now)) (IsErr result) (ChangesOnly 0) (D.state disk.old) (D.state disk.new) }
-    ensures full { OnOk result (HasRoom (D.state disk.old) → HasRoomTo (D.state disk.old) 0 (end + 1 + length behind.now)) }
+    ensures length { D.tells → length ((D.state disk.new).files 0) ≤ max (length ((D.state disk.old).files 0)) (end + 1 + (length front.now + (length rest.now + 1))) }
+    ensures writes { OnlyWrites D.tells (HasRoomTo (D.state disk.old) 0 (end + 1 + (length front.now + (length rest.now + 1)))) (IsErr result) (ChangesOnly 0) (D.state disk.old) (D.state disk.new) }
+    ensures full { OnOk result (HasRoom (D.state disk.old) → HasRoomTo (D.state disk.old) 0 (end + 1 + (length front.now + (length rest.now + 1)))) }
 {
-    write_body(disk, end, behind)?;
+    write_body(disk, end, front, rest)?;
     open_gate(disk, end)
 }
 
-// Commits the record r of which these bytes are the body and a closed gate, to an opened ledger v that ends at this place.
-pub(crate) fn commit_next<D: Disk>(disk: &mut D, end: u64, behind: &[u8]) -> Result<(), DiskFault>
-    requires range { end + length behind.now + 1 ≤ 2 ^ 62 }
+// Commits the record r of which these two pieces are the body, to an opened ledger v that ends at this place.
+pub(crate) fn commit_next<D: Disk>(
+    disk: &mut D,
+    end: u64,
+    front: &[u8],
+    rest: &[u8],
+) -> Result<(), DiskFault>
+    requires range { end + 1 + (length front.now + (length rest.now + 1)) ≤ 2 ^ 62 }
     requires fixed { D.tells → IsFixed (D.state disk.old) 0 }
-    ensures leaves { (v : Opened) (r : Record) → v.end ≡ end → behind.now ≡ body r ++ 0 ∷ [] → IsNextOf v r → LeavesOldOrNew D.tells v r (D.state disk.old) (D.state disk.new) }
-    ensures committed { OnOk result ((v w : Opened) (r : Record) → v.end ≡ end → behind.now ≡ body r ++ 0 ∷ [] → IsNextOf v r → (D.tells → IsThisOne v ((D.state disk.old).files 0)) → HasTaken v r w → HasCommitted D.tells v w r (D.state disk.old) (D.state disk.new)) }
-    ensures writes { OnlyWrites D.tells (HasRoomTo (D.state disk.old) 0 (end + 1 + length behind.now)) (IsErr result) (ChangesOnly 0) (D.state disk.old) (D.state disk.new) }
+    ensures leaves { (v : Opened) (r : Record) → v.end ≡ end → front.now ++ rest.now ≡ body r → IsNextOf v r → LeavesOldOrNew D.tells v r (D.state disk.old) (D.state disk.new) }
+    ensures committed { OnOk result ((v w : Opened) (r : Record) → v.end ≡ end → front.now ++ rest.now ≡ body r → IsNextOf v r → (D.tells → IsThisOne v ((D.state disk.old).files 0)) → HasTaken v r w → HasCommitted D.tells v w r (D.state disk.old) (D.state disk.new)) }
+    ensures writes { OnlyWrites D.tells (HasRoomTo (D.state disk.old) 0 (end + 1 + (length front.now + (length rest.now + 1)))) (IsErr result) (ChangesOnly 0) (D.state disk.old) (D.state disk.new) }
 {
-    commit(disk, end, behind)?;
+    commit(disk, end, front, rest)?;
     Ok(())
 }

@@ -70,11 +70,12 @@ impl Ledger {
             return Err(FenceFault::TooManyFences);
         };
         let behind = fence_body(nodes);
-        if commit_next(disk, self.end, &behind).is_err() {
+        let (front, rest) = behind[..9].split_at(5);
+        if commit_next(disk, self.end, front, rest).is_err() {
             self.live = false;
             return Err(FenceFault::DiskFault);
         }
-        self.seal = take_entry(&mut self.hasher, &behind[..9]);
+        self.seal = take_entry(&mut self.hasher, front, rest);
         self.lattice = lattice;
         self.end += 10;
         Ok(nodes)

@@ -6,10 +6,13 @@ ghost use Rattle.aea_lattice.specs.Blocks.{blocks_count};
 ghost use Rattle.aea_records.specs.Format.{greatest_objects, limit_when};
 ghost use Rattle.aea_ledger.specs.Recorded.{IsLatticeOf};
 ghost use Rattle.aea_ledger.specs.Values.{Opened, HasSomeRecords};
+ghost use Rattle.aea_ledger.specs.Lying.{LieWithin};
 
 use aea_catalog::Catalog;
 use aea_lattice::{Lattice, Shape};
-use aea_records::digests_are_counted;
+use aea_records::{
+    digests_are_counted, objects_are_counted, objects_are_of_records, records_are_few,
+};
 use sha2::Sha256;
 use std::marker::Model;
 
@@ -46,29 +49,38 @@ impl Model for Ledger {
 impl Ledger {
     /// The shape of the archive.
     pub fn shape(&self) -> Shape
-        ensures { result ≡ self.now.shape }
+        ensures value { result ≡ self.now.shape }
+        ensures records { HasSomeRecords self.now }
     {
         self.shape
     }
 
     /// The lattice of the archive: of its shape, with the nodes of all its objects, and its fences.
     pub fn lattice(&self) -> Lattice
-        ensures { result ≡ self.now.lattice }
+        ensures value { result ≡ self.now.lattice }
+        ensures of_shape { IsLatticeOf self.now.shape result.n result.fences result }
     {
         self.lattice
     }
 
-    /// The objects of the archive.
+    /// The objects of the archive. Their nodes are those of its lattice.
     pub fn catalog(&self) -> &Catalog
-        ensures { result.now.objects ≡ self.now.objects }
+        ensures objects { result.now.objects ≡ self.now.objects }
+        ensures few { len result.now.objects ≤ greatest_objects }
+        ensures within { LieWithin self.now.shape self.now.lattice.n result.now.objects }
     {
+        objects_are_counted();
+        objects_are_of_records();
+        records_are_few();
         &self.catalog
     }
 
     /// The most nodes that the archive may have.
     pub fn limit(&self) -> u32
-        ensures { result ≡ limit_when self.now.raised }
+        ensures value { result ≡ limit_when self.now.raised }
+        ensures nodes { self.now.lattice.n ≤ result }
     {
+        records_are_few();
         if self.raised { 1_048_576 } else { 65_536 }
     }
 

@@ -48,11 +48,12 @@ impl Ledger {
             return Err(UpgradeFault::AlreadyUpgraded);
         }
         let behind = raise_body();
-        if commit_next(disk, self.end, &behind).is_err() {
+        let (front, rest) = behind[..9].split_at(5);
+        if commit_next(disk, self.end, front, rest).is_err() {
             self.live = false;
             return Err(UpgradeFault::DiskFault);
         }
-        self.seal = take_entry(&mut self.hasher, &behind[..9]);
+        self.seal = take_entry(&mut self.hasher, front, rest);
         self.raised = true;
         self.end += 10;
         Ok(())

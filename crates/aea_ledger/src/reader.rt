@@ -79,7 +79,7 @@ fn blocks_of(shape: &Shape, nodes: u32) -> usize
 }
 
 // What is kept of an object whose nodes are all new.
-fn object_ref(object: &ObjectFields) -> ObjectRef
+pub(crate) fn object_ref(object: &ObjectFields) -> ObjectRef
     ensures { result ≡ record { first = object.now.first; count = object.now.count; length = object.now.size; digest = object.now.digest } }
 {
     let digest = object.digest;
@@ -104,7 +104,7 @@ fn total(parts: &[Extent]) -> u32
 }
 
 // What is kept of an object in parts.
-fn joined_ref(object: &ObjectFields, parts: &[Extent]) -> ObjectRef
+pub(crate) fn joined_ref(object: &ObjectFields, parts: &[Extent]) -> ObjectRef
     requires { sum_by (λ e. e.count) parts.now < 2 ^ 32 }
     ensures { result ≡ record { first = first_of parts.now; count = sum_by (λ e. e.count) parts.now; length = object.now.size; digest = object.now.digest } }
 {

@@ -55,8 +55,8 @@ returns-clause-writes g c =
     let first = g.D.Disk.state c.args.disk.now in
     let second = g.D.Disk.state c.write_body.new.disk in
     let third = g.D.Disk.state c.open_gate.new.disk in
-    let fits = HasRoomTo first 0 (c.args.end + 1 + length c.args.behind.now) in
+    let fits = HasRoomTo first 0 (c.args.end + 1 + (length c.args.front.now + (length c.args.rest.now + 1))) in
     writes_both g.D.Disk.tells fits fits (HasRoomTo second 0 (c.args.end + 1)) _ _ (ChangesOnly 0) (ChangesOnly 0) (ChangesOnly 0) first second third
     (λ d e one. one) (λ d e f one two. keeps_both (λ k. k ≢ 0) d e f one two) (λ fit. fit)
-    (λ fit passes. g.met.D.Disk.smaller_fits c.write_body.new.disk 0 (c.args.end + 1) (c.args.end + 1 + length c.args.behind.now) (omega arith) (passes.room 0 (c.args.end + 1 + length c.args.behind.now) fit))
+    (λ fit passes. g.met.D.Disk.smaller_fits c.write_body.new.disk 0 (c.args.end + 1) (c.args.end + 1 + (length c.args.front.now + (length c.args.rest.now + 1))) (omega arith) (passes.room 0 (c.args.end + 1 + (length c.args.front.now + (length c.args.rest.now + 1))) fit))
     c.write_body.ensures.writes c.open_gate.ensures.writes

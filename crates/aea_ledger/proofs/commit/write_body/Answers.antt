@@ -1,44 +1,44 @@
-use Rattle.std.proofs.Common.{[], ◌∷◌, ◌++◌, ◌+◌, ℕ, List, length, sym, subst}
+use Rattle.std.proofs.Common.{[], ◌∷◌, ◌++◌, ◌+◌, length}
 use Rattle.std.proofs.lemmas.Result.{on_ok_weaker}
-use Rattle.aea_disk.specs.Files.{Files, ChangesFile, ChangesOnly, Torn}
+use Rattle.aea_disk.specs.Files.{ChangesFile, ChangesOnly, Torn}
 use Rattle.aea_disk.specs.State.{HasRoomTo}
 use Rattle.aea_disk.proofs.Frames.{writes_wider}
-use Rattle.aea_disk.proofs.Moments.{during_change, stays_step}
-use Rattle.aea_records.specs.Grammar.{IsLedger}
-use Rattle.aea_ledger.specs.Stops.{HasLedger}
+use Rattle.aea_disk.proofs.Moments.{during_change, stays_never}
+use Rattle.aea_records.specs.Format.{spelled}
+use Rattle.aea_ledger.specs.Stops.{HasLedger, closed}
 use Rattle.aea_ledger.proofs.Commits.{old_behind, staged, not_both}
 use Rattle.aea_ledger.proofs.commit.write_body.Goals as goal
 
 pub returns-clause-any_moment : goal.returns-clause-any_moment
 returns-clause-any_moment g c told shape records ledger =
     let first = g.D.Disk.state c.args.disk.now in
-    let second = g.D.Disk.state c.write_through.new.disk in
-    let n = length c.args.behind.now in
-    during_change 0 (Torn (c.args.end + 1) n) first second (HasLedger shape records) c.write_through.ensures.writes.crash (c.requires.fixed told)
+    let second = g.D.Disk.state c.write_closed.new.disk in
+    let n = length c.args.front.now + (length c.args.rest.now + 1) in
+    during_change 0 (Torn (c.args.end + 1) n) first second (HasLedger shape records) c.write_closed.ensures.writes.crash (c.requires.fixed told)
     (λ xs torn. old_behind shape records (first.files 0) xs c.args.end n ledger torn)
 
 pub returns-clause-reads : goal.returns-clause-reads
 returns-clause-reads g c told shape records ledger =
-    old_behind shape records _ _ c.args.end (length c.args.behind.now) ledger (c.write_through.ensures.writes.contents told).here
+    old_behind shape records _ _ c.args.end (length c.args.front.now + (length c.args.rest.now + 1)) ledger (c.write_closed.ensures.writes.contents told).here
 
 pub returns-clause-stays : goal.returns-clause-stays
 returns-clause-stays g c told shape records r ledger =
     let first = g.D.Disk.state c.args.disk.now in
-    let second = g.D.Disk.state c.write_through.new.disk in
-    let P : Files → Type 0 = λ d. HasLedger shape (records ++ r ∷ []) (d 0) in
-    stays_step (ChangesFile 0 (Torn (c.args.end + 1) (length c.args.behind.now))) first second P c.write_through.ensures.writes.crash c.write_through.ensures.settled
-    (λ d e was new step. absurd (not_both shape records r (d 0) c.args.end (subst (λ (l : List ℕ). IsLedger l shape records c.args.end) (sym (c.requires.fixed told d was)) ledger) new))
-    c.write_through.ensures.writes.time
+    let second = g.D.Disk.state c.write_closed.new.disk in
+    let n = length c.args.front.now + (length c.args.rest.now + 1) in
+    stays_never first second (λ d. HasLedger shape (records ++ r ∷ []) (d 0)) c.write_closed.ensures.writes.earlier
+    (during_change 0 (Torn (c.args.end + 1) n) first second (λ xs. HasLedger shape (records ++ r ∷ []) xs → ⊥) c.write_closed.ensures.writes.crash (c.requires.fixed told)
+    (λ xs torn new. not_both shape records r xs (length (spelled shape records)) (old_behind shape records (first.files 0) xs c.args.end n ledger torn) new))
 
 pub returns-clause-staged : goal.returns-clause-staged
 returns-clause-staged g c =
     let first = g.D.Disk.state c.args.disk.now in
-    let second = g.D.Disk.state c.write_through.new.disk in
-    on_ok_weaker c.write_through.result
-    (λ written told shape records r added. staged shape records r (first.files 0) (second.files 0) c.args.end c.args.behind.now added (written told).here)
-    c.write_through.ensures.written
+    let second = g.D.Disk.state c.write_closed.new.disk in
+    on_ok_weaker c.write_closed.result
+    (λ written told shape records r added. staged shape records r (first.files 0) (second.files 0) c.args.end (closed c.args.front.now c.args.rest.now) added (written told).here)
+    c.write_closed.ensures.written
 
 pub returns-clause-writes : goal.returns-clause-writes
 returns-clause-writes g c =
     let first = g.D.Disk.state c.args.disk.now in
-    writes_wider g.D.Disk.tells (HasRoomTo first 0 (c.args.end + 1 + length c.args.behind.now)) (HasRoomTo first 0 (c.args.end + 1 + length c.args.behind.now)) _ (ChangesFile 0 (Torn (c.args.end + 1) (length c.args.behind.now))) (ChangesOnly 0) first (g.D.Disk.state c.write_through.new.disk) (λ d e changes. changes.others) (λ fit. fit) c.write_through.ensures.writes
+    writes_wider g.D.Disk.tells (HasRoomTo first 0 (c.args.end + 1 + (length c.args.front.now + (length c.args.rest.now + 1)))) (HasRoomTo first 0 (c.args.end + 1 + (length c.args.front.now + (length c.args.rest.now + 1)))) _ (ChangesFile 0 (Torn (c.args.end + 1) ((length c.args.front.now + (length c.args.rest.now + 1))))) (ChangesOnly 0) first (g.D.Disk.state c.write_closed.new.disk) (λ d e changes. changes.others) (λ fit. fit) c.write_closed.ensures.writes

@@ -11,7 +11,7 @@ use Rattle.aea_ledger.specs.Values.{Opened, HasSomeRecords}
 use Rattle.aea_ledger.specs.Committing.{HasTaken}
 use Rattle.aea_ledger.proofs.Records.{or_false}
 use Rattle.aea_ledger.proofs.Small.{is_full}
-use Rattle.aea_ledger.proofs.Appends.{fence_next, short_end, length-behind, front-behind, leaves_none, has_some_more, when_ok}
+use Rattle.aea_ledger.proofs.Appends.{fence_next, short_end, length-closed, cut-behind, leaves_none, has_some_more, when_ok}
 use Rattle.aea_ledger.proofs.ledger.Ledger.append_fence.Goals as goal
 
 pub returns-then-last_fence-nodes-clause-leaves : goal.returns-then-last_fence-nodes-clause-leaves
@@ -40,22 +40,22 @@ commit_next-requires-clause-range g c =
     let may = (rw c.in-Some.is at c.fenced.ensures.valid).0 refl in
     let some : HasSomeRecords c.args.self.now = subst HasSomeRecords c.self.view_is c.self.invariant in
     let short = short_end c.args.self.now some.0 (Fence c.args.self.now.lattice.n) c.records_are_few.ensures some.1 ((fence_next c.args.self.now c.fences_may_follow.ensures (subst (λ (v : Opened). last_fence v.lattice.fences < v.lattice.n) c.self.view_is may.0) (subst (λ (v : Opened). length v.lattice.fences < greatest_fences) c.self.view_is may.1)) some.0 some.1) in
-    let size : length c.fence_body-behind.result ≡ length (entry (Fence c.args.self.now.lattice.n)) = length-behind (Fence c.args.self.now.lattice.n) c.fence_body-behind.result (c.fence_body-behind.ensures ∙ ap (λ (n : ℕ). body (Fence n) ++ 0 ∷ []) (ap (λ (v : Opened). v.lattice.n) c.self.view_is)) in
+    let size : length c.split_at.result.0.now + (length c.split_at.result.1.now + 1) ≡ length (entry (Fence c.args.self.now.lattice.n)) = length-closed c.split_at.result.0.now c.split_at.result.1.now (Fence c.args.self.now.lattice.n) ((λ i. c.split_at.ensures.front i ++ c.split_at.ensures.back i) ∙ cut-behind (Fence c.args.self.now.lattice.n) c.fence_body-behind.result 9 5 (c.fence_body-behind.ensures ∙ ap (λ (n : ℕ). body (Fence n) ++ 0 ∷ []) (ap (λ (v : Opened). v.lattice.n) c.self.view_is)) refl) in
     omega (arith, short, size, ap (λ (v : Opened). v.end) c.self.view_is)
 
 pub returns-then-is_err-clause-leaves : goal.returns-then-is_err-clause-leaves
 returns-then-is_err-clause-leaves g c =
     let may = (rw c.in-Some.is at c.fenced.ensures.valid).0 refl in
-    c.commit_next.ensures.leaves c.args.self.now (Fence c.args.self.now.lattice.n) (sym (ap (λ (v : Opened). v.end) c.self.view_is)) (c.fence_body-behind.ensures ∙ ap (λ (n : ℕ). body (Fence n) ++ 0 ∷ []) (ap (λ (v : Opened). v.lattice.n) c.self.view_is)) (fence_next c.args.self.now c.fences_may_follow.ensures (subst (λ (v : Opened). last_fence v.lattice.fences < v.lattice.n) c.self.view_is may.0) (subst (λ (v : Opened). length v.lattice.fences < greatest_fences) c.self.view_is may.1))
+    c.commit_next.ensures.leaves c.args.self.now (Fence c.args.self.now.lattice.n) (sym (ap (λ (v : Opened). v.end) c.self.view_is)) ((λ i. c.split_at.ensures.front i ++ c.split_at.ensures.back i) ∙ cut-behind (Fence c.args.self.now.lattice.n) c.fence_body-behind.result 9 5 (c.fence_body-behind.ensures ∙ ap (λ (n : ℕ). body (Fence n) ++ 0 ∷ []) (ap (λ (v : Opened). v.lattice.n) c.self.view_is)) refl) (fence_next c.args.self.now c.fences_may_follow.ensures (subst (λ (v : Opened). last_fence v.lattice.fences < v.lattice.n) c.self.view_is may.0) (subst (λ (v : Opened). length v.lattice.fences < greatest_fences) c.self.view_is may.1))
 
 pub returns-then-is_err-clause-writes : goal.returns-then-is_err-clause-writes
 returns-then-is_err-clause-writes g c =
     let s = (g.D.Disk.state c.args.disk.now) in
-    let size : length c.fence_body-behind.result ≡ length (entry (Fence c.args.self.now.lattice.n)) = length-behind (Fence c.args.self.now.lattice.n) c.fence_body-behind.result (c.fence_body-behind.ensures ∙ ap (λ (n : ℕ). body (Fence n) ++ 0 ∷ []) (ap (λ (v : Opened). v.lattice.n) c.self.view_is)) in
-    let same : c.args.self.now.end + 11 ≡ c.self.inside.end + 1 + length c.fence_body-behind.result = omega (arith, size, ap (λ (v : Opened). v.end) c.self.view_is) in
-    writes_wider g.D.Disk.tells (HasRoomTo s 0 (c.self.inside.end + 1 + length c.fence_body-behind.result)) (HasRoomTo s 0 (c.args.self.now.end + 11)) _ (ChangesOnly 0) (ChangesOnly 0) s (g.D.Disk.state c.commit_next.new.disk) (λ d e step. step)
+    let size : length c.split_at.result.0.now + (length c.split_at.result.1.now + 1) ≡ length (entry (Fence c.args.self.now.lattice.n)) = length-closed c.split_at.result.0.now c.split_at.result.1.now (Fence c.args.self.now.lattice.n) ((λ i. c.split_at.ensures.front i ++ c.split_at.ensures.back i) ∙ cut-behind (Fence c.args.self.now.lattice.n) c.fence_body-behind.result 9 5 (c.fence_body-behind.ensures ∙ ap (λ (n : ℕ). body (Fence n) ++ 0 ∷ []) (ap (λ (v : Opened). v.lattice.n) c.self.view_is)) refl) in
+    let same : c.args.self.now.end + 11 ≡ c.self.inside.end + 1 + (length c.split_at.result.0.now + (length c.split_at.result.1.now + 1)) = omega (arith, size, ap (λ (v : Opened). v.end) c.self.view_is) in
+    writes_wider g.D.Disk.tells (HasRoomTo s 0 (c.self.inside.end + 1 + (length c.split_at.result.0.now + (length c.split_at.result.1.now + 1)))) (HasRoomTo s 0 (c.args.self.now.end + 11)) _ (ChangesOnly 0) (ChangesOnly 0) s (g.D.Disk.state c.commit_next.new.disk) (λ d e step. step)
     (λ fit. subst (λ (n : ℕ). HasRoomTo s 0 n) same fit)
-    (writes_as g.D.Disk.tells (HasRoomTo s 0 (c.self.inside.end + 1 + length c.fence_body-behind.result)) _ _ (ChangesOnly 0) s (g.D.Disk.state c.commit_next.new.disk) (λ is. sym c.is_err.ensures.value ∙ c.if-is_err.true) c.commit_next.ensures.writes)
+    (writes_as g.D.Disk.tells (HasRoomTo s 0 (c.self.inside.end + 1 + (length c.split_at.result.0.now + (length c.split_at.result.1.now + 1)))) _ _ (ChangesOnly 0) s (g.D.Disk.state c.commit_next.new.disk) (λ is. sym c.is_err.ensures.value ∙ c.if-is_err.true) c.commit_next.ensures.writes)
 
 pub invariant_of-self-2 : goal.invariant_of-self-2
 invariant_of-self-2 g c =
@@ -71,8 +71,8 @@ invariant_of-self-2 g c =
       objects = refl;
       raised = sym (or_false c.self.inside.raised);
       digests = sym (append-nil c.self.inside.digests.items);
-      hasher = λ m holds. subst (λ (l : List ℕ). Holds256 c.take_entry-self-inside.new.hasher (m ++ 1 ∷ l)) (front-behind (Fence c.args.self.now.lattice.n) c.fence_body-behind.result 9 (c.fence_body-behind.ensures ∙ ap (λ (n : ℕ). body (Fence n) ++ 0 ∷ []) (ap (λ (v : Opened). v.lattice.n) c.self.view_is)) refl) (c.take_entry-self-inside.ensures.taken m holds);
-      seal = λ m holds. c.take_entry-self-inside.ensures.seal m holds ∙ ap (λ (l : List ℕ). sha256 (m ++ 1 ∷ l)) (front-behind (Fence c.args.self.now.lattice.n) c.fence_body-behind.result 9 (c.fence_body-behind.ensures ∙ ap (λ (n : ℕ). body (Fence n) ++ 0 ∷ []) (ap (λ (v : Opened). v.lattice.n) c.self.view_is)) refl);
+      hasher = λ m holds. subst (λ (l : List ℕ). Holds256 c.take_entry-self-inside.new.hasher (m ++ 1 ∷ l)) ((λ i. c.split_at.ensures.front i ++ c.split_at.ensures.back i) ∙ cut-behind (Fence c.args.self.now.lattice.n) c.fence_body-behind.result 9 5 (c.fence_body-behind.ensures ∙ ap (λ (n : ℕ). body (Fence n) ++ 0 ∷ []) (ap (λ (v : Opened). v.lattice.n) c.self.view_is)) refl) (c.take_entry-self-inside.ensures.taken m holds);
+      seal = λ m holds. c.take_entry-self-inside.ensures.seal m holds ∙ ap (λ (l : List ℕ). sha256 (m ++ 1 ∷ l)) ((λ i. c.split_at.ensures.front i ++ c.split_at.ensures.back i) ∙ cut-behind (Fence c.args.self.now.lattice.n) c.fence_body-behind.result 9 5 (c.fence_body-behind.ensures ∙ ap (λ (n : ℕ). body (Fence n) ++ 0 ∷ []) (ap (λ (v : Opened). v.lattice.n) c.self.view_is)) refl);
       end = refl;
       live = ap (λ (w : Opened). w.live) c.self.view_is ∙ c.requires.live;
     })) (fence_next c.args.self.now c.fences_may_follow.ensures (subst (λ (v : Opened). last_fence v.lattice.fences < v.lattice.n) c.self.view_is may.0) (subst (λ (v : Opened). length v.lattice.fences < greatest_fences) c.self.view_is may.1)) (subst HasSomeRecords c.self.view_is c.self.invariant)
@@ -80,12 +80,12 @@ invariant_of-self-2 g c =
 pub returns-clause-leaves : goal.returns-clause-leaves
 returns-clause-leaves g c =
     let may = (rw c.in-Some.is at c.fenced.ensures.valid).0 refl in
-    c.commit_next.ensures.leaves c.args.self.now (Fence c.args.self.now.lattice.n) (sym (ap (λ (v : Opened). v.end) c.self.view_is)) (c.fence_body-behind.ensures ∙ ap (λ (n : ℕ). body (Fence n) ++ 0 ∷ []) (ap (λ (v : Opened). v.lattice.n) c.self.view_is)) (fence_next c.args.self.now c.fences_may_follow.ensures (subst (λ (v : Opened). last_fence v.lattice.fences < v.lattice.n) c.self.view_is may.0) (subst (λ (v : Opened). length v.lattice.fences < greatest_fences) c.self.view_is may.1))
+    c.commit_next.ensures.leaves c.args.self.now (Fence c.args.self.now.lattice.n) (sym (ap (λ (v : Opened). v.end) c.self.view_is)) ((λ i. c.split_at.ensures.front i ++ c.split_at.ensures.back i) ∙ cut-behind (Fence c.args.self.now.lattice.n) c.fence_body-behind.result 9 5 (c.fence_body-behind.ensures ∙ ap (λ (n : ℕ). body (Fence n) ++ 0 ∷ []) (ap (λ (v : Opened). v.lattice.n) c.self.view_is)) refl) (fence_next c.args.self.now c.fences_may_follow.ensures (subst (λ (v : Opened). last_fence v.lattice.fences < v.lattice.n) c.self.view_is may.0) (subst (λ (v : Opened). length v.lattice.fences < greatest_fences) c.self.view_is may.1))
 
 pub returns-clause-committed : goal.returns-clause-committed
 returns-clause-committed g c =
     let may = (rw c.in-Some.is at c.fenced.ensures.valid).0 refl in
-    when_ok c.commit_next.result c.if-is_err.ensures.negation c.commit_next.ensures.committed c.args.self.now (record { shape = c.self.inside.shape; lattice = c.in-Some.lattice; objects = c.self.inside.catalog.objects; raised = c.self.inside.raised; digests = c.self.inside.digests.items; hasher = c.take_entry-self-inside.new.hasher; seal = c.take_entry-self-inside.result; end = c.self.inside.end + 10; live = c.self.inside.live }) (Fence c.args.self.now.lattice.n) (sym (ap (λ (v : Opened). v.end) c.self.view_is)) (c.fence_body-behind.ensures ∙ ap (λ (n : ℕ). body (Fence n) ++ 0 ∷ []) (ap (λ (v : Opened). v.lattice.n) c.self.view_is)) (fence_next c.args.self.now c.fences_may_follow.ensures (subst (λ (v : Opened). last_fence v.lattice.fences < v.lattice.n) c.self.view_is may.0) (subst (λ (v : Opened). length v.lattice.fences < greatest_fences) c.self.view_is may.1)) c.requires.this (subst (λ (v : Opened). HasTaken v (Fence c.args.self.now.lattice.n) (record { shape = c.self.inside.shape; lattice = c.in-Some.lattice; objects = c.self.inside.catalog.objects; raised = c.self.inside.raised; digests = c.self.inside.digests.items; hasher = c.take_entry-self-inside.new.hasher; seal = c.take_entry-self-inside.result; end = c.self.inside.end + 10; live = c.self.inside.live })) c.self.view_is
+    when_ok c.commit_next.result c.if-is_err.ensures.negation c.commit_next.ensures.committed c.args.self.now (record { shape = c.self.inside.shape; lattice = c.in-Some.lattice; objects = c.self.inside.catalog.objects; raised = c.self.inside.raised; digests = c.self.inside.digests.items; hasher = c.take_entry-self-inside.new.hasher; seal = c.take_entry-self-inside.result; end = c.self.inside.end + 10; live = c.self.inside.live }) (Fence c.args.self.now.lattice.n) (sym (ap (λ (v : Opened). v.end) c.self.view_is)) ((λ i. c.split_at.ensures.front i ++ c.split_at.ensures.back i) ∙ cut-behind (Fence c.args.self.now.lattice.n) c.fence_body-behind.result 9 5 (c.fence_body-behind.ensures ∙ ap (λ (n : ℕ). body (Fence n) ++ 0 ∷ []) (ap (λ (v : Opened). v.lattice.n) c.self.view_is)) refl) (fence_next c.args.self.now c.fences_may_follow.ensures (subst (λ (v : Opened). last_fence v.lattice.fences < v.lattice.n) c.self.view_is may.0) (subst (λ (v : Opened). length v.lattice.fences < greatest_fences) c.self.view_is may.1)) c.requires.this (subst (λ (v : Opened). HasTaken v (Fence c.args.self.now.lattice.n) (record { shape = c.self.inside.shape; lattice = c.in-Some.lattice; objects = c.self.inside.catalog.objects; raised = c.self.inside.raised; digests = c.self.inside.digests.items; hasher = c.take_entry-self-inside.new.hasher; seal = c.take_entry-self-inside.result; end = c.self.inside.end + 10; live = c.self.inside.live })) c.self.view_is
     (record {
       shape = refl;
       alpha = c.in-Some.ensures.fenced.shape.alpha;
@@ -96,8 +96,8 @@ returns-clause-committed g c =
       objects = refl;
       raised = sym (or_false c.self.inside.raised);
       digests = sym (append-nil c.self.inside.digests.items);
-      hasher = λ m holds. subst (λ (l : List ℕ). Holds256 c.take_entry-self-inside.new.hasher (m ++ 1 ∷ l)) (front-behind (Fence c.args.self.now.lattice.n) c.fence_body-behind.result 9 (c.fence_body-behind.ensures ∙ ap (λ (n : ℕ). body (Fence n) ++ 0 ∷ []) (ap (λ (v : Opened). v.lattice.n) c.self.view_is)) refl) (c.take_entry-self-inside.ensures.taken m holds);
-      seal = λ m holds. c.take_entry-self-inside.ensures.seal m holds ∙ ap (λ (l : List ℕ). sha256 (m ++ 1 ∷ l)) (front-behind (Fence c.args.self.now.lattice.n) c.fence_body-behind.result 9 (c.fence_body-behind.ensures ∙ ap (λ (n : ℕ). body (Fence n) ++ 0 ∷ []) (ap (λ (v : Opened). v.lattice.n) c.self.view_is)) refl);
+      hasher = λ m holds. subst (λ (l : List ℕ). Holds256 c.take_entry-self-inside.new.hasher (m ++ 1 ∷ l)) ((λ i. c.split_at.ensures.front i ++ c.split_at.ensures.back i) ∙ cut-behind (Fence c.args.self.now.lattice.n) c.fence_body-behind.result 9 5 (c.fence_body-behind.ensures ∙ ap (λ (n : ℕ). body (Fence n) ++ 0 ∷ []) (ap (λ (v : Opened). v.lattice.n) c.self.view_is)) refl) (c.take_entry-self-inside.ensures.taken m holds);
+      seal = λ m holds. c.take_entry-self-inside.ensures.seal m holds ∙ ap (λ (l : List ℕ). sha256 (m ++ 1 ∷ l)) ((λ i. c.split_at.ensures.front i ++ c.split_at.ensures.back i) ∙ cut-behind (Fence c.args.self.now.lattice.n) c.fence_body-behind.result 9 5 (c.fence_body-behind.ensures ∙ ap (λ (n : ℕ). body (Fence n) ++ 0 ∷ []) (ap (λ (v : Opened). v.lattice.n) c.self.view_is)) refl);
       end = refl;
       live = ap (λ (w : Opened). w.live) c.self.view_is ∙ c.requires.live;
     }))
@@ -105,8 +105,8 @@ returns-clause-committed g c =
 pub returns-clause-writes : goal.returns-clause-writes
 returns-clause-writes g c =
     let s = (g.D.Disk.state c.args.disk.now) in
-    let size : length c.fence_body-behind.result ≡ length (entry (Fence c.args.self.now.lattice.n)) = length-behind (Fence c.args.self.now.lattice.n) c.fence_body-behind.result (c.fence_body-behind.ensures ∙ ap (λ (n : ℕ). body (Fence n) ++ 0 ∷ []) (ap (λ (v : Opened). v.lattice.n) c.self.view_is)) in
-    let same : c.args.self.now.end + 11 ≡ c.self.inside.end + 1 + length c.fence_body-behind.result = omega (arith, size, ap (λ (v : Opened). v.end) c.self.view_is) in
-    writes_wider g.D.Disk.tells (HasRoomTo s 0 (c.self.inside.end + 1 + length c.fence_body-behind.result)) (HasRoomTo s 0 (c.args.self.now.end + 11)) _ (ChangesOnly 0) (ChangesOnly 0) s (g.D.Disk.state c.commit_next.new.disk) (λ d e step. step)
+    let size : length c.split_at.result.0.now + (length c.split_at.result.1.now + 1) ≡ length (entry (Fence c.args.self.now.lattice.n)) = length-closed c.split_at.result.0.now c.split_at.result.1.now (Fence c.args.self.now.lattice.n) ((λ i. c.split_at.ensures.front i ++ c.split_at.ensures.back i) ∙ cut-behind (Fence c.args.self.now.lattice.n) c.fence_body-behind.result 9 5 (c.fence_body-behind.ensures ∙ ap (λ (n : ℕ). body (Fence n) ++ 0 ∷ []) (ap (λ (v : Opened). v.lattice.n) c.self.view_is)) refl) in
+    let same : c.args.self.now.end + 11 ≡ c.self.inside.end + 1 + (length c.split_at.result.0.now + (length c.split_at.result.1.now + 1)) = omega (arith, size, ap (λ (v : Opened). v.end) c.self.view_is) in
+    writes_wider g.D.Disk.tells (HasRoomTo s 0 (c.self.inside.end + 1 + (length c.split_at.result.0.now + (length c.split_at.result.1.now + 1)))) (HasRoomTo s 0 (c.args.self.now.end + 11)) _ (ChangesOnly 0) (ChangesOnly 0) s (g.D.Disk.state c.commit_next.new.disk) (λ d e step. step)
     (λ fit. subst (λ (n : ℕ). HasRoomTo s 0 n) same fit)
-    (writes_as g.D.Disk.tells (HasRoomTo s 0 (c.self.inside.end + 1 + length c.fence_body-behind.result)) _ _ (ChangesOnly 0) s (g.D.Disk.state c.commit_next.new.disk) (λ is. absurd (cc)) c.commit_next.ensures.writes)
+    (writes_as g.D.Disk.tells (HasRoomTo s 0 (c.self.inside.end + 1 + (length c.split_at.result.0.now + (length c.split_at.result.1.now + 1)))) _ _ (ChangesOnly 0) s (g.D.Disk.state c.commit_next.new.disk) (λ is. absurd (cc)) c.commit_next.ensures.writes)

@@ -1,0 +1,10 @@
+use Rattle.std.proofs.Common.{◌≡◌, ap, length, List, ℕ, arith}
+use Rattle.std.specs.List.{flat_map}
+use Rattle.aea_ledger.specs.Next.{stored_as}
+use Rattle.aea_ledger.proofs.Bodies.{alone_is}
+use Rattle.aea_ledger.proofs.body.alone_front.Goals as goal
+
+pub returns : goal.returns
+returns c =
+    let long : length c.as_flattened.result.now ≡ length (flat_map (λ (d : List ℕ). d) c.args.digests.now) = ap length c.as_flattened.ensures.value in
+    alone_is (stored_as c.args.name.now c.args.object.now c.args.digests.now) c.in_ok-body.body.items _ c.in_ok-body.ensures.digest (omega (arith, long, c.as_flattened.ensures.len)) c.in_ok-body.ensures.items

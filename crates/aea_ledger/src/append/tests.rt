@@ -49,7 +49,7 @@ fn fresh(alloc: Global, shape: &Shape) -> Ledger
         unreachable!();
     };
     let mut hasher = Sha256::new();
-    let seal = take_entry(&mut hasher, &behind_gate(shape)[..16]);
+    let seal = take_entry(&mut hasher, &behind_gate(shape)[..16], &[]);
     Ledger {
         shape: *shape,
         lattice,
@@ -100,9 +100,9 @@ fn is_old_or_new(disk: &mut SureDisk) -> Result<bool, DiskFault> {
 
 #[test]
 fn stopped_after_each_call(rt: HostRuntime) -> Result<(), Fail> {
-    let mut disk = MemDisk::new(rt.alloc(), 0, 256, 0, 14, 256)?;
+    let mut disk = MemDisk::new(rt.alloc(), 0, 256, 0, 16, 256)?;
     assert_eq!(rt; added(rt.alloc(), &mut disk), Ok((Ok(()), true)));
-    assert_eq!(rt; disk.calls(), 14);
+    assert_eq!(rt; disk.calls(), 16);
     // from the last sync of the making on
     for after in 10..=disk.calls() {
         for loss in [Loss::Kept, Loss::Dropped, Loss::Ones, Loss::Zeros] {
@@ -110,7 +110,7 @@ fn stopped_after_each_call(rt: HostRuntime) -> Result<(), Fail> {
             assert_eq!(rt; is_old_or_new(&mut left), Ok(true), "after {after}");
         }
     }
-    let mut left = disk.image(rt.alloc(), 14, Loss::Dropped)?;
+    let mut left = disk.image(rt.alloc(), 16, Loss::Dropped)?;
     assert_eq!(rt; stands(&mut left, NEW), Ok(true));
     Ok(())
 }
@@ -119,7 +119,19 @@ fn stopped_after_each_call(rt: HostRuntime) -> Result<(), Fail> {
 fn failing_at_each_call(rt: HostRuntime) -> Result<(), Fail> {
     let mut staged = *NEW;
     staged[17] = 0;
-    for (k, left) in [(11u64, &OLD[..]), (12, &staged), (13, &staged), (14, NEW)] {
+    // the closing gate is written first, then the digests, and then what stands before them
+    let mut digests = staged;
+    digests[17..74].fill(0);
+    let mut closed = [0u8; 203];
+    closed[..18].copy_from_slice(OLD);
+    for (k, left) in [
+        (11u64, &OLD[..]),
+        (12, &closed),
+        (13, &digests),
+        (14, &staged),
+        (15, &staged),
+        (16, NEW),
+    ] {
         let inner = SureDisk::new(rt.alloc(), 0, 256, 0)?;
         let mut disk = FailDisk::new(rt.alloc(), inner, &[k])?;
         let answer = added(rt.alloc(), &mut disk);

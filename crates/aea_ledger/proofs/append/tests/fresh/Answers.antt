@@ -1,4 +1,5 @@
-use Rattle.std.proofs.Common.{◌≡◌, refl, subst, ℕ, List, [], ◌∷◌, take, ◌∙◌, true, false}
+use Rattle.std.proofs.Common.{◌≡◌, refl, subst, ℕ, List, [], ◌∷◌, ◌++◌, take, ◌∙◌, true, false}
+use Rattle.std.proofs.lemmas.List.{append-nil}
 use Rattle.sha2.specs.Hashers.{Holds256}
 use Rattle.sha2.specs.Sha256.{sha256}
 use Rattle.aea_ledger.specs.Values.{HasRecords}
@@ -6,7 +7,8 @@ use Rattle.aea_ledger.proofs.append.tests.fresh.Goals as goal
 
 pub invariant_of-result : goal.invariant_of-result
 invariant_of-result c =
-    let read = λ (P : List ℕ → Type 0) (is : P (1 ∷ take 16 c.behind_gate.result)). subst (λ (l : List ℕ). P (1 ∷ take 16 l)) c.behind_gate.ensures is in
+    let read = λ (P : List ℕ → Type 0) (is : P (1 ∷ (take 16 c.behind_gate.result ++ []))).
+    subst (λ (l : List ℕ). P (1 ∷ take 16 l)) c.behind_gate.ensures (subst (λ (l : List ℕ). P (1 ∷ l)) (append-nil (take 16 c.behind_gate.result)) is) in
     let has : HasRecords (record { shape = c.args.shape.now; lattice = c.in-Some.lattice; objects = c.new-2.result.objects; raised = false; digests = c.new-3.result.items; hasher = c.take_entry-seal.new.hasher; seal = c.take_entry-seal.result; end = 17; live = true }) [] = record {
       valid = tt;
       lattice = record {
@@ -27,7 +29,8 @@ invariant_of-result c =
 
 pub returns-clause-records : goal.returns-clause-records
 returns-clause-records c =
-    let read = λ (P : List ℕ → Type 0) (is : P (1 ∷ take 16 c.behind_gate.result)). subst (λ (l : List ℕ). P (1 ∷ take 16 l)) c.behind_gate.ensures is in
+    let read = λ (P : List ℕ → Type 0) (is : P (1 ∷ (take 16 c.behind_gate.result ++ []))).
+    subst (λ (l : List ℕ). P (1 ∷ take 16 l)) c.behind_gate.ensures (subst (λ (l : List ℕ). P (1 ∷ l)) (append-nil (take 16 c.behind_gate.result)) is) in
     record {
       valid = tt;
       lattice = record {

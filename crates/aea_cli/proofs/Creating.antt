@@ -1,7 +1,8 @@
 -- What `create` does, by where it ends.
 pub mod Running
 use Rattle.std.proofs.Common.{◌≡◌, ◌≢◌, ◌⊎◌, ◌<◌, ℕ, inl, inr, List, arith, refl, sym, ◌∙◌, ap, Ok, Err}
-use Rattle.std.specs.Prelude.{IfOk, IsOk}
+use Rattle.std.specs.Prelude.{IfOk, IsOk, ◌≤◌, length, max}
+use Rattle.std.proofs.Math.Nat.{le-max_left}
 use Rattle.std.proofs.lemmas.Bool.{false≢true}
 use Rattle.aea_faults.specs.Faults.{Rose}
 use Rattle.aea_io.specs.Streams.{SinkState}
@@ -45,6 +46,7 @@ creates_nothing shape tells s out = record {
   stands = λ e. absurd (never_stands (Err failure.Memory) failure.Memory refl (λ d. cc) e);
   stops = λ told. inl (images_same s);
   reads = λ told. record { occupied = λ header. refl; free = λ none. inl none };
+  long = λ told. le-max_left (length (s.files 0)) 18;
   kept = λ e. (images_same s, λ told. refl);
   opened = λ e. absurd (never_opened (Err failure.Memory) failure.Memory refl (λ d. cc) (λ d. cc) e);
   in_room = λ room. (λ e. let h : Err failure.Memory ≡ Err failure.Disk = e in cc, refl);
@@ -58,6 +60,7 @@ pub record IsUnmade (shape : Shape) (tells : Type 0) (old new : State) (fault : 
   pub stops : tells → HasOpening old new (MakesArchive shape old.files)
   pub opened : fault ≡ creation.Occupied → tells → IsOpened old new (MakesArchive shape old.files) × IsSynced new
   pub reads : tells → IsBeingMade shape (old.files 0) (new.files 0)
+  pub long : tells → length (new.files 0) ≤ max (length (old.files 0)) 18
   pub sure : NeverFails (HasRoomTo old 0 18) (fault ≢ creation.DiskFault) old new
   pub refused : tells → HasOpenHeader (old.files 0) → NeverFails (HasRoom old) (fault ≡ creation.Occupied) old new
 
@@ -69,6 +72,7 @@ creates_failed shape tells old new out creation.Occupied unmade = record {
   stands = λ e. absurd (never_stands (Err (failure.Refused Occupied)) (failure.Refused Occupied) refl (λ d. cc) e);
   stops = unmade.stops;
   reads = unmade.reads;
+  long = unmade.long;
   kept = λ e. unmade.kept refl;
   opened = λ e. unmade.opened refl;
   in_room = λ room. (λ e. let h : Err (failure.Refused Occupied) ≡ Err failure.Disk = e in cc, (unmade.sure room).1);
@@ -80,6 +84,7 @@ creates_failed shape tells old new out creation.DiskFault unmade = record {
   stands = λ e. absurd (never_stands (Err failure.Disk) failure.Disk refl (λ d. cc) e);
   stops = unmade.stops;
   reads = unmade.reads;
+  long = unmade.long;
   kept = λ e. elim e [
     | inl r ↦ let h : Err failure.Disk ≡ Err (failure.Refused Occupied) = r in cc
     | inr m ↦ let h : Err failure.Disk ≡ Err failure.Memory = m in cc
@@ -113,6 +118,7 @@ pub record IsMade (shape : Shape) (tells : Type 0) (old new : State) : Type 0 wh
   pub stops : tells → HasOpening old new (MakesArchive shape old.files)
   pub opened : tells → IsOpened old new (MakesArchive shape old.files) × IsSynced new
   pub reads : tells → IsBeingMade shape (old.files 0) (new.files 0)
+  pub long : tells → length (new.files 0) ≤ max (length (old.files 0)) 18
   pub sure : HasRoomTo old 0 18 → new.faults ≡ old.faults
 
 -- the archive was made, and then the line was printed, or the output failed
@@ -136,6 +142,7 @@ creates_made shape tells old new before after answer printing made prints = reco
   stands = λ e. made.stands;
   stops = made.stops;
   reads = made.reads;
+  long = made.long;
   kept = λ e. elim e [
     | inl r ↦ absurd (printing_never answer (failure.Refused Occupied) printing (λ d. cc) r)
     | inr m ↦ absurd (printing_never answer failure.Memory printing (λ d. cc) m)

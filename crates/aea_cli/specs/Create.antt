@@ -1,5 +1,5 @@
 -- What `create` does: the line that it prints, why it is refused, and what becomes of the disk.
-use Rattle.std.specs.Prelude.{◌≡◌, ◌≢◌, ◌⊎◌, ℕ, List, ◌++◌, codes, decimal, Err, IsOk, IfOk}
+use Rattle.std.specs.Prelude.{◌≡◌, ◌≢◌, ◌⊎◌, ◌≤◌, ℕ, List, ◌++◌, length, max, codes, decimal, Err, IsOk, IfOk}
 use Rattle.aea_io.specs.Streams.{SinkState}
 use Rattle.aea_lattice.specs.declared.shape.Shape.{Shape}
 use Rattle.aea_disk.specs.State.{State, KeepsImages, IsSynced, HasRoom, HasRoomTo, NeverFails}
@@ -41,6 +41,8 @@ pub record Creates (shape : Shape) (tells : Type 0) (old new : State) (before af
   -- what a stop at any moment leaves, and what stands after any answer
   pub stops : tells → HasOpening old new (MakesArchive shape old.files)
   pub reads : tells → IsBeingMade shape (old.files 0) (new.files 0)
+  -- no write ends past the empty ledger
+  pub long : tells → length (new.files 0) ≤ max (length (old.files 0)) 18
   -- it begins with a sync; but after a fault of the disk and want of memory that has succeeded, and nothing is pending
   pub opened : IsOk answer ⊎ ((answer ≡ Err failure.Output) ⊎ (answer ≡ Err (failure.Refused Occupied))) → tells
       → IsOpened old new (MakesArchive shape old.files) × IsSynced new

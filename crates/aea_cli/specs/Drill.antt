@@ -2,7 +2,7 @@
 pub mod Counts
 pub mod Marks
 pub mod Reached
-use Rattle.std.specs.Prelude.{◌≡◌, ◌⊎◌, ℕ, ◌+◌, ◌-◌, ◌<◌, ◌≤◌, ◌↔◌, Bool, not, cond, List, ◌++◌, filter, length, count_by, All, slice_get, Some, Err, IsOk, IfOk, OnOk, codes, decimal, IsTrue, take}
+use Rattle.std.specs.Prelude.{◌≡◌, ◌≢◌, ◌⊎◌, ℕ, ◌+◌, ◌-◌, ◌<◌, ◌≤◌, ◌↔◌, Bool, not, cond, List, ◌++◌, filter, length, count_by, All, slice_get, Some, Err, IsOk, IfOk, IfErr, OnOk, codes, decimal, IsTrue, take}
 use Rattle.std.specs.List.{list_any, flat_map}
 use Rattle.std.specs.Str.{bytes_eq}
 use Rattle.std.specs.Io.KnownBytes.{IsAtEnd}
@@ -111,6 +111,8 @@ pub record Drills (l : Lattice) (old new : SourceState) (before after : SinkStat
   pub outcome : IfOk answer (λ status. (bytes : List ℕ) → old.left ≡ Some bytes → (text : List ℕ) × IsOutcome l bytes text status)
   -- the text of the outcome is printed
   pub prints : (bytes text : List ℕ) (status : Status) → old.left ≡ Some bytes → IsOutcome l bytes text status → PrintsText before after answer text
+  -- where something else than the output failed, nothing is printed
+  pub unused : IfErr answer (λ f. f ≢ failure.Output → after ≡ before)
   -- the whole list is read, and at most one byte past the greatest one
   pub end : OnOk answer (IsAtEnd new.left)
   pub most : TakesAtMost old.left new.left (greatest_input + 1)

@@ -52,6 +52,7 @@ returns-in_err-create_ledger-clause-creates g c =
       kept = λ e. gave.untouched (ap Err e);
       stops = gave.stops;
       reads = gave.reads;
+      long = gave.length;
       opened = λ e told.
           let other : Err fault ≡ Err creation.DiskFault → ⊥ = λ d. occupied_not_disk fault e (fault_same fault creation.DiskFault d) in
           (gave.opened other told, gave.durable other told);
@@ -77,6 +78,7 @@ returns-in_err-put_text-clause-creates g c =
       stops = gave.stops;
       opened = λ told. (gave.opened (ok_not_err c.in_ok-create_ledger.field-0 creation.DiskFault) told, gave.durable (ok_not_err c.in_ok-create_ledger.field-0 creation.DiskFault) told);
       reads = gave.reads;
+      long = gave.length;
       sure = λ room. (gave.writes.sure room).1;
     } in
     rw (err_with c.from_residual-in_err-put_text.result failure.Output c.from_residual-in_err-put_text.ensures.1)
@@ -93,6 +95,7 @@ returns-in_err-put_text-clause-refuses g c =
       stops = gave.stops;
       opened = λ told. (gave.opened (ok_not_err c.in_ok-create_ledger.field-0 creation.DiskFault) told, gave.durable (ok_not_err c.in_ok-create_ledger.field-0 creation.DiskFault) told);
       reads = gave.reads;
+      long = gave.length;
       sure = λ room. (gave.writes.sure room).1;
     } in
     rw (err_with c.from_residual-in_err-put_text.result failure.Output c.from_residual-in_err-put_text.ensures.1)
@@ -108,6 +111,7 @@ returns-clause-creates g c =
       stops = gave.stops;
       opened = λ told. (gave.opened (ok_not_err c.in_ok-create_ledger.field-0 creation.DiskFault) told, gave.durable (ok_not_err c.in_ok-create_ledger.field-0 creation.DiskFault) told);
       reads = gave.reads;
+      long = gave.length;
       sure = λ room. (gave.writes.sure room).1;
     } in
     creates_made c.args.shape.now g.D.Disk.tells old new (g.O.Sink.state c.args.out.now) (g.O.Sink.state c.put_text.new.out) (Ok Done) (inl refl) made
@@ -123,6 +127,7 @@ returns-clause-refuses g c =
       stops = gave.stops;
       opened = λ told. (gave.opened (ok_not_err c.in_ok-create_ledger.field-0 creation.DiskFault) told, gave.durable (ok_not_err c.in_ok-create_ledger.field-0 creation.DiskFault) told);
       reads = gave.reads;
+      long = gave.length;
       sure = λ room. (gave.writes.sure room).1;
     } in
     made_refuses c.args.shape.now g.D.Disk.tells old new (Ok Done) (inl refl) made

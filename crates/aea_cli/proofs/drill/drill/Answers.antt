@@ -47,6 +47,7 @@ returns-in-Ok-clause-drills g c =
           let by_list : AreMarks l listed (is_listed bytes) = planned.listed_marks in
           let by_reach : AreMarks l reached outcome.reached = reached_by_test l bytes reached outcome.reached planned.reached_marks outcome.closure in
           rw outcome.text (text_printed c.in-Ok.status (c.in-Ok.ensures.prints (is_listed bytes) outcome.reached by_list by_reach));
+      unused = tt;
       end = c.in_ok-planned.ensures.end;
       most = c.in_ok-planned.ensures.most;
     }
@@ -78,6 +79,7 @@ returns-clause-drills g c =
           let by_list : AreMarks l listed (is_listed bytes) = planned.listed_marks in
           let by_reach : AreMarks l reached outcome.reached = reached_by_test l bytes reached outcome.reached planned.reached_marks outcome.closure in
           rw outcome.text (text_broken (c.in-Err.ensures.prints (is_listed bytes) outcome.reached by_list by_reach));
+      unused = λ differs. absurd (differs refl);
       end = tt;
       most = c.in_ok-planned.ensures.most;
     }

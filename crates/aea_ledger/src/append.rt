@@ -232,10 +232,9 @@ impl Ledger {
     }
 
     /// Adds a record of an object whose nodes are all new: its name; its length in bytes, its SHA-256 (FIPS 180-4) and its
-    /// number of nodes; and the digests of its blocks in number order. The digests are written as they are
-    /// lent. All memory is taken before the first write. At `Ok`
-    /// every file is sure. After a fault of the disk, which may have left the record or not, the ledger has to be opened
-    /// anew.
+    /// number of nodes; and the digests of its blocks in number order, which are written as they are lent. All memory is
+    /// taken before the first write. At `Ok` every file is sure. After a fault of the disk, which may have left the record
+    /// or not, the ledger has to be opened anew.
     pub fn append<D: Disk>(
         &mut self,
         disk: &mut D,
@@ -271,10 +270,9 @@ impl Ledger {
     }
 
     /// Adds a record of an object in parts, which may be of earlier nodes too: its name; its length in bytes, its SHA-256
-    /// (FIPS 180-4) and its number of new nodes; the digests of their blocks in number order; and its parts. The digests are written as they are
-    /// lent. All memory is taken before the first write. At `Ok`
-    /// every file is sure. After a fault of the disk, which may have left the record or not, the ledger has to be opened
-    /// anew.
+    /// (FIPS 180-4) and its number of new nodes; the digests of their blocks in number order, which are written as they are
+    /// lent; and its parts. All memory is taken before the first write. At `Ok` every file is sure. After a fault of the
+    /// disk, which may have left the record or not, the ledger has to be opened anew.
     pub fn append_parts<D: Disk>(
         &mut self,
         disk: &mut D,

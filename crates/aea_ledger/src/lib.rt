@@ -3,7 +3,7 @@
 //!
 //! What records are, and which bytes are a ledger, stands in `aea_records`. `specs/Recorded.antt` says which data a ledger
 //! records, `specs/Values.antt` what a contract sees of an opened one, `specs/Openings.antt` what opening answers,
-//! `specs/Stops.antt` what stops leave, and `specs/Next.antt` which record is added.
+//! `specs/Stops.antt` what stops leave, `specs/Next.antt` which record is added, and `specs/Lying.antt` where objects lie.
 #![tactic(auto)]
 
 pub mod append;

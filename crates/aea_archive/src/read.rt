@@ -8,7 +8,6 @@ ghost use Rattle.aea_disk.specs.State.{Settles};
 ghost use Rattle.aea_disk.specs.Frames.{OnlyReads};
 ghost use Rattle.aea_shelf.specs.Places.{cell_size, home_bytes, HasAtHome};
 ghost use Rattle.aea_shelf.specs.Intact.{payload_in};
-ghost use Rattle.aea_ledger.specs.Values.{HasSomeRecords};
 ghost use Rattle.aea_archive.specs.Blocks.{recorded_in, IsIntactBy};
 ghost use Rattle.aea_archive.specs.Data.{AreSomeHonest};
 
@@ -19,7 +18,6 @@ use aea_shelf::{Cell, read_cell};
 
 /// The digest that the ledger keeps of a block of its lattice.
 pub fn recorded(ledger: &Ledger, b: BlockId) -> [u8; 32]
-    requires opened { HasSomeRecords ledger.now }
     requires block { HasBlock ledger.now.lattice b }
     ensures { result ≡ recorded_in ledger.now.shape ledger.now.digests b }
 {
@@ -34,7 +32,6 @@ pub fn read_block<D: Disk>(
     b: BlockId,
     cell: &mut [u8],
 ) -> Result<Cell, DiskFault>
-    requires opened { HasSomeRecords ledger.now }
     requires block { HasBlock ledger.now.lattice b }
     requires buffer { length cell.old ≡ cell_size ledger.now.shape }
 

@@ -2,7 +2,11 @@ ghost use Rattle.std.specs.Prelude.{◌≡◌, ◌≢◌, ℕ, ◌+◌, ◌*◌,
 ghost use Rattle.aea_gauss_words.specs.Words.{words_for, is_bit, bit_matrix, IsPadded, Apart, Adds};
 ghost use Rattle.aea_gauss_words.specs.Matrices.{IsLead, IsCleared, IsClearedOne, IsReduction, SameSums, ReducedTo};
 
+use crate::tables::reduce_by_tables;
 use std::simd::prelude::*;
+
+// From so many rows on tables are worth their time.
+const MANY: usize = 256;
 
 // Adds by XOR the eight words from `from + at` on to those from `into + at` on.
 fn add_lanes(words: &mut [u64], from: usize, into: usize, at: usize)
@@ -91,7 +95,7 @@ fn clear(words: &mut [u64], rows: usize, wide: usize, row: usize, column: usize)
 }
 
 // Adds the row to each other row that has its least column.
-fn reduce_row(words: &mut [u64], rows: usize, wide: usize, row: usize)
+pub(crate) fn reduce_row(words: &mut [u64], rows: usize, wide: usize, row: usize)
     requires long { length words.old ≡ rows * wide }
     requires row { row < rows }
     requires short { 64 * wide < 2 ^ 63 }
@@ -106,7 +110,7 @@ fn reduce_row(words: &mut [u64], rows: usize, wide: usize, row: usize)
 }
 
 // Reduces the rows over all columns of their words.
-fn reduce(words: &mut [u64], rows: usize, wide: usize)
+pub(crate) fn reduce(words: &mut [u64], rows: usize, wide: usize)
     requires long { length words.old ≡ rows * wide }
     requires short { 64 * wide < 2 ^ 63 }
     ensures long { length words.new ≡ length words.old }
@@ -117,8 +121,23 @@ fn reduce(words: &mut [u64], rows: usize, wide: usize)
     }
 }
 
+// Reduces the rows over all columns of their words: few of them row by row.
+fn reduce_all(words: &mut [u64], rows: usize, wide: usize)
+    requires long { length words.old ≡ rows * wide }
+    requires few { rows < 2 ^ 32 }
+    requires wide { wide < 2 ^ 32 }
+    ensures { IsReduction rows (64 * wide) (bit_matrix wide words.old) (bit_matrix wide words.new) }
+{
+    if rows < MANY {
+        reduce(words, rows, wide);
+    } else {
+        reduce_by_tables(words, rows, wide);
+    }
+}
+
 /// Reduces packed rows: the XORs of sets of rows stay the same, and the least column of each row is in no other row.
-/// A row has as many words of 64 columns as it needs. By Gauss and Jordan, row by row.
+/// A row has as many words of 64 columns as it needs. By Gauss and Jordan: few rows one by one, and many in groups of
+/// thirty-two, which tables of their sums add to the others at once.
 pub fn eliminate(cols: u32, rows: u32, words: &mut [u64])
     requires some { 1 ≤ cols }
     requires long { length words.old ≡ rows * words_for cols }
@@ -128,5 +147,5 @@ pub fn eliminate(cols: u32, rows: u32, words: &mut [u64])
     ensures reduction { IsReduction rows cols (bit_matrix (words_for cols) words.old) (bit_matrix (words_for cols) words.new) }
 {
     let wide = (cols as usize + 63) / 64;
-    reduce(words, rows as usize, wide);
+    reduce_all(words, rows as usize, wide);
 }

@@ -98,8 +98,8 @@ impl FateList {
 
 /// The fate of each block that is not marked, in number order. Part by part: blocks that an equation has together are in
 /// one part, and each part has an elimination of its own. Beside the fates it takes 8 bytes for each block of the lattice,
-/// at most 96 bytes for each block that is not marked, 12 bytes for each equation, and the rows of one part at a time: of
-/// b blocks and e equations, (b + e) bits for each of the e equations. An error is want of memory.
+/// some 150 bytes for each block that is not marked, some 16 bytes for each equation, and the rows of one part at a time:
+/// of b blocks and e equations, (b + e) bits for each of the e equations. An error is want of memory.
 pub fn solve(alloc: Global, lattice: &Lattice, known: &Marks) -> Result<FateList, AllocError>
     requires same { known.now.lattice ≡ lattice.now }
     ensures { IfOk result (λ fates. AreFates lattice.now (is_marked known.now) fates) }

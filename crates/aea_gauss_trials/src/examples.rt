@@ -48,3 +48,20 @@ fn examples_have_their_fates(rt: HostRuntime) -> Result<(), Fail> {
     }
     Ok(())
 }
+
+#[test]
+fn an_intact_block_has_its_sum_beside_damage(rt: HostRuntime) -> Result<(), Fail> {
+    let lattice = Lattice::new(2, 2, 2, 11).ok_or("no lattice")?;
+    let mut lost = blocks_of(rt.alloc(), NINETEEN)?;
+    lost.extend_from_slice(blocks_of(rt.alloc(), "d2")?.as_slice())?;
+    let fates = fates_of(rt.alloc(), &lattice, lost.as_slice())?;
+    for want in [
+        "d2 = h2",
+        "d5 = h1 r1 h3 r3 h4 r4 h5 h6 r6",
+        "d1 by 1 3 4 6",
+    ] {
+        let stands = fates.as_str().lines().any(|line| line == want);
+        assert!(rt; stands, "{want} is not among\n{}", fates.as_str());
+    }
+    Ok(())
+}

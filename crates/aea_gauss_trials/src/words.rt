@@ -1,4 +1,6 @@
-//! Packed rows: the XOR of words at each short length, and a small reduction.
+//! Packed rows: the XOR of words at each short length, a small reduction, and many rows beside a plain reduction.
+
+ghost use Rattle.std.specs.Prelude.{◌≡◌, ◌<◌, length};
 
 use aea_gauss_words::{eliminate, xor_words};
 use std::test::Fail;
@@ -38,5 +40,88 @@ fn three_rows_are_reduced(rt: HostRuntime) -> Result<(), Fail> {
     eliminate(3, 3, &mut words);
     words.sort_unstable();
     assert!(rt; words == [0, 5, 6]);
+    Ok(())
+}
+
+// Adds row i to row j.
+fn add_plain(words: &mut [u64], i: usize, j: usize)
+    requires long { length words.old ≡ 900 }
+    requires i { i < 300 }
+    requires j { j < 300 }
+{
+    for w in 0..3 {
+        words[3 * j + w] ^= words[3 * i + w];
+    }
+}
+
+// Whether the row has the column.
+fn has(words: &[u64], row: usize, column: usize) -> bool
+    requires long { length words.now ≡ 900 }
+    requires row { row < 300 }
+    requires column { column < 192 }
+{
+    (words[3 * row + column / 64] >> (column % 64)) & 1 == 1
+}
+
+// Reduces 300 rows of three words, column by column.
+fn reduce_plain(words: &mut [u64])
+    requires { length words.old ≡ 900 }
+{
+    let mut used = [false; 300];
+    for column in 0..192 {
+        let chosen = (0..300).find(|row| *row < 300 && !used[*row] && has(words, *row, column));
+        if let Some(chosen) = chosen {
+            clear_plain(words, chosen, column);
+            if chosen < 300 {
+                used[chosen] = true;
+            }
+        }
+    }
+}
+
+// Adds the row to each other one that has the column.
+fn clear_plain(words: &mut [u64], chosen: usize, column: usize)
+    requires long { length words.old ≡ 900 }
+    requires column { column < 192 }
+{
+    if 300 <= chosen {
+        return;
+    }
+    for row in 0..300 {
+        if row != chosen && has(words, row, column) {
+            add_plain(words, chosen, row);
+        }
+    }
+}
+
+// A sum over the rows, in whatever order they stand.
+fn digest(words: &[u64]) -> u64 {
+    let mut sum: u64 = 0;
+    for row in words.chunks_exact(3) {
+        let mut x = 0;
+        for word in row {
+            x = step(x ^ *word);
+        }
+        sum = sum.wrapping_add(x);
+    }
+    sum
+}
+
+#[test]
+fn many_rows_are_reduced_as_few(rt: HostRuntime) -> Result<(), Fail> {
+    let mut x = 3;
+    let mut words = Vec::new(rt.alloc());
+    for k in 0..900_u64 {
+        x = step(x);
+        // Some rows have few columns, and some are the same as others.
+        words.push(if k % 7 == 0 { 5 } else { x & step(x) })?;
+    }
+    let mut other = Vec::new(rt.alloc());
+    other.extend_from_slice(words.as_slice())?;
+    if words.len() == 900 && other.len() == 900 {
+        eliminate(192, 300, words.as_mut_slice());
+        reduce_plain(other.as_mut_slice());
+    }
+    assert_eq!(rt; digest(words.as_slice()), digest(other.as_slice()));
     Ok(())
 }

@@ -4,6 +4,8 @@
 #[cfg(test)]
 mod example;
 #[cfg(test)]
+mod kinds;
+#[cfg(test)]
 mod openings;
 #[cfg(test)]
 mod plain;

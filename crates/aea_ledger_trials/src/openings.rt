@@ -74,16 +74,50 @@ fn the_example_is_read_field_by_field(rt: HostRuntime) -> Result<(), Fail> {
     Ok(())
 }
 
+// The first number of bytes of which opening does not make what the plain reader does.
+fn first_cut_apart(
+    alloc: Global,
+    disk: &mut SureDisk,
+    bytes: &[u8],
+) -> Result<Option<usize>, Fail> {
+    for end in 0..=bytes.len() {
+        let front = &bytes[..end];
+        let plain = read_plainly(alloc, front)?;
+        if open_bytes(alloc, disk, front)? != plain {
+            return Ok(Some(end));
+        }
+    }
+    Ok(None)
+}
+
+// The first place at which another byte is not to opening what it is to the plain reader. Some bytes are tried at each.
+fn first_change_apart(
+    alloc: Global,
+    disk: &mut SureDisk,
+    bytes: &[u8],
+) -> Result<Option<usize>, Fail> {
+    let mut changed = Vec::from_slice(alloc, bytes)?;
+    for place in 0..bytes.len() {
+        let kept = bytes[place];
+        let flips = [kept ^ 1, kept ^ 128, kept ^ 16];
+        for value in [0, 1, 2, 3, 4, 5, 31, 127, 255].iter().chain(flips.iter()) {
+            changed[place] = *value;
+            let plain = read_plainly(alloc, &changed)?;
+            if open_bytes(alloc, disk, &changed)? != plain {
+                return Ok(Some(place));
+            }
+        }
+        changed[place] = kept;
+    }
+    Ok(None)
+}
+
 #[test]
 fn each_cut_and_change_is_as_the_plain_reader_has_it(rt: HostRuntime) -> Result<(), Fail> {
     let alloc = rt.alloc();
     let bytes = example(alloc)?;
     let mut disk = SureDisk::new(alloc, 0, 256, 0)?;
-    for end in 0..=bytes.len() {
-        let front = &bytes[..end];
-        let plain = read_plainly(alloc, front)?;
-        assert_eq!(rt; open_bytes(alloc, &mut disk, front)?, plain, "{end} bytes");
-    }
+    assert_eq!(rt; first_cut_apart(alloc, &mut disk, &bytes)?, None);
     let mut changed = Vec::from_slice(alloc, &bytes)?;
     for place in 0..bytes.len() {
         let kept = changed[place];
@@ -117,38 +151,8 @@ fn each_kind_is_as_the_plain_reader_has_it(rt: HostRuntime) -> Result<(), Fail> 
     assert_eq!(rt; ledger.limit(), 1_048_576);
     assert_eq!(rt; ledger.lattice().fence_count(), 1);
     assert_eq!(rt; ledger.catalog().parts(b"b"), Some(2));
-    for end in 0..=bytes.len() {
-        let front = &bytes[..end];
-        let plain = read_plainly(alloc, front)?;
-        assert_eq!(rt; open_bytes(alloc, &mut disk, front)?, plain, "{end} bytes");
-    }
-    let mut changed = Vec::from_slice(alloc, &bytes)?;
-    for place in 0..bytes.len() {
-        let kept = changed[place];
-        for value in [
-            0,
-            1,
-            2,
-            3,
-            4,
-            5,
-            31,
-            127,
-            255,
-            kept ^ 1,
-            kept ^ 128,
-            kept ^ 16,
-        ] {
-            changed[place] = value;
-            let plain = read_plainly(alloc, &changed)?;
-            assert_eq!(rt;
-                open_bytes(alloc, &mut disk, &changed)?,
-                plain,
-                "{value} at {place}"
-            );
-        }
-        changed[place] = kept;
-    }
+    assert_eq!(rt; first_cut_apart(alloc, &mut disk, &bytes)?, None);
+    assert_eq!(rt; first_change_apart(alloc, &mut disk, &bytes)?, None);
     Ok(())
 }
 

@@ -135,14 +135,25 @@ fn short_fields(far: &SoFar, bytes: &[u8], kind: u64) -> [(u64, bool); 4] {
     ]
 }
 
-// The fields of an object behind an open gate, with which the bytes begin; one in parts has four bytes more before them.
-fn object_fields(far: &SoFar, bytes: &[u8], kind: u64) -> [(u64, bool); 12] {
+// The fields of an object behind an open gate, with which the bytes begin, up to its name.
+fn name_fields(far: &SoFar, bytes: &[u8], kind: u64) -> [(u64, bool); 4] {
     let has = |end: u64| end <= bytes.len() as u64;
-    let joined = kind == 3;
     let long = number(bytes, 6, 2);
     let name = part(bytes, 8, long);
-    let after = long.saturating_add(8);
-    let length = number(bytes, after, 8);
+    let taken = far.names.iter().any(|known| known.as_slice() == name);
+    [
+        (1, has(2) && far.may_come(kind)),
+        (2, has(6)),
+        (6, has(8) && 1 <= long && long <= 255),
+        (8, has(long.saturating_add(8)) && check_name(name) && !taken),
+    ]
+}
+
+// The fields of an object behind its name, and last the value of the number of bytes. One in parts has four bytes and the
+// parts between.
+fn object_fields(far: &SoFar, bytes: &[u8], joined: bool) -> [(u64, bool); 8] {
+    let has = |end: u64| end <= bytes.len() as u64;
+    let after = number(bytes, 6, 2).saturating_add(8);
     let first = number(bytes, after.saturating_add(40), 4);
     let count = number(bytes, after.saturating_add(44), 4);
     let last = far.nodes.saturating_add(count);
@@ -153,16 +164,13 @@ fn object_fields(far: &SoFar, bytes: &[u8], kind: u64) -> [(u64, bool); 12] {
     };
     let behind = after.saturating_add(if joined { 52 } else { 48 });
     let parts_end = behind.saturating_add(parts.saturating_mul(8));
-    let digests = count
-        .saturating_mul(far.alpha.saturating_add(1))
-        .saturating_mul(32);
-    let nodes = length.div_ceil(far.block.max(1));
-    let taken = far.names.iter().any(|known| known.as_slice() == name);
+    let end = parts_end.saturating_add(
+        count
+            .saturating_mul(far.alpha.saturating_add(1))
+            .saturating_mul(32),
+    );
+    let nodes = number(bytes, after, 8).div_ceil(far.block.max(1));
     [
-        (1, has(2) && far.may_come(kind)),
-        (2, has(6)),
-        (6, has(8) && 1 <= long && long <= 255),
-        (8, has(after) && check_name(name) && !taken),
         (after, has(after.saturating_add(8))),
         (after.saturating_add(8), has(after.saturating_add(40))),
         (
@@ -181,11 +189,8 @@ fn object_fields(far: &SoFar, bytes: &[u8], kind: u64) -> [(u64, bool); 12] {
             behind,
             !joined || (has(parts_end) && are_parts(bytes, behind, parts, last, nodes)),
         ),
-        (parts_end, has(parts_end.saturating_add(digests))),
-        (
-            2,
-            number(bytes, 2, 4) == parts_end.saturating_add(digests).saturating_sub(6),
-        ),
+        (parts_end, has(end)),
+        (2, number(bytes, 2, 4) == end.saturating_sub(6)),
     ]
 }
 
@@ -211,7 +216,11 @@ fn bad_record(far: &SoFar, bytes: &[u8], kind: u64) -> Option<u64> {
     if kind == 2 || kind == 4 {
         first_bad(&short_fields(far, bytes, kind))
     } else {
-        first_bad(&object_fields(far, bytes, kind))
+        first_bad(&name_fields(far, bytes, kind)).or(first_bad(&object_fields(
+            far,
+            bytes,
+            kind == 3,
+        )))
     }
 }
 

@@ -13,7 +13,8 @@ use aea_ledger::{AppendFault, CreateFault, Ledger, create_ledger, open_ledger};
 use std::alloc::Global;
 use std::test::Fail;
 
-const LOSSES: [Loss; 4] = [Loss::Kept, Loss::Dropped, Loss::Ones, Loss::Zeros];
+/// What may be lost in a stop.
+pub const LOSSES: [Loss; 4] = [Loss::Kept, Loss::Dropped, Loss::Ones, Loss::Zeros];
 
 // A ledger without records, with the first object, and with the second.
 const NONE: Reading = Reading::Ledger {
@@ -31,8 +32,8 @@ const TWO: Reading = Reading::Ledger {
     objects: 2,
 };
 
-// Adds an object of this name, length, digest and digests of blocks. False where no ledger takes these.
-fn add<D: Disk>(
+/// Adds an object of this name, length, digest and digests of blocks. False where no ledger takes these.
+pub fn add<D: Disk>(
     ledger: &mut Ledger,
     disk: &mut D,
     name: &[u8],
@@ -67,8 +68,8 @@ fn add<D: Disk>(
     Ok(true)
 }
 
-// The digests of the first node's blocks.
-fn first_digests() -> [[u8; 32]; 4] {
+/// The digests of the first node's blocks.
+pub fn first_digests() -> [[u8; 32]; 4] {
     [
         first_digest(CLASSES[0]),
         first_digest(CLASSES[1]),

@@ -11,10 +11,11 @@ use Rattle.aea_disk.specs.State.{State, IsSynced, IsFixed, During, HasRoomTo}
 use Rattle.aea_disk.proofs.Frames.{writes_others}
 use Rattle.aea_disk.proofs.Moments.{passes_both, others_kept, others_both}
 use Rattle.aea_records.specs.Format.{Record, body, entry, spelled}
-use Rattle.aea_records.specs.Grammar.{IsNext, IsLedger}
+use Rattle.aea_records.specs.Grammar.{IsNext, IsLedger, AreRecords}
 use Rattle.aea_records.specs.Laws.{IsSomeLedger, HasOneReading}
 use Rattle.aea_ledger.specs.Committing.{LeavesOldOrNew, HasCommitted}
 use Rattle.aea_ledger.specs.Next.{AreItsRecords}
+use Rattle.aea_ledger.specs.Recorded.{AreRecordsOf}
 use Rattle.aea_ledger.specs.Stops.{HasLedger, HasOldOrNew, StaysAll, committed}
 use Rattle.aea_ledger.specs.Values.{Opened, HasRecords, IsThisOne}
 use Rattle.aea_cli.specs.declared.refusal.Refusal.{Refusal}
@@ -193,22 +194,29 @@ adds_failed {T} reading adds tells v r fault old mid new does failed = record {
   in_room = λ fits. absurd ((commit_sure adds tells v r fault old mid new does fits).0 failed);
 }
 
+-- what the ledger records, it records with the record behind it
+abbrev pub KeepsRecorded : (List Record → Record) → Type 0
+KeepsRecorded adds =
+    (shape : Shape) (records : List Record) (datas : List (List ℕ)) → AreRecords shape (records ++ adds records ∷ []) → AreRecordsOf shape records datas → AreRecordsOf shape (records ++ adds records ∷ []) datas
+
 -- the record was committed
-pub adds_done : {T : Type 0} → HasOneReading → (adds : List Record → Record) (tells : Type 0) (v w : Opened) (r : Record) (fault : Type 0) (old mid new : State) (value : T) → IsCommitting adds tells v r fault old mid new → HasCommitted tells v w r mid new
+pub adds_done : {T : Type 0} → HasOneReading → (adds : List Record → Record) → KeepsRecorded adds → (tells : Type 0) (v w : Opened) (r : Record) (fault : Type 0) (old mid new : State) (value : T) → IsCommitting adds tells v r fault old mid new → HasCommitted tells v w r mid new
     → Adds adds tells old new (Ok value)
-adds_done {T} reading adds tells v w r fault old mid new value does done = record {
+adds_done {T} reading adds keeps tells v w r fault old mid new value does done = record {
   stands = λ e told.
       let one = does.opens.this_one told in
       let is = does.is one.records one.has in
       let same = does.opens.reads.contents told in
-      let its = its_records tells old mid v does.opens told one in (
+      let its = its_records tells old mid v does.opens told one in
+      let after = subst (λ (q : Record). HasLedger v.shape (one.records ++ q ∷ []) (new.files 0)) (sym is) (done.appended told one.records its) in (
         record {
           shape = v.shape;
           records = one.records;
           before = subst (λ (n : ℕ). IsLedger (old.files 0) v.shape one.records n) one.has.end one.ledger;
-          after = subst (λ (q : Record). HasLedger v.shape (one.records ++ q ∷ []) (new.files 0)) (sym is) (done.appended told one.records its);
+          after = after;
           exactly = done.exactly told ∙ ap (λ (c : Files). committed (c 0) v.end (body r ++ 0 ∷ [])) same ∙ ap (λ (n : ℕ). committed (old.files 0) n (body r ++ 0 ∷ [])) one.has.end
               ∙ ap (λ (q : Record). committed (old.files 0) (length (spelled v.shape one.records)) (body q ++ 0 ∷ [])) (sym is);
+          recorded = λ datas. keeps v.shape one.records datas after.valid;
         },
         done.durable told,
       );

@@ -5,6 +5,7 @@ use Rattle.std.proofs.lemmas.Bool.{cases_lt}
 use Rattle.aea_faults.specs.Faults.{Rose}
 use Rattle.aea_lattice.specs.declared.shape.Shape.{Shape}
 use Rattle.aea_lattice.specs.Fences.{greatest_fences, last_fence}
+use Rattle.aea_lattice.specs.Facts.{BlocksAreInside}
 use Rattle.aea_lattice.proofs.Parted.{last_fence-within, fences_few}
 use Rattle.aea_disk.specs.State.{State, HasRoomTo}
 use Rattle.aea_disk.specs.Files.{ChangesOnly}
@@ -13,7 +14,7 @@ use Rattle.aea_disk.proofs.Frames.{writes_others}
 use Rattle.aea_disk.proofs.Moments.{passes_both, others_kept, others_both}
 use Rattle.aea_records.specs.Format.{Record, Fence, nodes_of, fences_of, entry, spelled}
 use Rattle.aea_records.specs.Grammar.{IsNext, IsLedger}
-use Rattle.aea_records.specs.Laws.{IsSomeLedger, HasOneReading, FencesMayFollow}
+use Rattle.aea_records.specs.Laws.{IsSomeLedger, HasOneReading, FencesMayFollow, RecordsAreFew}
 use Rattle.aea_ledger.specs.declared.fences.FenceFault.{FenceFault}
 use Rattle.aea_ledger.specs.declared.fences.FenceFault.TheVariants as fencing
 use Rattle.aea_ledger.specs.Committing.{LeavesOldOrNew, HasCommitted}
@@ -30,6 +31,7 @@ use Rattle.aea_cli.specs.Fence.{next_fence, IsFenced, HasAllFences, FenceCauses}
 use Rattle.aea_cli.specs.Openings.{OpeningCauses, Opens}
 use Rattle.aea_cli.proofs.Adding.{IsCommitting, adds_read, adds_failed, adds_done, rest_committed}
 use Rattle.aea_cli.proofs.Behind.{AreBehindOpening, some_ledger, opened_no_opening}
+use Rattle.aea_cli.proofs.Recording.{fence_records}
 use Rattle.aea_cli.proofs.Refusing.{refuses_none, refuses_one, refuses_stopped}
 
 from_opening : (bytes : List ℕ) (why : Refusal) → OpeningCauses bytes why → FenceCauses bytes why
@@ -231,9 +233,9 @@ fenced_committing follow tells v w nodes old mid new gave = record {
   writes = subst (λ (n : ℕ). OnlyWrites tells (HasRoomTo mid 0 n) ⊥ (ChangesOnly 0) mid new) (let e : v.end + 11 ≡ v.end + length (entry (Fence v.lattice.n)) + 1 = omega arith in e) gave.writes;
 }
 
-pub fenced_adds : {T : Type 0} → HasOneReading → FencesMayFollow → (tells : Type 0) (v w : Opened) (nodes : ℕ) (old mid new : State) (value : T) → IsFencedNow tells v w nodes old mid new → Adds next_fence tells old new (Ok value)
-fenced_adds reading follow tells v w nodes old mid new value gave =
-    adds_done reading next_fence tells v w (Fence v.lattice.n) ⊥ old mid new value (fenced_committing follow tells v w nodes old mid new gave) gave.committed
+pub fenced_adds : {T : Type 0} → HasOneReading → FencesMayFollow → BlocksAreInside → RecordsAreFew → (tells : Type 0) (v w : Opened) (nodes : ℕ) (old mid new : State) (value : T) → IsFencedNow tells v w nodes old mid new → Adds next_fence tells old new (Ok value)
+fenced_adds reading follow inside few tells v w nodes old mid new value gave =
+    adds_done reading next_fence (fence_records inside few) tells v w (Fence v.lattice.n) ⊥ old mid new value (fenced_committing follow tells v w nodes old mid new gave) gave.committed
 
 pub fenced_refuses : {T : Type 0} → HasOneReading → (tells : Type 0) (v w : Opened) (nodes : ℕ) (old mid new : State) (value : T) → IsFencedNow tells v w nodes old mid new → Refuses tells (FenceCauses (old.files 0)) (Ok value)
 fenced_refuses reading tells v w nodes old mid new value gave =

@@ -10,3 +10,4 @@ pub mod Behind
 pub mod Adding
 pub mod Fencing
 pub mod Upgrading
+pub mod Recording

@@ -26,6 +26,7 @@ use Rattle.aea_cli.specs.Openings.{OpeningCauses, Opens}
 use Rattle.aea_cli.specs.Upgrade.{next_raise, IsRaised, UpgradeCauses}
 use Rattle.aea_cli.proofs.Adding.{IsCommitting, adds_read, adds_failed, adds_done, rest_committed}
 use Rattle.aea_cli.proofs.Behind.{AreBehindOpening, some_ledger, opened_no_opening}
+use Rattle.aea_cli.proofs.Recording.{raise_records}
 use Rattle.aea_cli.proofs.Refusing.{refuses_none, refuses_one, refuses_stopped}
 
 from_opening : (bytes : List ℕ) (why : Refusal) → OpeningCauses bytes why → UpgradeCauses bytes why
@@ -157,7 +158,7 @@ raised_committing tells v w old mid new gave = record {
 
 pub raised_adds : {T : Type 0} → HasOneReading → (tells : Type 0) (v w : Opened) (old mid new : State) (value : T) → IsRaisedNow tells v w old mid new → Adds next_raise tells old new (Ok value)
 raised_adds reading tells v w old mid new value gave =
-    adds_done reading next_raise tells v w Raise ⊥ old mid new value (raised_committing tells v w old mid new gave) gave.committed
+    adds_done reading next_raise raise_records tells v w Raise ⊥ old mid new value (raised_committing tells v w old mid new gave) gave.committed
 
 pub raised_refuses : {T : Type 0} → HasOneReading → (tells : Type 0) (v w : Opened) (old mid new : State) (value : T) → IsRaisedNow tells v w old mid new → Refuses tells (UpgradeCauses (old.files 0)) (Ok value)
 raised_refuses reading tells v w old mid new value gave =

@@ -7,19 +7,22 @@ use Rattle.aea_disk.specs.State.{State, Passes, KeepsImages, KeepsOthers, IsSync
 use Rattle.aea_records.specs.Format.{Record, body, entry, spelled}
 use Rattle.aea_records.specs.Grammar.{IsNext}
 use Rattle.aea_records.specs.Laws.{IsSomeLedger}
+use Rattle.aea_ledger.specs.Recorded.{AreRecordsOf}
 use Rattle.aea_ledger.specs.Stops.{HasLedger, HasOldOrNew, IsOpened, HasOpening, StaysAll, committed}
 use Rattle.aea_cli.specs.declared.refusal.Refusal.{Refusal}
 use Rattle.aea_cli.specs.declared.refusal.Failure.{Failure}
 use Rattle.aea_cli.specs.declared.refusal.Failure.TheVariants as failure
 
 -- The record was added: the file was a ledger, and is the one with the record behind its own. It is the old file, byte for
--- byte, with the body of the record and a closed gate written behind the ending gate, and that gate opened.
+-- byte, with the body of the record and a closed gate written behind the ending gate, and that gate opened. What data the
+-- old ledger records, the new one does.
 pub record HasAdded (adds : List Record → Record) (old new : List ℕ) : Type 0 where
   pub shape : Shape
   pub records : List Record
   pub before : HasLedger shape records old
   pub after : HasLedger shape (records ++ adds records ∷ []) new
   pub exactly : new ≡ committed old (length (spelled shape records)) (body (adds records) ++ 0 ∷ [])
+  pub recorded : (datas : List (List ℕ)) → AreRecordsOf shape records datas → AreRecordsOf shape (records ++ adds records ∷ []) datas
 
 -- The record was added or not: what was a ledger is that one, or the one with the record behind its own; what was none is
 -- as it was, and so is every other file.

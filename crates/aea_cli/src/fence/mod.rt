@@ -16,6 +16,7 @@ use crate::refusal::Failure;
 use crate::status::Status;
 use aea_disk::Disk;
 use aea_io::{Page, Sink, WriteFault, finish, print, print_number};
+use aea_lattice::blocks_are_inside;
 use aea_records::{
     fences_may_follow, ledgers_are_archives, ledgers_are_not_bad, ledgers_have_one_reading,
     records_are_few,
@@ -38,6 +39,7 @@ fn add_fence<D: Disk>(alloc: Global, disk: &mut D) -> Result<u32, Failure>
     ledgers_have_one_reading();
     fences_may_follow();
     records_are_few();
+    blocks_are_inside();
     let mut ledger = open(alloc, disk)?;
     Ok(ledger.append_fence(disk)?)
 }

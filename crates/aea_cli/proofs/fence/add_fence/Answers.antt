@@ -109,7 +109,7 @@ returns-clause-adds g c =
       committed = gave.committed;
       writes = writes_as g.D.Disk.tells (HasRoomTo mid 0 (v.end + 11)) _ ⊥ (ChangesOnly 0) mid new (λ none. absurd none) gave.writes;
     } in
-    fenced_adds c.ledgers_have_one_reading.ensures c.fences_may_follow.ensures g.D.Disk.tells v c.append_fence.new.self n old mid new n now
+    fenced_adds c.ledgers_have_one_reading.ensures c.fences_may_follow.ensures c.blocks_are_inside.ensures c.records_are_few.ensures g.D.Disk.tells v c.append_fence.new.self n old mid new n now
 
 pub returns-clause-refuses : goal.returns-clause-refuses
 returns-clause-refuses g c =

@@ -10,7 +10,7 @@ use Rattle.aea_lattice.proofs.Parted.{last_fence-within, fences_few}
 use Rattle.aea_disk.specs.State.{State, HasRoomTo}
 use Rattle.aea_disk.specs.Files.{ChangesOnly}
 use Rattle.aea_disk.specs.Frames.{OnlyWrites}
-use Rattle.aea_disk.proofs.Frames.{writes_others}
+use Rattle.aea_disk.proofs.Frames.{writes_as, writes_others}
 use Rattle.aea_disk.proofs.Moments.{passes_both, others_kept, others_both}
 use Rattle.aea_records.specs.Format.{Record, Fence, nodes_of, fences_of, entry, spelled}
 use Rattle.aea_records.specs.Grammar.{IsNext, IsLedger}
@@ -153,6 +153,27 @@ pub record IsUnfenced (tells : Type 0) (v : Opened) (fault : FenceFault) (old mi
   pub unchanged : fault ≢ fencing.DiskFault → new ≡ mid
   pub leaves : LeavesOldOrNew tells v (Fence v.lattice.n) mid new
   pub writes : OnlyWrites tells (HasRoomTo mid 0 (v.end + 11)) (fault ≡ fencing.DiskFault) (ChangesOnly 0) mid new
+
+same_fault : (a b : FenceFault) → (let one : Result ℕ FenceFault = Err a in one ≡ Err b) → a ≡ b
+same_fault a b e = cc
+
+as_err : (a b : FenceFault) → a ≡ b → (let one : Result ℕ FenceFault = Err a in one ≡ Err b)
+as_err a b e = ap Err e
+
+-- the same from its answer
+pub unfenced_of : (tells : Type 0) (v : Opened) (fault : FenceFault) (old mid new : State) → Opens tells old mid (Ok v)
+    → ((n : ℕ) → (let one : Result ℕ FenceFault = Err fault in one ≡ Err (fencing.AlreadyFenced n)) ↔ ((n ≡ v.lattice.n) × StandsFenced v))
+    → ((let one : Result ℕ FenceFault = Err fault in one ≡ Err fencing.TooManyFences) ↔ ((length v.lattice.fences ≡ greatest_fences) × (StandsFenced v → ⊥)))
+    → ((let one : Result ℕ FenceFault = Err fault in one ≢ Err fencing.DiskFault) → new ≡ mid) → LeavesOldOrNew tells v (Fence v.lattice.n) mid new
+    → OnlyWrites tells (HasRoomTo mid 0 (v.end + 11)) (let one : Result ℕ FenceFault = Err fault in one ≡ Err fencing.DiskFault) (ChangesOnly 0) mid new → IsUnfenced tells v fault old mid new
+unfenced_of tells v fault old mid new opens already many unchanged leaves writes = record {
+  opens = opens;
+  already = λ n. (λ e. (already n).0 (as_err fault (fencing.AlreadyFenced n) e), λ h. same_fault fault (fencing.AlreadyFenced n) ((already n).1 h));
+  many = (λ e. many.0 (as_err fault fencing.TooManyFences e), λ h. same_fault fault fencing.TooManyFences (many.1 h));
+  unchanged = λ differs. unchanged (λ e. differs (same_fault fault fencing.DiskFault e));
+  leaves = leaves;
+  writes = writes_as tells (HasRoomTo mid 0 (v.end + 11)) _ _ (ChangesOnly 0) mid new (as_err fault fencing.DiskFault) writes;
+}
 
 -- it was committed, or the disk failed at that
 unfenced_committing : FencesMayFollow → (tells : Type 0) (v : Opened) (old mid new : State) → IsUnfenced tells v fencing.DiskFault old mid new → IsCommitting next_fence tells v (Fence v.lattice.n) (fencing.DiskFault ≡ fencing.DiskFault) old mid new

@@ -1,4 +1,4 @@
-use Rattle.std.proofs.Common.{◌≡◌, ℕ, ◌+◌, Result, Ok, Err, ap, refl}
+use Rattle.std.proofs.Common.{◌≡◌, ℕ, ◌+◌, Ok, Err, ap, refl}
 use Rattle.aea_disk.specs.Files.{ChangesOnly}
 use Rattle.aea_disk.specs.State.{HasRoomTo}
 use Rattle.aea_disk.proofs.Frames.{writes_as}
@@ -8,15 +8,9 @@ use Rattle.aea_cli.specs.Failures.{fence_failure}
 use Rattle.aea_cli.specs.Fence.{next_fence, FenceCauses}
 use Rattle.aea_cli.proofs.Adding.{adds_opening}
 use Rattle.aea_cli.proofs.Behind.{unopened_refuses}
-use Rattle.aea_cli.proofs.Fencing.{fence_behind, IsUnfenced, unfenced_adds, unfenced_refuses, unfenced_rest, IsFencedNow, StandsFenced, fenced_adds, fenced_refuses, fenced_rest, fenced_nodes}
+use Rattle.aea_cli.proofs.Fencing.{fence_behind, unfenced_of, unfenced_adds, unfenced_refuses, unfenced_rest, IsFencedNow, StandsFenced, fenced_adds, fenced_refuses, fenced_rest, fenced_nodes}
 use Rattle.aea_cli.proofs.OpeningCases.{err_with}
 use Rattle.aea_cli.proofs.fence.add_fence.Goals as goal
-
-same_fault : (a b : FenceFault) → (let one : Result ℕ FenceFault = Err a in one ≡ Err b) → a ≡ b
-same_fault a b e = cc
-
-as_err : (a b : FenceFault) → a ≡ b → (let one : Result ℕ FenceFault = Err a in one ≡ Err b)
-as_err a b e = ap Err e
 
 ok_not : (n : ℕ) (a : FenceFault) → Ok n ≡ Err a → ⊥
 ok_not n a e = cc
@@ -42,14 +36,7 @@ returns-in_err-append_fence-clause-adds g c =
     let v = c.in_ok-ledger.ledger in
     let fault = c.in_err-append_fence.field-0.0 in
     let gave = c.in_err-append_fence.ensures in
-    let unfenced : IsUnfenced g.D.Disk.tells v fault old mid new = record {
-      opens = c.in_ok-ledger.ensures;
-      already = λ n. (λ e. (gave.already n).0 (as_err fault (fencing.AlreadyFenced n) e), λ h. same_fault fault (fencing.AlreadyFenced n) ((gave.already n).1 h));
-      many = (λ e. gave.many.0 (as_err fault fencing.TooManyFences e), λ h. same_fault fault fencing.TooManyFences (gave.many.1 h));
-      unchanged = λ differs. ap g.D.Disk.state (gave.unchanged refl (λ e. differs (same_fault fault fencing.DiskFault e))).1;
-      leaves = gave.leaves;
-      writes = writes_as g.D.Disk.tells (HasRoomTo mid 0 (v.end + 11)) _ _ (ChangesOnly 0) mid new (as_err fault fencing.DiskFault) gave.writes;
-    } in
+    let unfenced = unfenced_of g.D.Disk.tells v fault old mid new c.in_ok-ledger.ensures gave.already gave.many (λ differs. ap g.D.Disk.state (gave.unchanged refl differs).1) gave.leaves gave.writes in
     rw (err_with c.from_residual-in_err-append_fence.result (fence_failure fault) c.from_residual-in_err-append_fence.ensures.1)
     (unfenced_adds c.ledgers_have_one_reading.ensures c.fences_may_follow.ensures g.D.Disk.tells v fault old mid new unfenced)
 
@@ -61,14 +48,7 @@ returns-in_err-append_fence-clause-refuses g c =
     let v = c.in_ok-ledger.ledger in
     let fault = c.in_err-append_fence.field-0.0 in
     let gave = c.in_err-append_fence.ensures in
-    let unfenced : IsUnfenced g.D.Disk.tells v fault old mid new = record {
-      opens = c.in_ok-ledger.ensures;
-      already = λ n. (λ e. (gave.already n).0 (as_err fault (fencing.AlreadyFenced n) e), λ h. same_fault fault (fencing.AlreadyFenced n) ((gave.already n).1 h));
-      many = (λ e. gave.many.0 (as_err fault fencing.TooManyFences e), λ h. same_fault fault fencing.TooManyFences (gave.many.1 h));
-      unchanged = λ differs. ap g.D.Disk.state (gave.unchanged refl (λ e. differs (same_fault fault fencing.DiskFault e))).1;
-      leaves = gave.leaves;
-      writes = writes_as g.D.Disk.tells (HasRoomTo mid 0 (v.end + 11)) _ _ (ChangesOnly 0) mid new (as_err fault fencing.DiskFault) gave.writes;
-    } in
+    let unfenced = unfenced_of g.D.Disk.tells v fault old mid new c.in_ok-ledger.ensures gave.already gave.many (λ differs. ap g.D.Disk.state (gave.unchanged refl differs).1) gave.leaves gave.writes in
     rw (err_with c.from_residual-in_err-append_fence.result (fence_failure fault) c.from_residual-in_err-append_fence.ensures.1)
     (unfenced_refuses c.ledgers_have_one_reading.ensures g.D.Disk.tells v fault old mid new unfenced)
 
@@ -80,14 +60,7 @@ returns-in_err-append_fence-clause-rest g c =
     let v = c.in_ok-ledger.ledger in
     let fault = c.in_err-append_fence.field-0.0 in
     let gave = c.in_err-append_fence.ensures in
-    let unfenced : IsUnfenced g.D.Disk.tells v fault old mid new = record {
-      opens = c.in_ok-ledger.ensures;
-      already = λ n. (λ e. (gave.already n).0 (as_err fault (fencing.AlreadyFenced n) e), λ h. same_fault fault (fencing.AlreadyFenced n) ((gave.already n).1 h));
-      many = (λ e. gave.many.0 (as_err fault fencing.TooManyFences e), λ h. same_fault fault fencing.TooManyFences (gave.many.1 h));
-      unchanged = λ differs. ap g.D.Disk.state (gave.unchanged refl (λ e. differs (same_fault fault fencing.DiskFault e))).1;
-      leaves = gave.leaves;
-      writes = writes_as g.D.Disk.tells (HasRoomTo mid 0 (v.end + 11)) _ _ (ChangesOnly 0) mid new (as_err fault fencing.DiskFault) gave.writes;
-    } in
+    let unfenced = unfenced_of g.D.Disk.tells v fault old mid new c.in_ok-ledger.ensures gave.already gave.many (λ differs. ap g.D.Disk.state (gave.unchanged refl differs).1) gave.leaves gave.writes in
     rw (err_with c.from_residual-in_err-append_fence.result (fence_failure fault) c.from_residual-in_err-append_fence.ensures.1)
     (unfenced_rest g.D.Disk.tells v fault old mid new unfenced)
 

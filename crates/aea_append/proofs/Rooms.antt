@@ -1,0 +1,71 @@
+-- The room that the ledger's limit leaves, in nodes and in bytes.
+use Rattle.std.proofs.Common.{◌≡◌, ℕ, ◌+◌, ◌-◌, ◌*◌, ◌/◌, ◌<◌, ◌≤◌, Bool, true, false, sym, ◌∙◌, ap, subst, arith}
+use Rattle.std.proofs.Math.Nat.{div-lt_iff_lt-mul, mul-le-mul_right}
+use Rattle.aea_lattice.specs.declared.grid.Lattice.{Lattice}
+use Rattle.aea_lattice.specs.declared.shape.Shape.{Shape}
+use Rattle.aea_lattice.specs.Profile.{greatest_nodes}
+use Rattle.aea_records.specs.Format.{nodes_for, limit_when}
+use Rattle.aea_records.specs.Laws.{RecordsAreFew}
+use Rattle.aea_ledger.specs.Values.{Opened, HasSomeRecords}
+use Rattle.aea_disk.specs.Files.{Files}
+use Rattle.aea_disk.specs.State.{State}
+use Rattle.aea_shelf.specs.Writes.{KeepsPadded}
+use Rattle.aea_archive.specs.Blocks.{IsBlockIn}
+use Rattle.aea_append.specs.Weaving.{WritesCells}
+use Rattle.aea_append.specs.Taking.{room_left}
+use Rattle.aea_append.proofs.Writes.{cells_as}
+use Rattle.aea_append.proofs.Cuts.{some_bytes}
+
+-- no limit is greater than that of lattices
+pub limit_most : (raised : Bool) → limit_when raised ≤ greatest_nodes
+limit_most true = omega arith
+limit_most false = omega arith
+
+-- the nodes of an opened ledger are within its limit
+pub within_limit : RecordsAreFew → (v : Opened) → HasSomeRecords v → v.lattice.n ≤ limit_when v.raised
+within_limit law v some =
+    let few = law v.shape some.0 some.1.valid in
+    subst (λ (b : Bool). v.lattice.n ≤ limit_when b) (sym some.1.raised) (omega (arith, some.1.lattice.n, few.nodes))
+
+-- so many bytes take no more nodes
+nodes-within : (shape : Shape) (n k : ℕ) → k ≤ n * shape.block → nodes_for shape k ≤ n
+nodes-within shape n k few =
+    let some = some_bytes shape in
+    let e : (n + 1) * shape.block ≡ n * shape.block + shape.block = omega arith in
+    let below : (k + shape.block - 1) / shape.block < n + 1 = (div-lt_iff_lt-mul {k = shape.block} {x = k + shape.block - 1} {y = n + 1} (omega (arith, some))).1 (omega (arith, e, few, some)) in
+    omega (arith, below)
+
+-- what the nodes that are left can hold fits
+pub room_fits : RecordsAreFew → (v : Opened) (k : ℕ) → HasSomeRecords v → k ≤ room_left v → v.lattice.n + nodes_for v.shape k ≤ limit_when v.raised
+room_fits law v k some few =
+    let within = within_limit law v some in
+    let nodes = nodes-within v.shape (limit_when v.raised - v.lattice.n) k few in
+    omega (arith, within, nodes)
+
+-- and is within what a lattice can have
+pub room_within : (v : Opened) → room_left v ≤ (greatest_nodes - v.lattice.n) * v.shape.block
+room_within v =
+    let most = limit_most v.raised in
+    let less : limit_when v.raised - v.lattice.n ≤ greatest_nodes - v.lattice.n = omega (arith, most) in
+    mul-le-mul_right v.shape.block less
+
+-- ---- what getters of a ledger answered, as its value has it
+
+pub limit_is : (v : Opened) (limit n from block from2 : ℕ) (l : Lattice) (shape : Shape) → limit ≡ limit_when v.raised → l ≡ v.lattice → n ≡ l.n → from ≡ limit - n → shape ≡ v.shape → block ≡ shape.block → from2 ≡ block → from * from2 ≡ room_left v
+limit_is v limit n from block from2 l shape a b c d e f g =
+    let one : from ≡ limit_when v.raised - v.lattice.n = omega (arith, d, a, c, ap (λ (m : Lattice). m.n) b) in
+    let two : from2 ≡ v.shape.block = g ∙ f ∙ ap (λ (s : Shape). s.block) e in
+    ap (λ (x : ℕ). x * from2) one ∙ ap (λ (x : ℕ). (limit_when v.raised - v.lattice.n) * x) two
+
+pub all_writes : RecordsAreFew → (tells fault other : Type 0) (v : Opened) (shape : Shape) (l : Lattice) (limit : ℕ) (old new : State) → HasSomeRecords v → shape ≡ v.shape → l ≡ v.lattice → limit ≡ room_left v → (other → fault)
+    → ((nodes : ℕ) → l.n + nodes_for shape limit ≤ nodes → WritesCells tells shape nodes (IsBlockIn shape l.n) fault old new)
+    → WritesCells tells v.shape (limit_when v.raised) (IsBlockIn v.shape v.lattice.n) other old new
+all_writes law tells fault other v shape l limit old new some same grid is so writes =
+    let one = subst (λ (s : Shape). (nodes : ℕ) → l.n + nodes_for s limit ≤ nodes → WritesCells tells s nodes (IsBlockIn s l.n) fault old new) same writes in
+    let two = subst (λ (k : Lattice). (nodes : ℕ) → k.n + nodes_for v.shape limit ≤ nodes → WritesCells tells v.shape nodes (IsBlockIn v.shape k.n) fault old new) grid one in
+    cells_as tells fault other v.shape (limit_when v.raised) (IsBlockIn v.shape v.lattice.n) old new so
+    (two (limit_when v.raised) (room_fits law v limit some (omega (arith, is))))
+
+pub all_padded : (v : Opened) (shape : Shape) (l : Lattice) (old new : Files) → shape ≡ v.shape → l ≡ v.lattice → KeepsPadded shape (IsBlockIn shape l.n) old new → KeepsPadded v.shape (IsBlockIn v.shape v.lattice.n) old new
+all_padded v shape l old new same grid padded =
+    subst (λ (k : Lattice). KeepsPadded v.shape (IsBlockIn v.shape k.n) old new) grid (subst (λ (s : Shape). KeepsPadded s (IsBlockIn s l.n) old new) same padded)

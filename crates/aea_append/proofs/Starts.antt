@@ -1,0 +1,100 @@
+-- Heads that are all loaded, before a node is woven.
+use Rattle.std.proofs.Common.{◌≡◌, ℕ, ◌+◌, ◌-◌, ◌*◌, ◌<◌, List, [], replicate, Option, None, Some, Result, Err, refl, sym, ◌∙◌, ap, subst, arith}
+use Rattle.aea_lattice.specs.declared.blocks.Class.{Class}
+use Rattle.aea_lattice.specs.declared.blocks.BlockId.{BlockId}
+use Rattle.aea_lattice.specs.declared.grid.Lattice.{Lattice}
+use Rattle.aea_lattice.specs.Blocks.{HasParity}
+use Rattle.aea_lattice.specs.Strands.{strand_of}
+use Rattle.aea_lattice.specs.Ends.{strands_of, last_open}
+use Rattle.aea_disk.specs.Files.{Files}
+use Rattle.aea_weave.specs.Woven.{Woven, head_of}
+use Rattle.aea_weave.specs.Stored.{all_strands}
+use Rattle.aea_weave.proofs.Places.{strand-below, place-within}
+use Rattle.aea_ledger.specs.Values.{Opened}
+use Rattle.aea_archive.specs.Lasts.{IsLastParity, IsFirstDamagedLast, AreLastsIntact}
+use Rattle.aea_append.specs.declared.fault.PutFault.{PutFault}
+use Rattle.aea_append.specs.declared.fault.PutFault.TheVariants.{HeadDamaged, Full}
+use Rattle.aea_append.specs.Loading.{place_of, IsLoaded, IsFound, HasLoaded}
+use Rattle.aea_append.specs.Weaving.{head_by, AreHeads, HasWoven}
+use Rattle.aea_append.proofs.Faults.{fault_is}
+use Rattle.aea_append.proofs.Loads.{on_last}
+
+-- the payload of a last parity is the head of its strand
+abbrev pub loaded_payload : Lattice → Woven → BlockId → List ℕ
+loaded_payload l heads b = head_of heads b.class (strand_of l b.class b.node)
+
+place_below : (l : Lattice) (b : BlockId) → IsLastParity l b → place_of l b < all_strands l
+place_below l b last = place-within l b.class (strand_of l b.class b.node) last.parity (strand-below l b.class b.node last.parity)
+
+all_loaded : (tells : Type 0) (v : Opened) (files : Files) (heads : Woven) → HasLoaded tells v files heads (all_strands v.lattice) None
+    → (c : Class) (strand : ℕ) → HasParity v.lattice c → strand < strands_of v.lattice c → IsLoaded tells v files c (head_of heads c strand) (last_open v.lattice c strand)
+all_loaded tells v files heads has c strand parity below = has.loaded refl c strand parity below (place-within v.lattice c strand parity below)
+
+-- what is loaded of a last parity
+of_last : (tells : Type 0) (v : Opened) (files : Files) (heads : Woven) → HasLoaded tells v files heads (all_strands v.lattice) None
+    → (b : BlockId) → IsLastParity v.lattice b → IsLoaded tells v files b.class (loaded_payload v.lattice heads b) (Some b.node)
+of_last tells v files heads has b last =
+    subst (IsLoaded tells v files b.class (loaded_payload v.lattice heads b)) last.last
+    (all_loaded tells v files heads has b.class (strand_of v.lattice b.class b.node) last.parity (strand-below v.lattice b.class b.node last.parity))
+
+head_start : (tells : Type 0) (v : Opened) (files : Files) (heads : Woven) → heads.size ≡ v.shape.block → (c : Class) (strand : ℕ) (o : Option ℕ) → last_open v.lattice c strand ≡ o
+    → IsLoaded tells v files c (head_of heads c strand) o → head_of heads c strand ≡ head_by heads.size (loaded_payload v.lattice heads) c o
+head_start tells v files heads size c strand None is loaded = loaded ∙ ap (λ (k : ℕ). replicate k 0) (sym size)
+head_start tells v files heads size c strand (Some g) is loaded = ap (head_of heads c) (sym (on_last v.lattice c strand g is))
+
+heads_start : (tells : Type 0) (v : Opened) (files : Files) (heads : Woven) → HasLoaded tells v files heads (all_strands v.lattice) None → AreHeads heads (loaded_payload v.lattice heads)
+heads_start tells v files heads has c strand parity below =
+    let p = subst (λ (l : Lattice). HasParity l c) has.lattice parity in
+    let u = subst (λ (l : Lattice). strand < strands_of l c) has.lattice below in
+    head_start tells v files heads has.size c strand (last_open v.lattice c strand) refl (all_loaded tells v files heads has c strand p u)
+    ∙ ap (λ (l : Lattice). head_by heads.size (loaded_payload v.lattice heads) c (last_open l c strand)) (sym has.lattice)
+
+pub woven_start : (tells : Type 0) (v : Opened) (files after : Files) (heads : Woven) → HasLoaded tells v files heads (all_strands v.lattice) None
+    → HasWoven tells v.shape v.lattice v.digests files after heads [] []
+woven_start tells v files after heads has =
+    let n : heads.lattice.n ≡ v.lattice.n = ap (λ (l : Lattice). l.n) has.lattice in
+    record {
+      payload = loaded_payload v.lattice heads;
+      lasts = λ b last. (of_last tells v files heads has b last).0;
+      homes = λ told b last. (of_last tells v files heads has b last).2 told;
+      lasts_wide = λ b last. (of_last tells v files heads has b last).1;
+      grown = record {
+        shape = record { alpha = ap (λ (l : Lattice). l.alpha) has.lattice; s = ap (λ (l : Lattice). l.s) has.lattice; p = ap (λ (l : Lattice). l.p) has.lattice };
+        nodes = omega (arith, n);
+        fences = ap (λ (l : Lattice). l.fences) has.lattice;
+      };
+      heads = heads_start tells v files heads has;
+      blocks = λ k lt. absurd (omega (arith, lt));
+      woven = λ i c after most parity. absurd (omega (arith, after, most, n));
+      digests_are = record {
+        long = (let z : heads.lattice.n - v.lattice.n ≡ 0 = omega (arith, n) in let e : 0 ≡ 0 * (1 + v.shape.alpha) = omega arith in e ∙ ap (λ (k : ℕ). k * (1 + v.shape.alpha)) (sym z));
+        each = λ b on. absurd (let x = on.after in let y = on.most in omega (arith, x, y, n));
+      };
+      cells = λ told b on. absurd (let x = on.after in let y = on.most in omega (arith, x, y, n));
+      wide = λ b on. absurd (let x = on.after in let y = on.most in omega (arith, x, y, n));
+    }
+
+pub intact_start : (tells : Type 0) (v : Opened) (files : Files) (heads : Woven) → HasLoaded tells v files heads (all_strands v.lattice) None → tells → AreLastsIntact v.shape v.lattice v.digests files
+intact_start tells v files heads has told b last = has.least told b last (place_below v.lattice b last)
+
+pub first_damaged : (tells : Type 0) (v : Opened) (files : Files) (heads : Woven) (b : BlockId) → HasLoaded tells v files heads (all_strands v.lattice) (Some b)
+    → IsLastParity v.lattice b × (tells → IsFirstDamagedLast v.shape v.lattice v.digests files b)
+first_damaged tells v files heads b has =
+    let f : IsFound tells v files (all_strands v.lattice) (Some b) = has.least in
+    (f.0, λ told. record { damaged = (f.1 told).0; least = λ a damaged. (f.1 told).1 a damaged (place_below v.lattice a damaged.last) })
+
+-- ---- which block a fault names, and how many nodes
+
+abbrev block_in : BlockId → PutFault → BlockId
+block_in d (HeadDamaged b) = b
+block_in d fault = d
+
+pub same_head : {T : Type 0} (x y : BlockId) → ◌≡◌ {A = Result T PutFault} (Err (HeadDamaged x)) (Err (HeadDamaged y)) → x ≡ y
+same_head x y e = ap (block_in x) (fault_is (HeadDamaged x) (HeadDamaged y) e)
+
+abbrev nodes_in : PutFault → ℕ
+nodes_in (Full n) = n
+nodes_in fault = 0
+
+pub same_nodes : {T : Type 0} (m n : ℕ) → ◌≡◌ {A = Result T PutFault} (Err (Full m)) (Err (Full n)) → m ≡ n
+same_nodes m n e = ap nodes_in (fault_is (Full m) (Full n) e)

@@ -1,0 +1,89 @@
+use Rattle.std.proofs.Common.{◌≡◌, ⊎_elim, inr, Err, sym, ◌∙◌, ap}
+use Rattle.aea_disk.proofs.Frames.{reads_writes, reads_then_writes, writes_as}
+use Rattle.aea_shelf.proofs.Runs.{padded_kept, padded_both}
+use Rattle.aea_records.specs.Format.{limit_when}
+use Rattle.aea_archive.specs.Blocks.{IsBlockIn}
+use Rattle.aea_archive.specs.Cells.{IsNoSite, ChangesArchive, HaveSitesRoom}
+use Rattle.aea_archive.proofs.Cells.{changes_none, room_some, room_later}
+use Rattle.aea_append.specs.declared.fault.PutFault.TheVariants.{DiskFault, HeadDamaged}
+use Rattle.aea_append.proofs.Faults.{fault_is, fault_as}
+use Rattle.aea_append.proofs.Writes.{cells_none}
+use Rattle.aea_append.proofs.object.weave_object.Goals as goal
+
+pub returns-in-Err-clause-writes : goal.returns-in-Err-clause-writes
+returns-in-Err-clause-writes g c =
+    cells_none g.D.Disk.tells _ c.args.ledger.now.shape (limit_when c.args.ledger.now.raised) (IsBlockIn c.args.ledger.now.shape c.args.ledger.now.lattice.n) (g.D.Disk.state c.args.disk.now) (λ is. absurd (let e = is in cc))
+
+pub returns-in-Err-HeadDamaged-clause-writes : goal.returns-in-Err-HeadDamaged-clause-writes
+returns-in-Err-HeadDamaged-clause-writes g c =
+    let v = c.args.ledger.now in
+    let old = g.D.Disk.state c.args.disk.now in
+    let mid = g.D.Disk.state c.ready_heads.new.disk in
+    let keep = IsBlockIn c.args.ledger.now.shape c.args.ledger.now.lattice.n in
+    writes_as g.D.Disk.tells (HaveSitesRoom v.shape (limit_when v.raised) old) (c.ready_heads.result ≡ Err DiskFault) _ (ChangesArchive v.shape (limit_when v.raised) (IsBlockIn v.shape v.lattice.n) (IsNoSite v.shape)) old mid (λ is. absurd (let e = is in cc))
+    (reads_writes g.D.Disk.tells (HaveSitesRoom v.shape (limit_when v.raised) old) (c.ready_heads.result ≡ Err DiskFault) (ChangesArchive v.shape (limit_when v.raised) (IsBlockIn v.shape v.lattice.n) (IsNoSite v.shape)) old mid
+    (λ room. room_some c.homes_are_on_its_sites.ensures v.shape (limit_when v.raised) old room) (λ d. changes_none v.shape (limit_when v.raised) (IsBlockIn v.shape v.lattice.n) (IsNoSite v.shape) d) c.ready_heads.ensures.earlier c.ready_heads.ensures.reads)
+
+pub returns-in-Err-DiskFault-clause-writes : goal.returns-in-Err-DiskFault-clause-writes
+returns-in-Err-DiskFault-clause-writes g c =
+    let v = c.args.ledger.now in
+    let old = g.D.Disk.state c.args.disk.now in
+    let mid = g.D.Disk.state c.ready_heads.new.disk in
+    let keep = IsBlockIn c.args.ledger.now.shape c.args.ledger.now.lattice.n in
+    writes_as g.D.Disk.tells (HaveSitesRoom v.shape (limit_when v.raised) old) (c.ready_heads.result ≡ Err DiskFault) _ (ChangesArchive v.shape (limit_when v.raised) (IsBlockIn v.shape v.lattice.n) (IsNoSite v.shape)) old mid (λ is. c.in-Err-DiskFault.is ∙ ap Err c.in-Err-DiskFault.field-0-is)
+    (reads_writes g.D.Disk.tells (HaveSitesRoom v.shape (limit_when v.raised) old) (c.ready_heads.result ≡ Err DiskFault) (ChangesArchive v.shape (limit_when v.raised) (IsBlockIn v.shape v.lattice.n) (IsNoSite v.shape)) old mid
+    (λ room. room_some c.homes_are_on_its_sites.ensures v.shape (limit_when v.raised) old room) (λ d. changes_none v.shape (limit_when v.raised) (IsBlockIn v.shape v.lattice.n) (IsNoSite v.shape) d) c.ready_heads.ensures.earlier c.ready_heads.ensures.reads)
+
+pub returns-in-Err-NoMemory-clause-writes : goal.returns-in-Err-NoMemory-clause-writes
+returns-in-Err-NoMemory-clause-writes g c =
+    let v = c.args.ledger.now in
+    let old = g.D.Disk.state c.args.disk.now in
+    let mid = g.D.Disk.state c.ready_heads.new.disk in
+    let keep = IsBlockIn c.args.ledger.now.shape c.args.ledger.now.lattice.n in
+    writes_as g.D.Disk.tells (HaveSitesRoom v.shape (limit_when v.raised) old) (c.ready_heads.result ≡ Err DiskFault) _ (ChangesArchive v.shape (limit_when v.raised) (IsBlockIn v.shape v.lattice.n) (IsNoSite v.shape)) old mid (λ is. absurd (let e = is in cc))
+    (reads_writes g.D.Disk.tells (HaveSitesRoom v.shape (limit_when v.raised) old) (c.ready_heads.result ≡ Err DiskFault) (ChangesArchive v.shape (limit_when v.raised) (IsBlockIn v.shape v.lattice.n) (IsNoSite v.shape)) old mid
+    (λ room. room_some c.homes_are_on_its_sites.ensures v.shape (limit_when v.raised) old room) (λ d. changes_none v.shape (limit_when v.raised) (IsBlockIn v.shape v.lattice.n) (IsNoSite v.shape) d) c.ready_heads.ensures.earlier c.ready_heads.ensures.reads)
+
+pub returns-in-Ok-take_object-clause-writes : goal.returns-in-Ok-take_object-clause-writes
+returns-in-Ok-take_object-clause-writes g c =
+    let v = c.args.ledger.now in
+    let old = g.D.Disk.state c.args.disk.now in
+    let mid = g.D.Disk.state c.ready_heads.new.disk in
+    let keep = IsBlockIn c.args.ledger.now.shape c.args.ledger.now.lattice.n in
+    let new = g.D.Disk.state c.take_object.new.disk in
+    writes_as g.D.Disk.tells (HaveSitesRoom v.shape (limit_when v.raised) old) (c.take_object.result ≡ Err DiskFault) _ (ChangesArchive v.shape (limit_when v.raised) (IsBlockIn v.shape v.lattice.n) (IsNoSite v.shape)) old new (λ is. absurd (let e = is in cc))
+    (reads_then_writes g.D.Disk.tells (HaveSitesRoom v.shape (limit_when v.raised) old) (HaveSitesRoom v.shape (limit_when v.raised) mid) (c.ready_heads.result ≡ Err DiskFault) (c.take_object.result ≡ Err DiskFault) (ChangesArchive v.shape (limit_when v.raised) (IsBlockIn v.shape v.lattice.n) (IsNoSite v.shape)) old mid new
+    (λ d. changes_none v.shape (limit_when v.raised) (IsBlockIn v.shape v.lattice.n) (IsNoSite v.shape) d)
+    (λ room. room_some c.homes_are_on_its_sites.ensures v.shape (limit_when v.raised) old room) (λ room time. room_later v.shape (limit_when v.raised) old mid time room) c.ready_heads.ensures.earlier c.ready_heads.ensures.reads c.take_object.ensures.writes)
+
+pub returns-clause-writes : goal.returns-clause-writes
+returns-clause-writes g c =
+    let v = c.args.ledger.now in
+    let old = g.D.Disk.state c.args.disk.now in
+    let mid = g.D.Disk.state c.ready_heads.new.disk in
+    let keep = IsBlockIn c.args.ledger.now.shape c.args.ledger.now.lattice.n in
+    let new = g.D.Disk.state c.take_object.new.disk in
+    writes_as g.D.Disk.tells (HaveSitesRoom v.shape (limit_when v.raised) old) (c.take_object.result ≡ Err DiskFault) _ (ChangesArchive v.shape (limit_when v.raised) (IsBlockIn v.shape v.lattice.n) (IsNoSite v.shape)) old new (λ is. c.in-Err-take_object.is ∙ fault_as c.in-Err-take_object.fault DiskFault is)
+    (reads_then_writes g.D.Disk.tells (HaveSitesRoom v.shape (limit_when v.raised) old) (HaveSitesRoom v.shape (limit_when v.raised) mid) (c.ready_heads.result ≡ Err DiskFault) (c.take_object.result ≡ Err DiskFault) (ChangesArchive v.shape (limit_when v.raised) (IsBlockIn v.shape v.lattice.n) (IsNoSite v.shape)) old mid new
+    (λ d. changes_none v.shape (limit_when v.raised) (IsBlockIn v.shape v.lattice.n) (IsNoSite v.shape) d)
+    (λ room. room_some c.homes_are_on_its_sites.ensures v.shape (limit_when v.raised) old room) (λ room time. room_later v.shape (limit_when v.raised) old mid time room) c.ready_heads.ensures.earlier c.ready_heads.ensures.reads c.take_object.ensures.writes)
+
+pub returns-clause-head : goal.returns-clause-head
+returns-clause-head g c b is =
+    let same = fault_is c.in-Err-take_object.fault (HeadDamaged b) is in
+    absurd (⊎_elim {C = ⊥}
+    (λ full. (let e = full.1 in cc))
+    (λ broken. ⊎_elim {C = ⊥} (λ read. cc) (λ stop. ⊎_elim {C = ⊥} (λ disk. cc) (λ memory. cc) stop) broken)
+    c.in-Err-take_object.ensures.faults)
+
+pub returns-clause-faults : goal.returns-clause-faults
+returns-clause-faults g c = inr c.in-Err-take_object.ensures.faults
+
+pub returns-clause-padded : goal.returns-clause-padded
+returns-clause-padded g c fine told =
+    let v = c.args.ledger.now in
+    let old = g.D.Disk.state c.args.disk.now in
+    let mid = g.D.Disk.state c.ready_heads.new.disk in
+    let new = g.D.Disk.state c.take_object.new.disk in
+    padded_both v.shape (IsBlockIn v.shape v.lattice.n) old.files mid.files new.files (padded_kept v.shape (IsBlockIn v.shape v.lattice.n) old.files mid.files (c.ready_heads.ensures.reads.contents told))
+    (c.take_object.ensures.padded (λ bad. fine (fault_as c.in-Err-take_object.fault DiskFault (sym c.in-Err-take_object.is ∙ bad))) told)

@@ -1,0 +1,195 @@
+use Rattle.std.proofs.Common.{◌≡◌, ◌≢◌, ℕ, ◌+◌, ◌-◌, ◌*◌, ◌<◌, ◌≤◌, min, Err, sym, ◌∙◌, ap, subst, arith}
+use Rattle.std.proofs.lemmas.Bool.Decides.{nat_tests}
+use Rattle.aea_io.proofs.Takes.{TakesAtMost-none, TakesAtMost-more, TakesAtMost-then}
+use Rattle.aea_shelf.specs.Writes.{KeepsPadded}
+use Rattle.aea_shelf.proofs.Runs.{padded_none, padded_both, padded_less}
+use Rattle.aea_records.specs.Format.{nodes_for}
+use Rattle.aea_archive.specs.Blocks.{IsBlockIn}
+use Rattle.aea_append.specs.declared.fault.PutFault.TheVariants.{DiskFault}
+use Rattle.aea_append.specs.Weaving.{WritesCells}
+use Rattle.aea_append.specs.Taking.{Takes}
+use Rattle.aea_append.proofs.Cuts.{some_bytes, nodes_one, nodes-past}
+use Rattle.aea_append.proofs.Faults.{fault_as}
+use Rattle.aea_append.proofs.Takings.{takes_none, takes_both}
+use Rattle.aea_append.proofs.Writes.{cells_none, cells_then, cells_as}
+use Rattle.aea_append.proofs.piece.weave_all.Given.{Over}
+use Rattle.aea_append.proofs.piece.weave_all.Goals.{In-Err, In-Ok, Then-count-want, Else-count-want}
+use Rattle.aea_append.proofs.piece.weave_all.Goals as goal
+
+pub loop-done-init : goal.loop-done-init
+loop-done-init g c = record {
+  within = omega arith;
+  whole = λ lt. (0, (let e : 0 ≡ 0 * c.args.shape.now.block = omega arith in e), (let e : c.args.heads.now.lattice.n ≡ c.args.heads.now.lattice.n + 0 = omega arith in e));
+  alpha = c.requires.alpha;
+  size = c.requires.size;
+  block = c.requires.block;
+  cell = c.requires.buffer;
+  took = takes_none g.D.Disk.tells c.args.shape.now (g.S.Source.state c.args.source.now).left c.args.hasher.now c.args.heads.now c.args.digests.now.items (g.D.Disk.state c.args.disk.now).files;
+  writes = λ nodes within. cells_none g.D.Disk.tells ⊥ c.args.shape.now nodes (IsBlockIn c.args.shape.now c.args.heads.now.lattice.n) (g.D.Disk.state c.args.disk.now) (λ none. none);
+  padded = λ told. padded_none c.args.shape.now (IsBlockIn c.args.shape.now c.args.heads.now.lattice.n) (g.D.Disk.state c.args.disk.now).files;
+  taken = TakesAtMost-none (g.S.Source.state c.args.source.now).left 0;
+  kept = omega arith;
+}
+
+-- what was written and taken then
+writes_err : (g : Over) (c : In-Err g) (nodes : ℕ) → c.args.heads.now.lattice.n + nodes_for c.args.shape.now c.args.limit ≤ nodes → WritesCells g.D.Disk.tells c.args.shape.now nodes (IsBlockIn c.args.shape.now c.args.heads.now.lattice.n) (c.weave_piece.result ≡ Err DiskFault) (g.D.Disk.state c.args.disk.now) (g.D.Disk.state c.weave_piece.new.disk)
+writes_err g c nodes within =
+    let keep = IsBlockIn c.args.shape.now c.args.heads.now.lattice.n in
+    let lt : c.loop-done.done < c.args.limit = grind (arith, nat_tests, c.loop-done-test.true) in
+    let whole = c.loop-done.invariant.whole lt in
+    let past = nodes-past c.args.shape.now whole.0 c.args.limit (omega (arith, whole.1, lt)) in
+    cells_then g.D.Disk.tells ⊥ (c.weave_piece.result ≡ Err DiskFault) c.args.shape.now nodes (IsBlockIn c.args.shape.now c.args.heads.now.lattice.n) (λ a. a.node ≢ c.loop-done.heads.lattice.n + 1) (g.D.Disk.state c.args.disk.now) (g.D.Disk.state c.loop-done.disk) (g.D.Disk.state c.weave_piece.new.disk)
+    (λ a block same. (let most = block.most in omega (arith, most, same, whole.2)))
+    (c.loop-done.invariant.writes nodes within) (c.weave_piece.ensures.writes nodes (omega (arith, within, whole.2, past)))
+
+padded_err : (g : Over) (c : In-Err g) → (c.weave_piece.result ≢ Err DiskFault) → g.D.Disk.tells → KeepsPadded c.args.shape.now (IsBlockIn c.args.shape.now c.args.heads.now.lattice.n) (g.D.Disk.state c.args.disk.now).files (g.D.Disk.state c.weave_piece.new.disk).files
+padded_err g c fine told =
+    let lt : c.loop-done.done < c.args.limit = grind (arith, nat_tests, c.loop-done-test.true) in
+    let whole = c.loop-done.invariant.whole lt in
+    padded_both c.args.shape.now (IsBlockIn c.args.shape.now c.args.heads.now.lattice.n) (g.D.Disk.state c.args.disk.now).files (g.D.Disk.state c.loop-done.disk).files (g.D.Disk.state c.weave_piece.new.disk).files
+    (c.loop-done.invariant.padded told)
+    (padded_less c.args.shape.now (λ a. a.node ≢ c.loop-done.heads.lattice.n + 1) (IsBlockIn c.args.shape.now c.args.heads.now.lattice.n) (g.D.Disk.state c.loop-done.disk).files (g.D.Disk.state c.weave_piece.new.disk).files
+    (λ a block same. (let most = block.most in omega (arith, most, same, whole.2))) (c.weave_piece.ensures.padded fine told))
+
+-- what was written and taken then
+writes_then : (g : Over) (c : Then-count-want g) (nodes : ℕ) → c.args.heads.now.lattice.n + nodes_for c.args.shape.now c.args.limit ≤ nodes → WritesCells g.D.Disk.tells c.args.shape.now nodes (IsBlockIn c.args.shape.now c.args.heads.now.lattice.n) (c.weave_piece.result ≡ Err DiskFault) (g.D.Disk.state c.args.disk.now) (g.D.Disk.state c.weave_piece.new.disk)
+writes_then g c nodes within =
+    let keep = IsBlockIn c.args.shape.now c.args.heads.now.lattice.n in
+    let lt : c.loop-done.done < c.args.limit = grind (arith, nat_tests, c.loop-done-test.true) in
+    let whole = c.loop-done.invariant.whole lt in
+    let past = nodes-past c.args.shape.now whole.0 c.args.limit (omega (arith, whole.1, lt)) in
+    cells_then g.D.Disk.tells ⊥ (c.weave_piece.result ≡ Err DiskFault) c.args.shape.now nodes (IsBlockIn c.args.shape.now c.args.heads.now.lattice.n) (λ a. a.node ≢ c.loop-done.heads.lattice.n + 1) (g.D.Disk.state c.args.disk.now) (g.D.Disk.state c.loop-done.disk) (g.D.Disk.state c.weave_piece.new.disk)
+    (λ a block same. (let most = block.most in omega (arith, most, same, whole.2)))
+    (c.loop-done.invariant.writes nodes within) (c.weave_piece.ensures.writes nodes (omega (arith, within, whole.2, past)))
+
+padded_then : (g : Over) (c : Then-count-want g) → (c.weave_piece.result ≢ Err DiskFault) → g.D.Disk.tells → KeepsPadded c.args.shape.now (IsBlockIn c.args.shape.now c.args.heads.now.lattice.n) (g.D.Disk.state c.args.disk.now).files (g.D.Disk.state c.weave_piece.new.disk).files
+padded_then g c fine told =
+    let lt : c.loop-done.done < c.args.limit = grind (arith, nat_tests, c.loop-done-test.true) in
+    let whole = c.loop-done.invariant.whole lt in
+    padded_both c.args.shape.now (IsBlockIn c.args.shape.now c.args.heads.now.lattice.n) (g.D.Disk.state c.args.disk.now).files (g.D.Disk.state c.loop-done.disk).files (g.D.Disk.state c.weave_piece.new.disk).files
+    (c.loop-done.invariant.padded told)
+    (padded_less c.args.shape.now (λ a. a.node ≢ c.loop-done.heads.lattice.n + 1) (IsBlockIn c.args.shape.now c.args.heads.now.lattice.n) (g.D.Disk.state c.loop-done.disk).files (g.D.Disk.state c.weave_piece.new.disk).files
+    (λ a block same. (let most = block.most in omega (arith, most, same, whole.2))) (c.weave_piece.ensures.padded fine told))
+
+took_then : (g : Over) (c : Then-count-want g) → Takes g.D.Disk.tells c.args.shape.now (c.loop-done.done + c.in-Ok.count) (g.S.Source.state c.args.source.now).left (g.S.Source.state c.weave_piece.new.source).left c.args.hasher.now c.weave_piece.new.hasher c.args.heads.now c.weave_piece.new.heads c.args.digests.now.items c.weave_piece.new.digests.items (g.D.Disk.state c.args.disk.now).files (g.D.Disk.state c.weave_piece.new.disk).files
+took_then g c =
+    let lt : c.loop-done.done < c.args.limit = grind (arith, nat_tests, c.loop-done-test.true) in
+    let whole = c.loop-done.invariant.whole lt in
+    let piece = c.in-Ok.ensures.took in
+    let narrow : c.min-want.result ≤ c.args.shape.now.block = omega (arith, c.min-want.ensures, c.block.ensures, c.from.ensures) in
+    let first = subst (λ (k : ℕ). Takes g.D.Disk.tells c.args.shape.now k (g.S.Source.state c.args.source.now).left (g.S.Source.state c.loop-done.source).left c.args.hasher.now c.loop-done.hasher c.args.heads.now c.loop-done.heads c.args.digests.now.items c.loop-done.digests.items (g.D.Disk.state c.args.disk.now).files (g.D.Disk.state c.loop-done.disk).files) whole.1 c.loop-done.invariant.took in
+    subst (λ (k : ℕ). Takes g.D.Disk.tells c.args.shape.now k (g.S.Source.state c.args.source.now).left (g.S.Source.state c.weave_piece.new.source).left c.args.hasher.now c.weave_piece.new.hasher c.args.heads.now c.weave_piece.new.heads c.args.digests.now.items c.weave_piece.new.digests.items (g.D.Disk.state c.args.disk.now).files (g.D.Disk.state c.weave_piece.new.disk).files)
+    (ap (λ (k : ℕ). k + c.in-Ok.count) (sym whole.1))
+    (takes_both g.D.Disk.tells c.args.shape.now whole.0 c.in-Ok.count (g.S.Source.state c.args.source.now).left (g.S.Source.state c.loop-done.source).left (g.S.Source.state c.weave_piece.new.source).left c.args.hasher.now c.loop-done.hasher c.weave_piece.new.hasher
+    c.args.heads.now c.loop-done.heads c.weave_piece.new.heads c.args.digests.now.items c.loop-done.digests.items c.weave_piece.new.digests.items (g.D.Disk.state c.args.disk.now).files (g.D.Disk.state c.loop-done.disk).files (g.D.Disk.state c.weave_piece.new.disk).files
+    (let most = piece.most in omega (arith, most, narrow)) first piece.takes)
+
+fine_then : (g : Over) (c : Then-count-want g) → c.weave_piece.result ≢ Err DiskFault
+fine_then g c bad = let is = c.in-Ok.is in cc
+
+-- what was written and taken then
+writes_else : (g : Over) (c : Else-count-want g) (nodes : ℕ) → c.args.heads.now.lattice.n + nodes_for c.args.shape.now c.args.limit ≤ nodes → WritesCells g.D.Disk.tells c.args.shape.now nodes (IsBlockIn c.args.shape.now c.args.heads.now.lattice.n) (c.weave_piece.result ≡ Err DiskFault) (g.D.Disk.state c.args.disk.now) (g.D.Disk.state c.weave_piece.new.disk)
+writes_else g c nodes within =
+    let keep = IsBlockIn c.args.shape.now c.args.heads.now.lattice.n in
+    let lt : c.loop-done.done < c.args.limit = grind (arith, nat_tests, c.loop-done-test.true) in
+    let whole = c.loop-done.invariant.whole lt in
+    let past = nodes-past c.args.shape.now whole.0 c.args.limit (omega (arith, whole.1, lt)) in
+    cells_then g.D.Disk.tells ⊥ (c.weave_piece.result ≡ Err DiskFault) c.args.shape.now nodes (IsBlockIn c.args.shape.now c.args.heads.now.lattice.n) (λ a. a.node ≢ c.loop-done.heads.lattice.n + 1) (g.D.Disk.state c.args.disk.now) (g.D.Disk.state c.loop-done.disk) (g.D.Disk.state c.weave_piece.new.disk)
+    (λ a block same. (let most = block.most in omega (arith, most, same, whole.2)))
+    (c.loop-done.invariant.writes nodes within) (c.weave_piece.ensures.writes nodes (omega (arith, within, whole.2, past)))
+
+padded_else : (g : Over) (c : Else-count-want g) → (c.weave_piece.result ≢ Err DiskFault) → g.D.Disk.tells → KeepsPadded c.args.shape.now (IsBlockIn c.args.shape.now c.args.heads.now.lattice.n) (g.D.Disk.state c.args.disk.now).files (g.D.Disk.state c.weave_piece.new.disk).files
+padded_else g c fine told =
+    let lt : c.loop-done.done < c.args.limit = grind (arith, nat_tests, c.loop-done-test.true) in
+    let whole = c.loop-done.invariant.whole lt in
+    padded_both c.args.shape.now (IsBlockIn c.args.shape.now c.args.heads.now.lattice.n) (g.D.Disk.state c.args.disk.now).files (g.D.Disk.state c.loop-done.disk).files (g.D.Disk.state c.weave_piece.new.disk).files
+    (c.loop-done.invariant.padded told)
+    (padded_less c.args.shape.now (λ a. a.node ≢ c.loop-done.heads.lattice.n + 1) (IsBlockIn c.args.shape.now c.args.heads.now.lattice.n) (g.D.Disk.state c.loop-done.disk).files (g.D.Disk.state c.weave_piece.new.disk).files
+    (λ a block same. (let most = block.most in omega (arith, most, same, whole.2))) (c.weave_piece.ensures.padded fine told))
+
+took_else : (g : Over) (c : Else-count-want g) → Takes g.D.Disk.tells c.args.shape.now (c.loop-done.done + c.in-Ok.count) (g.S.Source.state c.args.source.now).left (g.S.Source.state c.weave_piece.new.source).left c.args.hasher.now c.weave_piece.new.hasher c.args.heads.now c.weave_piece.new.heads c.args.digests.now.items c.weave_piece.new.digests.items (g.D.Disk.state c.args.disk.now).files (g.D.Disk.state c.weave_piece.new.disk).files
+took_else g c =
+    let lt : c.loop-done.done < c.args.limit = grind (arith, nat_tests, c.loop-done-test.true) in
+    let whole = c.loop-done.invariant.whole lt in
+    let piece = c.in-Ok.ensures.took in
+    let narrow : c.min-want.result ≤ c.args.shape.now.block = omega (arith, c.min-want.ensures, c.block.ensures, c.from.ensures) in
+    let first = subst (λ (k : ℕ). Takes g.D.Disk.tells c.args.shape.now k (g.S.Source.state c.args.source.now).left (g.S.Source.state c.loop-done.source).left c.args.hasher.now c.loop-done.hasher c.args.heads.now c.loop-done.heads c.args.digests.now.items c.loop-done.digests.items (g.D.Disk.state c.args.disk.now).files (g.D.Disk.state c.loop-done.disk).files) whole.1 c.loop-done.invariant.took in
+    subst (λ (k : ℕ). Takes g.D.Disk.tells c.args.shape.now k (g.S.Source.state c.args.source.now).left (g.S.Source.state c.weave_piece.new.source).left c.args.hasher.now c.weave_piece.new.hasher c.args.heads.now c.weave_piece.new.heads c.args.digests.now.items c.weave_piece.new.digests.items (g.D.Disk.state c.args.disk.now).files (g.D.Disk.state c.weave_piece.new.disk).files)
+    (ap (λ (k : ℕ). k + c.in-Ok.count) (sym whole.1))
+    (takes_both g.D.Disk.tells c.args.shape.now whole.0 c.in-Ok.count (g.S.Source.state c.args.source.now).left (g.S.Source.state c.loop-done.source).left (g.S.Source.state c.weave_piece.new.source).left c.args.hasher.now c.loop-done.hasher c.weave_piece.new.hasher
+    c.args.heads.now c.loop-done.heads c.weave_piece.new.heads c.args.digests.now.items c.loop-done.digests.items c.weave_piece.new.digests.items (g.D.Disk.state c.args.disk.now).files (g.D.Disk.state c.loop-done.disk).files (g.D.Disk.state c.weave_piece.new.disk).files
+    (let most = piece.most in omega (arith, most, narrow)) first piece.takes)
+
+fine_else : (g : Over) (c : Else-count-want g) → c.weave_piece.result ≢ Err DiskFault
+fine_else g c bad = let is = c.in-Ok.is in cc
+
+pub returns-in-Err-clause-writes : goal.returns-in-Err-clause-writes
+returns-in-Err-clause-writes g c nodes within =
+    cells_as g.D.Disk.tells (c.weave_piece.result ≡ Err DiskFault) _ c.args.shape.now nodes (IsBlockIn c.args.shape.now c.args.heads.now.lattice.n) (g.D.Disk.state c.args.disk.now) (g.D.Disk.state c.weave_piece.new.disk)
+    (λ is. c.in-Err.is ∙ fault_as c.in-Err.fault DiskFault is) (writes_err g c nodes within)
+
+pub returns-in-Err-clause-padded : goal.returns-in-Err-clause-padded
+returns-in-Err-clause-padded g c fine told = padded_err g c (λ bad. fine (fault_as c.in-Err.fault DiskFault (sym c.in-Err.is ∙ bad))) told
+
+pub returns-in-Err-clause-taken : goal.returns-in-Err-clause-taken
+returns-in-Err-clause-taken g c =
+    (TakesAtMost-more (g.S.Source.state c.args.source.now).left (g.S.Source.state c.weave_piece.new.source).left (c.loop-done.done + c.min-want.result) c.args.limit
+    (TakesAtMost-then (g.S.Source.state c.args.source.now).left (g.S.Source.state c.loop-done.source).left (g.S.Source.state c.weave_piece.new.source).left c.loop-done.done c.min-want.result c.loop-done.invariant.taken c.weave_piece.ensures.taken)
+    (let lt : c.loop-done.done < c.args.limit = grind (arith, nat_tests, c.loop-done-test.true) in omega (arith, lt, c.min-want.ensures)))
+
+pub returns-then-count-want-clause-writes : goal.returns-then-count-want-clause-writes
+returns-then-count-want-clause-writes g c nodes within =
+    cells_as g.D.Disk.tells (c.weave_piece.result ≡ Err DiskFault) _ c.args.shape.now nodes (IsBlockIn c.args.shape.now c.args.heads.now.lattice.n) (g.D.Disk.state c.args.disk.now) (g.D.Disk.state c.weave_piece.new.disk)
+    (λ is. absurd (let e = is in cc)) (writes_then g c nodes within)
+
+pub returns-then-count-want-clause-padded : goal.returns-then-count-want-clause-padded
+returns-then-count-want-clause-padded g c fine told = padded_then g c (fine_then g c) told
+
+pub returns-then-count-want-clause-taken : goal.returns-then-count-want-clause-taken
+returns-then-count-want-clause-taken g c =
+    (TakesAtMost-more (g.S.Source.state c.args.source.now).left (g.S.Source.state c.weave_piece.new.source).left (c.loop-done.done + c.min-want.result) c.args.limit
+    (TakesAtMost-then (g.S.Source.state c.args.source.now).left (g.S.Source.state c.loop-done.source).left (g.S.Source.state c.weave_piece.new.source).left c.loop-done.done c.min-want.result c.loop-done.invariant.taken c.weave_piece.ensures.taken)
+    (let lt : c.loop-done.done < c.args.limit = grind (arith, nat_tests, c.loop-done-test.true) in omega (arith, lt, c.min-want.ensures)))
+
+pub returns-then-count-want-clause-took : goal.returns-then-count-want-clause-took
+returns-then-count-want-clause-took g c = took_then g c
+
+pub returns-clause-writes : goal.returns-clause-writes
+returns-clause-writes g c nodes within =
+    cells_as g.D.Disk.tells ⊥ _ c.args.shape.now nodes (IsBlockIn c.args.shape.now c.args.heads.now.lattice.n) (g.D.Disk.state c.args.disk.now) (g.D.Disk.state c.loop-done.disk)
+    (λ is. absurd (let e = is in cc)) (c.loop-done.invariant.writes nodes within)
+
+pub returns-clause-taken : goal.returns-clause-taken
+returns-clause-taken g c = TakesAtMost-more (g.S.Source.state c.args.source.now).left (g.S.Source.state c.loop-done.source).left c.loop-done.done c.args.limit c.loop-done.invariant.taken c.loop-done.invariant.within
+
+pub loop-done-preserved : goal.loop-done-preserved
+loop-done-preserved g c =
+    let lt : c.loop-done.done < c.args.limit = grind (arith, nat_tests, c.loop-done-test.true) in
+    let whole = c.loop-done.invariant.whole lt in
+    let piece = c.in-Ok.ensures.took in
+    let grown = piece.takes.grown in
+    let all : c.min-want.result ≤ c.in-Ok.count = grind (arith, nat_tests, c.if-count-want.false) in
+    let count : c.in-Ok.count ≡ c.min-want.result = (let most = piece.most in omega (arith, most, all)) in
+    let want : c.min-want.result ≡ min (c.args.limit - c.loop-done.done) c.args.shape.now.block = omega (arith, c.min-want.ensures, c.block.ensures, c.from.ensures) in
+    let least = some_bytes c.args.shape.now in
+    record {
+      within = omega (arith, count, want, lt);
+      whole = λ more.
+          let full : c.in-Ok.count ≡ c.args.shape.now.block = omega (arith, count, want, more) in (
+            whole.0 + 1,
+            (let e : (whole.0 + 1) * c.args.shape.now.block ≡ whole.0 * c.args.shape.now.block + c.args.shape.now.block = omega arith in omega (arith, e, whole.1, full)),
+            (let n = grown.nodes in let o = nodes_one c.args.shape.now c.in-Ok.count (omega (arith, full, least)) (omega (arith, full)) in omega (arith, n, o, whole.2)),
+          );
+      alpha = grown.shape.alpha ∙ c.loop-done.invariant.alpha;
+      size = piece.takes.size ∙ c.loop-done.invariant.size;
+      block = c.weave_piece.auto.block ∙ c.loop-done.invariant.block;
+      cell = c.weave_piece.auto.cell ∙ c.loop-done.invariant.cell;
+      took = took_else g c;
+      writes = λ nodes within. cells_as g.D.Disk.tells (c.weave_piece.result ≡ Err DiskFault) ⊥ c.args.shape.now nodes (IsBlockIn c.args.shape.now c.args.heads.now.lattice.n) (g.D.Disk.state c.args.disk.now) (g.D.Disk.state c.weave_piece.new.disk)
+          (λ none. absurd none) (writes_else g c nodes within);
+      padded = λ told. padded_else g c (fine_else g c) told;
+      taken = TakesAtMost-more (g.S.Source.state c.args.source.now).left (g.S.Source.state c.weave_piece.new.source).left (c.loop-done.done + c.min-want.result) (c.loop-done.done + c.in-Ok.count)
+          (TakesAtMost-then (g.S.Source.state c.args.source.now).left (g.S.Source.state c.loop-done.source).left (g.S.Source.state c.weave_piece.new.source).left c.loop-done.done c.min-want.result c.loop-done.invariant.taken c.weave_piece.ensures.taken)
+          (omega (arith, all));
+      kept = omega (arith, c.loop-done.invariant.kept, c.weave_piece.ensures.source_kept);
+    }

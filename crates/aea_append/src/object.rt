@@ -1,0 +1,218 @@
+//! An object that is woven: the heads, and all that its source has.
+
+ghost use Rattle.std.specs.Prelude.{◌≡◌, ◌≢◌, ◌⊎◌, ◌+◌, ◌≤◌, true, false, ℕ, List, length, [], IfOk, IfErr, OnOk};
+ghost use Rattle.std.specs.Io.KnownBytes.{Consumes, IsAtEnd};
+ghost use Rattle.aea_faults.specs.Faults.{Rose};
+ghost use Rattle.aea_io.specs.Taken.{TakesAtMost};
+ghost use Rattle.aea_lattice.specs.declared.blocks.BlockId.{BlockId};
+ghost use Rattle.aea_disk.specs.Files.{Files};
+ghost use Rattle.aea_disk.specs.State.{HasEarlier};
+ghost use Rattle.aea_disk.specs.Frames.{OnlyReads};
+ghost use Rattle.aea_shelf.specs.Places.{cell_size};
+ghost use Rattle.aea_shelf.specs.Writes.{KeepsPadded};
+ghost use Rattle.aea_records.specs.Format.{nodes_for, limit_when};
+ghost use Rattle.aea_ledger.specs.Values.{HasSomeRecords};
+ghost use Rattle.aea_archive.specs.Blocks.{IsBlockIn};
+ghost use Rattle.aea_archive.specs.Lasts.{IsLastParity, IsFirstDamagedLast, AreLastsIntact};
+ghost use Rattle.aea_append.specs.Weaving.{HasWoven, WritesCells, IsBroken, IsStopping};
+ghost use Rattle.aea_append.specs.Taking.{TakesAll, HasPassedRoom, room_left};
+
+use crate::fault::PutFault;
+use crate::load::load_heads;
+use crate::piece::weave_all;
+use aea_disk::Disk;
+use aea_io::{Source, read_full};
+use aea_ledger::Ledger;
+use aea_records::records_are_few;
+use aea_shelf::homes_are_on_its_sites;
+use aea_weave::Heads;
+use sha2::{Digest, Sha256};
+use std::alloc::Global;
+
+/// What was taken from a source and woven: its bytes, the nodes that they take, their SHA-256 (FIPS 180-4), and the digests
+/// of the blocks of these nodes in number order.
+#[derive(Drop)]
+pub struct Taken {
+    pub length: u64,
+    pub nodes: u32,
+    pub digest: [u8; 32],
+    pub digests: Vec<[u8; 32]>,
+}
+
+// Heads for the node that is woven next, loaded from the last parities.
+fn ready_heads<D: Disk>(
+    alloc: Global,
+    disk: &mut D,
+    ledger: &Ledger,
+    cell: &mut [u8],
+) -> Result<Heads, PutFault>
+    requires opened { HasSomeRecords ledger.now }
+    requires buffer { length cell.old ≡ cell_size ledger.now.shape }
+    ensures woven { IfOk result (λ heads. HasWoven D.tells ledger.now.shape ledger.now.lattice ledger.now.digests (D.state disk.old).files (D.state disk.new).files heads [] []) }
+    ensures lattice { IfOk result (λ heads. heads.lattice ≡ ledger.now.lattice) }
+    ensures size { IfOk result (λ heads. heads.size ≡ ledger.now.shape.block) }
+    ensures intact { OnOk result (D.tells → AreLastsIntact ledger.now.shape ledger.now.lattice ledger.now.digests (D.state disk.old).files) }
+    ensures head { (b : BlockId) → result ≡ Err (PutFault.HeadDamaged b) → IsLastParity ledger.now.lattice b × (D.tells → IsFirstDamagedLast ledger.now.shape ledger.now.lattice ledger.now.digests (D.state disk.old).files b) }
+    ensures faults { IfErr result (λ f. ((b : BlockId) × (f ≡ PutFault.HeadDamaged b)) ⊎ IsStopping f) }
+    ensures earlier { HasEarlier (D.state disk.old) (D.state disk.new) }
+    ensures reads { OnlyReads D.tells (result ≡ Err PutFault.DiskFault) (D.state disk.old) (D.state disk.new) }
+{
+    let size = ledger.shape().block() as usize;
+    let mut heads = match Heads::new(alloc, &ledger.lattice(), size) {
+        Ok(heads) => heads,
+        Err(_) => return Err(PutFault::NoMemory),
+    };
+    match load_heads(disk, ledger, &mut heads, cell) {
+        Ok(None) => Ok(heads),
+        Ok(Some(block)) => Err(PutFault::HeadDamaged { block }),
+        Err(_) => Err(PutFault::DiskFault),
+    }
+}
+
+// The buffers that weaving takes: a cell and a block of zeros.
+fn buffers(alloc: Global, size: usize) -> Result<(Vec<u8>, Vec<u8>), PutFault>
+    requires { size ≤ 65536 }
+    ensures cell { IfOk result (λ b. length b.0.items ≡ size + 48) }
+    ensures block { IfOk result (λ b. length b.1.items ≡ size) }
+    ensures memory { IfErr result (λ f. f ≡ PutFault.NoMemory) }
+{
+    let Ok(cell) = vec![in alloc; 0; size + 48] else {
+        return Err(PutFault::NoMemory);
+    };
+    let Ok(block) = vec![in alloc; 0; size] else {
+        return Err(PutFault::NoMemory);
+    };
+    Ok((cell, block))
+}
+
+// Whether the source has a byte more, where as many were taken as are wanted. It is taken.
+fn has_more<S: Source>(source: &mut S, full: bool) -> Result<bool, PutFault>
+    ensures more { result ≡ Ok true → (full ≡ true) × ((bytes : List ℕ) × Consumes (S.state source.old).left (S.state source.new).left bytes × (length bytes ≡ 1)) }
+    ensures none { result ≡ Ok false → (full ≡ false → IsAtEnd (S.state source.old).left) → Consumes (S.state source.old).left (S.state source.new).left [] × IsAtEnd (S.state source.new).left }
+    ensures taken { TakesAtMost (S.state source.old).left (S.state source.new).left 1 }
+    ensures fault { IfErr result (λ f. f ≡ PutFault.ReadFault) }
+    ensures kept { (S.state source.old).faults ≤ (S.state source.new).faults }
+    ensures cause { result ≡ Err PutFault.ReadFault → Rose (S.state source.old).faults (S.state source.new).faults }
+{
+    if !full {
+        return Ok(false);
+    }
+    let mut one = [0; 1];
+    match read_full(source, &mut one) {
+        Ok(count) => Ok(count != 0),
+        Err(_) => Err(PutFault::ReadFault),
+    }
+}
+
+// Weaves all that the source has. More bytes than the nodes that are left can hold are refused, after the one that is too
+// many was read.
+fn take_object<D: Disk, S: Source>(
+    alloc: Global,
+    disk: &mut D,
+    ledger: &Ledger,
+    source: &mut S,
+    heads: &mut Heads,
+    cell: &mut [u8],
+    block: &mut [u8],
+) -> Result<Taken, PutFault>
+    requires opened { HasSomeRecords ledger.now }
+    requires lattice { heads.old.lattice ≡ ledger.now.lattice }
+    requires size { heads.old.size ≡ ledger.now.shape.block }
+    requires block { length block.old ≡ ledger.now.shape.block }
+    requires buffer { length cell.old ≡ cell_size ledger.now.shape }
+    ensures took { IfOk result (λ t. (first : Files) → HasWoven D.tells ledger.now.shape ledger.now.lattice ledger.now.digests first (D.state disk.old).files heads.old [] []
+        → TakesAll D.tells ledger.now.shape ledger.now.lattice ledger.now.digests t.length t.digest (S.state source.old).left (S.state source.new).left t.digests.items first (D.state disk.new).files) }
+    ensures nodes { IfOk result (λ t. t.nodes ≡ nodes_for ledger.now.shape t.length) }
+    ensures fits { IfOk result (λ t. ledger.now.lattice.n + t.nodes ≤ limit_when ledger.now.raised) }
+    ensures full { (nodes : ℕ) → result ≡ Err (PutFault.Full nodes) → (nodes ≡ ledger.now.lattice.n) × HasPassedRoom ledger.now (S.state source.old).left (S.state source.new).left }
+    ensures faults { IfErr result (λ f. ((nodes : ℕ) × (f ≡ PutFault.Full nodes)) ⊎ IsBroken f) }
+    ensures writes { WritesCells D.tells ledger.now.shape (limit_when ledger.now.raised) (IsBlockIn ledger.now.shape ledger.now.lattice.n) (result ≡ Err PutFault.DiskFault) (D.state disk.old) (D.state disk.new) }
+    ensures padded { result ≢ Err PutFault.DiskFault → D.tells → KeepsPadded ledger.now.shape (IsBlockIn ledger.now.shape ledger.now.lattice.n) (D.state disk.old).files (D.state disk.new).files }
+    ensures taken { TakesAtMost (S.state source.old).left (S.state source.new).left (room_left ledger.now + 1) }
+    ensures source_kept { (S.state source.old).faults ≤ (S.state source.new).faults }
+    ensures read_cause { result ≡ Err PutFault.ReadFault → Rose (S.state source.old).faults (S.state source.new).faults }
+{
+    records_are_few();
+    let shape = ledger.shape();
+    let nodes = ledger.lattice().n();
+    let limit = u64::from(ledger.limit() - nodes) * u64::from(shape.block());
+    let mut digests = Vec::new(alloc);
+    let mut hasher = Sha256::new();
+    let length = match weave_all(
+        disk,
+        &shape,
+        heads,
+        source,
+        limit,
+        &mut hasher,
+        block,
+        cell,
+        &mut digests,
+    ) {
+        Ok(length) => length,
+        Err(fault) => return Err(fault),
+    };
+    match has_more(source, length == limit) {
+        Ok(false) => Ok(Taken {
+            length,
+            nodes: heads.next_node() - 1 - nodes,
+            digest: hasher.finalize(),
+            digests,
+        }),
+        Ok(true) => Err(PutFault::Full { nodes }),
+        Err(_) => Err(PutFault::ReadFault),
+    }
+}
+
+/// Takes all that the source has, weaves it behind the nodes of the archive, and writes the cells of its blocks. The last
+/// parity of each strand has to be intact. More bytes than the nodes that are left can hold are refused, and one byte past
+/// them is read at most. It takes memory for a block, a cell, the heads and 32 bytes for each new block; the list of these
+/// grows by doubling.
+pub fn weave_object<D: Disk, S: Source>(
+    alloc: Global,
+    disk: &mut D,
+    ledger: &Ledger,
+    source: &mut S,
+) -> Result<Taken, PutFault>
+    requires opened { HasSomeRecords ledger.now }
+    ensures took { IfOk result (λ t. TakesAll D.tells ledger.now.shape ledger.now.lattice ledger.now.digests t.length t.digest (S.state source.old).left (S.state source.new).left t.digests.items (D.state disk.old).files (D.state disk.new).files) }
+    ensures nodes { IfOk result (λ t. t.nodes ≡ nodes_for ledger.now.shape t.length) }
+    ensures fits { IfOk result (λ t. ledger.now.lattice.n + t.nodes ≤ limit_when ledger.now.raised) }
+    ensures intact { OnOk result (D.tells → AreLastsIntact ledger.now.shape ledger.now.lattice ledger.now.digests (D.state disk.old).files) }
+    ensures read_intact { result ≡ Err PutFault.ReadFault → D.tells → AreLastsIntact ledger.now.shape ledger.now.lattice ledger.now.digests (D.state disk.old).files }
+    ensures head { (b : BlockId) → result ≡ Err (PutFault.HeadDamaged b) → IsLastParity ledger.now.lattice b × (D.tells → IsFirstDamagedLast ledger.now.shape ledger.now.lattice ledger.now.digests (D.state disk.old).files b) }
+    ensures head_leaves { (b : BlockId) → result ≡ Err (PutFault.HeadDamaged b) → (source.new ≡ source.old) × OnlyReads D.tells ⊥ (D.state disk.old) (D.state disk.new) }
+    ensures full { (nodes : ℕ) → result ≡ Err (PutFault.Full nodes) → (nodes ≡ ledger.now.lattice.n) × (HasPassedRoom ledger.now (S.state source.old).left (S.state source.new).left × (D.tells → AreLastsIntact ledger.now.shape ledger.now.lattice ledger.now.digests (D.state disk.old).files)) }
+    ensures faults { IfErr result (λ f. ((b : BlockId) × (f ≡ PutFault.HeadDamaged b)) ⊎ (((nodes : ℕ) × (f ≡ PutFault.Full nodes)) ⊎ IsBroken f)) }
+    ensures writes { WritesCells D.tells ledger.now.shape (limit_when ledger.now.raised) (IsBlockIn ledger.now.shape ledger.now.lattice.n) (result ≡ Err PutFault.DiskFault) (D.state disk.old) (D.state disk.new) }
+    ensures padded { result ≢ Err PutFault.DiskFault → D.tells → KeepsPadded ledger.now.shape (IsBlockIn ledger.now.shape ledger.now.lattice.n) (D.state disk.old).files (D.state disk.new).files }
+    ensures taken { TakesAtMost (S.state source.old).left (S.state source.new).left (room_left ledger.now + 1) }
+    ensures source_kept { (S.state source.old).faults ≤ (S.state source.new).faults }
+    ensures read_cause { result ≡ Err PutFault.ReadFault → Rose (S.state source.old).faults (S.state source.new).faults }
+{
+    homes_are_on_its_sites();
+    let size = ledger.shape().block() as usize;
+    let (mut cell, mut block) = match buffers(alloc, size) {
+        Ok(buffers) => buffers,
+        Err(_) => return Err(PutFault::NoMemory),
+    };
+    let mut heads = match ready_heads(alloc, disk, ledger, cell.as_mut_slice()) {
+        Ok(heads) => heads,
+        Err(PutFault::HeadDamaged { block }) => return Err(PutFault::HeadDamaged { block }),
+        Err(PutFault::DiskFault) => return Err(PutFault::DiskFault),
+        Err(PutFault::NoMemory) => return Err(PutFault::NoMemory),
+        Err(_) => unreachable!(),
+    };
+    match take_object(
+        alloc,
+        disk,
+        ledger,
+        source,
+        &mut heads,
+        cell.as_mut_slice(),
+        block.as_mut_slice(),
+    ) {
+        Ok(taken) => Ok(taken),
+        Err(fault) => Err(fault),
+    }
+}

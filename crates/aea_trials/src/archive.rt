@@ -17,16 +17,16 @@ const CREATED: &str = "created 3 2 5 64 4\n";
 // The ledger of that archive, without records.
 const LEDGER: &[u8; 18] = b"\x01AEALEDG1\x03\x02\x05\x04\0\0\0\x40\0";
 
-// What a run leaves.
+/// What a run leaves.
 #[derive(Drop)]
-struct Left {
-    status: Status,
-    out: SureSink,
-    err: SureSink,
+pub struct Left {
+    pub status: Status,
+    pub out: SureSink,
+    pub err: SureSink,
 }
 
-// Runs the command of a line over this disk, with so much room on `out`.
-fn run_over<D: Disk>(
+/// Runs the command of a line over this disk, with so much room on `out`.
+pub fn run_over<D: Disk>(
     alloc: Global,
     line: &str,
     disk: &mut D,

@@ -1,7 +1,9 @@
-//! Trials of the whole program and of its plans: the worked examples, archives, disks and streams that fail, damage
-//! lists of the greatest length, and damage by chance against the plain programs.
+//! Trials of the whole program and of its plans: the worked examples, archives, fences and raises of the limit, disks and
+//! streams that fail, damage lists of the greatest length, and damage by chance against the plain programs.
 #![tactic(auto)]
 
+#[cfg(test)]
+mod adding;
 #[cfg(test)]
 mod archive;
 #[cfg(test)]

@@ -1,0 +1,302 @@
+//! Fences and raises of the limit: the commands that add a record to the ledger.
+
+use crate::archive::run_over;
+use crate::bench::text_of;
+use aea_catalog::check_name;
+use aea_cli::Status;
+use aea_disk::{Disk, DiskFault, FailDisk, Loss, MemDisk, SureDisk};
+use aea_ledger::open_ledger;
+use std::alloc::Global;
+use std::test::Fail;
+
+// The ledger of `create 1 1 0 16 1` and of the object `a` with the bytes `abc`: 139 bytes. It has one node, and the
+// digests of its two blocks are given.
+const ONE: &[u8; 139] = b"\x01AEALEDG1\x01\x01\0\x01\0\0\0\x10\
+\x01\x01\0\0\0\x73\0\x01a\0\0\0\0\0\0\0\x03\
+\xba\x78\x16\xbf\x8f\x01\xcf\xea\x41\x41\x40\xde\x5d\xae\x22\x23\xb0\x03\x61\xa3\x96\x17\x7a\x9c\xb4\x10\xff\x61\xf2\x00\x15\xad\
+\0\0\0\x01\0\0\0\x01\
+ddddddddddddddddddddddddddddddddhhhhhhhhhhhhhhhhhhhhhhhhhhhhhhhh\0";
+
+// What a fence behind its node, and what a raise of the limit, writes from its ending gate on.
+const FENCE: &[u8; 11] = b"\x01\x02\0\0\0\x04\0\0\0\x01\0";
+
+const RAISE: &[u8; 11] = b"\x01\x04\0\0\0\x04\0\x10\0\0\0";
+
+const LOSSES: [Loss; 4] = [Loss::Kept, Loss::Dropped, Loss::Ones, Loss::Zeros];
+
+// Each command that adds a record, its line, the record, and the line of its refusal where it is run again.
+const COMMANDS: [(&str, &str, &[u8; 11], &str); 2] = [
+    (
+        "fence",
+        "fence 1\n",
+        FENCE,
+        "refused: already fenced at 1\n",
+    ),
+    (
+        "upgrade",
+        "upgraded 1048576\n",
+        RAISE,
+        "refused: already upgraded\n",
+    ),
+];
+
+// Makes the bytes the whole ledger file, and all files sure.
+fn fill<D: Disk>(disk: &mut D, bytes: &[u8]) -> Result<(), DiskFault> {
+    disk.cut(0, 0)?;
+    disk.write(0, 0, bytes)?;
+    disk.sync()
+}
+
+// Whether the ledger file is that of one node, with this record from its ending gate on.
+fn has_added<D: Disk>(disk: &mut D, record: &[u8; 11]) -> Result<bool, DiskFault> {
+    let mut bytes = [9u8; 160];
+    let count = disk.read(0, 0, &mut bytes)?;
+    Ok(count == 149 && bytes[..138] == ONE[..138] && bytes[138..149] == record[..])
+}
+
+// Whether it is that ledger, byte for byte.
+fn is_one<D: Disk>(disk: &mut D) -> Result<bool, DiskFault> {
+    let mut bytes = [9u8; 160];
+    let count = disk.read(0, 0, &mut bytes)?;
+    Ok(count == 139 && bytes[..139] == ONE[..])
+}
+
+#[test]
+fn a_fresh_archive_takes_no_fence_and_one_raise(rt: HostRuntime) -> Result<(), Fail> {
+    let alloc = rt.alloc();
+    let mut disk = SureDisk::new(alloc, 0, 28, 0)?;
+    let made = run_over(alloc, "create 1 1 0 16 1", &mut disk, 99)?;
+    assert_eq!(rt; made.status, Status::Done);
+    let left = run_over(alloc, "fence", &mut disk, 99)?;
+    assert_eq!(rt; left.status, Status::Refused);
+    assert_eq!(rt;
+        text_of(left.err.bytes())?,
+        "refused: already fenced at 0\n"
+    );
+    assert_eq!(rt; disk.len(0), Ok(18));
+
+    let left = run_over(alloc, "upgrade", &mut disk, 99)?;
+    assert_eq!(rt; left.status, Status::Done);
+    assert_eq!(rt; text_of(left.out.bytes())?, "upgraded 1048576\n");
+    assert!(rt; left.err.bytes().is_empty() && left.out.flushed == 17);
+    let mut bytes = [9u8; 32];
+    assert_eq!(rt; disk.read(0, 0, &mut bytes), Ok(28));
+    assert!(rt; bytes[..17] == b"\x01AEALEDG1\x01\x01\0\x01\0\0\0\x10"[..]);
+    assert!(rt; bytes[17..28] == RAISE[..]);
+
+    let left = run_over(alloc, "upgrade", &mut disk, 99)?;
+    assert_eq!(rt; left.status, Status::Refused);
+    assert_eq!(rt; text_of(left.err.bytes())?, "refused: already upgraded\n");
+    assert!(rt; left.out.bytes().is_empty());
+    Ok(())
+}
+
+#[test]
+fn each_command_adds_its_record_once(rt: HostRuntime) -> Result<(), Fail> {
+    let alloc = rt.alloc();
+    for (command, line, record, again) in COMMANDS {
+        let mut disk = SureDisk::new(alloc, 0, 149, 0)?;
+        fill(&mut disk, ONE)?;
+        let left = run_over(alloc, command, &mut disk, 99)?;
+        assert_eq!(rt; left.status, Status::Done, "{command}");
+        assert_eq!(rt; text_of(left.out.bytes())?, line);
+        assert!(rt; left.err.bytes().is_empty() && left.out.flushed == line.len());
+        assert_eq!(rt; has_added(&mut disk, record), Ok(true), "{command}");
+        let left = run_over(alloc, command, &mut disk, 99)?;
+        assert_eq!(rt; left.status, Status::Refused, "{command}");
+        assert_eq!(rt; text_of(left.err.bytes())?, again);
+        assert!(rt; left.out.bytes().is_empty());
+        assert_eq!(rt; has_added(&mut disk, record), Ok(true), "{command}");
+        let left = run_over(alloc, "stat", &mut disk, 99)?;
+        assert_eq!(rt; left.status, Status::Done, "{command}");
+    }
+    Ok(())
+}
+
+#[test]
+fn an_added_record_that_is_bad_is_named(rt: HostRuntime) -> Result<(), Fail> {
+    let alloc = rt.alloc();
+    for (command, place, value, refusal) in [
+        ("fence", 147, 2u8, "refused: ledger bad at 144\n"),
+        ("fence", 139, 3, "refused: ledger bad at 139\n"),
+        ("fence", 143, 5, "refused: ledger bad at 140\n"),
+        ("upgrade", 139, 3, "refused: ledger bad at 139\n"),
+        ("upgrade", 145, 32, "refused: ledger bad at 144\n"),
+        ("fence", 9, 4, "refused: ledger bad at 9\n"),
+        ("fence", 0, 7, "refused: no archive\n"),
+    ] {
+        let mut disk = SureDisk::new(alloc, 0, 160, 0)?;
+        fill(&mut disk, ONE)?;
+        let left = run_over(alloc, command, &mut disk, 99)?;
+        assert_eq!(rt; left.status, Status::Done, "{place}");
+        disk.write(0, place, &[value])?;
+        for next in ["stat", "fence", "upgrade"] {
+            let left = run_over(alloc, next, &mut disk, 99)?;
+            assert_eq!(rt; left.status, Status::Refused, "{next} {place}");
+            assert_eq!(rt; text_of(left.err.bytes())?, refusal, "{next} {place}");
+            assert!(rt; left.out.bytes().is_empty(), "{next} {place}");
+        }
+        assert_eq!(rt; disk.len(0), Ok(149), "{place}");
+    }
+    Ok(())
+}
+
+// Opens the archive and adds an object of one node to its ledger; the digests of its blocks are given. False where it
+// may not stand there.
+fn add_node<D: Disk>(alloc: Global, disk: &mut D, name: &[u8]) -> Result<bool, Fail> {
+    let mut ledger = open_ledger(alloc, disk)?;
+    let block = u64::from(ledger.shape().block());
+    let count = (1 + block - 1) / block;
+    let Some(free) = ledger.limit().checked_sub(ledger.lattice().n()) else {
+        return Ok(false);
+    };
+    if count != 1 || free < 1 || ledger.shape().alpha() != 1 {
+        return Ok(false);
+    }
+    if !check_name(name) || ledger.catalog().find(name).is_some() {
+        return Ok(false);
+    }
+    ledger.append(disk, name, 1, [7; 32], 1, &[[b'd'; 32], [b'h'; 32]])?;
+    Ok(true)
+}
+
+#[test]
+fn sixteen_fences_and_no_more(rt: HostRuntime) -> Result<(), Fail> {
+    let alloc = rt.alloc();
+    let mut disk = SureDisk::new(alloc, 0, 4096, 0)?;
+    let _made = run_over(alloc, "create 1 1 0 16 1", &mut disk, 99)?;
+    for node in 1..17u8 {
+        assert!(rt; add_node(alloc, &mut disk, &[b'a' + node])?, "{node}");
+        let line = format!(in alloc; "fence {node}\n")?;
+        let left = run_over(alloc, "fence", &mut disk, 99)?;
+        assert_eq!(rt; text_of(left.out.bytes())?, line.as_str());
+    }
+    let left = run_over(alloc, "fence", &mut disk, 99)?;
+    assert_eq!(rt;
+        text_of(left.err.bytes())?,
+        "refused: already fenced at 16\n"
+    );
+    assert!(rt; add_node(alloc, &mut disk, b"a")?);
+    let before = disk.len(0);
+    let left = run_over(alloc, "fence", &mut disk, 99)?;
+    assert_eq!(rt; left.status, Status::Refused);
+    assert_eq!(rt; text_of(left.err.bytes())?, "refused: too many fences\n");
+    assert_eq!(rt; disk.len(0), before);
+    let left = run_over(alloc, "upgrade", &mut disk, 99)?;
+    assert_eq!(rt; left.status, Status::Done);
+    Ok(())
+}
+
+// How many calls of the disk each command makes: five to open the archive, and two writes with a sync behind each.
+const CALLS: u64 = 9;
+
+#[test]
+fn each_call_of_the_disk_fails(rt: HostRuntime) -> Result<(), Fail> {
+    let alloc = rt.alloc();
+    for (command, line, record, again) in COMMANDS {
+        for k in 1..CALLS + 2 {
+            // three calls fill the disk
+            let inner = SureDisk::new(alloc, 0, 149, 0)?;
+            let mut disk = FailDisk::new(alloc, inner, &[3 + k])?;
+            fill(&mut disk, ONE)?;
+            let left = run_over(alloc, command, &mut disk, 99)?;
+            if CALLS < k {
+                assert_eq!(rt; left.status, Status::Done, "{command} {k}");
+                continue;
+            }
+            assert_eq!(rt; left.status, Status::Disk, "{command} {k}");
+            assert_eq!(rt; text_of(left.err.bytes())?, "fault: disk\n");
+            assert!(rt; left.out.bytes().is_empty(), "{command} {k}");
+            assert_eq!(rt; is_one(&mut disk)?, k <= CALLS - 3, "{command} {k}");
+            // the record stands where the last sync alone failed
+            let next = run_over(alloc, command, &mut disk, 99)?;
+            let added = text_of(next.out.bytes())? == line;
+            let stood = text_of(next.err.bytes())? == again;
+            assert_eq!(rt; (added, stood), (k < CALLS, k == CALLS), "{command} {k}");
+            assert_eq!(rt; has_added(&mut disk, record), Ok(true), "{command} {k}");
+        }
+    }
+    Ok(())
+}
+
+#[test]
+fn each_stop_leaves_the_old_ledger_or_the_new(rt: HostRuntime) -> Result<(), Fail> {
+    let alloc = rt.alloc();
+    for (command, line, record, again) in COMMANDS {
+        let mut disk = MemDisk::new(alloc, 0, 149, 0, 16, 512)?;
+        fill(&mut disk, ONE)?;
+        let before = disk.calls();
+        let left = run_over(alloc, command, &mut disk, 99)?;
+        assert_eq!(rt; left.status, Status::Done, "{command}");
+        for after in before..=disk.calls() {
+            for loss in LOSSES {
+                let mut stopped = disk.image(alloc, after, loss)?;
+                let told = run_over(alloc, "stat", &mut stopped, 99)?;
+                assert_eq!(rt; told.status, Status::Done, "{command} {after}");
+                let next = run_over(alloc, command, &mut stopped, 99)?;
+                let old = text_of(next.out.bytes())? == line;
+                let new = text_of(next.err.bytes())? == again;
+                let sure = after < disk.calls();
+                assert!(rt; new || sure && old, "{command} {after}");
+                assert_eq!(rt;
+                    has_added(&mut stopped, record),
+                    Ok(true),
+                    "{command} {after}"
+                );
+            }
+        }
+    }
+    Ok(())
+}
+
+#[test]
+fn the_record_stands_where_the_output_fails(rt: HostRuntime) -> Result<(), Fail> {
+    let alloc = rt.alloc();
+    for (command, line, record, _again) in COMMANDS {
+        let mut disk = SureDisk::new(alloc, 0, 149, 0)?;
+        fill(&mut disk, ONE)?;
+        let left = run_over(alloc, command, &mut disk, 3)?;
+        assert_eq!(rt; left.status, Status::Output, "{command}");
+        assert!(rt; left.out.bytes().len() == 3 && line.as_bytes().starts_with(left.out.bytes()));
+        assert_eq!(rt; text_of(left.err.bytes())?, "fault: output\n");
+        assert_eq!(rt; has_added(&mut disk, record), Ok(true), "{command}");
+    }
+    Ok(())
+}
+
+#[test]
+fn a_disk_that_lacks_one_byte_is_at_fault(rt: HostRuntime) -> Result<(), Fail> {
+    let alloc = rt.alloc();
+    for (command, _line, _record, _again) in COMMANDS {
+        let mut disk = SureDisk::new(alloc, 0, 148, 0)?;
+        fill(&mut disk, ONE)?;
+        let left = run_over(alloc, command, &mut disk, 99)?;
+        assert_eq!(rt; left.status, Status::Disk, "{command}");
+        assert_eq!(rt; text_of(left.err.bytes())?, "fault: disk\n");
+        assert!(rt; left.out.bytes().is_empty(), "{command}");
+        let left = run_over(alloc, "stat", &mut disk, 99)?;
+        assert_eq!(rt; left.status, Status::Done, "{command}");
+    }
+    Ok(())
+}
+
+#[test]
+fn words_beside_them_are_no_command(rt: HostRuntime) -> Result<(), Fail> {
+    let alloc = rt.alloc();
+    for line in [
+        "fence 1",
+        "fences",
+        "Fence",
+        "upgrade 1048576",
+        "upgrades",
+        "up",
+    ] {
+        let mut disk = SureDisk::new(alloc, 0, 149, 0)?;
+        fill(&mut disk, ONE)?;
+        let left = run_over(alloc, line, &mut disk, 99)?;
+        assert_eq!(rt; left.status, Status::Words, "{line}");
+        assert_eq!(rt; text_of(left.err.bytes())?, "words: no such command\n");
+        assert_eq!(rt; is_one(&mut disk), Ok(true), "{line}");
+    }
+    Ok(())
+}

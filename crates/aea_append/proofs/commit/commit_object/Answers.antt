@@ -79,8 +79,7 @@ returns-in_default-clause-writes g c =
     let end : ℕ = c.args.ledger.now.end + length (entry (Object (next_stored c.args.ledger.now c.args.name.now c.args.size c.args.digest c.args.count c.args.digests.now))) + 1 in
     writes_as g.D.Disk.tells (HasRoomTo old 0 end) (IsErr c.sync.result) _ (ChangesOnly 0) old mid (λ is. subst IsErr (sym c.in_default.is) refl)
     (reads_writes g.D.Disk.tells (HasRoomTo old 0 end) (IsErr c.sync.result) (ChangesOnly 0) old mid (λ room. (0, end, room)) (λ d f other. refl)
-    (earlier_kept old mid c.sync.ensures.crash c.sync.ensures.settled c.sync.ensures.time)
-    (reads_one g.D.Disk.tells old mid c.sync.result c.sync.ensures.contents c.sync.ensures.crash c.sync.ensures.time c.sync.ensures.cause c.sync.ensures.sure))
+    (reads_one g.D.Disk.tells old mid c.sync.result c.sync.ensures.contents c.sync.ensures.crash c.sync.ensures.settled c.sync.ensures.time c.sync.ensures.cause c.sync.ensures.sure))
 
 pub returns-clause-writes : goal.returns-clause-writes
 returns-clause-writes g c =
@@ -89,6 +88,5 @@ returns-clause-writes g c =
     let new = g.D.Disk.state c.append.new.disk in
     let end : ℕ = c.args.ledger.now.end + length (entry (Object (next_stored c.args.ledger.now c.args.name.now c.args.size c.args.digest c.args.count c.args.digests.now))) + 1 in
     reads_then_writes g.D.Disk.tells (HasRoomTo old 0 end) (HasRoomTo mid 0 end) (IsErr c.sync.result) _ (ChangesOnly 0) old mid new (λ d f other. refl) (λ room. (0, end, room)) (λ room time. time.room 0 end room)
-    (earlier_kept old mid c.sync.ensures.crash c.sync.ensures.settled c.sync.ensures.time)
-    (reads_one g.D.Disk.tells old mid c.sync.result c.sync.ensures.contents c.sync.ensures.crash c.sync.ensures.time c.sync.ensures.cause c.sync.ensures.sure)
+    (reads_one g.D.Disk.tells old mid c.sync.result c.sync.ensures.contents c.sync.ensures.crash c.sync.ensures.settled c.sync.ensures.time c.sync.ensures.cause c.sync.ensures.sure)
     c.append.ensures.writes

@@ -17,7 +17,7 @@ loop-place-init g c = record {
   cell = c.requires.buffer;
   loaded = load_none g.D.Disk.tells c.args.ledger.now (g.D.Disk.state c.args.disk.now).files c.args.heads.now c.requires.lattice c.requires.size c.requires.zeros;
   earlier = earlier_none (g.D.Disk.state c.args.disk.now);
-  reads = reads_none g.D.Disk.tells (g.D.Disk.state c.args.disk.now);
+  reads = reads_none g.D.Disk.tells ⊥ (g.D.Disk.state c.args.disk.now) (λ none. none);
 }
 
 pub returns-in-Err-clause-earlier : goal.returns-in-Err-clause-earlier
@@ -40,7 +40,7 @@ loop-place-preserved g c =
     let mid = g.D.Disk.state c.loop-place.disk in
     let new = g.D.Disk.state c.load_strand.new.disk in
     let tells = g.D.Disk.tells in
-    let l = c.lattice-lattice.ensures in
+    let l = c.lattice-lattice.ensures.value in
     let same = c.loop-place.invariant.reads.contents in
     let class = c.strand_at-class.result.0 in
     let strand = c.strand_at-class.result.1 in
@@ -64,9 +64,9 @@ loop-place-preserved g c =
 
 pub lesser-found-requires-clause-a : goal.lesser-found-requires-clause-a
 lesser-found-requires-clause-a g c =
-    subst (λ (l : Lattice). IfSome c.loop-place.found (HasBlock l)) (sym c.lattice-lattice.ensures) (found_inside g.D.Disk.tells c.args.ledger.now (g.D.Disk.state c.args.disk.now).files c.loop-place.place c.loop-place.found c.loop-place.invariant.loaded.least)
+    subst (λ (l : Lattice). IfSome c.loop-place.found (HasBlock l)) (sym c.lattice-lattice.ensures.value) (found_inside g.D.Disk.tells c.args.ledger.now (g.D.Disk.state c.args.disk.now).files c.loop-place.place c.loop-place.found c.loop-place.invariant.loaded.least)
 
 pub lesser-found-requires-clause-b : goal.lesser-found-requires-clause-b
 lesser-found-requires-clause-b g c =
-    subst (λ (l : Lattice). IfSome c.in-Ok.next (HasBlock l)) (sym c.lattice-lattice.ensures)
+    subst (λ (l : Lattice). IfSome c.in-Ok.next (HasBlock l)) (sym c.lattice-lattice.ensures.value)
     (found_on_inside g.D.Disk.tells c.args.ledger.now (g.D.Disk.state c.loop-place.disk).files c.strand_at-class.result.0 c.strand_at-class.result.1 c.in-Ok.next c.in-Ok.ensures.found)

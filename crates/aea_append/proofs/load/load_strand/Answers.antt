@@ -6,6 +6,7 @@ use Rattle.aea_lattice.specs.Blocks.{block_of, HasParity}
 use Rattle.aea_lattice.specs.Ends.{strands_of, last_open}
 use Rattle.aea_envelope.specs.Cells.{block_digest, cell_of}
 use Rattle.aea_disk.proofs.Moments.{earlier_none, earlier_kept}
+use Rattle.aea_disk.proofs.Frames.{reads_none}
 use Rattle.aea_shelf.specs.Places.{HasAtHome}
 use Rattle.aea_shelf.specs.Intact.{payload_in}
 use Rattle.aea_weave.specs.Woven.{head_of}
@@ -17,7 +18,7 @@ use Rattle.aea_append.proofs.load.load_strand.Goals.{After-set_head}
 use Rattle.aea_append.proofs.load.load_strand.Goals as goal
 
 is_last : (g : Over) (c : After-set_head g) → last_open c.args.ledger.now.lattice c.args.class c.args.strand ≡ Some c.in-Some.node
-is_last g c = ap (λ (l : Lattice). last_open l c.args.class c.args.strand) (sym c.lattice.ensures) ∙ sym c.last_on.ensures.last ∙ c.in-Some.is
+is_last g c = ap (λ (l : Lattice). last_open l c.args.class c.args.strand) (sym c.lattice.ensures.value) ∙ sym c.last_on.ensures.last ∙ c.in-Some.is
 
 head_is : (g : Over) (c : After-set_head g) → payload_in c.args.ledger.now.shape c.read_block.new.cell ≡ head_of c.set_head.new.self c.args.class c.args.strand
 head_is g c =
@@ -59,3 +60,6 @@ returns-in-Ok-Bad-clause-earlier g c = earlier_kept (g.D.Disk.state c.args.disk.
 
 pub returns-in-Err-clause-earlier : goal.returns-in-Err-clause-earlier
 returns-in-Err-clause-earlier g c = earlier_kept (g.D.Disk.state c.args.disk.now) (g.D.Disk.state c.read_block.new.disk) c.read_block.ensures.reads.crash c.read_block.ensures.settled c.read_block.ensures.reads.time
+
+pub returns-in_default-clause-reads : goal.returns-in_default-clause-reads
+returns-in_default-clause-reads g c = reads_none g.D.Disk.tells _ (g.D.Disk.state c.args.disk.now) (λ is. absurd (let e = is in cc))

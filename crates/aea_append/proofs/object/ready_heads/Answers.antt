@@ -13,7 +13,7 @@ pub returns-in-Err-clause-earlier : goal.returns-in-Err-clause-earlier
 returns-in-Err-clause-earlier g c = earlier_none (g.D.Disk.state c.args.disk.now)
 
 pub returns-in-Err-clause-reads : goal.returns-in-Err-clause-reads
-returns-in-Err-clause-reads g c = reads_as g.D.Disk.tells ⊥ _ (g.D.Disk.state c.args.disk.now) (g.D.Disk.state c.args.disk.now) (λ is. absurd (let e = is in cc)) (reads_none g.D.Disk.tells (g.D.Disk.state c.args.disk.now))
+returns-in-Err-clause-reads g c = reads_as g.D.Disk.tells ⊥ _ (g.D.Disk.state c.args.disk.now) (g.D.Disk.state c.args.disk.now) (λ is. absurd (let e = is in cc)) (reads_none g.D.Disk.tells ⊥ (g.D.Disk.state c.args.disk.now) (λ none. none))
 
 pub returns-in-Ok-None-clause-reads : goal.returns-in-Ok-None-clause-reads
 returns-in-Ok-None-clause-reads g c = reads_as g.D.Disk.tells _ _ (g.D.Disk.state c.args.disk.now) (g.D.Disk.state c.load_heads.new.disk) (λ is. absurd (let e = is in cc)) c.load_heads.ensures.reads

@@ -22,7 +22,7 @@ returns-in-Err-HeadDamaged-clause-writes g c =
     let keep = IsBlockIn c.args.ledger.now.shape c.args.ledger.now.lattice.n in
     writes_as g.D.Disk.tells (HaveSitesRoom v.shape (limit_when v.raised) old) (c.ready_heads.result ≡ Err DiskFault) _ (ChangesArchive v.shape (limit_when v.raised) (IsBlockIn v.shape v.lattice.n) (IsNoSite v.shape)) old mid (λ is. absurd (let e = is in cc))
     (reads_writes g.D.Disk.tells (HaveSitesRoom v.shape (limit_when v.raised) old) (c.ready_heads.result ≡ Err DiskFault) (ChangesArchive v.shape (limit_when v.raised) (IsBlockIn v.shape v.lattice.n) (IsNoSite v.shape)) old mid
-    (λ room. room_some c.homes_are_on_its_sites.ensures v.shape (limit_when v.raised) old room) (λ d. changes_none v.shape (limit_when v.raised) (IsBlockIn v.shape v.lattice.n) (IsNoSite v.shape) d) c.ready_heads.ensures.earlier c.ready_heads.ensures.reads)
+    (λ room. room_some c.homes_are_on_its_sites.ensures v.shape (limit_when v.raised) old room) (λ d. changes_none v.shape (limit_when v.raised) (IsBlockIn v.shape v.lattice.n) (IsNoSite v.shape) d) c.ready_heads.ensures.reads)
 
 pub returns-in-Err-DiskFault-clause-writes : goal.returns-in-Err-DiskFault-clause-writes
 returns-in-Err-DiskFault-clause-writes g c =
@@ -32,7 +32,7 @@ returns-in-Err-DiskFault-clause-writes g c =
     let keep = IsBlockIn c.args.ledger.now.shape c.args.ledger.now.lattice.n in
     writes_as g.D.Disk.tells (HaveSitesRoom v.shape (limit_when v.raised) old) (c.ready_heads.result ≡ Err DiskFault) _ (ChangesArchive v.shape (limit_when v.raised) (IsBlockIn v.shape v.lattice.n) (IsNoSite v.shape)) old mid (λ is. c.in-Err-DiskFault.is ∙ ap Err c.in-Err-DiskFault.field-0-is)
     (reads_writes g.D.Disk.tells (HaveSitesRoom v.shape (limit_when v.raised) old) (c.ready_heads.result ≡ Err DiskFault) (ChangesArchive v.shape (limit_when v.raised) (IsBlockIn v.shape v.lattice.n) (IsNoSite v.shape)) old mid
-    (λ room. room_some c.homes_are_on_its_sites.ensures v.shape (limit_when v.raised) old room) (λ d. changes_none v.shape (limit_when v.raised) (IsBlockIn v.shape v.lattice.n) (IsNoSite v.shape) d) c.ready_heads.ensures.earlier c.ready_heads.ensures.reads)
+    (λ room. room_some c.homes_are_on_its_sites.ensures v.shape (limit_when v.raised) old room) (λ d. changes_none v.shape (limit_when v.raised) (IsBlockIn v.shape v.lattice.n) (IsNoSite v.shape) d) c.ready_heads.ensures.reads)
 
 pub returns-in-Err-NoMemory-clause-writes : goal.returns-in-Err-NoMemory-clause-writes
 returns-in-Err-NoMemory-clause-writes g c =
@@ -42,7 +42,7 @@ returns-in-Err-NoMemory-clause-writes g c =
     let keep = IsBlockIn c.args.ledger.now.shape c.args.ledger.now.lattice.n in
     writes_as g.D.Disk.tells (HaveSitesRoom v.shape (limit_when v.raised) old) (c.ready_heads.result ≡ Err DiskFault) _ (ChangesArchive v.shape (limit_when v.raised) (IsBlockIn v.shape v.lattice.n) (IsNoSite v.shape)) old mid (λ is. absurd (let e = is in cc))
     (reads_writes g.D.Disk.tells (HaveSitesRoom v.shape (limit_when v.raised) old) (c.ready_heads.result ≡ Err DiskFault) (ChangesArchive v.shape (limit_when v.raised) (IsBlockIn v.shape v.lattice.n) (IsNoSite v.shape)) old mid
-    (λ room. room_some c.homes_are_on_its_sites.ensures v.shape (limit_when v.raised) old room) (λ d. changes_none v.shape (limit_when v.raised) (IsBlockIn v.shape v.lattice.n) (IsNoSite v.shape) d) c.ready_heads.ensures.earlier c.ready_heads.ensures.reads)
+    (λ room. room_some c.homes_are_on_its_sites.ensures v.shape (limit_when v.raised) old room) (λ d. changes_none v.shape (limit_when v.raised) (IsBlockIn v.shape v.lattice.n) (IsNoSite v.shape) d) c.ready_heads.ensures.reads)
 
 pub returns-in-Ok-take_object-clause-writes : goal.returns-in-Ok-take_object-clause-writes
 returns-in-Ok-take_object-clause-writes g c =
@@ -54,7 +54,7 @@ returns-in-Ok-take_object-clause-writes g c =
     writes_as g.D.Disk.tells (HaveSitesRoom v.shape (limit_when v.raised) old) (c.take_object.result ≡ Err DiskFault) _ (ChangesArchive v.shape (limit_when v.raised) (IsBlockIn v.shape v.lattice.n) (IsNoSite v.shape)) old new (λ is. absurd (let e = is in cc))
     (reads_then_writes g.D.Disk.tells (HaveSitesRoom v.shape (limit_when v.raised) old) (HaveSitesRoom v.shape (limit_when v.raised) mid) (c.ready_heads.result ≡ Err DiskFault) (c.take_object.result ≡ Err DiskFault) (ChangesArchive v.shape (limit_when v.raised) (IsBlockIn v.shape v.lattice.n) (IsNoSite v.shape)) old mid new
     (λ d. changes_none v.shape (limit_when v.raised) (IsBlockIn v.shape v.lattice.n) (IsNoSite v.shape) d)
-    (λ room. room_some c.homes_are_on_its_sites.ensures v.shape (limit_when v.raised) old room) (λ room time. room_later v.shape (limit_when v.raised) old mid time room) c.ready_heads.ensures.earlier c.ready_heads.ensures.reads c.take_object.ensures.writes)
+    (λ room. room_some c.homes_are_on_its_sites.ensures v.shape (limit_when v.raised) old room) (λ room time. room_later v.shape (limit_when v.raised) old mid time room) c.ready_heads.ensures.reads c.take_object.ensures.writes)
 
 pub returns-clause-writes : goal.returns-clause-writes
 returns-clause-writes g c =
@@ -66,7 +66,7 @@ returns-clause-writes g c =
     writes_as g.D.Disk.tells (HaveSitesRoom v.shape (limit_when v.raised) old) (c.take_object.result ≡ Err DiskFault) _ (ChangesArchive v.shape (limit_when v.raised) (IsBlockIn v.shape v.lattice.n) (IsNoSite v.shape)) old new (λ is. c.in-Err-take_object.is ∙ fault_as c.in-Err-take_object.fault DiskFault is)
     (reads_then_writes g.D.Disk.tells (HaveSitesRoom v.shape (limit_when v.raised) old) (HaveSitesRoom v.shape (limit_when v.raised) mid) (c.ready_heads.result ≡ Err DiskFault) (c.take_object.result ≡ Err DiskFault) (ChangesArchive v.shape (limit_when v.raised) (IsBlockIn v.shape v.lattice.n) (IsNoSite v.shape)) old mid new
     (λ d. changes_none v.shape (limit_when v.raised) (IsBlockIn v.shape v.lattice.n) (IsNoSite v.shape) d)
-    (λ room. room_some c.homes_are_on_its_sites.ensures v.shape (limit_when v.raised) old room) (λ room time. room_later v.shape (limit_when v.raised) old mid time room) c.ready_heads.ensures.earlier c.ready_heads.ensures.reads c.take_object.ensures.writes)
+    (λ room. room_some c.homes_are_on_its_sites.ensures v.shape (limit_when v.raised) old room) (λ room time. room_later v.shape (limit_when v.raised) old mid time room) c.ready_heads.ensures.reads c.take_object.ensures.writes)
 
 pub returns-clause-head : goal.returns-clause-head
 returns-clause-head g c b is =

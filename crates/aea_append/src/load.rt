@@ -9,7 +9,6 @@ ghost use Rattle.aea_disk.specs.Frames.{OnlyReads};
 ghost use Rattle.aea_shelf.specs.Places.{cell_size};
 ghost use Rattle.aea_weave.specs.Woven.{strands_before, head_of};
 ghost use Rattle.aea_weave.specs.Stored.{all_strands};
-ghost use Rattle.aea_ledger.specs.Values.{HasSomeRecords};
 ghost use Rattle.aea_append.specs.Loading.{IsLoaded, IsFoundOn, HasLoaded, IsLesser};
 
 use aea_archive::read_block;
@@ -73,7 +72,6 @@ fn load_strand<D: Disk>(
     strand: u32,
     cell: &mut [u8],
 ) -> Result<Option<BlockId>, DiskFault>
-    requires opened { HasSomeRecords ledger.now }
     requires lattice { heads.old.lattice ≡ ledger.now.lattice }
     requires size { heads.old.size ≡ ledger.now.shape.block }
     requires class { HasParity ledger.now.lattice class }
@@ -111,7 +109,6 @@ pub(crate) fn load_heads<D: Disk>(
     heads: &mut Heads,
     cell: &mut [u8],
 ) -> Result<Option<BlockId>, DiskFault>
-    requires opened { HasSomeRecords ledger.now }
     requires lattice { heads.old.lattice ≡ ledger.now.lattice }
     requires size { heads.old.size ≡ ledger.now.shape.block }
     requires zeros { (c : Class) (strand : ℕ) → HasParity ledger.now.lattice c → strand < strands_of ledger.now.lattice c → head_of heads.old c strand ≡ replicate ledger.now.shape.block 0 }

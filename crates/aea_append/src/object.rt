@@ -11,7 +11,6 @@ ghost use Rattle.aea_disk.specs.Frames.{OnlyReads};
 ghost use Rattle.aea_shelf.specs.Places.{cell_size};
 ghost use Rattle.aea_shelf.specs.Writes.{KeepsPadded};
 ghost use Rattle.aea_records.specs.Format.{nodes_for, limit_when};
-ghost use Rattle.aea_ledger.specs.Values.{HasSomeRecords};
 ghost use Rattle.aea_archive.specs.Blocks.{IsBlockIn};
 ghost use Rattle.aea_archive.specs.Lasts.{IsLastParity, IsFirstDamagedLast, AreLastsIntact};
 ghost use Rattle.aea_append.specs.Weaving.{HasWoven, WritesCells, IsBroken, IsStopping};
@@ -46,7 +45,6 @@ fn ready_heads<D: Disk>(
     ledger: &Ledger,
     cell: &mut [u8],
 ) -> Result<Heads, PutFault>
-    requires opened { HasSomeRecords ledger.now }
     requires buffer { length cell.old ≡ cell_size ledger.now.shape }
     ensures woven { IfOk result (λ heads. HasWoven D.tells ledger.now.shape ledger.now.lattice ledger.now.digests (D.state disk.old).files (D.state disk.new).files heads [] []) }
     ensures lattice { IfOk result (λ heads. heads.lattice ≡ ledger.now.lattice) }
@@ -115,7 +113,6 @@ fn take_object<D: Disk, S: Source>(
     cell: &mut [u8],
     block: &mut [u8],
 ) -> Result<Taken, PutFault>
-    requires opened { HasSomeRecords ledger.now }
     requires lattice { heads.old.lattice ≡ ledger.now.lattice }
     requires size { heads.old.size ≡ ledger.now.shape.block }
     requires block { length block.old ≡ ledger.now.shape.block }
@@ -174,7 +171,6 @@ pub fn weave_object<D: Disk, S: Source>(
     ledger: &Ledger,
     source: &mut S,
 ) -> Result<Taken, PutFault>
-    requires opened { HasSomeRecords ledger.now }
     ensures took { IfOk result (λ t. TakesAll D.tells ledger.now.shape ledger.now.lattice ledger.now.digests t.length t.digest (S.state source.old).left (S.state source.new).left t.digests.items (D.state disk.old).files (D.state disk.new).files) }
     ensures nodes { IfOk result (λ t. t.nodes ≡ nodes_for ledger.now.shape t.length) }
     ensures fits { IfOk result (λ t. ledger.now.lattice.n + t.nodes ≤ limit_when ledger.now.raised) }

@@ -1,4 +1,4 @@
-use Rattle.std.proofs.Common.{◌≡◌, ◌+◌, ◌<◌, refl, sym, ◌∙◌, subst, arith}
+use Rattle.std.proofs.Common.{◌≡◌, ◌+◌, ◌<◌, refl, sym, ap, ◌∙◌, subst, arith}
 use Rattle.std.specs.Prelude.{IsErr, IfSome}
 use Rattle.std.proofs.lemmas.Bool.Decides.{nat_tests}
 use Rattle.aea_lattice.specs.declared.grid.Lattice.{Lattice}
@@ -52,7 +52,7 @@ loop-place-preserved g c =
           (subst (λ (m : Lattice). HasParity m class) l c.strand_at-class.ensures.class)
           (subst (λ (m : Lattice). strand < strands_of m class) l c.strand_at-class.ensures.strand)
           (subst (λ (m : Lattice). strands_before m class + strand ≡ c.loop-place.place) l c.strand_at-class.ensures.place)
-          c.requires.opened.1.lattice.alpha
+          (sym (ap (λ (l : Lattice). l.alpha) c.lattice-lattice.ensures.value) ∙ c.lattice-lattice.ensures.of_shape.alpha)
           c.loop-place.invariant.loaded
           (λ none. loaded_same tells v mid.files old.files class (head_of c.load_strand.new.heads class strand) same (last_open v.lattice class strand) (c.in-Ok.ensures.loaded none))
           (found_same tells v mid.files old.files class strand same c.in-Ok.next c.in-Ok.ensures.found)

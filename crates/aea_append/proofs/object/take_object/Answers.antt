@@ -24,7 +24,7 @@ weave_all-requires-clause-limit g c =
 pub returns-in-Err-clause-writes : goal.returns-in-Err-clause-writes
 returns-in-Err-clause-writes g c =
     all_writes c.records_are_few.ensures g.D.Disk.tells (c.weave_all.result ≡ Err DiskFault) _ c.args.ledger.now c.shape-shape.result c.args.heads.now.lattice (c.from.result * c.from-2.result) (g.D.Disk.state c.args.disk.now) (g.D.Disk.state c.weave_all.new.disk)
-    c.requires.opened c.shape-shape.ensures.value c.requires.lattice
+    c.shape-shape.ensures.records c.shape-shape.ensures.value c.requires.lattice
     (limit_is c.args.ledger.now c.limit.result c.n-nodes.result c.from.result c.block.result c.from-2.result c.lattice.result c.shape-shape.result c.limit.ensures.value c.lattice.ensures.value c.n-nodes.ensures c.from.ensures c.shape-shape.ensures.value c.block.ensures c.from-2.ensures)
     (λ is. c.in-Err.is ∙ fault_as c.in-Err.fault DiskFault is) c.weave_all.ensures.writes
 
@@ -36,7 +36,7 @@ returns-in-Err-clause-padded g c fine told =
 pub returns-in-Ok-true-clause-writes : goal.returns-in-Ok-true-clause-writes
 returns-in-Ok-true-clause-writes g c =
     all_writes c.records_are_few.ensures g.D.Disk.tells (c.weave_all.result ≡ Err DiskFault) _ c.args.ledger.now c.shape-shape.result c.args.heads.now.lattice (c.from.result * c.from-2.result) (g.D.Disk.state c.args.disk.now) (g.D.Disk.state c.weave_all.new.disk)
-    c.requires.opened c.shape-shape.ensures.value c.requires.lattice
+    c.shape-shape.ensures.records c.shape-shape.ensures.value c.requires.lattice
     (limit_is c.args.ledger.now c.limit.result c.n-nodes.result c.from.result c.block.result c.from-2.result c.lattice.result c.shape-shape.result c.limit.ensures.value c.lattice.ensures.value c.n-nodes.ensures c.from.ensures c.shape-shape.ensures.value c.block.ensures c.from-2.ensures)
     (λ is. absurd (let e = is in cc)) c.weave_all.ensures.writes
 
@@ -48,7 +48,7 @@ returns-in-Ok-true-clause-padded g c fine told =
 pub returns-in-Ok-false-clause-writes : goal.returns-in-Ok-false-clause-writes
 returns-in-Ok-false-clause-writes g c =
     all_writes c.records_are_few.ensures g.D.Disk.tells (c.weave_all.result ≡ Err DiskFault) _ c.args.ledger.now c.shape-shape.result c.args.heads.now.lattice (c.from.result * c.from-2.result) (g.D.Disk.state c.args.disk.now) (g.D.Disk.state c.weave_all.new.disk)
-    c.requires.opened c.shape-shape.ensures.value c.requires.lattice
+    c.shape-shape.ensures.records c.shape-shape.ensures.value c.requires.lattice
     (limit_is c.args.ledger.now c.limit.result c.n-nodes.result c.from.result c.block.result c.from-2.result c.lattice.result c.shape-shape.result c.limit.ensures.value c.lattice.ensures.value c.n-nodes.ensures c.from.ensures c.shape-shape.ensures.value c.block.ensures c.from-2.ensures)
     (λ is. absurd (let e = is in cc)) c.weave_all.ensures.writes
 
@@ -60,7 +60,7 @@ returns-in-Ok-false-clause-padded g c fine told =
 pub returns-in-Err-has_more-clause-writes : goal.returns-in-Err-has_more-clause-writes
 returns-in-Err-has_more-clause-writes g c =
     all_writes c.records_are_few.ensures g.D.Disk.tells (c.weave_all.result ≡ Err DiskFault) _ c.args.ledger.now c.shape-shape.result c.args.heads.now.lattice (c.from.result * c.from-2.result) (g.D.Disk.state c.args.disk.now) (g.D.Disk.state c.weave_all.new.disk)
-    c.requires.opened c.shape-shape.ensures.value c.requires.lattice
+    c.shape-shape.ensures.records c.shape-shape.ensures.value c.requires.lattice
     (limit_is c.args.ledger.now c.limit.result c.n-nodes.result c.from.result c.block.result c.from-2.result c.lattice.result c.shape-shape.result c.limit.ensures.value c.lattice.ensures.value c.n-nodes.ensures c.from.ensures c.shape-shape.ensures.value c.block.ensures c.from-2.ensures)
     (λ is. absurd (let e = is in cc)) c.weave_all.ensures.writes
 

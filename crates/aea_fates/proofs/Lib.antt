@@ -1,12 +1,6 @@
 pub mod Kept
-pub mod Standing
-pub mod SumReading
-pub mod WordReading
-pub mod Rows
+pub mod Listing
 pub mod Only
 pub mod Stay
 pub mod Given
 pub mod Parts
-pub mod Rising
-pub mod Compact
-pub mod Small

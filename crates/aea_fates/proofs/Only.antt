@@ -21,8 +21,8 @@ use Rattle.aea_lattice.proofs.Even.{adds-differ}
 use Rattle.aea_gauss_laws.proofs.Given.{block_at-number, block_at-inside, number-block_at, given-missed}
 use Rattle.aea_lattice.specs.LeastWord.{IsEnd, IsWordOfEnd, IsWord}
 use Rattle.aea_fates.specs.Sums.{output_number, IsSpare, IsSum}
-use Rattle.aea_fates.specs.Starts.{block_at}
-use Rattle.aea_fates.proofs.Standing.{output_inside, output_below}
+use Rattle.aea_fates.specs.Live.{block_at}
+use Rattle.aea_fates.proofs.Listing.{output_inside, output_below}
 
 -- ---- the greatest number below m that passes
 

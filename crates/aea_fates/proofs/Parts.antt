@@ -17,9 +17,9 @@ use Rattle.aea_lattice.proofs.Once.{each-equations_of, same_equation-equal}
 use Rattle.aea_lattice.proofs.Even.{adds-one}
 use Rattle.aea_gauss_laws.proofs.Given.{block_at-number, block_at-inside, number-block_at, and-no}
 use Rattle.aea_fates.specs.Sums.{output_number, IsSpare, IsSum}
-use Rattle.aea_fates.specs.Starts.{block_at, is_live}
+use Rattle.aea_fates.specs.Live.{block_at, is_live}
 use Rattle.aea_fates.specs.Laws.{IsPart, known_or_outside, PartsStandAlone}
-use Rattle.aea_fates.proofs.Standing.{same_equation-refl, any_has}
+use Rattle.aea_fates.proofs.Listing.{same_equation-refl, any_has}
 use Rattle.aea_fates.proofs.Only.{greatest, nothing, find_greatest}
 
 -- ---- items of lists

@@ -1,35 +1,14 @@
 -- Laws of listed equations and of listed nodes.
-use Rattle.std.specs.Prelude.{◌≡◌, ◌↔◌, ℕ, ◌<◌, Bool, true, false, not, ◌||◌, List, filter, map, length, IsTrue}
+use Rattle.std.specs.Prelude.{◌≡◌, ◌↔◌, ℕ, Bool, false, not, ◌||◌, List, filter, map, IsTrue}
 use Rattle.std.specs.List.{flat_map}
 use Rattle.aea_lattice.specs.declared.blocks.BlockId.{BlockId}
 use Rattle.aea_lattice.specs.declared.blocks.EqId.{EqId}
 use Rattle.aea_lattice.specs.declared.grid.Lattice.{Lattice}
-use Rattle.aea_lattice.specs.Blocks.{HasBlock, number_of, blocks_count}
+use Rattle.aea_lattice.specs.Blocks.{HasBlock}
 use Rattle.aea_lattice.specs.Equations.{HasEquation, is_in_equation, equation_blocks}
 use Rattle.aea_lattice.specs.Data.{IsDataList, xor_all, value_of, Determines}
 use Rattle.aea_lattice.specs.LeastWord.{IsWord}
-use Rattle.aea_gauss_words.specs.Matrices.{IsLead, IsReduction}
 use Rattle.aea_fates.specs.Sums.{IsSum}
-use Rattle.aea_fates.specs.Starts.{columns, equation_column, live_equations, start}
-use Rattle.aea_fates.specs.Readings.{IsFree, nodes_in}
-
--- What reduced rows tell: a block that leads no row has its own word, one that leads a row with a further block has the
--- word of the next one, and one that leads a row without a further block has the equations of that row.
-pub record TellFates (l : Lattice) (known : BlockId → Bool) (live : List EqId) (m : ℕ → ℕ → Bool) : Type 0 where
-  pub free : (b : BlockId) → HasBlock l b → known b ≡ false → IsFree (length live) (columns l) m (number_of l b)
-      → IsWord l known b (nodes_in l (length live) m (number_of l b))
-  pub next : (b : BlockId) (f i : ℕ) → HasBlock l b → i < length live → IsLead (columns l) (m i) (number_of l b)
-      → number_of l b < f → f < blocks_count l → m i f ≡ true → ((k : ℕ) → number_of l b < k → k < f → m i k ≡ false)
-      → IsWord l known b (nodes_in l (length live) m f)
-  pub sum : (b : BlockId) (i : ℕ) → HasBlock l b → i < length live → IsLead (columns l) (m i) (number_of l b)
-      → ((k : ℕ) → number_of l b < k → k < blocks_count l → m i k ≡ false)
-      → IsSum l known b (filter (λ e. m i (equation_column l e)) live)
-
--- Each reduction of the rows of a lattice tells the fates.
-abbrev pub RowsTellFates : Type 0
-RowsTellFates =
-    (l : Lattice) (known : BlockId → Bool) (live : List EqId) (m : ℕ → ℕ → Bool) → live ≡ live_equations l known
-    → IsReduction (length live) (columns l) (start l known) m → TellFates l known live m
 
 -- a block has at most one list, of equations or of nodes
 pub record HasOneList (l : Lattice) (known : BlockId → Bool) (b : BlockId) : Type 0 where

@@ -1,5 +1,3 @@
 pub mod Sums
-pub mod Starts
-pub mod Readings
+pub mod Live
 pub mod Laws
-pub mod Small

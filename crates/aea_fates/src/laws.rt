@@ -1,20 +1,4 @@
-ghost use Rattle.aea_fates.specs.Laws.{RowsTellFates, ListsAreOne, SumsAreDetermined, WordsAreOpen, WordsStay, DeterminedStay, SumsGiveBlocks, PartsStandAlone};
-ghost use Rattle.aea_fates.specs.Small.{SmallRowsTellFates, UnknownAreListed};
-
-/// Reduced rows of a lattice tell the fate of each block that is not known: by the row that it leads, or by none.
-pub fn rows_tell_fates()
-    ensures { RowsTellFates }
-{}
-
-/// Reduced rows over the columns that are used tell the fate of each block that is not known.
-pub fn small_rows_tell_fates()
-    ensures { SmallRowsTellFates }
-{}
-
-/// The blocks that are not known stand in number order.
-pub fn unknown_are_listed()
-    ensures { UnknownAreListed }
-{}
+ghost use Rattle.aea_fates.specs.Laws.{ListsAreOne, SumsAreDetermined, WordsAreOpen, WordsStay, DeterminedStay, SumsGiveBlocks, PartsStandAlone};
 
 /// A block has one list of equations or one list of nodes, and not both.
 pub fn lists_are_one()

@@ -16,8 +16,8 @@ use Rattle.aea_lattice.specs.Parity.{differ}
 use Rattle.aea_lattice.proofs.Odd.{Each}
 use Rattle.aea_lattice.proofs.Once.{each-equations_of}
 use Rattle.aea_gauss_words.specs.Words.{bit_matrix}
-use Rattle.aea_fates.specs.Starts.{is_live, live_equations}
-use Rattle.aea_fates.specs.Small.{unknown_blocks}
+use Rattle.aea_fates.specs.Live.{is_live, live_equations}
+use Rattle.aea_readings.specs.Small.{unknown_blocks}
 use Rattle.aea_gauss.specs.Fills.{Turns}
 
 each-All : (P : EqId → Type 0) (es : List EqId) → Each P es → All P es

@@ -13,7 +13,7 @@ use Rattle.aea_lattice.specs.declared.grid.Lattice.{Lattice}
 use Rattle.aea_lattice.specs.Blocks.{same_block}
 use Rattle.aea_lattice.specs.Equations.{equation_blocks, blocks_in, is_in_equation}
 use Rattle.aea_lattice.proofs.Equations.{same_block-equal, same_block-refl}
-use Rattle.aea_fates.specs.Small.{block_in, AreListed}
+use Rattle.aea_readings.specs.Small.{block_in, AreListed}
 use Rattle.aea_gauss.specs.Parts.{IsRoot, Follows, JoinsBlocks, JoinsEquation}
 use Rattle.aea_gauss.proofs.Turning.{once}
 

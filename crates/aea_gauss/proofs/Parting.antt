@@ -16,13 +16,14 @@ use Rattle.aea_lattice.proofs.Equations.{same_block-equal, member_inside}
 use Rattle.aea_lattice.proofs.Among.{passing-among}
 use Rattle.aea_lattice.proofs.Odd.{same_test}
 use Rattle.aea_lattice.proofs.Once.{same_equation-equal}
-use Rattle.aea_fates.specs.Starts.{is_live, live_equations}
-use Rattle.aea_fates.specs.Small.{block_in, equation_in, unknown_blocks, AreListed, UnknownAreListed}
+use Rattle.aea_fates.specs.Live.{is_live, live_equations}
+use Rattle.aea_readings.specs.Small.{block_in, equation_in, unknown_blocks, AreListed, UnknownAreListed}
 use Rattle.aea_fates.specs.Laws.{IsPart, known_or_outside, PartsStandAlone}
 use Rattle.aea_fates.proofs.Kept.{any-filter}
 use Rattle.aea_fates.proofs.Parts.{any_some}
-use Rattle.aea_fates.proofs.Standing.{any_has, live_inside, live_few}
-use Rattle.aea_fates.proofs.SumReading.{equations_same, equation_listed}
+use Rattle.aea_fates.proofs.Listing.{any_has}
+use Rattle.aea_readings.proofs.Standing.{live_inside, live_few}
+use Rattle.aea_fates.proofs.Listing.{equations_same, equation_listed}
 use Rattle.aea_gauss.specs.declared.fates.Fate.{Fate}
 use Rattle.aea_gauss.specs.declared.fates.Fate.TheVariants.{Sum, Word}
 use Rattle.aea_gauss.specs.Fates.{block_of_fate, IsFate, AreFates}

@@ -15,9 +15,9 @@ use Rattle.aea_gauss_laws.proofs.Columns.{odd_below-one, odd_below-none, odd_bel
 use Rattle.aea_gauss_words.specs.Matrices.{IsSumOfRows, IsLead, IsReduced, IsReduction}
 use Rattle.aea_gauss_words.specs.Words.{words_for, bit_matrix, IsPadded}
 use Rattle.aea_gauss_words.proofs.Reduced.{lead_unique}
-use Rattle.aea_fates.specs.Readings.{has_none_below, is_lead, IsFree, word_at}
-use Rattle.aea_fates.specs.Small.{block_in, equation_in, own_column, small_start, nodes_at, equations_at}
-use Rattle.aea_fates.proofs.WordReading.{lead_test, test_lead}
+use Rattle.aea_readings.specs.Readings.{has_none_below, is_lead, IsFree, word_at}
+use Rattle.aea_readings.specs.Small.{block_in, equation_in, own_column, small_start, nodes_at, equations_at}
+use Rattle.aea_readings.proofs.WordReading.{lead_test, test_lead}
 use Rattle.aea_gauss.specs.declared.fates.Fate.{Fate}
 use Rattle.aea_gauss.specs.Fates.{block_of_fate}
 use Rattle.aea_gauss.specs.Told.{AreLeads}

@@ -22,7 +22,7 @@ use Rattle.aea_lattice.proofs.Even.{any-odd2, any-odd3, not_both}
 use Rattle.aea_lattice.proofs.Bits.{bit_test}
 use Rattle.aea_gauss_laws.proofs.Given.{and-no}
 use Rattle.aea_gauss_words.specs.Words.{is_bit}
-use Rattle.aea_fates.specs.Small.{block_in, small_row, AreListed}
+use Rattle.aea_readings.specs.Small.{block_in, small_row, AreListed}
 use Rattle.aea_gauss.specs.Fills.{Turns, stands}
 
 place_test : (k c : ℕ) → k / 64 ≡ c / 64 → (k % 64 == c % 64) ≡ (k == c)

@@ -5,7 +5,7 @@ use Rattle.aea_lattice.specs.declared.grid.Lattice.{Lattice}
 use Rattle.aea_lattice.specs.Blocks.{same_block, number_of}
 use Rattle.aea_lattice.specs.Parity.{differ}
 use Rattle.aea_gauss_words.specs.Words.{is_bit}
-use Rattle.aea_fates.specs.Small.{block_in}
+use Rattle.aea_readings.specs.Small.{block_in}
 
 -- in the row that begins at `begin` the bits of the test are turned, and all other words are as they were
 pub record Turns (begin wide : ℕ) (test : ℕ → Bool) (old new : List ℕ) : Type 0 where

@@ -6,8 +6,8 @@ use Rattle.aea_lattice.specs.declared.blocks.EqId.{EqId}
 use Rattle.aea_lattice.specs.declared.grid.Lattice.{Lattice}
 use Rattle.aea_lattice.specs.Equations.{is_in_equation}
 use Rattle.aea_lattice.specs.Blocks.{block_of}
-use Rattle.aea_fates.specs.Starts.{live_equations}
-use Rattle.aea_fates.specs.Small.{block_in, equation_in, unknown_blocks}
+use Rattle.aea_fates.specs.Live.{live_equations}
+use Rattle.aea_readings.specs.Small.{block_in, equation_in, unknown_blocks}
 use Rattle.aea_fates.specs.Laws.{IsPart, known_or_outside}
 use Rattle.aea_gauss.specs.declared.fates.Fate.{Fate}
 use Rattle.aea_gauss.specs.declared.fates.Fate.TheVariants.{Word}

@@ -4,9 +4,9 @@ use Rattle.aea_lattice.specs.declared.blocks.BlockId.{BlockId}
 use Rattle.aea_lattice.specs.declared.blocks.EqId.{EqId}
 use Rattle.aea_lattice.specs.declared.grid.Lattice.{Lattice}
 use Rattle.aea_gauss_words.specs.Matrices.{IsLead}
-use Rattle.aea_fates.specs.Starts.{live_equations}
-use Rattle.aea_fates.specs.Readings.{IsFree}
-use Rattle.aea_fates.specs.Small.{unknown_blocks, TellSmall}
+use Rattle.aea_fates.specs.Live.{live_equations}
+use Rattle.aea_readings.specs.Readings.{IsFree}
+use Rattle.aea_readings.specs.Small.{unknown_blocks, TellSmall}
 use Rattle.aea_gauss.specs.declared.fates.Fate.{Fate}
 use Rattle.aea_gauss.specs.Fates.{IsFate}
 

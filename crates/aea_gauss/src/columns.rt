@@ -1,6 +1,6 @@
 ghost use Rattle.std.specs.Prelude.{◌≡◌, ◌≢◌, ℕ, ◌<◌, ◌^◌, length, All, MatchOption};
 ghost use Rattle.aea_lattice.specs.Blocks.{HasBlock, blocks_count};
-ghost use Rattle.aea_fates.specs.Small.{block_in, AreListed};
+ghost use Rattle.aea_readings.specs.Small.{block_in, AreListed};
 ghost use Rattle.aea_gauss.specs.Fills.{AreColumns};
 
 use aea_lattice::{BlockId, Lattice};

@@ -3,10 +3,10 @@ ghost use Rattle.std.specs.List.{list_any};
 ghost use Rattle.aea_lattice.specs.Blocks.{HasBlock, classes};
 ghost use Rattle.aea_lattice.specs.Equations.{HasEquation, equation_of, equations_of};
 ghost use Rattle.aea_view.specs.Marked.{is_marked};
-ghost use Rattle.aea_fates.specs.Starts.{is_live, live_equations};
-ghost use Rattle.aea_fates.specs.Small.{unknown_blocks, AreListed};
+ghost use Rattle.aea_fates.specs.Live.{is_live, live_equations};
+ghost use Rattle.aea_readings.specs.Small.{unknown_blocks, AreListed};
 
-use aea_fates::unknown_are_listed;
+use aea_readings::unknown_are_listed;
 use aea_lattice::{BlockId, Class, EqId, Lattice};
 use aea_view::Marks;
 use std::alloc::{AllocError, Global};

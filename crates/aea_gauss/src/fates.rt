@@ -6,7 +6,7 @@ use crate::buckets::bucket_at;
 use crate::columns::set_columns;
 use crate::equations::{live_equations, unknown_blocks};
 use crate::parts::{open_fates, parts_of, solve_part};
-use aea_fates::unknown_are_listed;
+use aea_readings::unknown_are_listed;
 use aea_lattice::{BlockId, EqList, Lattice, NodeList};
 use aea_view::Marks;
 use std::alloc::{AllocError, Global};

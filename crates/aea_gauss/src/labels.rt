@@ -2,7 +2,7 @@ ghost use Rattle.std.specs.Prelude.{◌≡◌, ◌≢◌, ℕ, ◌<◌, ◌≤�
 ghost use Rattle.std.specs.Option.{ForSome};
 ghost use Rattle.aea_lattice.specs.Blocks.{HasBlock, blocks_count};
 ghost use Rattle.aea_lattice.specs.Equations.{HasEquation, is_in_equation};
-ghost use Rattle.aea_fates.specs.Small.{block_in, equation_in, AreListed};
+ghost use Rattle.aea_readings.specs.Small.{block_in, equation_in, AreListed};
 ghost use Rattle.aea_gauss.specs.Fills.{AreColumns};
 ghost use Rattle.aea_gauss.specs.Parts.{AreParents, IsRoot, Follows, JoinsBlocks, JoinsEquation, JoinsEach, label_at, IsLabelOf};
 

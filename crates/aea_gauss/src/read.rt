@@ -2,8 +2,8 @@ ghost use Rattle.std.specs.Prelude.{◌≡◌, ℕ, ◌+◌, ◌*◌, ◌/◌, �
 ghost use Rattle.aea_lattice.specs.Blocks.{class_number};
 ghost use Rattle.aea_gauss_words.specs.Words.{words_for, is_bit, bit_matrix};
 ghost use Rattle.aea_gauss_words.specs.Matrices.{IsReduced};
-ghost use Rattle.aea_fates.specs.Readings.{word_at};
-ghost use Rattle.aea_fates.specs.Small.{block_in, equation_in, own_column, nodes_at, equations_at};
+ghost use Rattle.aea_readings.specs.Readings.{word_at};
+ghost use Rattle.aea_readings.specs.Small.{block_in, equation_in, own_column, nodes_at, equations_at};
 ghost use Rattle.aea_gauss.specs.Fates.{block_of_fate};
 ghost use Rattle.aea_gauss.specs.Told.{AreLeads, IsTold};
 

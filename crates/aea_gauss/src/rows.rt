@@ -3,7 +3,7 @@ ghost use Rattle.std.specs.Option.{ForSome};
 ghost use Rattle.aea_lattice.specs.Blocks.{HasBlock, blocks_count};
 ghost use Rattle.aea_lattice.specs.Equations.{HasEquation};
 ghost use Rattle.aea_gauss_words.specs.Words.{bit_matrix};
-ghost use Rattle.aea_fates.specs.Small.{own_column, small_row, small_start, AreListed};
+ghost use Rattle.aea_readings.specs.Small.{own_column, small_row, small_start, AreListed};
 ghost use Rattle.aea_gauss.specs.Fills.{Turns, stands, AreColumns};
 
 use crate::columns::find_column;

@@ -2,7 +2,7 @@ ghost use Rattle.std.specs.Prelude.{◌≡◌, ◌+◌, ◌*◌, ◌<◌, ◌≤
 ghost use Rattle.aea_lattice.specs.Blocks.{blocks_count};
 ghost use Rattle.aea_gauss_words.specs.Words.{words_for, bit_matrix};
 ghost use Rattle.aea_gauss_words.specs.Matrices.{IsReduced, IsReduction};
-ghost use Rattle.aea_fates.specs.Small.{small_start, AreListed};
+ghost use Rattle.aea_readings.specs.Small.{small_start, AreListed};
 ghost use Rattle.aea_gauss.specs.Fills.{AreColumns};
 ghost use Rattle.aea_lattice.specs.Equations.{HasEquation};
 ghost use Rattle.aea_gauss.specs.Fates.{block_of_fate};
@@ -13,7 +13,7 @@ use crate::fates::FateList;
 use crate::leads::lead_table;
 use crate::read::read_all;
 use crate::rows::start_words;
-use aea_fates::small_rows_tell_fates;
+use aea_readings::small_rows_tell_fates;
 use aea_gauss_words::eliminate;
 use aea_lattice::{BlockId, EqId, Lattice};
 use std::alloc::{AllocError, Global};

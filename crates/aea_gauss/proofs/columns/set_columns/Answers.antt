@@ -3,7 +3,7 @@ use Rattle.std.proofs.Math.ListN.{set}
 use Rattle.std.proofs.lemmas.Bool.{cases_lt}
 use Rattle.std.proofs.lemmas.List.{get_or-set_same, get_or-set_other}
 use Rattle.aea_lattice.specs.Blocks.{number_of}
-use Rattle.aea_fates.specs.Small.{block_in}
+use Rattle.aea_readings.specs.Small.{block_in}
 use Rattle.aea_gauss.proofs.columns.set_columns.Goals as goal
 
 pub loop-column-preserved : goal.loop-column-preserved

@@ -1,6 +1,6 @@
 use Rattle.std.proofs.Common.{◌≡◌, ℕ, ◌<◌, get_or}
 use Rattle.aea_lattice.specs.Blocks.{number_of}
-use Rattle.aea_fates.specs.Small.{block_in}
+use Rattle.aea_readings.specs.Small.{block_in}
 use Rattle.aea_gauss.proofs.columns.set_columns.Given as goal
 
 abbrev pub invariant-loop-column : goal.invariant-loop-column

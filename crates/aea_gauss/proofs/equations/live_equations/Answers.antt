@@ -2,9 +2,9 @@ use Rattle.std.proofs.Common.{◌≡◌, ◌<◌, Bool, All, length, sym, ◌∙
 use Rattle.aea_lattice.specs.declared.blocks.BlockId.{BlockId}
 use Rattle.aea_lattice.specs.Equations.{HasEquation}
 use Rattle.aea_view.specs.Marked.{is_marked}
-use Rattle.aea_fates.specs.Starts.{live_equations}
+use Rattle.aea_fates.specs.Live.{live_equations}
 use Rattle.aea_gauss.proofs.equations.live_equations.Goals as goal
-use Rattle.aea_fates.proofs.Standing.{live_inside, live_few}
+use Rattle.aea_readings.proofs.Standing.{live_inside, live_few}
 use Rattle.aea_gauss.proofs.Filling.{live_whole}
 
 pub returns-clause-inside : goal.returns-clause-inside

@@ -1,6 +1,6 @@
 use Rattle.std.proofs.Common.{◌≡◌, filter, take}
 use Rattle.aea_view.specs.Marked.{is_marked}
-use Rattle.aea_fates.specs.Starts.{is_live}
+use Rattle.aea_fates.specs.Live.{is_live}
 use Rattle.aea_gauss.proofs.equations.live_equations.Given as goal
 
 abbrev pub invariant-loop-e : goal.invariant-loop-e

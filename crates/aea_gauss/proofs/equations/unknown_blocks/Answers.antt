@@ -2,7 +2,7 @@ use Rattle.std.proofs.Common.{◌≡◌, ◌++◌, ◌∷◌, [], Bool, not, con
 use Rattle.aea_lattice.specs.declared.blocks.BlockId.{BlockId}
 use Rattle.aea_lattice.specs.Blocks.{blocks_of}
 use Rattle.aea_view.specs.Marked.{is_marked}
-use Rattle.aea_fates.specs.Small.{unknown_blocks, AreListed}
+use Rattle.aea_readings.specs.Small.{unknown_blocks, AreListed}
 use Rattle.aea_gauss.proofs.Filling.{blocks_more, unknown_whole}
 use Rattle.aea_gauss.proofs.equations.unknown_blocks.Goals as goal
 

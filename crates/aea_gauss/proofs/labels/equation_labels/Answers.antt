@@ -1,6 +1,6 @@
 use Rattle.std.proofs.Common.{◌+◌, ◌<◌, length, sym, ◌∙◌, ap, subst}
 use Rattle.std.proofs.lemmas.List.{length_push}
-use Rattle.aea_fates.specs.Small.{equation_in}
+use Rattle.aea_readings.specs.Small.{equation_in}
 use Rattle.aea_gauss.specs.Parts.{IsLabelOf}
 use Rattle.aea_gauss.proofs.Joining.{each_push}
 use Rattle.aea_gauss.proofs.labels.equation_labels.Goals as goal

@@ -2,7 +2,7 @@ use Rattle.std.proofs.Common.{◌≡◌, ℕ, ◌<◌, List, length, get_or}
 use Rattle.aea_lattice.specs.declared.blocks.BlockId.{BlockId}
 use Rattle.aea_lattice.specs.declared.blocks.EqId.{EqId}
 use Rattle.aea_lattice.specs.declared.grid.Lattice.{Lattice}
-use Rattle.aea_fates.specs.Small.{equation_in}
+use Rattle.aea_readings.specs.Small.{equation_in}
 use Rattle.aea_gauss.specs.Parts.{IsLabelOf}
 use Rattle.aea_gauss.proofs.labels.equation_labels.Given as goal
 

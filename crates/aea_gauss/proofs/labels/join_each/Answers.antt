@@ -1,5 +1,5 @@
 use Rattle.std.proofs.Common.{◌≡◌, length, ◌∙◌, subst, arith}
-use Rattle.aea_fates.specs.Small.{equation_in}
+use Rattle.aea_readings.specs.Small.{equation_in}
 use Rattle.aea_gauss.specs.Parts.{JoinsEquation, JoinsEach}
 use Rattle.aea_gauss.proofs.Joining.{each_more}
 use Rattle.aea_gauss.proofs.labels.join_each.Goals as goal

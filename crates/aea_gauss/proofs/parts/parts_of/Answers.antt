@@ -1,6 +1,6 @@
 use Rattle.std.proofs.Common.{◌<◌, ◌≤◌, ◌==◌, ℕ, get_or, length, ◌∙◌, ap, subst, arith}
 use Rattle.aea_view.specs.Marked.{is_marked}
-use Rattle.aea_fates.specs.Small.{equation_in}
+use Rattle.aea_readings.specs.Small.{equation_in}
 use Rattle.aea_gauss.specs.Parts.{items_at, IsLabelOf}
 use Rattle.aea_gauss.proofs.Parting.{labels_part, labels_whole}
 use Rattle.aea_gauss.proofs.parts.parts_of.Goals as goal

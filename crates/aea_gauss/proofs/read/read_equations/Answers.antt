@@ -2,7 +2,7 @@ use Rattle.std.proofs.Common.{ℕ, Bool, ◌++◌, ◌∷◌, [], cond, take, le
 use Rattle.aea_lattice.specs.declared.blocks.Class.TheVariants.{Datum}
 use Rattle.aea_lattice.specs.Equations.{equation_of}
 use Rattle.aea_gauss_words.specs.Words.{is_bit}
-use Rattle.aea_fates.specs.Small.{equation_in, own_column, equations_at}
+use Rattle.aea_readings.specs.Small.{equation_in, own_column, equations_at}
 use Rattle.aea_gauss.proofs.Reading.{equations-more}
 use Rattle.aea_gauss.proofs.read.read_equations.Goals as goal
 

@@ -1,6 +1,6 @@
 use Rattle.std.proofs.Common.{◌≡◌, take, length}
 use Rattle.aea_gauss_words.specs.Words.{is_bit}
-use Rattle.aea_fates.specs.Small.{own_column, equations_at}
+use Rattle.aea_readings.specs.Small.{own_column, equations_at}
 use Rattle.aea_gauss.proofs.read.read_equations.Given as goal
 
 abbrev pub invariant-loop-row : goal.invariant-loop-row

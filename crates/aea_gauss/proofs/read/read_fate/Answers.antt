@@ -3,8 +3,8 @@ use Rattle.aea_lattice.specs.LeastWord.{IsWord}
 use Rattle.aea_gauss_words.specs.Matrices.{IsLead}
 use Rattle.aea_gauss_words.specs.Words.{bit_matrix}
 use Rattle.aea_fates.specs.Sums.{IsSum}
-use Rattle.aea_fates.specs.Readings.{IsFree}
-use Rattle.aea_fates.specs.Small.{block_in}
+use Rattle.aea_readings.specs.Readings.{IsFree}
+use Rattle.aea_readings.specs.Small.{block_in}
 use Rattle.aea_gauss.proofs.Reading.{at_none, at_some, same_default, lead_narrow, free_narrow}
 use Rattle.aea_gauss.proofs.read.read_fate.Goals as goal
 

@@ -2,8 +2,8 @@ use Rattle.std.proofs.Common.{ℕ, Bool, ◌&&◌, ◌==◌, ◌++◌, ◌∷◌
 use Rattle.aea_lattice.specs.declared.blocks.Class.TheVariants.{Datum}
 use Rattle.aea_lattice.specs.Blocks.{class_number, block_of}
 use Rattle.aea_gauss_words.specs.Words.{bit_matrix}
-use Rattle.aea_fates.specs.Readings.{word_at}
-use Rattle.aea_fates.specs.Small.{block_in, nodes_at}
+use Rattle.aea_readings.specs.Readings.{word_at}
+use Rattle.aea_readings.specs.Small.{block_in, nodes_at}
 use Rattle.aea_gauss.proofs.Reading.{nodes-more}
 use Rattle.aea_gauss.proofs.read.read_nodes.Goals as goal
 

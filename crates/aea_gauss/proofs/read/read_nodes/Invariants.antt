@@ -1,7 +1,7 @@
 use Rattle.std.proofs.Common.{◌≡◌, take}
 use Rattle.aea_gauss_words.specs.Words.{bit_matrix}
-use Rattle.aea_fates.specs.Readings.{word_at}
-use Rattle.aea_fates.specs.Small.{nodes_at}
+use Rattle.aea_readings.specs.Readings.{word_at}
+use Rattle.aea_readings.specs.Small.{nodes_at}
 use Rattle.aea_gauss.proofs.read.read_nodes.Given as goal
 
 abbrev pub invariant-loop-k : goal.invariant-loop-k

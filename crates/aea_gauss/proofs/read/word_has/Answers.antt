@@ -1,7 +1,7 @@
 use Rattle.std.proofs.Common.{◌*◌, ◌<◌, ◌∙◌, None, get_or, arith}
 use Rattle.aea_gauss_words.specs.Matrices.{IsLead}
 use Rattle.aea_gauss_words.specs.Words.{bit_matrix}
-use Rattle.aea_fates.specs.Readings.{IsFree}
+use Rattle.aea_readings.specs.Readings.{IsFree}
 use Rattle.aea_gauss.proofs.Reading.{at_none, at_some, same_default, word_led, word_free}
 use Rattle.aea_gauss.proofs.read.word_has.Goals as goal
 

@@ -1,5 +1,5 @@
 use Rattle.std.proofs.Common.{length, refl}
-use Rattle.aea_fates.specs.Small.{equation_in, own_column, small_row, small_start}
+use Rattle.aea_readings.specs.Small.{equation_in, own_column, small_row, small_start}
 use Rattle.aea_gauss.proofs.Filling.{filled_more}
 use Rattle.aea_gauss.proofs.rows.fill_rows.Goals as goal
 

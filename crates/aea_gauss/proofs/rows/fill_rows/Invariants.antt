@@ -1,4 +1,4 @@
-use Rattle.aea_fates.specs.Small.{small_start}
+use Rattle.aea_readings.specs.Small.{small_start}
 use Rattle.aea_gauss.proofs.Filling.{Filled}
 use Rattle.aea_gauss.proofs.rows.fill_rows.Given as goal
 

@@ -12,7 +12,7 @@ use Rattle.aea_lattice.proofs.Odd.{Each, Each-append, Each-more, Each-map}
 use Rattle.aea_lattice.proofs.Once.{each-classes}
 use Rattle.aea_gauss_laws.proofs.Given.{number-block_at}
 use Rattle.aea_fates.specs.Sums.{output_number}
-use Rattle.aea_fates.specs.Starts.{block_at}
+use Rattle.aea_fates.specs.Live.{block_at}
 
 -- each number is above those before it, and none is below `low`
 abbrev pub RisesFrom : {A : Type 0} → (A → ℕ) → ℕ → List A → Type 0

@@ -1,41 +1,27 @@
 -- A row whose least column is a block and that has no further block gives the block's listed equations.
-use Rattle.std.proofs.Common.{◌≡◌, ℕ, ◌<◌, Bool, true, false, not, ◌&&◌, List, [], ◌∷◌, get_or, refl, sym, ◌∙◌, ap, subst, arith, inl, inr}
-use Rattle.std.proofs.lemmas.Bool.{cases_Bool, cases_lt, cases_eq, and_parts, and_from, or_left, or_right, true≢false, false≢true}
+use Rattle.std.proofs.Common.{◌≡◌, ℕ, ◌<◌, Bool, true, false, not, ◌&&◌, get_or, refl, sym, ◌∙◌, ap, subst, arith, inl, inr}
+use Rattle.std.proofs.lemmas.Bool.{cases_Bool, cases_lt, cases_eq, and_parts, and_from, true≢false, false≢true}
 use Rattle.aea_lattice.specs.declared.blocks.BlockId.{BlockId}
 use Rattle.aea_lattice.specs.declared.blocks.EqId.{EqId}
 use Rattle.aea_lattice.specs.declared.grid.Lattice.{Lattice}
 use Rattle.aea_lattice.specs.Blocks.{HasBlock, number_of, blocks_count}
-use Rattle.aea_lattice.specs.Equations.{HasEquation, equation_of, is_in_equation, is_odd_count, equations_of, adds_up_to}
+use Rattle.aea_lattice.specs.Equations.{HasEquation, equation_of, is_in_equation, equations_of, adds_up_to}
 use Rattle.aea_lattice.proofs.Equations.{number_below, number_equal}
-use Rattle.std.specs.List.{list_any}
 use Rattle.aea_lattice.specs.Lists.{same_equation, is_listed}
-use Rattle.aea_lattice.proofs.Odd.{Each-more, odd-same, odd-cons}
-use Rattle.aea_lattice.specs.Parity.{differ}
+use Rattle.aea_lattice.proofs.Odd.{Each-more, odd-same}
 use Rattle.aea_lattice.specs.declared.blocks.Class.TheVariants.{Datum}
-use Rattle.aea_lattice.proofs.Once.{each-equations_of, same_equation-equal, equation_once}
+use Rattle.aea_lattice.proofs.Once.{each-equations_of}
 use Rattle.aea_gauss_laws.proofs.Given.{block_at-number, block_at-inside}
 use Rattle.aea_gauss_words.specs.Matrices.{IsLead, IsReduction}
+use Rattle.aea_fates.proofs.Listing.{equations_same, equation_listed}
 use Rattle.aea_fates.specs.Sums.{IsSpare, IsSum}
-use Rattle.aea_fates.specs.Starts.{block_at, equation_column, columns, is_live, live_equations, start, rows_of}
-use Rattle.aea_fates.specs.Readings.{equations_in, IsRowOf}
-use Rattle.aea_fates.proofs.Kept.{IsSame, any-filter, filter-ordered}
+use Rattle.aea_fates.specs.Live.{block_at, is_live, live_equations}
+use Rattle.aea_readings.specs.Starts.{equation_column, columns, start, rows_of}
+use Rattle.aea_readings.specs.Readings.{equations_in, IsRowOf}
+use Rattle.aea_fates.proofs.Kept.{any-filter, filter-ordered}
 use Rattle.aea_gauss_words.proofs.Reduced.{lead_of_sum, lead_unique, HasLead}
-use Rattle.aea_fates.proofs.Standing.{output_below, column_high, column_below, same_equation-refl, stands_reduced, sum_of_set, set_low, set_entry, set_high}
-
-pub equations_same : IsSame same_equation
-equations_same = record { itself = same_equation-refl; equal = same_equation-equal }
-
--- an equation of the lattice is in the list of its equations
-any_from_odd : (p : EqId → Bool) (es : List EqId) → is_odd_count p es ≡ true → list_any p es ≡ true
-any_from_odd p [] h = absurd (false≢true h)
-any_from_odd p (e ∷ es) h =
-    elim (cases_Bool (p e)) [
-      | inl yes' ↦ or_left (p e) (list_any p es) yes'
-      | inr no' ↦ or_right (p e) (list_any p es) (any_from_odd p es (sym (odd-cons p e es ∙ ap (λ b. differ b (is_odd_count p es)) no') ∙ h))
-    ]
-
-pub equation_listed : (l : Lattice) (e : EqId) → HasEquation l e → list_any (same_equation e) (equations_of l) ≡ true
-equation_listed l e has = any_from_odd (same_equation e) (equations_of l) (equation_once l e has)
+use Rattle.aea_fates.proofs.Listing.{output_below}
+use Rattle.aea_readings.proofs.Standing.{column_high, column_below, stands_reduced, sum_of_set, set_low, set_entry, set_high}
 
 pub listed_in : (l : Lattice) (row : ℕ → Bool) (e : EqId) → HasEquation l e → is_listed (equations_in l row) e ≡ row (equation_column l e)
 listed_in l row e has =

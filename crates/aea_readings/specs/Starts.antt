@@ -1,18 +1,14 @@
 -- The matrix of a lattice and its known blocks. The columns are first the blocks in number order and then the equations
 -- in falling order; known blocks and equations without an unknown block stand in no row.
-use Rattle.std.specs.Prelude.{ℕ, ◌+◌, ◌-◌, ◌*◌, Bool, not, ◌&&◌, ◌==◌, cond, nat_lt, List, filter, get_or, length}
-use Rattle.std.specs.List.{list_any}
+use Rattle.std.specs.Prelude.{ℕ, ◌+◌, ◌-◌, ◌*◌, Bool, not, ◌&&◌, ◌==◌, cond, nat_lt, get_or, length}
 use Rattle.aea_lattice.specs.declared.blocks.Class.TheVariants.{Datum}
 use Rattle.aea_lattice.specs.declared.blocks.BlockId.{BlockId}
 use Rattle.aea_lattice.specs.declared.blocks.EqId.{EqId}
 use Rattle.aea_lattice.specs.declared.grid.Lattice.{Lattice}
-use Rattle.aea_lattice.specs.Blocks.{block_of, blocks_count, blocks_of}
-use Rattle.aea_lattice.specs.Equations.{equation_blocks, is_in_equation, equation_of, equations_of}
+use Rattle.aea_lattice.specs.Blocks.{blocks_count}
+use Rattle.aea_lattice.specs.Equations.{is_in_equation, equation_of}
 use Rattle.aea_fates.specs.Sums.{output_number}
-
--- the block at a number
-abbrev pub block_at : Lattice → ℕ → BlockId
-block_at l k = get_or (blocks_of l) k (block_of 0 Datum)
+use Rattle.aea_fates.specs.Live.{block_at, live_equations}
 
 -- the column of an equation: those of greater equations come first
 abbrev pub equation_column : Lattice → EqId → ℕ
@@ -21,14 +17,6 @@ equation_column l e = blocks_count l + (blocks_count l - 1 - output_number l e)
 -- the number of columns
 abbrev pub columns : Lattice → ℕ
 columns l = 2 * blocks_count l
-
--- the equation has a block that is not known
-abbrev pub is_live : Lattice → (BlockId → Bool) → EqId → Bool
-is_live l known e = list_any (λ d. not (known d)) (equation_blocks l e)
-
--- the equations that have a row, in equation order
-abbrev pub live_equations : Lattice → (BlockId → Bool) → List EqId
-live_equations l known = filter (is_live l known) (equations_of l)
 
 -- the row of an equation: its unknown blocks, and the equation itself
 abbrev pub row_at : Lattice → (BlockId → Bool) → EqId → ℕ → Bool

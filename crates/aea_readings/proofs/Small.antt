@@ -26,15 +26,17 @@ use Rattle.aea_gauss_laws.proofs.Columns.{odd_below-same, odd_below-none}
 use Rattle.aea_gauss_laws.proofs.Given.{block_at-number, block_at-inside, number-block_at, and-no}
 use Rattle.aea_gauss_words.specs.Matrices.{IsSumOfRows, IsLead, IsReduction}
 use Rattle.aea_fates.specs.Sums.{output_number, IsSum}
-use Rattle.aea_fates.specs.Starts.{block_at, columns, equation_column, is_live, live_equations, start}
-use Rattle.aea_fates.specs.Readings.{has_none_below, is_lead, IsFree, word_at, nodes_in}
-use Rattle.aea_fates.specs.Small.{unknown_blocks, block_in, equation_in, own_column, small_start, nodes_at, equations_at, TellSmall, SmallRowsTellFates, UnknownAreListed}
+use Rattle.aea_fates.specs.Live.{block_at, is_live, live_equations}
+use Rattle.aea_readings.specs.Starts.{columns, equation_column, start}
+use Rattle.aea_readings.specs.Readings.{has_none_below, is_lead, IsFree, word_at, nodes_in}
+use Rattle.aea_readings.specs.Small.{unknown_blocks, block_in, equation_in, own_column, small_start, nodes_at, equations_at, TellSmall, SmallRowsTellFates, UnknownAreListed}
 use Rattle.aea_fates.proofs.Only.{filter_each}
-use Rattle.aea_fates.proofs.Standing.{output_below, column_high, column_below, row_low, row_high}
-use Rattle.aea_fates.proofs.WordReading.{each-nodes_to, lead_test, test_lead}
-use Rattle.aea_fates.proofs.Rows.{fate_free, fate_with, fate_sum}
-use Rattle.aea_fates.proofs.Rising.{rises-filter, rises-at, blocks-rise, equations-rise, index_of, IsIndex, index-some, index-at, index-none}
-use Rattle.aea_fates.proofs.Compact.{AreUsed, compact, at_place, expand, there, expanded}
+use Rattle.aea_fates.proofs.Listing.{output_below}
+use Rattle.aea_readings.proofs.Standing.{column_high, column_below, row_low, row_high}
+use Rattle.aea_readings.proofs.WordReading.{each-nodes_to, lead_test, test_lead}
+use Rattle.aea_readings.proofs.Rows.{fate_free, fate_with, fate_sum}
+use Rattle.aea_readings.proofs.Rising.{rises-filter, rises-at, blocks-rise, equations-rise, index_of, IsIndex, index-some, index-at, index-none}
+use Rattle.aea_readings.proofs.Compact.{AreUsed, compact, at_place, expand, there, expanded}
 
 -- ---- lists
 

@@ -9,7 +9,7 @@ use Rattle.aea_lattice.specs.Strands.{nodes_to}
 use Rattle.aea_lattice.specs.Equations.{equations_of}
 use Rattle.aea_gauss_laws.specs.Parities.{odd_below}
 use Rattle.aea_gauss_words.specs.Matrices.{IsLead}
-use Rattle.aea_fates.specs.Starts.{equation_column, columns}
+use Rattle.aea_readings.specs.Starts.{equation_column, columns}
 
 -- the row has no column below k
 abbrev pub has_none_below : (ℕ → Bool) → ℕ → Bool

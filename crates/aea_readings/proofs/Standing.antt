@@ -1,8 +1,7 @@
 -- The rows of a lattice: each stands for a set of equations, and has what the set adds up to.
 use Rattle.std.proofs.Common.{◌≡◌, ℕ, zero, suc, ◌*◌, ◌^◌, ◌<◌, ◌≤◌, ◌⊎◌, Bool, true, false, not, ◌&&◌, ◌==◌, List, [], ◌∷◌, All, map, length-append, filter, get_or, length, refl, sym, ◌∙◌, ap, subst, arith, inl, inr}
 use Rattle.std.specs.Prelude.{nat_lt, nat_le}
-use Rattle.std.specs.List.{list_any}
-use Rattle.std.proofs.lemmas.Bool.{cases_Bool, cases_eq, or_cases, or_left, or_right, eq-eqb, ne_eqb, eqb-true, lt-ltb, le-ltb, cond-true, cond-false, true≢false, false≢true}
+use Rattle.std.proofs.lemmas.Bool.{cases_Bool, cases_eq, eq-eqb, ne_eqb, eqb-true, lt-ltb, le-ltb, cond-true, cond-false, true≢false, false≢true}
 use Rattle.aea_lattice.specs.declared.blocks.Class.TheVariants.{Datum, Horiz, Right, Left}
 use Rattle.aea_lattice.specs.declared.blocks.Class.{Class}
 use Rattle.std.proofs.lemmas.List.{length-map}
@@ -10,9 +9,9 @@ use Rattle.std.proofs.lemmas.List.Sums.{length-filter, count_by-le-length}
 use Rattle.aea_lattice.specs.declared.blocks.BlockId.{BlockId}
 use Rattle.aea_lattice.specs.declared.blocks.EqId.{EqId}
 use Rattle.aea_lattice.specs.declared.grid.Lattice.{Lattice}
-use Rattle.aea_lattice.specs.Blocks.{class_number, block_of, same_block, HasBlock, blocks_count, classes}
+use Rattle.aea_lattice.specs.Blocks.{class_number, block_of, blocks_count, classes}
 use Rattle.aea_lattice.specs.Equations.{HasEquation, equation_of, equation_blocks, is_in_equation, is_odd_count, equations_of, equations_to, adds_up_to}
-use Rattle.aea_lattice.proofs.Equations.{number_below, number_equal, same_block-equal}
+use Rattle.aea_lattice.proofs.Equations.{number_equal}
 use Rattle.aea_lattice.specs.Parity.{differ}
 use Rattle.aea_lattice.specs.Lists.{same_equation}
 use Rattle.aea_lattice.proofs.Odd.{same_test, Each, Each-more, odd-same, odd-none}
@@ -21,18 +20,14 @@ use Rattle.aea_lattice.proofs.Even.{adds-differ, adds-none, adds-one}
 use Rattle.aea_gauss_laws.proofs.Given.{and-differ, and-no, odd_below-list}
 use Rattle.aea_gauss_laws.proofs.Columns.{IsSpace}
 use Rattle.aea_gauss_words.specs.Matrices.{sum_of_rows, IsReduction}
+use Rattle.aea_fates.proofs.Listing.{output_inside, output_below, same_equation-refl, any_has}
 use Rattle.aea_fates.specs.Sums.{output_number}
-use Rattle.aea_fates.specs.Starts.{block_at, equation_column, columns, is_live, live_equations, row_at, start, rows_of}
+use Rattle.aea_fates.specs.Live.{block_at, is_live, live_equations}
+use Rattle.aea_readings.specs.Starts.{equation_column, columns, row_at, start, rows_of}
 use Rattle.aea_fates.proofs.Kept.{odd-filter}
 use Rattle.aea_gauss_words.proofs.Reduced.{row_is_sum_of_rows, space_sum}
 
 -- ---- columns
-
-pub output_inside : (l : Lattice) (e : EqId) → HasEquation l e → HasBlock l (block_of e.node e.class)
-output_inside l e has = record { first = has.node.first; last = has.node.last; used = has.class.used }
-
-pub output_below : (l : Lattice) (e : EqId) → HasEquation l e → output_number l e < blocks_count l
-output_below l e has = number_below l (block_of e.node e.class) (output_inside l e has)
 
 pub column_high : (l : Lattice) (e : EqId) → blocks_count l ≤ equation_column l e
 column_high l e = omega arith
@@ -47,9 +42,6 @@ column_equal l e f he hf same =
     let numbers : output_number l e ≡ output_number l f = omega arith in
     ap (λ b. equation_of b.node b.class)
     (number_equal l (block_of e.node e.class) (block_of f.node f.class) (output_inside l e he) (output_inside l f hf) numbers)
-
-pub same_equation-refl : (e : EqId) → same_equation e e ≡ true
-same_equation-refl e = rw (eq-eqb e.node e.node refl) (eq-eqb (class_number e.class) (class_number e.class) refl)
 
 pub column-test : (l : Lattice) (e f : EqId) → HasEquation l e → HasEquation l f → (equation_column l f == equation_column l e) ≡ same_equation e f
 column-test l e f he hf =
@@ -164,14 +156,6 @@ sum_of_set-list : (l : Lattice) (known : BlockId → Bool) (q : EqId → Bool) (
 sum_of_set-list l known q k =
     odd_below-list (λ e. q e && row_at l known e k) (live_equations l known) (equation_of 0 Datum)
     ∙ odd-filter (λ e. q e && row_at l known e k) (is_live l known) (equations_of l)
-
-pub any_has : (p : BlockId → Bool) (d : BlockId) (bs : List BlockId) → list_any (same_block d) bs ≡ true → p d ≡ true → list_any p bs ≡ true
-any_has p d [] h passes = absurd (false≢true h)
-any_has p d (b ∷ bs) h passes =
-    elim (or_cases (same_block d b) (list_any (same_block d) bs) h) [
-      | inl here ↦ or_left (p b) (list_any p bs) (sym (ap p (same_block-equal d b here)) ∙ passes)
-      | inr there ↦ or_right (p b) (list_any p bs) (any_has p d bs there passes)
-    ]
 
 low_term : (l : Lattice) (known : BlockId → Bool) (q : EqId → Bool) (k : ℕ) → k < blocks_count l → (e : EqId)
     → (is_live l known e && (q e && row_at l known e k)) ≡ (not (known (block_at l k)) && (q e && is_in_equation l e (block_at l k)))

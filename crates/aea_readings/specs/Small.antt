@@ -10,8 +10,8 @@ use Rattle.aea_lattice.specs.Equations.{equation_of, is_in_equation}
 use Rattle.aea_lattice.specs.LeastWord.{IsWord}
 use Rattle.aea_gauss_words.specs.Matrices.{IsLead, IsReduction}
 use Rattle.aea_fates.specs.Sums.{IsSum}
-use Rattle.aea_fates.specs.Starts.{live_equations}
-use Rattle.aea_fates.specs.Readings.{IsFree, word_at}
+use Rattle.aea_fates.specs.Live.{live_equations}
+use Rattle.aea_readings.specs.Readings.{IsFree, word_at}
 
 -- the blocks that are not known, in number order
 abbrev pub unknown_blocks : Lattice → (BlockId → Bool) → List BlockId

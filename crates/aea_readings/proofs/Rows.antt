@@ -12,11 +12,12 @@ use Rattle.aea_gauss_laws.proofs.Given.{block_at-inside, number-block_at}
 use Rattle.aea_gauss_words.specs.Matrices.{IsLead, IsReduction}
 use Rattle.aea_lattice.specs.LeastWord.{IsWord}
 use Rattle.aea_fates.specs.Sums.{IsSum}
-use Rattle.aea_fates.specs.Starts.{block_at, is_live, live_equations, equation_column, columns, rows_of, start}
-use Rattle.aea_fates.specs.Readings.{IsFree, nodes_in, IsRowOf, IsRowWith}
-use Rattle.aea_fates.proofs.Standing.{stands_reduced}
-use Rattle.aea_fates.proofs.SumReading.{row_gives}
-use Rattle.aea_fates.proofs.WordReading.{free_word, row_word_of}
+use Rattle.aea_fates.specs.Live.{block_at, is_live, live_equations}
+use Rattle.aea_readings.specs.Starts.{equation_column, columns, rows_of, start}
+use Rattle.aea_readings.specs.Readings.{IsFree, nodes_in, IsRowOf, IsRowWith}
+use Rattle.aea_readings.proofs.Standing.{stands_reduced}
+use Rattle.aea_readings.proofs.SumReading.{row_gives}
+use Rattle.aea_readings.proofs.WordReading.{free_word, row_word_of}
 
 filter_within : (p q : EqId → Bool) (xs : List EqId) → Each (λ e. p e ≡ true → q e ≡ true) xs → filter p (filter q xs) ≡ filter p xs
 filter_within p q [] h = refl

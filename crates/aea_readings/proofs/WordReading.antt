@@ -23,12 +23,14 @@ use Rattle.aea_gauss_laws.proofs.Given.{block_at-number, block_at-inside, number
 use Rattle.aea_gauss_laws.proofs.Columns.{odd_below-none, odd_below-one, odd_below-same, odd_below-differ, and-true, meets}
 use Rattle.aea_gauss_words.specs.Matrices.{sum_of_rows, IsLead, IsReduction}
 use Rattle.aea_lattice.specs.LeastWord.{IsEndOf, IsEnd, IsWordOfEnd, IsWord}
-use Rattle.aea_fates.specs.Starts.{block_at, columns, is_live, live_equations, row_at, start, rows_of}
-use Rattle.aea_fates.specs.Readings.{has_none_below, is_lead, equations_in, IsFree, word_at, nodes_in, IsRowWith}
+use Rattle.aea_fates.specs.Live.{block_at, is_live, live_equations}
+use Rattle.aea_readings.specs.Starts.{columns, row_at, start, rows_of}
+use Rattle.aea_readings.specs.Readings.{has_none_below, is_lead, equations_in, IsFree, word_at, nodes_in, IsRowWith}
 use Rattle.aea_fates.proofs.Kept.{IsSame, any-filter, filter-ordered}
 use Rattle.aea_gauss_words.proofs.Reduced.{least, nothing, find_least, lead_unique, odd_some, odd_other, not_same, row_is_sum_of_rows, meets_sum}
-use Rattle.aea_fates.proofs.Standing.{row_low}
-use Rattle.aea_fates.proofs.SumReading.{row_adds, equation_listed, equations_same}
+use Rattle.aea_readings.proofs.Standing.{row_low}
+use Rattle.aea_fates.proofs.Listing.{equation_listed, equations_same}
+use Rattle.aea_readings.proofs.SumReading.{row_adds}
 
 -- ---- the test for a lead
 

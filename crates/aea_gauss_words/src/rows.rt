@@ -2,7 +2,7 @@ ghost use Rattle.std.specs.Prelude.{◌≡◌, ◌≢◌, ℕ, ◌+◌, ◌*◌,
 ghost use Rattle.aea_gauss_words.specs.Words.{words_for, is_bit, bit_matrix, IsPadded, Apart, Adds};
 ghost use Rattle.aea_gauss_words.specs.Matrices.{IsLead, IsCleared, IsClearedOne, IsReduction, SameSums, ReducedTo};
 
-use crate::tables::reduce_by_tables;
+use crate::by_tables::reduce_by_tables;
 use std::simd::prelude::*;
 
 // From so many rows on tables are worth their time.

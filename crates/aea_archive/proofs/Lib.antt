@@ -6,3 +6,4 @@ mod Objects
 mod Digests
 pub mod Records
 mod Runs
+pub mod Honest

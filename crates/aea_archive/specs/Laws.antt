@@ -1,5 +1,5 @@
 -- What follows of the definitions.
-use Rattle.std.specs.Prelude.{ℕ, List, [], ◌∷◌, All}
+use Rattle.std.specs.Prelude.{◌≡◌, ◌+◌, ◌*◌, ◌≤◌, ◌++◌, length, ℕ, List, [], ◌∷◌, All}
 use Rattle.std.specs.List.{flat_map}
 use Rattle.aea_lattice.specs.declared.blocks.BlockId.{BlockId}
 use Rattle.aea_lattice.specs.declared.grid.Lattice.{Lattice}
@@ -8,9 +8,15 @@ use Rattle.aea_records.specs.TableLaws.{AreBytes}
 use Rattle.aea_records.specs.Format.{Stored, Record, Object, nodes_of, fences_of}
 use Rattle.aea_records.specs.Grammar.{IsNext, MayFollow, AreRecords}
 use Rattle.aea_ledger.specs.Recorded.{IsLatticeOf, AreRecordsOf}
-use Rattle.aea_archive.specs.Lasts.{AreLastsOf}
-use Rattle.aea_archive.specs.Next.{object_blocks, IsNextStored, NewObject, AreNextRecords}
-use Rattle.aea_archive.specs.Data.{RecordsMore}
+use Rattle.aea_lattice.specs.Data.{value_of}
+use Rattle.aea_lattice.specs.Growth.{IsGrown}
+use Rattle.aea_disk.specs.Files.{Files}
+use Rattle.aea_shelf.specs.Writes.{KeepsPadded, KeepsIntact}
+use Rattle.aea_archive.specs.Blocks.{IsBlockOn, IsBlockIn}
+use Rattle.aea_archive.specs.Cells.{AreAtHome}
+use Rattle.aea_archive.specs.Lasts.{IsLastParity, AreLastsHonest, AreLastsRecorded, AreLastsAtHome, AreLastsOf}
+use Rattle.aea_archive.specs.Next.{AreDigestsOn, object_blocks, IsNextStored, NewObject, AreNextRecords}
+use Rattle.aea_archive.specs.Data.{AreSurvivorsHonest, IsDamagePlain, RecordsMore}
 
 -- An archive without records records no data.
 abbrev pub NoneRecordNone : Type 0
@@ -44,3 +50,25 @@ PutsRecord =
     → IsLatticeOf shape 0 [] l → All (λ o. AreBytes o.bytes) objects
     → AreRecords shape records → AreNextRecords shape l m payload objects records
     → AreRecordsOf shape records (flat_map (λ o. object_blocks shape o.bytes) objects)
+
+-- Last parities whose cells stand at their homes, with the digests that are kept, have the payloads of the lattice of each
+-- data list for which they are honest.
+abbrev pub LastsAreValues : Type 0
+LastsAreValues =
+    (shape : Shape) (l : Lattice) (digests datas : List (List ℕ)) (payload : BlockId → List ℕ) (c : Files)
+    → AreLastsHonest shape l digests datas c → AreLastsRecorded shape l digests payload → AreLastsAtHome shape l payload c
+    → ((b : BlockId) → IsLastParity l b → length (payload b) ≡ shape.block)
+    → AreLastsOf shape l datas payload
+
+-- Survivors that are honest, in plain damage, are so after blocks were added: where the homes before read the same with
+-- zeros past the ends, and those of the new blocks have the cells of the longer lattice.
+abbrev pub SurvivorsStayHonest : Type 0
+SurvivorsStayHonest =
+    (shape : Shape) (l m : Lattice) (digests ds datas more : List (List ℕ)) (payload : BlockId → List ℕ) (c d : Files)
+    → IsGrown l m.n m → l.n ≤ m.n → l.alpha ≡ shape.alpha → length datas ≡ l.n → length digests ≡ l.n * (1 + shape.alpha)
+    → ((b : BlockId) → IsBlockOn shape l.n m.n b → payload b ≡ value_of m shape.block (datas ++ more) b)
+    → ((b : BlockId) → IsBlockOn shape l.n m.n b → length (payload b) ≡ shape.block)
+    → AreDigestsOn shape l.n m.n payload ds → AreAtHome shape l.n m.n payload d
+    → KeepsPadded shape (IsBlockIn shape l.n) c d → KeepsIntact shape (IsBlockIn shape l.n) c d
+    → AreSurvivorsHonest shape l digests datas c → IsDamagePlain shape l digests c
+    → AreSurvivorsHonest shape m (digests ++ ds) (datas ++ more) d × IsDamagePlain shape m (digests ++ ds) d

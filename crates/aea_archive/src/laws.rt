@@ -1,7 +1,9 @@
 //! What follows of the definitions.
 
-ghost use Rattle.aea_archive.specs.Laws.{NoneRecordNone, NextRecordsMore, ObjectsRecordMore, PutsRecord};
+ghost use Rattle.aea_archive.specs.Laws.{NoneRecordNone, NextRecordsMore, ObjectsRecordMore, PutsRecord, LastsAreValues, SurvivorsStayHonest};
 
+use aea_envelope::{cells_have_lengths, cells_have_parts};
+use aea_shelf::plain_damage_stays;
 use aea_weave::longer_data_keep_values;
 
 /// An archive without records, as it is made, records no data.
@@ -27,5 +29,23 @@ pub fn objects_record_more()
 pub fn puts_record()
     ensures { PutsRecord }
 {
+    longer_data_keep_values();
+}
+
+/// Last parities that stand at their homes have the payloads of the lattice of each data list for which they are honest.
+pub fn lasts_are_values()
+    ensures { LastsAreValues }
+{
+    cells_have_lengths();
+    cells_have_parts();
+}
+
+/// Survivors that are honest, in plain damage, are so after blocks were added.
+pub fn survivors_stay_honest()
+    ensures { SurvivorsStayHonest }
+{
+    cells_have_lengths();
+    cells_have_parts();
+    plain_damage_stays();
     longer_data_keep_values();
 }

@@ -28,5 +28,8 @@
 pub mod laws;
 pub mod read;
 
-pub use laws::{next_records_more, none_record_none, objects_record_more, puts_record};
+pub use laws::{
+    lasts_are_values, next_records_more, none_record_none, objects_record_more, puts_record,
+    survivors_stay_honest,
+};
 pub use read::{read_block, recorded};

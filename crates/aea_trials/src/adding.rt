@@ -187,8 +187,12 @@ fn sixteen_fences_and_no_more(rt: HostRuntime) -> Result<(), Fail> {
     Ok(())
 }
 
-// How many calls of the disk each command makes: five to open the archive, and two writes with a sync behind each.
-const CALLS: u64 = 9;
+// How many calls of the disk each command makes: five to open the archive; three writes behind the ending gate and a sync;
+// and one write, of that gate, and a sync.
+const CALLS: u64 = 11;
+
+// The first of these calls that writes.
+const FIRST_WRITE: u64 = 6;
 
 #[test]
 fn each_call_of_the_disk_fails(rt: HostRuntime) -> Result<(), Fail> {
@@ -207,7 +211,7 @@ fn each_call_of_the_disk_fails(rt: HostRuntime) -> Result<(), Fail> {
             assert_eq!(rt; left.status, Status::Disk, "{command} {k}");
             assert_eq!(rt; text_of(left.err.bytes())?, "fault: disk\n");
             assert!(rt; left.out.bytes().is_empty(), "{command} {k}");
-            assert_eq!(rt; is_one(&mut disk)?, k <= CALLS - 3, "{command} {k}");
+            assert_eq!(rt; is_one(&mut disk)?, k <= FIRST_WRITE, "{command} {k}");
             // the record stands where the last sync alone failed
             let next = run_over(alloc, command, &mut disk, 99)?;
             let added = text_of(next.out.bytes())? == line;

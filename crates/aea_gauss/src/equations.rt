@@ -6,8 +6,8 @@ ghost use Rattle.aea_view.specs.Marked.{is_marked};
 ghost use Rattle.aea_fates.specs.Live.{is_live, live_equations};
 ghost use Rattle.aea_readings.specs.Small.{unknown_blocks, AreListed};
 
-use aea_readings::unknown_are_listed;
 use aea_lattice::{BlockId, Class, EqId, Lattice};
+use aea_readings::unknown_are_listed;
 use aea_view::Marks;
 use std::alloc::{AllocError, Global};
 

@@ -13,9 +13,9 @@ use crate::fates::FateList;
 use crate::leads::lead_table;
 use crate::read::read_all;
 use crate::rows::start_words;
-use aea_readings::small_rows_tell_fates;
 use aea_gauss_words::eliminate;
 use aea_lattice::{BlockId, EqId, Lattice};
+use aea_readings::small_rows_tell_fates;
 use std::alloc::{AllocError, Global};
 
 // The rows of some equations over some blocks, reduced.

@@ -6,3 +6,6 @@ mod Faults
 mod Loads
 mod Starts
 mod Rooms
+mod Storing
+mod Leaving
+mod Entries

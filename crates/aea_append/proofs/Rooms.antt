@@ -1,5 +1,7 @@
 -- The room that the ledger's limit leaves, in nodes and in bytes.
-use Rattle.std.proofs.Common.{◌≡◌, ℕ, ◌+◌, ◌-◌, ◌*◌, ◌/◌, ◌<◌, ◌≤◌, Bool, true, false, sym, ◌∙◌, ap, subst, arith}
+use Rattle.std.proofs.Common.{◌≡◌, ℕ, ◌+◌, ◌-◌, ◌*◌, ◌/◌, ◌<◌, ◌≤◌, Bool, true, false, sym, ◌∙◌, ap, subst, arith, List, length, Option, None, Some, length-append}
+use Rattle.std.specs.Io.KnownBytes.{Consumes, IsAtEnd}
+use Rattle.std.proofs.lemmas.Bool.Decides.{nat_tests}
 use Rattle.std.proofs.Math.Nat.{div-lt_iff_lt-mul, mul-le-mul_right}
 use Rattle.aea_lattice.specs.declared.grid.Lattice.{Lattice}
 use Rattle.aea_lattice.specs.declared.shape.Shape.{Shape}
@@ -69,3 +71,31 @@ all_writes law tells fault other v shape l limit old new some same grid is so wr
 pub all_padded : (v : Opened) (shape : Shape) (l : Lattice) (old new : Files) → shape ≡ v.shape → l ≡ v.lattice → KeepsPadded shape (IsBlockIn shape l.n) old new → KeepsPadded v.shape (IsBlockIn v.shape v.lattice.n) old new
 all_padded v shape l old new same grid padded =
     subst (λ (k : Lattice). KeepsPadded v.shape (IsBlockIn v.shape k.n) old new) grid (subst (λ (s : Shape). KeepsPadded s (IsBlockIn s l.n) old new) same padded)
+
+-- so many nodes hold the bytes
+nodes-hold : (shape : Shape) (k : ℕ) → k ≤ nodes_for shape k * shape.block
+nodes-hold shape k = let h = shape.in_profile in grind (arith, nat_tests)
+
+-- what fits is within the room
+pub fits_room : (v : Opened) (k : ℕ) → v.lattice.n + nodes_for v.shape k ≤ limit_when v.raised → k ≤ room_left v
+fits_room v k fits =
+    let less : nodes_for v.shape k ≤ limit_when v.raised - v.lattice.n = omega (arith, fits) in
+    let bytes : nodes_for v.shape k * v.shape.block ≤ (limit_when v.raised - v.lattice.n) * v.shape.block = mul-le-mul_right v.shape.block less in
+    let hold = nodes-hold v.shape k in
+    omega (arith, bytes, hold)
+
+-- ---- bytes that were taken of a told source
+
+taken_some : (bytes xs : List ℕ) (rest : Option (List ℕ)) → Consumes (Some bytes) rest xs → length xs ≤ length bytes
+taken_some bytes xs None none = absurd none
+taken_some bytes xs (Some ys) is = omega (arith, ap length is, length-append xs ys)
+
+pub taken_long : (left : Option (List ℕ)) (bytes xs : List ℕ) (rest : Option (List ℕ)) → left ≡ Some bytes → Consumes left rest xs → length xs ≤ length bytes
+taken_long left bytes xs rest is taken = taken_some bytes xs rest (subst (λ (l : Option (List ℕ)). Consumes l rest xs) is taken)
+
+all_some : (bytes xs : List ℕ) (rest : Option (List ℕ)) → Consumes (Some bytes) rest xs → IsAtEnd rest → length xs ≡ length bytes
+all_some bytes xs None none end = absurd none
+all_some bytes xs (Some ys) is end = omega (arith, ap length is, length-append xs ys, ap length end)
+
+pub all_long : (left : Option (List ℕ)) (bytes xs : List ℕ) (rest : Option (List ℕ)) → left ≡ Some bytes → Consumes left rest xs → IsAtEnd rest → length xs ≡ length bytes
+all_long left bytes xs rest is taken end = all_some bytes xs rest (subst (λ (l : Option (List ℕ)). Consumes l rest xs) is taken) end

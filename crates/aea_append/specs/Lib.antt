@@ -1,3 +1,5 @@
 pub mod Weaving
 pub mod Taking
 pub mod Loading
+pub mod Puts
+pub mod Causes

@@ -19,7 +19,7 @@ use aea_ledger::{AppendFault, Ledger};
 use aea_records::ledgers_have_one_reading;
 
 /// Makes the cells of an object sure, and then commits its record. All memory is taken before the record's first write.
-pub fn commit_object<D: Disk>(
+pub(crate) fn commit_object<D: Disk>(
     ledger: &mut Ledger,
     disk: &mut D,
     name: &[u8],
@@ -52,6 +52,9 @@ pub fn commit_object<D: Disk>(
     ensures full { result ≡ Err AppendFault.CatalogFull → len ledger.old.objects ≡ greatest_objects }
     ensures unchanged { (result ≡ Err AppendFault.CatalogFull) ⊎ (result ≡ Err AppendFault.NoMemory) → (ledger.new ≡ ledger.old) × (KeepsImages (D.state disk.old) (D.state disk.new) × (D.tells → (D.state disk.new).files ≡ (D.state disk.old).files)) }
     ensures dead { result ≡ Err AppendFault.DiskFault → ledger.new ≡ record ledger.old { live = false } }
+
+    // How long the record's entry is: a digest has 32 bytes.
+    ensures size { length digest ≡ 32 → length (entry (Object (next_stored ledger.old name.now size digest count digests.now))) ≡ 56 + length name.now + 32 * length digests.now }
 
     // No other file changes, none is written past the gate that ends the new ledger, and when the disk is at fault.
     ensures long { D.tells → length ((D.state disk.new).files 0) ≤ max (length ((D.state disk.old).files 0)) (ledger.old.end + length (entry (Object (next_stored ledger.old name.now size digest count digests.now))) + 1) }

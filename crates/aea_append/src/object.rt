@@ -31,11 +31,11 @@ use std::alloc::Global;
 /// What was taken from a source and woven: its bytes, the nodes that they take, their SHA-256 (FIPS 180-4), and the digests
 /// of the blocks of these nodes in number order.
 #[derive(Drop)]
-pub struct Taken {
-    pub length: u64,
-    pub nodes: u32,
-    pub digest: [u8; 32],
-    pub digests: Vec<[u8; 32]>,
+pub(crate) struct Taken {
+    pub(crate) length: u64,
+    pub(crate) nodes: u32,
+    pub(crate) digest: [u8; 32],
+    pub(crate) digests: Vec<[u8; 32]>,
 }
 
 // Heads for the node that is woven next, loaded from the last parities.
@@ -165,7 +165,7 @@ fn take_object<D: Disk, S: Source>(
 /// parity of each strand has to be intact. More bytes than the nodes that are left can hold are refused, and one byte past
 /// them is read at most. It takes memory for a block, a cell, the heads and 32 bytes for each new block; the list of these
 /// grows by doubling.
-pub fn weave_object<D: Disk, S: Source>(
+pub(crate) fn weave_object<D: Disk, S: Source>(
     alloc: Global,
     disk: &mut D,
     ledger: &Ledger,

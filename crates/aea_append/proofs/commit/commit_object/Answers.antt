@@ -15,6 +15,7 @@ use Rattle.aea_ledger.specs.Stops.{HasLedger}
 use Rattle.aea_ledger.proofs.Records.{nodes_of-push}
 use Rattle.aea_archive.specs.Blocks.{IsBlockIn}
 use Rattle.aea_archive.proofs.Stretches.{has_ledger, adds_nothing, adds_append, adds_later}
+use Rattle.aea_append.proofs.Entries.{length-entry}
 use Rattle.aea_append.proofs.commit.commit_object.Goals as goal
 
 -- nothing was written before a sync
@@ -90,3 +91,9 @@ returns-clause-writes g c =
     reads_then_writes g.D.Disk.tells (HasRoomTo old 0 end) (HasRoomTo mid 0 end) (IsErr c.sync.result) _ (ChangesOnly 0) old mid new (λ d f other. refl) (λ room. (0, end, room)) (λ room time. time.room 0 end room)
     (reads_one g.D.Disk.tells old mid c.sync.result c.sync.ensures.contents c.sync.ensures.crash c.sync.ensures.settled c.sync.ensures.time c.sync.ensures.cause c.sync.ensures.sure)
     c.append.ensures.writes
+
+pub returns-in_default-clause-size : goal.returns-in_default-clause-size
+returns-in_default-clause-size g c wide = length-entry (next_stored c.args.ledger.now c.args.name.now c.args.size c.args.digest c.args.count c.args.digests.now) wide c.told-digests
+
+pub returns-clause-size : goal.returns-clause-size
+returns-clause-size g c wide = length-entry (next_stored c.args.ledger.now c.args.name.now c.args.size c.args.digest c.args.count c.args.digests.now) wide c.told-digests

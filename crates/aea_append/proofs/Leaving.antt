@@ -1,0 +1,105 @@
+-- What is left at each end of a call that puts: before the record, and behind it.
+use Rattle.std.proofs.Common.{◌≡◌, inl, inr, ℕ, List, [], ◌∷◌, length, take, drop, Option, refl, sym, ap, subst, arith}
+use Rattle.aea_lattice.specs.declared.blocks.BlockId.{BlockId}
+use Rattle.aea_lattice.specs.declared.shape.Shape.{Shape}
+use Rattle.aea_disk.specs.Files.{Files, ChangesOnly}
+use Rattle.aea_disk.specs.State.{State, IsFixed, HasRoomTo}
+use Rattle.aea_disk.specs.Frames.{OnlyWrites}
+use Rattle.aea_disk.proofs.Moments.{during_more}
+use Rattle.aea_disk.proofs.Frames.{writes_wider, writes_both, writes_others}
+use Rattle.aea_envelope.specs.Cells.{cell_of}
+use Rattle.aea_shelf.specs.Places.{home_file, home_place}
+use Rattle.aea_shelf.specs.Writes.{KeepsPadded}
+use Rattle.aea_shelf.proofs.Runs.{shelf_others, padded_others, no_home_in_ledger}
+use Rattle.aea_records.specs.Format.{Record, limit_when, nodes_of}
+use Rattle.aea_records.specs.Laws.{HasOneReading}
+use Rattle.aea_ledger.specs.Values.{Opened}
+use Rattle.aea_ledger.specs.Next.{AreItsRecords}
+use Rattle.aea_ledger.specs.Stops.{HasLedger}
+use Rattle.aea_archive.specs.Blocks.{IsBlockIn}
+use Rattle.aea_archive.specs.Cells.{IsBesides, IsNoSite, ChangesArchive, HaveSitesRoom, AreAtHome}
+use Rattle.aea_archive.specs.Next.{NewObject}
+use Rattle.aea_archive.specs.Stretches.{Adds}
+use Rattle.aea_archive.proofs.Cells.{changes_both, changes_less, changes_ledger, file_kept}
+use Rattle.aea_archive.proofs.Stretches.{has_ledger, adds_nothing, adds_later}
+use Rattle.aea_append.specs.Causes.{HasPutRoom}
+use Rattle.aea_append.specs.Puts.{MayHaveStored, LeavesLedger}
+use Rattle.aea_append.specs.Weaving.{WritesCells}
+
+-- the blocks of the archive
+abbrev pub old_blocks : Opened → BlockId → Type 0
+old_blocks v = IsBlockIn v.shape v.lattice.n
+
+-- cells that were written are a change of the archive
+pub cells_wider : (tells fault : Type 0) (v : Opened) (name : List ℕ) (left rest : Option (List ℕ)) (old new : State) → WritesCells tells v.shape (limit_when v.raised) (IsBlockIn v.shape v.lattice.n) fault old new
+    → OnlyWrites tells (HasPutRoom v name left rest old) fault (ChangesArchive v.shape (limit_when v.raised) (IsBlockIn v.shape v.lattice.n) (IsBesides v.shape)) old new
+cells_wider tells fault v name left rest old new writes =
+    writes_wider tells (HaveSitesRoom v.shape (limit_when v.raised) old) (HasPutRoom v name left rest old) fault
+    (ChangesArchive v.shape (limit_when v.raised) (IsBlockIn v.shape v.lattice.n) (IsNoSite v.shape)) (ChangesArchive v.shape (limit_when v.raised) (IsBlockIn v.shape v.lattice.n) (IsBesides v.shape)) old new
+    (λ c d step. changes_less v.shape (limit_when v.raised) (IsBlockIn v.shape v.lattice.n) (IsBlockIn v.shape v.lattice.n) (IsNoSite v.shape) (IsBesides v.shape) c d (λ a kept. kept) (λ f past. inr past) step)
+    (λ room. room.sites) writes
+
+-- the ledger's file stays
+pub leaves_ledger : (tells fault : Type 0) → tells → (v : Opened) (old new : State) → IsFixed old 0 → WritesCells tells v.shape (limit_when v.raised) (IsBlockIn v.shape v.lattice.n) fault old new → LeavesLedger old new
+leaves_ledger tells fault told v old new fixed writes = record {
+  images = file_kept tells (HaveSitesRoom v.shape (limit_when v.raised) old) fault v.shape (limit_when v.raised) (IsBlockIn v.shape v.lattice.n) (IsNoSite v.shape) old new 0 (inl refl) writes fixed;
+  reads = (writes.contents told).stay 0 (inl refl);
+}
+
+-- nothing was stored
+pub stopped_before : HasOneReading → (tells fault : Type 0) → tells → (v : Opened) (Fits : NewObject → Type 0) (old new : State) → IsFixed old 0 → WritesCells tells v.shape (limit_when v.raised) (IsBlockIn v.shape v.lattice.n) fault old new → MayHaveStored v Fits old new
+stopped_before one tells fault told v Fits old new fixed writes =
+    let leaves = leaves_ledger tells fault told v old new fixed writes in
+    record {
+      objects = [];
+      most = inl refl;
+      payload = λ b. [];
+      homes = λ some. absurd (some refl);
+      added = [];
+      lattice = v.lattice;
+      next = refl;
+      adds = λ records its.
+          let ledger = has_ledger v records (old.files 0) its in
+          adds_nothing one v.shape records [] (λ b. []) old new writes.earlier
+          (during_more old new (λ c. c 0 ≡ old.files 0) (λ c. HasLedger v.shape records (c 0)) (λ c same. subst (HasLedger v.shape records) (sym same) ledger) leaves.images)
+          (subst (HasLedger v.shape records) (sym leaves.reads) ledger);
+      long = (let same = ap length leaves.reads in omega (arith, same));
+    }
+
+-- ---- a commit behind the cells
+
+pub both_write : (tells first second : Type 0) (v : Opened) (name : List ℕ) (left rest : Option (List ℕ)) (end : ℕ) (old mid new : State) → WritesCells tells v.shape (limit_when v.raised) (IsBlockIn v.shape v.lattice.n) first old mid
+    → OnlyWrites tells (HasRoomTo mid 0 end) second (ChangesOnly 0) mid new → (HasPutRoom v name left rest old → HasRoomTo old 0 end)
+    → OnlyWrites tells (HasPutRoom v name left rest old) second (ChangesArchive v.shape (limit_when v.raised) (IsBlockIn v.shape v.lattice.n) (IsBesides v.shape)) old new
+both_write tells first second v name left rest end old mid new cells commit room =
+    writes_both tells (HasPutRoom v name left rest old) (HaveSitesRoom v.shape (limit_when v.raised) old) (HasRoomTo mid 0 end) first second
+    (ChangesArchive v.shape (limit_when v.raised) (IsBlockIn v.shape v.lattice.n) (IsNoSite v.shape)) (ChangesOnly 0) (ChangesArchive v.shape (limit_when v.raised) (IsBlockIn v.shape v.lattice.n) (IsBesides v.shape)) old mid new
+    (λ c d step. changes_less v.shape (limit_when v.raised) (IsBlockIn v.shape v.lattice.n) (IsBlockIn v.shape v.lattice.n) (IsNoSite v.shape) (IsBesides v.shape) c d (λ a kept. kept) (λ f past. inr past) step)
+    (λ c d e step only. changes_both v.shape (limit_when v.raised) (IsBlockIn v.shape v.lattice.n) (IsBesides v.shape) c d e
+    (changes_less v.shape (limit_when v.raised) (IsBlockIn v.shape v.lattice.n) (IsBlockIn v.shape v.lattice.n) (IsNoSite v.shape) (IsBesides v.shape) c d (λ a kept. kept) (λ f past. inr past) step)
+    (changes_ledger v.shape (limit_when v.raised) (IsBlockIn v.shape v.lattice.n) d e only))
+    (λ has. has.sites) (λ has time. time.room 0 end (room has)) cells commit
+
+pub adds_put : HasOneReading → (tells first second fits : Type 0) → tells → (v : Opened) (records : List Record) (r : Record) (payload : BlockId → List ℕ) (old mid new : State) → AreItsRecords v records (old.files 0) → IsFixed old 0
+    → WritesCells tells v.shape (limit_when v.raised) (IsBlockIn v.shape v.lattice.n) first old mid → OnlyWrites tells fits second (ChangesOnly 0) mid new
+    → Adds v.shape records (r ∷ []) payload mid new → Adds v.shape records (r ∷ []) payload old new
+adds_put one tells first second fits told v records r payload old mid new its fixed cells commit late =
+    let leaves = leaves_ledger tells first told v old mid fixed cells in
+    let ledger = has_ledger v records (old.files 0) its in
+    adds_later one tells v.shape records (r ∷ []) payload old mid new cells.time commit.time cells.earlier
+    (during_more old mid (λ c. c 0 ≡ old.files 0) (λ c. HasLedger v.shape records (c 0)) (λ c same. subst (HasLedger v.shape records) (sym same) ledger) leaves.images)
+    (subst (HasLedger v.shape records) (sym leaves.reads) ledger)
+    (shelf_others tells v.shape (IsBlockIn v.shape (nodes_of records)) 0 mid new (λ a block. no_home_in_ledger v.shape a) (writes_others tells fits second (ChangesOnly 0) 0 mid new (λ c d step f other. step f other) commit))
+    late
+
+-- the records of the ledger are those of its file behind the cells
+pub its_later : (tells fault : Type 0) → tells → (v : Opened) (records : List Record) (old mid : State) → WritesCells tells v.shape (limit_when v.raised) (IsBlockIn v.shape v.lattice.n) fault old mid → AreItsRecords v records (old.files 0) → AreItsRecords v records (mid.files 0)
+its_later tells fault told v records old mid cells its = subst (λ (l : List ℕ). AreItsRecords v records l) (sym ((cells.contents told).stay 0 (inl refl))) its
+
+-- cells stand behind a commit
+pub cells_stay : (shape : Shape) (before last : ℕ) (payload : BlockId → List ℕ) (mid new : Files) → ChangesOnly 0 mid new → AreAtHome shape before last payload mid → AreAtHome shape before last payload new
+cells_stay shape before last payload mid new only cells b on =
+    subst (λ (l : List ℕ). take (length (cell_of b (payload b))) (drop (home_place shape b) l) ≡ cell_of b (payload b)) (sym (only (home_file shape b) (no_home_in_ledger shape b))) (cells b on)
+
+pub padded_commit : (v : Opened) (mid new : Files) → ChangesOnly 0 mid new → KeepsPadded v.shape (IsBlockIn v.shape v.lattice.n) mid new
+padded_commit v mid new only = padded_others v.shape (IsBlockIn v.shape v.lattice.n) 0 mid new (λ a kept. no_home_in_ledger v.shape a) (λ f other. only f other)

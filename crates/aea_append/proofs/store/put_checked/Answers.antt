@@ -1,0 +1,446 @@
+use Rattle.std.proofs.Common.{◌≡◌, inl, inr, ℕ, ◌+◌, ◌-◌, ◌*◌, ◌≤◌, Err, [], ◌∷◌, List, length, refl, sym, ◌∙◌, ap, subst, arith}
+use Rattle.aea_lattice.specs.declared.grid.Lattice.{Lattice}
+use Rattle.std.specs.List.{sum_by}
+use Rattle.sha2.proofs.Facts256.{length-sha256}
+use Rattle.aea_disk.specs.Files.{Files}
+use Rattle.aea_disk.proofs.Frames.{writes_as}
+use Rattle.aea_shelf.proofs.Cells.{keeps_intact}
+use Rattle.aea_shelf.proofs.Runs.{padded_both}
+use Rattle.aea_records.specs.Format.{Stored, Record, Object, nodes_for, limit_when, entry}
+use Rattle.aea_ledger.specs.Next.{next_stored}
+use Rattle.aea_archive.specs.Blocks.{IsBlockIn}
+use Rattle.aea_archive.specs.Cells.{AreAtHome, HaveSitesRoom, IsNoSite}
+use Rattle.aea_archive.proofs.Cells.{fixed_kept}
+use Rattle.aea_append.specs.Causes.{next_end}
+use Rattle.aea_disk.specs.State.{HasRoomTo}
+use Rattle.aea_disk.proofs.Moments.{during_then_kept}
+use Rattle.aea_archive.specs.Next.{NewObject}
+use Rattle.aea_append.specs.Taking.{TakesAll}
+use Rattle.aea_append.specs.declared.fault.PutFault.TheVariants.{DiskFault, HeadDamaged, Full}
+use Rattle.aea_append.proofs.Rooms.{fits_room, taken_long, all_long}
+use Rattle.aea_append.proofs.Starts.{same_head, same_nodes}
+use Rattle.aea_append.proofs.Leaving.{cells_wider, leaves_ledger, stopped_before, both_write, adds_put, its_later, cells_stay, padded_commit}
+use Rattle.aea_append.proofs.Storing.{next_woven, added_of, woven_to, next_of, more_of, honest_of}
+use Rattle.aea_append.proofs.store.put_checked.Goals as goal
+
+pub returns-in-Err-DiskFault-clause-writes : goal.returns-in-Err-DiskFault-clause-writes
+returns-in-Err-DiskFault-clause-writes g c =
+    let old = g.D.Disk.state c.args.disk.now in
+    let mid = g.D.Disk.state c.weave_object.new.disk in
+    let v = c.args.ledger.now in
+    let left = (g.S.Source.state c.args.source.now).left in
+    let rest = (g.S.Source.state c.weave_object.new.source).left in
+    writes_as g.D.Disk.tells _ (c.weave_object.result ≡ Err DiskFault) _ _ old mid (λ is. c.in-Err-DiskFault.is ∙ ap Err c.in-Err-DiskFault.field-0-is) (cells_wider g.D.Disk.tells (c.weave_object.result ≡ Err DiskFault) v c.args.name.now left rest old mid c.weave_object.ensures.writes)
+
+pub returns-in-Err-HeadDamaged-clause-writes : goal.returns-in-Err-HeadDamaged-clause-writes
+returns-in-Err-HeadDamaged-clause-writes g c =
+    let old = g.D.Disk.state c.args.disk.now in
+    let mid = g.D.Disk.state c.weave_object.new.disk in
+    let v = c.args.ledger.now in
+    let left = (g.S.Source.state c.args.source.now).left in
+    let rest = (g.S.Source.state c.weave_object.new.source).left in
+    writes_as g.D.Disk.tells _ (c.weave_object.result ≡ Err DiskFault) _ _ old mid (λ is. absurd (let e = is in cc)) (cells_wider g.D.Disk.tells (c.weave_object.result ≡ Err DiskFault) v c.args.name.now left rest old mid c.weave_object.ensures.writes)
+
+pub returns-in-Err-HeadDamaged-clause-refused_leaves : goal.returns-in-Err-HeadDamaged-clause-refused_leaves
+returns-in-Err-HeadDamaged-clause-refused_leaves g c is fine told =
+    let old = g.D.Disk.state c.args.disk.now in
+    let mid = g.D.Disk.state c.weave_object.new.disk in
+    let v = c.args.ledger.now in
+    let left = (g.S.Source.state c.args.source.now).left in
+    let rest = (g.S.Source.state c.weave_object.new.source).left in
+    leaves_ledger g.D.Disk.tells (c.weave_object.result ≡ Err DiskFault) told v old mid (c.requires.fixed told) c.weave_object.ensures.writes
+
+pub returns-in-Err-Full-clause-writes : goal.returns-in-Err-Full-clause-writes
+returns-in-Err-Full-clause-writes g c =
+    let old = g.D.Disk.state c.args.disk.now in
+    let mid = g.D.Disk.state c.weave_object.new.disk in
+    let v = c.args.ledger.now in
+    let left = (g.S.Source.state c.args.source.now).left in
+    let rest = (g.S.Source.state c.weave_object.new.source).left in
+    writes_as g.D.Disk.tells _ (c.weave_object.result ≡ Err DiskFault) _ _ old mid (λ is. absurd (let e = is in cc)) (cells_wider g.D.Disk.tells (c.weave_object.result ≡ Err DiskFault) v c.args.name.now left rest old mid c.weave_object.ensures.writes)
+
+pub returns-in-Err-Full-clause-refused_leaves : goal.returns-in-Err-Full-clause-refused_leaves
+returns-in-Err-Full-clause-refused_leaves g c is fine told =
+    let old = g.D.Disk.state c.args.disk.now in
+    let mid = g.D.Disk.state c.weave_object.new.disk in
+    let v = c.args.ledger.now in
+    let left = (g.S.Source.state c.args.source.now).left in
+    let rest = (g.S.Source.state c.weave_object.new.source).left in
+    leaves_ledger g.D.Disk.tells (c.weave_object.result ≡ Err DiskFault) told v old mid (c.requires.fixed told) c.weave_object.ensures.writes
+
+pub returns-in-Err-ReadFault-clause-writes : goal.returns-in-Err-ReadFault-clause-writes
+returns-in-Err-ReadFault-clause-writes g c =
+    let old = g.D.Disk.state c.args.disk.now in
+    let mid = g.D.Disk.state c.weave_object.new.disk in
+    let v = c.args.ledger.now in
+    let left = (g.S.Source.state c.args.source.now).left in
+    let rest = (g.S.Source.state c.weave_object.new.source).left in
+    writes_as g.D.Disk.tells _ (c.weave_object.result ≡ Err DiskFault) _ _ old mid (λ is. absurd (let e = is in cc)) (cells_wider g.D.Disk.tells (c.weave_object.result ≡ Err DiskFault) v c.args.name.now left rest old mid c.weave_object.ensures.writes)
+
+pub returns-in-Err-ReadFault-clause-refused_leaves : goal.returns-in-Err-ReadFault-clause-refused_leaves
+returns-in-Err-ReadFault-clause-refused_leaves g c is fine told =
+    let old = g.D.Disk.state c.args.disk.now in
+    let mid = g.D.Disk.state c.weave_object.new.disk in
+    let v = c.args.ledger.now in
+    let left = (g.S.Source.state c.args.source.now).left in
+    let rest = (g.S.Source.state c.weave_object.new.source).left in
+    leaves_ledger g.D.Disk.tells (c.weave_object.result ≡ Err DiskFault) told v old mid (c.requires.fixed told) c.weave_object.ensures.writes
+
+pub returns-in-Err-NoMemory-clause-writes : goal.returns-in-Err-NoMemory-clause-writes
+returns-in-Err-NoMemory-clause-writes g c =
+    let old = g.D.Disk.state c.args.disk.now in
+    let mid = g.D.Disk.state c.weave_object.new.disk in
+    let v = c.args.ledger.now in
+    let left = (g.S.Source.state c.args.source.now).left in
+    let rest = (g.S.Source.state c.weave_object.new.source).left in
+    writes_as g.D.Disk.tells _ (c.weave_object.result ≡ Err DiskFault) _ _ old mid (λ is. absurd (let e = is in cc)) (cells_wider g.D.Disk.tells (c.weave_object.result ≡ Err DiskFault) v c.args.name.now left rest old mid c.weave_object.ensures.writes)
+
+pub returns-in-Err-NoMemory-clause-refused_leaves : goal.returns-in-Err-NoMemory-clause-refused_leaves
+returns-in-Err-NoMemory-clause-refused_leaves g c is fine told =
+    let old = g.D.Disk.state c.args.disk.now in
+    let mid = g.D.Disk.state c.weave_object.new.disk in
+    let v = c.args.ledger.now in
+    let left = (g.S.Source.state c.args.source.now).left in
+    let rest = (g.S.Source.state c.weave_object.new.source).left in
+    leaves_ledger g.D.Disk.tells (c.weave_object.result ≡ Err DiskFault) told v old mid (c.requires.fixed told) c.weave_object.ensures.writes
+
+pub returns-in-Err-DiskFault-clause-stopped : goal.returns-in-Err-DiskFault-clause-stopped
+returns-in-Err-DiskFault-clause-stopped g c is told =
+    let old = g.D.Disk.state c.args.disk.now in
+    let mid = g.D.Disk.state c.weave_object.new.disk in
+    let v = c.args.ledger.now in
+    let left = (g.S.Source.state c.args.source.now).left in
+    let rest = (g.S.Source.state c.weave_object.new.source).left in
+    stopped_before c.ledgers_have_one_reading.ensures g.D.Disk.tells (c.weave_object.result ≡ Err DiskFault) told v _ old mid (c.requires.fixed told) c.weave_object.ensures.writes
+
+pub returns-in-Err-HeadDamaged-clause-head : goal.returns-in-Err-HeadDamaged-clause-head
+returns-in-Err-HeadDamaged-clause-head g c b is =
+    c.in-Err-HeadDamaged.ensures.head b (ap Err (c.in-Err-HeadDamaged.field-0-is ∙ ap HeadDamaged (c.in-Err-HeadDamaged.block-is ∙ same_head c.in-Err-HeadDamaged.block b is)))
+
+pub returns-in-Err-HeadDamaged-clause-complete : goal.returns-in-Err-HeadDamaged-clause-complete
+returns-in-Err-HeadDamaged-clause-complete g c told bytes is may intact fits disk source =
+    let found = c.in-Err-HeadDamaged.ensures.head c.in-Err-HeadDamaged.block (ap Err (c.in-Err-HeadDamaged.field-0-is ∙ ap HeadDamaged c.in-Err-HeadDamaged.block-is)) in
+    absurd ((found.1 told).damaged.damaged (intact c.in-Err-HeadDamaged.block found.0))
+
+pub returns-in-Err-Full-clause-full : goal.returns-in-Err-Full-clause-full
+returns-in-Err-Full-clause-full g c nodes is =
+    c.in-Err-Full.ensures.full nodes (ap Err (c.in-Err-Full.field-0-is ∙ ap Full (c.in-Err-Full.nodes-is ∙ same_nodes c.in-Err-Full.nodes nodes is)))
+
+pub returns-in-Err-Full-clause-complete : goal.returns-in-Err-Full-clause-complete
+returns-in-Err-Full-clause-complete g c told bytes is may intact fits disk source =
+    let passed = (c.in-Err-Full.ensures.full c.in-Err-Full.nodes (ap Err (c.in-Err-Full.field-0-is ∙ ap Full c.in-Err-Full.nodes-is))).1.0 in
+    let long = taken_long (g.S.Source.state c.args.source.now).left bytes passed.0 (g.S.Source.state c.weave_object.new.source).left is passed.1 in
+    absurd (omega (arith, long, passed.2, fits_room c.args.ledger.now (length bytes) fits))
+
+pub returns-in-Ok-commit_object-clause-writes : goal.returns-in-Ok-commit_object-clause-writes
+returns-in-Ok-commit_object-clause-writes g c =
+    let old = g.D.Disk.state c.args.disk.now in
+    let mid = g.D.Disk.state c.weave_object.new.disk in
+    let new = g.D.Disk.state c.commit_object.new.disk in
+    let v = c.args.ledger.now in
+    let name = c.args.name.now in
+    let tells = g.D.Disk.tells in
+    let left = (g.S.Source.state c.args.source.now).left in
+    let rest = (g.S.Source.state c.weave_object.new.source).left in
+    let k = c.in-Ok.taken.length in
+    let digest = c.in-Ok.taken.digest in
+    let nodes = c.in-Ok.taken.nodes in
+    let digests = c.as_slice.result.now in
+    let counted : c.in-Ok.taken.nodes ≡ nodes_for c.args.ledger.now.shape c.in-Ok.taken.length = c.in-Ok.ensures.nodes in
+    let t : TakesAll g.D.Disk.tells c.args.ledger.now.shape c.args.ledger.now.lattice c.args.ledger.now.digests c.in-Ok.taken.length c.in-Ok.taken.digest (g.S.Source.state c.args.source.now).left (g.S.Source.state c.weave_object.new.source).left c.as_slice.result.now (g.D.Disk.state c.args.disk.now).files (g.D.Disk.state c.weave_object.new.disk).files =
+    subst (λ (d : List (List ℕ)). TakesAll tells v.shape v.lattice v.digests k digest left rest d old.files mid.files) (sym c.as_slice.ensures.value) c.in-Ok.ensures.took in
+    let stored : Stored = next_stored v name k digest nodes digests in
+    let bad = c.weave_object.result ≡ Err DiskFault in
+    let last : t.heads.lattice.n ≡ c.args.ledger.now.lattice.n + c.in-Ok.taken.nodes = (let n = t.nodes in omega (arith, n, counted)) in
+    let end : ℕ = v.end + length (entry (Object stored)) + 1 in
+    let long : length c.as_slice.result.now ≡ nodes_for c.args.ledger.now.shape (length t.bytes) * (1 + c.args.ledger.now.shape.alpha) =
+    t.woven.digests_are.long ∙ ap (λ (n : ℕ). n * (1 + v.shape.alpha)) (let e : t.heads.lattice.n - v.lattice.n ≡ nodes_for v.shape (length t.bytes) = (omega (arith, last, counted, ap (nodes_for v.shape) t.long)) in e) in
+    let fits : v.lattice.n + nodes_for v.shape (length t.bytes) ≤ limit_when v.raised = (let f = c.in-Ok.ensures.fits in omega (arith, f, counted, ap (nodes_for v.shape) t.long)) in
+    let size : next_end v.end (length name) (nodes_for v.shape (length t.bytes) * (1 + v.shape.alpha)) + 1 ≡ v.end + length (entry (Object stored)) + 1 = omega (arith, c.commit_object.ensures.size (ap length t.digest_is ∙ length-sha256 t.bytes), long) in
+    writes_as tells _ _ _ _ old new (λ is. absurd (let e = is in cc))
+    (both_write tells bad _ v name left rest (v.end + length (entry (Object stored)) + 1) old mid new c.weave_object.ensures.writes c.commit_object.ensures.writes
+    (λ has. subst (λ (n : ℕ). HasRoomTo old 0 n) size (has.ledger t.bytes t.taken fits)))
+
+pub returns-in-Err-DiskFault-commit_object-clause-writes : goal.returns-in-Err-DiskFault-commit_object-clause-writes
+returns-in-Err-DiskFault-commit_object-clause-writes g c =
+    let old = g.D.Disk.state c.args.disk.now in
+    let mid = g.D.Disk.state c.weave_object.new.disk in
+    let new = g.D.Disk.state c.commit_object.new.disk in
+    let v = c.args.ledger.now in
+    let name = c.args.name.now in
+    let tells = g.D.Disk.tells in
+    let left = (g.S.Source.state c.args.source.now).left in
+    let rest = (g.S.Source.state c.weave_object.new.source).left in
+    let k = c.in-Ok.taken.length in
+    let digest = c.in-Ok.taken.digest in
+    let nodes = c.in-Ok.taken.nodes in
+    let digests = c.as_slice.result.now in
+    let counted : c.in-Ok.taken.nodes ≡ nodes_for c.args.ledger.now.shape c.in-Ok.taken.length = c.in-Ok.ensures.nodes in
+    let t : TakesAll g.D.Disk.tells c.args.ledger.now.shape c.args.ledger.now.lattice c.args.ledger.now.digests c.in-Ok.taken.length c.in-Ok.taken.digest (g.S.Source.state c.args.source.now).left (g.S.Source.state c.weave_object.new.source).left c.as_slice.result.now (g.D.Disk.state c.args.disk.now).files (g.D.Disk.state c.weave_object.new.disk).files =
+    subst (λ (d : List (List ℕ)). TakesAll tells v.shape v.lattice v.digests k digest left rest d old.files mid.files) (sym c.as_slice.ensures.value) c.in-Ok.ensures.took in
+    let stored : Stored = next_stored v name k digest nodes digests in
+    let bad = c.weave_object.result ≡ Err DiskFault in
+    let last : t.heads.lattice.n ≡ c.args.ledger.now.lattice.n + c.in-Ok.taken.nodes = (let n = t.nodes in omega (arith, n, counted)) in
+    let end : ℕ = v.end + length (entry (Object stored)) + 1 in
+    let long : length c.as_slice.result.now ≡ nodes_for c.args.ledger.now.shape (length t.bytes) * (1 + c.args.ledger.now.shape.alpha) =
+    t.woven.digests_are.long ∙ ap (λ (n : ℕ). n * (1 + v.shape.alpha)) (let e : t.heads.lattice.n - v.lattice.n ≡ nodes_for v.shape (length t.bytes) = (omega (arith, last, counted, ap (nodes_for v.shape) t.long)) in e) in
+    let fits : v.lattice.n + nodes_for v.shape (length t.bytes) ≤ limit_when v.raised = (let f = c.in-Ok.ensures.fits in omega (arith, f, counted, ap (nodes_for v.shape) t.long)) in
+    let size : next_end v.end (length name) (nodes_for v.shape (length t.bytes) * (1 + v.shape.alpha)) + 1 ≡ v.end + length (entry (Object stored)) + 1 = omega (arith, c.commit_object.ensures.size (ap length t.digest_is ∙ length-sha256 t.bytes), long) in
+    writes_as tells _ _ _ _ old new (λ is. c.in-Err-DiskFault-commit_object.is ∙ ap Err c.in-Err-DiskFault-commit_object.field-0-is)
+    (both_write tells bad _ v name left rest (v.end + length (entry (Object stored)) + 1) old mid new c.weave_object.ensures.writes c.commit_object.ensures.writes
+    (λ has. subst (λ (n : ℕ). HasRoomTo old 0 n) size (has.ledger t.bytes t.taken fits)))
+
+pub returns-in-Err-NoMemory-commit_object-clause-writes : goal.returns-in-Err-NoMemory-commit_object-clause-writes
+returns-in-Err-NoMemory-commit_object-clause-writes g c =
+    let old = g.D.Disk.state c.args.disk.now in
+    let mid = g.D.Disk.state c.weave_object.new.disk in
+    let new = g.D.Disk.state c.commit_object.new.disk in
+    let v = c.args.ledger.now in
+    let name = c.args.name.now in
+    let tells = g.D.Disk.tells in
+    let left = (g.S.Source.state c.args.source.now).left in
+    let rest = (g.S.Source.state c.weave_object.new.source).left in
+    let k = c.in-Ok.taken.length in
+    let digest = c.in-Ok.taken.digest in
+    let nodes = c.in-Ok.taken.nodes in
+    let digests = c.as_slice.result.now in
+    let counted : c.in-Ok.taken.nodes ≡ nodes_for c.args.ledger.now.shape c.in-Ok.taken.length = c.in-Ok.ensures.nodes in
+    let t : TakesAll g.D.Disk.tells c.args.ledger.now.shape c.args.ledger.now.lattice c.args.ledger.now.digests c.in-Ok.taken.length c.in-Ok.taken.digest (g.S.Source.state c.args.source.now).left (g.S.Source.state c.weave_object.new.source).left c.as_slice.result.now (g.D.Disk.state c.args.disk.now).files (g.D.Disk.state c.weave_object.new.disk).files =
+    subst (λ (d : List (List ℕ)). TakesAll tells v.shape v.lattice v.digests k digest left rest d old.files mid.files) (sym c.as_slice.ensures.value) c.in-Ok.ensures.took in
+    let stored : Stored = next_stored v name k digest nodes digests in
+    let bad = c.weave_object.result ≡ Err DiskFault in
+    let last : t.heads.lattice.n ≡ c.args.ledger.now.lattice.n + c.in-Ok.taken.nodes = (let n = t.nodes in omega (arith, n, counted)) in
+    let end : ℕ = v.end + length (entry (Object stored)) + 1 in
+    let long : length c.as_slice.result.now ≡ nodes_for c.args.ledger.now.shape (length t.bytes) * (1 + c.args.ledger.now.shape.alpha) =
+    t.woven.digests_are.long ∙ ap (λ (n : ℕ). n * (1 + v.shape.alpha)) (let e : t.heads.lattice.n - v.lattice.n ≡ nodes_for v.shape (length t.bytes) = (omega (arith, last, counted, ap (nodes_for v.shape) t.long)) in e) in
+    let fits : v.lattice.n + nodes_for v.shape (length t.bytes) ≤ limit_when v.raised = (let f = c.in-Ok.ensures.fits in omega (arith, f, counted, ap (nodes_for v.shape) t.long)) in
+    let size : next_end v.end (length name) (nodes_for v.shape (length t.bytes) * (1 + v.shape.alpha)) + 1 ≡ v.end + length (entry (Object stored)) + 1 = omega (arith, c.commit_object.ensures.size (ap length t.digest_is ∙ length-sha256 t.bytes), long) in
+    writes_as tells _ _ _ _ old new (λ is. absurd (let e = is in cc))
+    (both_write tells bad _ v name left rest (v.end + length (entry (Object stored)) + 1) old mid new c.weave_object.ensures.writes c.commit_object.ensures.writes
+    (λ has. subst (λ (n : ℕ). HasRoomTo old 0 n) size (has.ledger t.bytes t.taken fits)))
+
+pub returns-in-Ok-commit_object-clause-padded : goal.returns-in-Ok-commit_object-clause-padded
+returns-in-Ok-commit_object-clause-padded g c fine told =
+    let old = g.D.Disk.state c.args.disk.now in
+    let mid = g.D.Disk.state c.weave_object.new.disk in
+    let new = g.D.Disk.state c.commit_object.new.disk in
+    let v = c.args.ledger.now in
+    let name = c.args.name.now in
+    let tells = g.D.Disk.tells in
+    let left = (g.S.Source.state c.args.source.now).left in
+    let rest = (g.S.Source.state c.weave_object.new.source).left in
+    let k = c.in-Ok.taken.length in
+    let digest = c.in-Ok.taken.digest in
+    let nodes = c.in-Ok.taken.nodes in
+    let digests = c.as_slice.result.now in
+    let counted : c.in-Ok.taken.nodes ≡ nodes_for c.args.ledger.now.shape c.in-Ok.taken.length = c.in-Ok.ensures.nodes in
+    let t : TakesAll g.D.Disk.tells c.args.ledger.now.shape c.args.ledger.now.lattice c.args.ledger.now.digests c.in-Ok.taken.length c.in-Ok.taken.digest (g.S.Source.state c.args.source.now).left (g.S.Source.state c.weave_object.new.source).left c.as_slice.result.now (g.D.Disk.state c.args.disk.now).files (g.D.Disk.state c.weave_object.new.disk).files =
+    subst (λ (d : List (List ℕ)). TakesAll tells v.shape v.lattice v.digests k digest left rest d old.files mid.files) (sym c.as_slice.ensures.value) c.in-Ok.ensures.took in
+    let stored : Stored = next_stored v name k digest nodes digests in
+    let bad = c.weave_object.result ≡ Err DiskFault in
+    let last : t.heads.lattice.n ≡ c.args.ledger.now.lattice.n + c.in-Ok.taken.nodes = (let n = t.nodes in omega (arith, n, counted)) in
+    padded_both v.shape (IsBlockIn v.shape v.lattice.n) old.files mid.files new.files (c.weave_object.ensures.padded (λ e. (let is = c.in-Ok.is in cc)) told) (padded_commit v mid.files new.files (c.commit_object.ensures.writes.contents told))
+
+pub returns-in-Err-NoMemory-commit_object-clause-padded : goal.returns-in-Err-NoMemory-commit_object-clause-padded
+returns-in-Err-NoMemory-commit_object-clause-padded g c fine told =
+    let old = g.D.Disk.state c.args.disk.now in
+    let mid = g.D.Disk.state c.weave_object.new.disk in
+    let new = g.D.Disk.state c.commit_object.new.disk in
+    let v = c.args.ledger.now in
+    let name = c.args.name.now in
+    let tells = g.D.Disk.tells in
+    let left = (g.S.Source.state c.args.source.now).left in
+    let rest = (g.S.Source.state c.weave_object.new.source).left in
+    let k = c.in-Ok.taken.length in
+    let digest = c.in-Ok.taken.digest in
+    let nodes = c.in-Ok.taken.nodes in
+    let digests = c.as_slice.result.now in
+    let counted : c.in-Ok.taken.nodes ≡ nodes_for c.args.ledger.now.shape c.in-Ok.taken.length = c.in-Ok.ensures.nodes in
+    let t : TakesAll g.D.Disk.tells c.args.ledger.now.shape c.args.ledger.now.lattice c.args.ledger.now.digests c.in-Ok.taken.length c.in-Ok.taken.digest (g.S.Source.state c.args.source.now).left (g.S.Source.state c.weave_object.new.source).left c.as_slice.result.now (g.D.Disk.state c.args.disk.now).files (g.D.Disk.state c.weave_object.new.disk).files =
+    subst (λ (d : List (List ℕ)). TakesAll tells v.shape v.lattice v.digests k digest left rest d old.files mid.files) (sym c.as_slice.ensures.value) c.in-Ok.ensures.took in
+    let stored : Stored = next_stored v name k digest nodes digests in
+    let bad = c.weave_object.result ≡ Err DiskFault in
+    let last : t.heads.lattice.n ≡ c.args.ledger.now.lattice.n + c.in-Ok.taken.nodes = (let n = t.nodes in omega (arith, n, counted)) in
+    padded_both v.shape (IsBlockIn v.shape v.lattice.n) old.files mid.files new.files (c.weave_object.ensures.padded (λ e. (let is = c.in-Ok.is in cc)) told) (padded_commit v mid.files new.files (c.commit_object.ensures.writes.contents told))
+
+pub commit_object-requires-clause-fixed : goal.commit_object-requires-clause-fixed
+commit_object-requires-clause-fixed g c told =
+    let v = c.args.ledger.now in
+    fixed_kept g.D.Disk.tells (HaveSitesRoom v.shape (limit_when v.raised) (g.D.Disk.state c.args.disk.now)) (c.weave_object.result ≡ Err DiskFault) v.shape (limit_when v.raised) (IsBlockIn v.shape v.lattice.n) (IsNoSite v.shape) (g.D.Disk.state c.args.disk.now) (g.D.Disk.state c.weave_object.new.disk) 0 told (inl refl) c.weave_object.ensures.writes (c.requires.fixed told)
+
+pub returns-in-Ok-commit_object-clause-head_refused : goal.returns-in-Ok-commit_object-clause-head_refused
+returns-in-Ok-commit_object-clause-head_refused g c told a damaged = absurd (damaged.damaged (c.in-Ok.ensures.intact told a damaged.last))
+
+pub returns-in-Ok-commit_object-clause-full_refused : goal.returns-in-Ok-commit_object-clause-full_refused
+returns-in-Ok-commit_object-clause-full_refused g c bytes is past =
+    let old = g.D.Disk.state c.args.disk.now in
+    let mid = g.D.Disk.state c.weave_object.new.disk in
+    let new = g.D.Disk.state c.commit_object.new.disk in
+    let v = c.args.ledger.now in
+    let name = c.args.name.now in
+    let tells = g.D.Disk.tells in
+    let left = (g.S.Source.state c.args.source.now).left in
+    let rest = (g.S.Source.state c.weave_object.new.source).left in
+    let k = c.in-Ok.taken.length in
+    let digest = c.in-Ok.taken.digest in
+    let nodes = c.in-Ok.taken.nodes in
+    let digests = c.as_slice.result.now in
+    let counted : c.in-Ok.taken.nodes ≡ nodes_for c.args.ledger.now.shape c.in-Ok.taken.length = c.in-Ok.ensures.nodes in
+    let t : TakesAll g.D.Disk.tells c.args.ledger.now.shape c.args.ledger.now.lattice c.args.ledger.now.digests c.in-Ok.taken.length c.in-Ok.taken.digest (g.S.Source.state c.args.source.now).left (g.S.Source.state c.weave_object.new.source).left c.as_slice.result.now (g.D.Disk.state c.args.disk.now).files (g.D.Disk.state c.weave_object.new.disk).files =
+    subst (λ (d : List (List ℕ)). TakesAll tells v.shape v.lattice v.digests k digest left rest d old.files mid.files) (sym c.as_slice.ensures.value) c.in-Ok.ensures.took in
+    let stored : Stored = next_stored v name k digest nodes digests in
+    let bad = c.weave_object.result ≡ Err DiskFault in
+    let last : t.heads.lattice.n ≡ c.args.ledger.now.lattice.n + c.in-Ok.taken.nodes = (let n = t.nodes in omega (arith, n, counted)) in
+    let long = all_long left bytes t.bytes rest is t.taken t.end in
+    absurd (let f = c.in-Ok.ensures.fits in omega (arith, f, counted, past, ap (nodes_for v.shape) (sym long ∙ t.long)))
+
+pub returns-in-Ok-commit_object-clause-ledger : goal.returns-in-Ok-commit_object-clause-ledger
+returns-in-Ok-commit_object-clause-ledger g c told =
+    let old = g.D.Disk.state c.args.disk.now in
+    let mid = g.D.Disk.state c.weave_object.new.disk in
+    let new = g.D.Disk.state c.commit_object.new.disk in
+    let v = c.args.ledger.now in
+    let name = c.args.name.now in
+    let tells = g.D.Disk.tells in
+    let left = (g.S.Source.state c.args.source.now).left in
+    let rest = (g.S.Source.state c.weave_object.new.source).left in
+    let k = c.in-Ok.taken.length in
+    let digest = c.in-Ok.taken.digest in
+    let nodes = c.in-Ok.taken.nodes in
+    let digests = c.as_slice.result.now in
+    let counted : c.in-Ok.taken.nodes ≡ nodes_for c.args.ledger.now.shape c.in-Ok.taken.length = c.in-Ok.ensures.nodes in
+    let t : TakesAll g.D.Disk.tells c.args.ledger.now.shape c.args.ledger.now.lattice c.args.ledger.now.digests c.in-Ok.taken.length c.in-Ok.taken.digest (g.S.Source.state c.args.source.now).left (g.S.Source.state c.weave_object.new.source).left c.as_slice.result.now (g.D.Disk.state c.args.disk.now).files (g.D.Disk.state c.weave_object.new.disk).files =
+    subst (λ (d : List (List ℕ)). TakesAll tells v.shape v.lattice v.digests k digest left rest d old.files mid.files) (sym c.as_slice.ensures.value) c.in-Ok.ensures.took in
+    let stored : Stored = next_stored v name k digest nodes digests in
+    let bad = c.weave_object.result ≡ Err DiskFault in
+    let last : t.heads.lattice.n ≡ c.args.ledger.now.lattice.n + c.in-Ok.taken.nodes = (let n = t.nodes in omega (arith, n, counted)) in
+    let end : ℕ = v.end + length (entry (Object stored)) + 1 in
+    let long : length c.as_slice.result.now ≡ nodes_for c.args.ledger.now.shape (length t.bytes) * (1 + c.args.ledger.now.shape.alpha) =
+    t.woven.digests_are.long ∙ ap (λ (n : ℕ). n * (1 + v.shape.alpha)) (let e : t.heads.lattice.n - v.lattice.n ≡ nodes_for v.shape (length t.bytes) = (omega (arith, last, counted, ap (nodes_for v.shape) t.long)) in e) in
+    let fits : v.lattice.n + nodes_for v.shape (length t.bytes) ≤ limit_when v.raised = (let f = c.in-Ok.ensures.fits in omega (arith, f, counted, ap (nodes_for v.shape) t.long)) in
+    let size : next_end v.end (length name) (nodes_for v.shape (length t.bytes) * (1 + v.shape.alpha)) + 1 ≡ v.end + length (entry (Object stored)) + 1 = omega (arith, c.commit_object.ensures.size (ap length t.digest_is ∙ length-sha256 t.bytes), long) in
+    let same = ap length ((c.weave_object.ensures.writes.contents told).stay 0 (inl refl)) in
+    let most = c.commit_object.ensures.long told in
+    let n : c.in-Ok.taken.nodes * (1 + v.shape.alpha) ≡ nodes_for v.shape (length t.bytes) * (1 + v.shape.alpha) = ap (λ (x : ℕ). x * (1 + v.shape.alpha)) (counted ∙ ap (nodes_for v.shape) (sym t.long)) in
+    omega (arith, same, most, size, n)
+
+pub returns-in-Err-NoMemory-commit_object-clause-refused_leaves : goal.returns-in-Err-NoMemory-commit_object-clause-refused_leaves
+returns-in-Err-NoMemory-commit_object-clause-refused_leaves g c is fine told =
+    let old = g.D.Disk.state c.args.disk.now in
+    let mid = g.D.Disk.state c.weave_object.new.disk in
+    let new = g.D.Disk.state c.commit_object.new.disk in
+    let v = c.args.ledger.now in
+    let name = c.args.name.now in
+    let tells = g.D.Disk.tells in
+    let left = (g.S.Source.state c.args.source.now).left in
+    let rest = (g.S.Source.state c.weave_object.new.source).left in
+    let k = c.in-Ok.taken.length in
+    let digest = c.in-Ok.taken.digest in
+    let nodes = c.in-Ok.taken.nodes in
+    let digests = c.as_slice.result.now in
+    let counted : c.in-Ok.taken.nodes ≡ nodes_for c.args.ledger.now.shape c.in-Ok.taken.length = c.in-Ok.ensures.nodes in
+    let t : TakesAll g.D.Disk.tells c.args.ledger.now.shape c.args.ledger.now.lattice c.args.ledger.now.digests c.in-Ok.taken.length c.in-Ok.taken.digest (g.S.Source.state c.args.source.now).left (g.S.Source.state c.weave_object.new.source).left c.as_slice.result.now (g.D.Disk.state c.args.disk.now).files (g.D.Disk.state c.weave_object.new.disk).files =
+    subst (λ (d : List (List ℕ)). TakesAll tells v.shape v.lattice v.digests k digest left rest d old.files mid.files) (sym c.as_slice.ensures.value) c.in-Ok.ensures.took in
+    let stored : Stored = next_stored v name k digest nodes digests in
+    let bad = c.weave_object.result ≡ Err DiskFault in
+    let last : t.heads.lattice.n ≡ c.args.ledger.now.lattice.n + c.in-Ok.taken.nodes = (let n = t.nodes in omega (arith, n, counted)) in
+    let leaves = leaves_ledger tells bad told v old mid (c.requires.fixed told) c.weave_object.ensures.writes in
+    let kept = c.commit_object.ensures.unchanged (inr (c.in-Err-NoMemory-commit_object.is ∙ ap Err c.in-Err-NoMemory-commit_object.field-0-is)) in
+    record {
+      images = during_then_kept old mid new (λ d. d 0 ≡ old.files 0) c.weave_object.ensures.writes.time c.commit_object.ensures.writes.time kept.1.0 leaves.images;
+      reads = ap (λ (f : Files). f 0) (kept.1.1 told) ∙ leaves.reads;
+    }
+
+pub returns-in-Err-DiskFault-commit_object-clause-stopped : goal.returns-in-Err-DiskFault-commit_object-clause-stopped
+returns-in-Err-DiskFault-commit_object-clause-stopped g c is told =
+    let old = g.D.Disk.state c.args.disk.now in
+    let mid = g.D.Disk.state c.weave_object.new.disk in
+    let new = g.D.Disk.state c.commit_object.new.disk in
+    let v = c.args.ledger.now in
+    let name = c.args.name.now in
+    let tells = g.D.Disk.tells in
+    let left = (g.S.Source.state c.args.source.now).left in
+    let rest = (g.S.Source.state c.weave_object.new.source).left in
+    let k = c.in-Ok.taken.length in
+    let digest = c.in-Ok.taken.digest in
+    let nodes = c.in-Ok.taken.nodes in
+    let digests = c.as_slice.result.now in
+    let counted : c.in-Ok.taken.nodes ≡ nodes_for c.args.ledger.now.shape c.in-Ok.taken.length = c.in-Ok.ensures.nodes in
+    let t : TakesAll g.D.Disk.tells c.args.ledger.now.shape c.args.ledger.now.lattice c.args.ledger.now.digests c.in-Ok.taken.length c.in-Ok.taken.digest (g.S.Source.state c.args.source.now).left (g.S.Source.state c.weave_object.new.source).left c.as_slice.result.now (g.D.Disk.state c.args.disk.now).files (g.D.Disk.state c.weave_object.new.disk).files =
+    subst (λ (d : List (List ℕ)). TakesAll tells v.shape v.lattice v.digests k digest left rest d old.files mid.files) (sym c.as_slice.ensures.value) c.in-Ok.ensures.took in
+    let stored : Stored = next_stored v name k digest nodes digests in
+    let bad = c.weave_object.result ≡ Err DiskFault in
+    let last : t.heads.lattice.n ≡ c.args.ledger.now.lattice.n + c.in-Ok.taken.nodes = (let n = t.nodes in omega (arith, n, counted)) in
+    let o : NewObject = record { name = name; bytes = t.bytes } in
+    record {
+      objects = o ∷ [];
+      most = inr (o, record { name_is = refl; taken = t.taken; end = t.end }, refl);
+      payload = t.woven.payload;
+      homes = λ some. t.woven.homes told;
+      added = Object stored ∷ [];
+      lattice = t.heads.lattice;
+      next = (t.heads.lattice, stored, refl, next_woven tells v name k nodes digest left rest digests old.files mid.files counted t, refl);
+      adds = λ records its.
+          adds_put c.ledgers_have_one_reading.ensures tells bad _ _ told v records (Object stored) t.woven.payload old mid new its (c.requires.fixed told) c.weave_object.ensures.writes c.commit_object.ensures.writes
+          (c.commit_object.ensures.adds told records t.woven.payload (its_later tells bad told v records old mid c.weave_object.ensures.writes its)
+          (subst (λ (n : ℕ). AreAtHome v.shape v.lattice.n n t.woven.payload mid.files) last (t.woven.cells told)));
+      long = (let same = ap length ((c.weave_object.ensures.writes.contents told).stay 0 (inl refl)) in let most = c.commit_object.ensures.long told in
+          let sum : sum_by (λ (r : Record). length (entry r)) (Object stored ∷ []) ≡ length (entry (Object stored)) = omega arith in omega (arith, same, most, sum));
+    }
+
+pub returns-in-Ok-commit_object-clause-stored : goal.returns-in-Ok-commit_object-clause-stored
+returns-in-Ok-commit_object-clause-stored g c =
+    let old = g.D.Disk.state c.args.disk.now in
+    let mid = g.D.Disk.state c.weave_object.new.disk in
+    let new = g.D.Disk.state c.commit_object.new.disk in
+    let v = c.args.ledger.now in
+    let name = c.args.name.now in
+    let tells = g.D.Disk.tells in
+    let left = (g.S.Source.state c.args.source.now).left in
+    let rest = (g.S.Source.state c.weave_object.new.source).left in
+    let k = c.in-Ok.taken.length in
+    let digest = c.in-Ok.taken.digest in
+    let nodes = c.in-Ok.taken.nodes in
+    let digests = c.as_slice.result.now in
+    let counted : c.in-Ok.taken.nodes ≡ nodes_for c.args.ledger.now.shape c.in-Ok.taken.length = c.in-Ok.ensures.nodes in
+    let t : TakesAll g.D.Disk.tells c.args.ledger.now.shape c.args.ledger.now.lattice c.args.ledger.now.digests c.in-Ok.taken.length c.in-Ok.taken.digest (g.S.Source.state c.args.source.now).left (g.S.Source.state c.weave_object.new.source).left c.as_slice.result.now (g.D.Disk.state c.args.disk.now).files (g.D.Disk.state c.weave_object.new.disk).files =
+    subst (λ (d : List (List ℕ)). TakesAll tells v.shape v.lattice v.digests k digest left rest d old.files mid.files) (sym c.as_slice.ensures.value) c.in-Ok.ensures.took in
+    let stored : Stored = next_stored v name k digest nodes digests in
+    let bad = c.weave_object.result ≡ Err DiskFault in
+    let last : t.heads.lattice.n ≡ c.args.ledger.now.lattice.n + c.in-Ok.taken.nodes = (let n = t.nodes in omega (arith, n, counted)) in
+    let o : NewObject = record { name = name; bytes = t.bytes } in
+    let w = c.commit_object.new.ledger in
+    let value = c.in-Ok-commit_object.ensures.value in
+    let same = c.in-Ok-commit_object.ensures.shape in (
+      o,
+      record { name_is = refl; taken = t.taken; end = t.end },
+      record {
+        count = counted ∙ ap (nodes_for v.shape) (sym t.long);
+        size = sym t.long;
+        digest = t.digest_is;
+        payload = t.woven.payload;
+        lasts = t.woven.lasts;
+        homes = t.woven.homes;
+        r = stored;
+        next = next_of tells v w name k nodes digest left rest digests old.files mid.files counted t same c.requires.opened.0 c.requires.opened.1 (value c.requires.opened.0 c.requires.opened.1);
+        value = value;
+        live = c.in-Ok-commit_object.ensures.live_on;
+        adds = λ told records its.
+            adds_put c.ledgers_have_one_reading.ensures tells bad _ _ told v records (Object stored) t.woven.payload old mid new its (c.requires.fixed told) c.weave_object.ensures.writes c.commit_object.ensures.writes
+            (c.commit_object.ensures.adds told records t.woven.payload (its_later tells bad told v records old mid c.weave_object.ensures.writes its)
+            (subst (λ (n : ℕ). AreAtHome v.shape v.lattice.n n t.woven.payload mid.files) last (t.woven.cells told)));
+        added = λ told records its.
+            added_of tells v name k nodes digest left rest digests old.files mid.files counted t c.cells_have_lengths.ensures c.cells_have_parts.ensures c.digests_are_counted.ensures records its.has new
+            (cells_stay v.shape v.lattice.n t.heads.lattice.n t.woven.payload mid.files new.files (c.commit_object.ensures.writes.contents told) (t.woven.cells told))
+            (c.in-Ok-commit_object.ensures.appended told records (its_later tells bad told v records old mid c.weave_object.ensures.writes its)) (c.in-Ok-commit_object.ensures.durable told);
+        records_more = λ told records datas has old_records honest.
+            more_of tells v w name k nodes digest left rest digests old.files mid.files counted t same records has (value records has) c.next_records_more.ensures c.lasts_are_values.ensures told datas old_records honest;
+        honest = λ told records datas has old_records honest plain.
+            honest_of tells v w name k nodes digest left rest digests old.files mid.files counted t same records has (value records has) c.next_records_more.ensures c.lasts_are_values.ensures c.survivors_stay_honest.ensures c.digests_are_counted.ensures told datas old_records new.files
+            (subst (λ (l : Lattice). AreAtHome v.shape v.lattice.n l.n t.woven.payload new.files) (woven_to tells v w name k nodes digest left rest digests old.files mid.files counted t same records has (value records has))
+            (cells_stay v.shape v.lattice.n t.heads.lattice.n t.woven.payload mid.files new.files (c.commit_object.ensures.writes.contents told) (t.woven.cells told)))
+            (padded_both v.shape (IsBlockIn v.shape v.lattice.n) old.files mid.files new.files (c.weave_object.ensures.padded (λ e. (let is = c.in-Ok.is in cc)) told) (padded_commit v mid.files new.files (c.commit_object.ensures.writes.contents told)))
+            (keeps_intact v.shape (IsBlockIn v.shape v.lattice.n) old.files new.files (((returns-in-Ok-commit_object-clause-writes g c).contents told).homes))
+            honest plain;
+      },
+    )

@@ -1,0 +1,49 @@
+-- The causes of what `put` answers, in the order in which they are met.
+use Rattle.std.specs.Prelude.{◌≡◌, ◌≢◌, ◌⊎◌, ◌≤◌, ℕ, ◌+◌, ◌*◌, List, length, Option, None, Result, Err}
+use Rattle.std.specs.FinMap.{get, len}
+use Rattle.std.specs.Io.KnownBytes.{Consumes}
+use Rattle.aea_lattice.specs.declared.blocks.BlockId.{BlockId}
+use Rattle.aea_disk.specs.State.{State, HasRoomTo}
+use Rattle.aea_catalog.specs.Names.{IsName}
+use Rattle.aea_records.specs.Format.{greatest_objects, nodes_for, limit_when}
+use Rattle.aea_ledger.specs.Values.{Opened}
+use Rattle.aea_archive.specs.Cells.{HaveSitesRoom}
+use Rattle.aea_append.specs.declared.fault.PutFault.{PutFault}
+use Rattle.aea_append.specs.declared.fault.PutFault.TheVariants.{BadName, NameTaken, CatalogFull, HeadDamaged, DiskFault, NoMemory}
+
+-- an object has the name
+abbrev pub IsTaken : Opened → List ℕ → Type 0
+IsTaken v name = get v.objects name ≢ None
+
+-- the name is one, no object has it, and there are not the most objects
+pub record MayEnter (v : Opened) (name : List ℕ) : Type 0 where
+  pub named : IsName name
+  pub free : get v.objects name ≡ None
+  pub few : len v.objects ≢ greatest_objects
+
+-- a refusal before the source is read
+abbrev pub IsEarly : {T : Type 0} → Result T PutFault → Type 0
+IsEarly result = (result ≡ Err BadName) ⊎ ((result ≡ Err NameTaken) ⊎ (result ≡ Err CatalogFull))
+
+-- a fault of the disk, or want of memory
+abbrev pub IsOutside : {T : Type 0} → Result T PutFault → Type 0
+IsOutside result = (result ≡ Err DiskFault) ⊎ (result ≡ Err NoMemory)
+
+-- some last parity is damaged, but for a fault of the disk and want of memory
+abbrev pub IsHeadRefused : {T : Type 0} → Result T PutFault → Type 0
+IsHeadRefused result = ((b : BlockId) × (result ≡ Err (HeadDamaged b))) ⊎ IsOutside result
+
+-- where a ledger that ends at this place ends with one more record: that of a name of so many bytes and so many digests
+abbrev pub next_end : ℕ → ℕ → ℕ → ℕ
+next_end end long digests = end + 56 + long + 32 * digests
+
+-- the ledger has room for the record of each object that the source can have given
+abbrev pub HasLedgerRoom : Opened → List ℕ → Option (List ℕ) → Option (List ℕ) → State → Type 0
+HasLedgerRoom v name left rest s =
+    (bytes : List ℕ) → Consumes left rest bytes → v.lattice.n + nodes_for v.shape (length bytes) ≤ limit_when v.raised
+    → HasRoomTo s 0 (next_end v.end (length name) (nodes_for v.shape (length bytes) * (1 + v.shape.alpha)) + 1)
+
+-- the disk has room for all that may be written
+pub record HasPutRoom (v : Opened) (name : List ℕ) (left rest : Option (List ℕ)) (s : State) : Type 0 where
+  pub sites : HaveSitesRoom v.shape (limit_when v.raised) s
+  pub ledger : HasLedgerRoom v name left rest s

@@ -1,0 +1,73 @@
+-- What is left where an object was stored, and what may be left where the disk failed.
+use Rattle.std.specs.Prelude.{◌≡◌, ◌≢◌, ◌⊎◌, ◌≤◌, ℕ, ◌+◌, max, List, [], ◌∷◌, ◌++◌, length, Option, true}
+use Rattle.std.specs.List.{sum_by}
+use Rattle.std.specs.Io.KnownBytes.{Consumes, IsAtEnd}
+use Rattle.sha2.specs.Sha256.{sha256}
+use Rattle.aea_lattice.specs.declared.blocks.BlockId.{BlockId}
+use Rattle.aea_lattice.specs.declared.grid.Lattice.{Lattice}
+use Rattle.aea_disk.specs.State.{State, During}
+use Rattle.aea_records.specs.Format.{Stored, Record, Object, nodes_for, entry}
+use Rattle.aea_ledger.specs.Values.{Opened, HasRecords}
+use Rattle.aea_ledger.specs.Next.{AreItsRecords}
+use Rattle.aea_ledger.specs.Recorded.{AreRecordsOf}
+use Rattle.aea_archive.specs.Lasts.{AreLastsRecorded, AreLastsAtHome, AreLastsHonest}
+use Rattle.aea_archive.specs.Next.{NewObject, object_blocks, IsNextStored, AreNextRecords}
+use Rattle.aea_archive.specs.Stretches.{Adds, HasAdded}
+use Rattle.aea_archive.specs.Data.{AreSurvivorsHonest, IsDamagePlain, RecordsMore}
+use Rattle.aea_append.specs.declared.store.StoredObject.{StoredObject}
+
+-- The object was stored: with which payloads of its blocks, and by which record.
+pub record HasStored (tells : Type 0) (v w : Opened) (o : NewObject) (old new : State) (stored : StoredObject) : Type 0 where
+  -- what the caller is told
+  pub count : stored.nodes ≡ nodes_for v.shape (length o.bytes)
+  pub size : stored.length ≡ length o.bytes
+  pub digest : stored.digest ≡ sha256 o.bytes
+  -- the payloads: of the last parities as they are recorded and stand at their homes, of the new blocks as they are woven
+  pub payload : BlockId → List ℕ
+  pub lasts : AreLastsRecorded v.shape v.lattice v.digests payload
+  pub homes : tells → AreLastsAtHome v.shape v.lattice payload old.files
+  pub r : Stored
+  pub next : IsNextStored v.shape v.lattice w.lattice payload o.name o.bytes r
+  -- the opened ledger has the record behind those that it had
+  pub value : (records : List Record) → HasRecords v records → HasRecords w (records ++ Object r ∷ [])
+  pub live : w.live ≡ true
+  -- the disk: what each image of each moment has, and what stands
+  pub adds : tells → (records : List Record) → AreItsRecords v records (old.files 0) → Adds v.shape records (Object r ∷ []) payload old new
+  pub added : tells → (records : List Record) → AreItsRecords v records (old.files 0) → HasAdded v.shape records (Object r ∷ []) new
+  -- each data list that was recorded, and for which the last parities are honest, is recorded with the object's blocks
+  pub records_more : tells → (records : List Record) (datas : List (List ℕ)) → HasRecords v records
+      → AreRecordsOf v.shape records datas → AreLastsHonest v.shape v.lattice v.digests datas old.files
+      → RecordsMore v.shape records (Object r ∷ []) datas (object_blocks v.shape o.bytes) v.lattice w.lattice payload
+  -- survivors that are honest, in plain damage, are so afterwards
+  pub honest : tells → (records : List Record) (datas : List (List ℕ)) → HasRecords v records → AreRecordsOf v.shape records datas
+      → AreSurvivorsHonest v.shape v.lattice v.digests datas old.files → IsDamagePlain v.shape v.lattice v.digests old.files
+      → AreSurvivorsHonest w.shape w.lattice w.digests (datas ++ object_blocks v.shape o.bytes) new.files
+      × IsDamagePlain w.shape w.lattice w.digests new.files
+
+-- The object is the one under this name with all that the source had.
+pub record IsWhole (name : List ℕ) (left rest : Option (List ℕ)) (o : NewObject) : Type 0 where
+  pub name_is : o.name ≡ name
+  pub taken : Consumes left rest o.bytes
+  pub end : IsAtEnd rest
+
+-- all that the source had was stored under the name
+abbrev pub HasPut : Type 0 → Opened → Opened → List ℕ → Option (List ℕ) → Option (List ℕ) → State → State → StoredObject → Type 0
+HasPut tells v w name left rest old new stored = (o : NewObject) × IsWhole name left rest o × HasStored tells v w o old new stored
+
+-- The disk failed: the archive is the one before, or that with an object of which the fact holds.
+pub record MayHaveStored (v : Opened) (Fits : NewObject → Type 0) (old new : State) : Type 0 where
+  pub objects : List NewObject
+  pub most : (objects ≡ []) ⊎ ((o : NewObject) × Fits o × (objects ≡ o ∷ []))
+  pub payload : BlockId → List ℕ
+  pub homes : objects ≢ [] → AreLastsAtHome v.shape v.lattice payload old.files
+  pub added : List Record
+  pub lattice : Lattice
+  pub next : AreNextRecords v.shape v.lattice lattice payload objects added
+  pub adds : (records : List Record) → AreItsRecords v records (old.files 0) → Adds v.shape records added payload old new
+  -- no write went past the gate that would end the new ledger
+  pub long : length (new.files 0) ≤ max (length (old.files 0)) (v.end + sum_by (λ r. length (entry r)) added + 1)
+
+-- The ledger file stays: each image of each moment has it as it was, and it reads so.
+pub record LeavesLedger (old new : State) : Type 0 where
+  pub images : During old new (λ c. c 0 ≡ old.files 0)
+  pub reads : new.files 0 ≡ old.files 0

@@ -1,0 +1,234 @@
+//! An object that is put.
+
+ghost use Rattle.std.specs.Prelude.{◌≡◌, ◌≢◌, ◌⊎◌, ◌↔◌, ◌+◌, ◌*◌, ◌≤◌, ◌<◌, true, false, ℕ, List, length, max, None, Some, IfOk, OnOk, IsOk, IsErr};
+ghost use Rattle.std.specs.FinMap.{len};
+ghost use Rattle.aea_faults.specs.Faults.{Rose};
+ghost use Rattle.aea_io.specs.Taken.{TakesAtMost};
+ghost use Rattle.aea_lattice.specs.declared.blocks.BlockId.{BlockId};
+ghost use Rattle.aea_disk.specs.State.{IsFixed};
+ghost use Rattle.aea_disk.specs.Frames.{OnlyReads, OnlyWrites};
+ghost use Rattle.aea_shelf.specs.Writes.{KeepsPadded};
+ghost use Rattle.aea_catalog.specs.Names.{IsName};
+ghost use Rattle.aea_records.specs.Format.{greatest_objects, nodes_for, limit_when};
+ghost use Rattle.aea_ledger.specs.Values.{HasSomeRecords, IsThisOne};
+ghost use Rattle.aea_archive.specs.Blocks.{IsBlockIn};
+ghost use Rattle.aea_archive.specs.Cells.{IsBesides, ChangesArchive};
+ghost use Rattle.aea_archive.specs.Lasts.{IsLastParity, IsDamagedLast, IsFirstDamagedLast, AreLastsIntact};
+ghost use Rattle.aea_append.specs.Taking.{HasPassedRoom, room_left};
+ghost use Rattle.aea_append.specs.Puts.{IsWhole, HasPut, MayHaveStored, LeavesLedger};
+ghost use Rattle.aea_append.specs.Causes.{IsTaken, MayEnter, IsEarly, IsHeadRefused, HasPutRoom, next_end};
+
+use crate::commit::commit_object;
+use crate::fault::PutFault;
+use crate::object::{Taken, weave_object};
+use aea_archive::{lasts_are_values, next_records_more, survivors_stay_honest};
+use aea_catalog::check_name;
+use aea_disk::Disk;
+use aea_envelope::{cells_have_lengths, cells_have_parts};
+use aea_io::Source;
+use aea_ledger::{AppendFault, Ledger};
+use aea_records::{digests_are_counted, ledgers_have_one_reading};
+use std::alloc::Global;
+
+/// What was stored: the nodes of the object, its bytes, and their SHA-256 (FIPS 180-4).
+#[derive(Clone, Copy, Debug, PartialEq, Eq)]
+pub struct StoredObject {
+    pub nodes: u32,
+    pub length: u64,
+    pub digest: [u8; 32],
+}
+
+// The most objects of a ledger.
+const MAX_OBJECTS: usize = 65_536;
+
+// Whether an object may be put under the name.
+fn may_enter(ledger: &Ledger, name: &[u8]) -> Result<(), PutFault>
+    ensures bad_name { (result ≡ Err PutFault.BadName) ↔ (¬ IsName name.now) }
+    ensures taken { (result ≡ Err PutFault.NameTaken) ↔ (IsName name.now × IsTaken ledger.now name.now) }
+    ensures many { (result ≡ Err PutFault.CatalogFull) ↔ (IsName name.now × (¬ IsTaken ledger.now name.now) × (len ledger.now.objects ≡ greatest_objects)) }
+    ensures may { OnOk result (MayEnter ledger.now name.now) }
+    ensures enters { MayEnter ledger.now name.now → IsOk result }
+    ensures early { (result ≡ Ok tt) ⊎ IsEarly result }
+{
+    if !check_name(name) {
+        return Err(PutFault::BadName);
+    }
+    if ledger.catalog().find(name).is_some() {
+        return Err(PutFault::NameTaken);
+    }
+    if ledger.catalog().len() == MAX_OBJECTS {
+        return Err(PutFault::CatalogFull);
+    }
+    Ok(())
+}
+
+// Stores all that the source has under a name that may enter.
+fn put_checked<D: Disk, S: Source>(
+    alloc: Global,
+    ledger: &mut Ledger,
+    disk: &mut D,
+    name: &[u8],
+    source: &mut S,
+) -> Result<StoredObject, PutFault>
+    requires enters { MayEnter ledger.old name.now }
+    requires opened { HasSomeRecords ledger.old }
+    requires live { ledger.old.live ≡ true }
+    requires this { D.tells → IsThisOne ledger.old ((D.state disk.old).files 0) }
+    requires fixed { D.tells → IsFixed (D.state disk.old) 0 }
+
+    // Stored.
+    ensures stored { IfOk result (HasPut D.tells ledger.old ledger.new name.now (S.state source.old).left (S.state source.new).left (D.state disk.old) (D.state disk.new)) }
+
+    ensures late { IsEarly result → ⊥ }
+
+    // A last parity that is damaged.
+    ensures head { (b : BlockId) → result ≡ Err (PutFault.HeadDamaged b) → IsLastParity ledger.old.lattice b × (D.tells → IsFirstDamagedLast ledger.old.shape ledger.old.lattice ledger.old.digests (D.state disk.old).files b) }
+    ensures head_leaves { (b : BlockId) → result ≡ Err (PutFault.HeadDamaged b) → (source.new ≡ source.old) × OnlyReads D.tells ⊥ (D.state disk.old) (D.state disk.new) }
+    ensures head_refused { D.tells → (a : BlockId) → IsDamagedLast ledger.old.shape ledger.old.lattice ledger.old.digests (D.state disk.old).files a → IsHeadRefused result }
+
+    // More bytes than there are nodes for.
+    ensures full { (nodes : ℕ) → result ≡ Err (PutFault.Full nodes) → (nodes ≡ ledger.old.lattice.n) × (HasPassedRoom ledger.old (S.state source.old).left (S.state source.new).left × (D.tells → AreLastsIntact ledger.old.shape ledger.old.lattice ledger.old.digests (D.state disk.old).files)) }
+    ensures full_refused { (bytes : List ℕ) → (S.state source.old).left ≡ Some bytes → limit_when ledger.old.raised < ledger.old.lattice.n + nodes_for ledger.old.shape (length bytes)
+        → (result ≡ Err (PutFault.Full ledger.old.lattice.n)) ⊎ ((result ≡ Err PutFault.ReadFault) ⊎ IsHeadRefused result) }
+
+    // Where nothing stands against it and no count of faults rises, it is stored, but for want of memory.
+    ensures complete { D.tells → (bytes : List ℕ) → (S.state source.old).left ≡ Some bytes → MayEnter ledger.old name.now
+        → AreLastsIntact ledger.old.shape ledger.old.lattice ledger.old.digests (D.state disk.old).files
+        → ledger.old.lattice.n + nodes_for ledger.old.shape (length bytes) ≤ limit_when ledger.old.raised
+        → (Rose (D.state disk.old).faults (D.state disk.new).faults → ⊥) → (Rose (S.state source.old).faults (S.state source.new).faults → ⊥)
+        → IsOk result ⊎ (result ≡ Err PutFault.NoMemory) }
+
+    // What stands after each other answer.
+    ensures refused { IsErr result → result ≢ Err PutFault.DiskFault → ledger.new ≡ ledger.old }
+    ensures refused_leaves { IsErr result → result ≢ Err PutFault.DiskFault → D.tells → LeavesLedger (D.state disk.old) (D.state disk.new) }
+    ensures dead { result ≡ Err PutFault.DiskFault → ledger.new ≡ record ledger.old { live = false } }
+    ensures stopped { result ≡ Err PutFault.DiskFault → D.tells → MayHaveStored ledger.old (IsWhole name.now (S.state source.old).left (S.state source.new).left) (D.state disk.old) (D.state disk.new) }
+
+    // The blocks that the archive had and the other files stay, no site grows past the rows that the archive can have, and
+    // when the disk is at fault.
+    ensures writes { OnlyWrites D.tells (HasPutRoom ledger.old name.now (S.state source.old).left (S.state source.new).left (D.state disk.old)) (result ≡ Err PutFault.DiskFault) (ChangesArchive ledger.old.shape (limit_when ledger.old.raised) (IsBlockIn ledger.old.shape ledger.old.lattice.n) (IsBesides ledger.old.shape)) (D.state disk.old) (D.state disk.new) }
+    ensures padded { result ≢ Err PutFault.DiskFault → D.tells → KeepsPadded ledger.old.shape (IsBlockIn ledger.old.shape ledger.old.lattice.n) (D.state disk.old).files (D.state disk.new).files }
+
+    // At most one byte past what fits is read, and when the source is at fault.
+    ensures reads { TakesAtMost (S.state source.old).left (S.state source.new).left (room_left ledger.old + 1) }
+    ensures source_kept { (S.state source.old).faults ≤ (S.state source.new).faults }
+    ensures read_cause { result ≡ Err PutFault.ReadFault → Rose (S.state source.old).faults (S.state source.new).faults }
+
+    // No write goes past the gate that ends the new ledger.
+    ensures ledger { IfOk result (λ stored. D.tells → length ((D.state disk.new).files 0) ≤ max (length ((D.state disk.old).files 0)) (next_end ledger.old.end (length name.now) (stored.nodes * (1 + ledger.old.shape.alpha)) + 1)) }
+{
+    ledgers_have_one_reading();
+    next_records_more();
+    lasts_are_values();
+    survivors_stay_honest();
+    digests_are_counted();
+    cells_have_lengths();
+    cells_have_parts();
+    let taken = match weave_object(alloc, disk, ledger, source) {
+        Ok(taken) => taken,
+        Err(PutFault::DiskFault) => {
+            ledger.retire();
+            return Err(PutFault::DiskFault);
+        }
+        Err(PutFault::HeadDamaged { block }) => return Err(PutFault::HeadDamaged { block }),
+        Err(PutFault::Full { nodes }) => return Err(PutFault::Full { nodes }),
+        Err(PutFault::ReadFault) => return Err(PutFault::ReadFault),
+        Err(PutFault::NoMemory) => return Err(PutFault::NoMemory),
+        Err(_) => unreachable!(),
+    };
+    let Taken {
+        length,
+        nodes,
+        digest,
+        digests,
+    } = taken;
+    match commit_object(
+        ledger,
+        disk,
+        name,
+        length,
+        digest,
+        nodes,
+        digests.as_slice(),
+    ) {
+        Ok(()) => Ok(StoredObject {
+            nodes,
+            length,
+            digest,
+        }),
+        Err(AppendFault::DiskFault) => Err(PutFault::DiskFault),
+        Err(AppendFault::NoMemory) => Err(PutFault::NoMemory),
+        Err(AppendFault::CatalogFull) => unreachable!(),
+    }
+}
+
+/// Stores all that the source has as one object under the name. The cells of the object are written and made sure
+/// before its record is committed, and at `Ok` every file is sure. The last parity of each strand has to be intact. It
+/// takes memory for a block, a cell, the heads, and 64 bytes for each new block, in lists that grow by doubling; none from
+/// the first write of the record on.
+pub fn put<D: Disk, S: Source>(
+    alloc: Global,
+    ledger: &mut Ledger,
+    disk: &mut D,
+    name: &[u8],
+    source: &mut S,
+) -> Result<StoredObject, PutFault>
+    requires opened { HasSomeRecords ledger.old }
+    requires live { ledger.old.live ≡ true }
+    requires this { D.tells → IsThisOne ledger.old ((D.state disk.old).files 0) }
+    requires fixed { D.tells → IsFixed (D.state disk.old) 0 }
+
+    // Stored.
+    ensures stored { IfOk result (HasPut D.tells ledger.old ledger.new name.now (S.state source.old).left (S.state source.new).left (D.state disk.old) (D.state disk.new)) }
+
+    // Refusals by the name and the number of objects, before anything is read or written.
+    ensures bad_name { (result ≡ Err PutFault.BadName) ↔ (¬ IsName name.now) }
+    ensures taken { (result ≡ Err PutFault.NameTaken) ↔ (IsName name.now × IsTaken ledger.old name.now) }
+    ensures many { (result ≡ Err PutFault.CatalogFull) ↔ (IsName name.now × (¬ IsTaken ledger.old name.now) × (len ledger.old.objects ≡ greatest_objects)) }
+    ensures early { IsEarly result → (disk.new ≡ disk.old) × (source.new ≡ source.old) }
+
+    // A last parity that is damaged.
+    ensures head { (b : BlockId) → result ≡ Err (PutFault.HeadDamaged b) → IsLastParity ledger.old.lattice b × (D.tells → IsFirstDamagedLast ledger.old.shape ledger.old.lattice ledger.old.digests (D.state disk.old).files b) }
+    ensures head_leaves { (b : BlockId) → result ≡ Err (PutFault.HeadDamaged b) → (source.new ≡ source.old) × OnlyReads D.tells ⊥ (D.state disk.old) (D.state disk.new) }
+    ensures head_refused { D.tells → MayEnter ledger.old name.now → (a : BlockId) → IsDamagedLast ledger.old.shape ledger.old.lattice ledger.old.digests (D.state disk.old).files a → IsHeadRefused result }
+
+    // More bytes than there are nodes for.
+    ensures full { (nodes : ℕ) → result ≡ Err (PutFault.Full nodes) → (nodes ≡ ledger.old.lattice.n) × (HasPassedRoom ledger.old (S.state source.old).left (S.state source.new).left × (D.tells → AreLastsIntact ledger.old.shape ledger.old.lattice ledger.old.digests (D.state disk.old).files)) }
+    ensures full_refused { (bytes : List ℕ) → (S.state source.old).left ≡ Some bytes → MayEnter ledger.old name.now → limit_when ledger.old.raised < ledger.old.lattice.n + nodes_for ledger.old.shape (length bytes)
+        → (result ≡ Err (PutFault.Full ledger.old.lattice.n)) ⊎ ((result ≡ Err PutFault.ReadFault) ⊎ IsHeadRefused result) }
+
+    // Where nothing stands against it and no count of faults rises, it is stored, but for want of memory.
+    ensures complete { D.tells → (bytes : List ℕ) → (S.state source.old).left ≡ Some bytes → MayEnter ledger.old name.now
+        → AreLastsIntact ledger.old.shape ledger.old.lattice ledger.old.digests (D.state disk.old).files
+        → ledger.old.lattice.n + nodes_for ledger.old.shape (length bytes) ≤ limit_when ledger.old.raised
+        → (Rose (D.state disk.old).faults (D.state disk.new).faults → ⊥) → (Rose (S.state source.old).faults (S.state source.new).faults → ⊥)
+        → IsOk result ⊎ (result ≡ Err PutFault.NoMemory) }
+
+    // What stands after each other answer.
+    ensures refused { IsErr result → result ≢ Err PutFault.DiskFault → ledger.new ≡ ledger.old }
+    ensures refused_leaves { IsErr result → result ≢ Err PutFault.DiskFault → D.tells → LeavesLedger (D.state disk.old) (D.state disk.new) }
+    ensures dead { result ≡ Err PutFault.DiskFault → ledger.new ≡ record ledger.old { live = false } }
+    ensures stopped { result ≡ Err PutFault.DiskFault → D.tells → MayHaveStored ledger.old (IsWhole name.now (S.state source.old).left (S.state source.new).left) (D.state disk.old) (D.state disk.new) }
+
+    // The blocks that the archive had and the other files stay, no site grows past the rows that the archive can have, and
+    // when the disk is at fault.
+    ensures writes { OnlyWrites D.tells (HasPutRoom ledger.old name.now (S.state source.old).left (S.state source.new).left (D.state disk.old)) (result ≡ Err PutFault.DiskFault) (ChangesArchive ledger.old.shape (limit_when ledger.old.raised) (IsBlockIn ledger.old.shape ledger.old.lattice.n) (IsBesides ledger.old.shape)) (D.state disk.old) (D.state disk.new) }
+    ensures padded { result ≢ Err PutFault.DiskFault → D.tells → KeepsPadded ledger.old.shape (IsBlockIn ledger.old.shape ledger.old.lattice.n) (D.state disk.old).files (D.state disk.new).files }
+
+    // At most one byte past what fits is read, and when the source is at fault.
+    ensures reads { TakesAtMost (S.state source.old).left (S.state source.new).left (room_left ledger.old + 1) }
+    ensures source_kept { (S.state source.old).faults ≤ (S.state source.new).faults }
+    ensures read_cause { result ≡ Err PutFault.ReadFault → Rose (S.state source.old).faults (S.state source.new).faults }
+
+    // No write goes past the gate that ends the new ledger.
+    ensures ledger { IfOk result (λ stored. D.tells → length ((D.state disk.new).files 0) ≤ max (length ((D.state disk.old).files 0)) (next_end ledger.old.end (length name.now) (stored.nodes * (1 + ledger.old.shape.alpha)) + 1)) }
+{
+    match may_enter(ledger, name) {
+        Ok(()) => (),
+        Err(fault) => return Err(fault),
+    }
+    put_checked(alloc, ledger, disk, name, source)
+}
+
+#[cfg(test)]
+mod tests;

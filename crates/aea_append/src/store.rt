@@ -49,7 +49,9 @@ fn may_enter(ledger: &Ledger, name: &[u8]) -> Result<(), PutFault>
     ensures may { OnOk result (MayEnter ledger.now name.now) }
     ensures enters { MayEnter ledger.now name.now → IsOk result }
     ensures early { (result ≡ Ok tt) ⊎ IsEarly result }
+    ensures opened { HasSomeRecords ledger.now }
 {
+    let _shape = ledger.shape();
     if !check_name(name) {
         return Err(PutFault::BadName);
     }
@@ -173,7 +175,6 @@ pub fn put<D: Disk, S: Source>(
     name: &[u8],
     source: &mut S,
 ) -> Result<StoredObject, PutFault>
-    requires opened { HasSomeRecords ledger.old }
     requires live { ledger.old.live ≡ true }
     requires this { D.tells → IsThisOne ledger.old ((D.state disk.old).files 0) }
     requires fixed { D.tells → IsFixed (D.state disk.old) 0 }

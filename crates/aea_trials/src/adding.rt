@@ -40,10 +40,10 @@ const COMMANDS: [(&str, &str, &[u8; 11], &str); 2] = [
     ),
 ];
 
-// Makes the bytes the whole ledger file, and all files sure.
-fn fill<D: Disk>(disk: &mut D, bytes: &[u8]) -> Result<(), DiskFault> {
+// Makes that of one node the whole ledger file, and all files sure.
+fn fill<D: Disk>(disk: &mut D) -> Result<(), DiskFault> {
     disk.cut(0, 0)?;
-    disk.write(0, 0, bytes)?;
+    disk.write(0, 0, ONE)?;
     disk.sync()
 }
 
@@ -51,14 +51,14 @@ fn fill<D: Disk>(disk: &mut D, bytes: &[u8]) -> Result<(), DiskFault> {
 fn has_added<D: Disk>(disk: &mut D, record: &[u8; 11]) -> Result<bool, DiskFault> {
     let mut bytes = [9u8; 160];
     let count = disk.read(0, 0, &mut bytes)?;
-    Ok(count == 149 && bytes[..138] == ONE[..138] && bytes[138..149] == record[..])
+    Ok(count == 149 && bytes.starts_with(&ONE[..138]) && bytes[138..].starts_with(record))
 }
 
 // Whether it is that ledger, byte for byte.
 fn is_one<D: Disk>(disk: &mut D) -> Result<bool, DiskFault> {
     let mut bytes = [9u8; 160];
     let count = disk.read(0, 0, &mut bytes)?;
-    Ok(count == 139 && bytes[..139] == ONE[..])
+    Ok(count == 139 && bytes.starts_with(ONE))
 }
 
 #[test]
@@ -81,8 +81,8 @@ fn a_fresh_archive_takes_no_fence_and_one_raise(rt: HostRuntime) -> Result<(), F
     assert!(rt; left.err.bytes().is_empty() && left.out.flushed == 17);
     let mut bytes = [9u8; 32];
     assert_eq!(rt; disk.read(0, 0, &mut bytes), Ok(28));
-    assert!(rt; bytes[..17] == b"\x01AEALEDG1\x01\x01\0\x01\0\0\0\x10"[..]);
-    assert!(rt; bytes[17..28] == RAISE[..]);
+    assert!(rt; bytes.starts_with(b"\x01AEALEDG1\x01\x01\0\x01\0\0\0\x10"));
+    assert!(rt; bytes[17..].starts_with(RAISE));
 
     let left = run_over(alloc, "upgrade", &mut disk, 99)?;
     assert_eq!(rt; left.status, Status::Refused);
@@ -96,7 +96,7 @@ fn each_command_adds_its_record_once(rt: HostRuntime) -> Result<(), Fail> {
     let alloc = rt.alloc();
     for (command, line, record, again) in COMMANDS {
         let mut disk = SureDisk::new(alloc, 0, 149, 0)?;
-        fill(&mut disk, ONE)?;
+        fill(&mut disk)?;
         let left = run_over(alloc, command, &mut disk, 99)?;
         assert_eq!(rt; left.status, Status::Done, "{command}");
         assert_eq!(rt; text_of(left.out.bytes())?, line);
@@ -126,7 +126,7 @@ fn an_added_record_that_is_bad_is_named(rt: HostRuntime) -> Result<(), Fail> {
         ("fence", 0, 7, "refused: no archive\n"),
     ] {
         let mut disk = SureDisk::new(alloc, 0, 160, 0)?;
-        fill(&mut disk, ONE)?;
+        fill(&mut disk)?;
         let left = run_over(alloc, command, &mut disk, 99)?;
         assert_eq!(rt; left.status, Status::Done, "{place}");
         disk.write(0, place, &[value])?;
@@ -202,7 +202,7 @@ fn each_call_of_the_disk_fails(rt: HostRuntime) -> Result<(), Fail> {
             // three calls fill the disk
             let inner = SureDisk::new(alloc, 0, 149, 0)?;
             let mut disk = FailDisk::new(alloc, inner, &[3 + k])?;
-            fill(&mut disk, ONE)?;
+            fill(&mut disk)?;
             let left = run_over(alloc, command, &mut disk, 99)?;
             if CALLS < k {
                 assert_eq!(rt; left.status, Status::Done, "{command} {k}");
@@ -228,7 +228,7 @@ fn each_stop_leaves_the_old_ledger_or_the_new(rt: HostRuntime) -> Result<(), Fai
     let alloc = rt.alloc();
     for (command, line, record, again) in COMMANDS {
         let mut disk = MemDisk::new(alloc, 0, 149, 0, 16, 512)?;
-        fill(&mut disk, ONE)?;
+        fill(&mut disk)?;
         let before = disk.calls();
         let left = run_over(alloc, command, &mut disk, 99)?;
         assert_eq!(rt; left.status, Status::Done, "{command}");
@@ -258,7 +258,7 @@ fn the_record_stands_where_the_output_fails(rt: HostRuntime) -> Result<(), Fail>
     let alloc = rt.alloc();
     for (command, line, record, _again) in COMMANDS {
         let mut disk = SureDisk::new(alloc, 0, 149, 0)?;
-        fill(&mut disk, ONE)?;
+        fill(&mut disk)?;
         let left = run_over(alloc, command, &mut disk, 3)?;
         assert_eq!(rt; left.status, Status::Output, "{command}");
         assert!(rt; left.out.bytes().len() == 3 && line.as_bytes().starts_with(left.out.bytes()));
@@ -273,7 +273,7 @@ fn a_disk_that_lacks_one_byte_is_at_fault(rt: HostRuntime) -> Result<(), Fail> {
     let alloc = rt.alloc();
     for (command, _line, _record, _again) in COMMANDS {
         let mut disk = SureDisk::new(alloc, 0, 148, 0)?;
-        fill(&mut disk, ONE)?;
+        fill(&mut disk)?;
         let left = run_over(alloc, command, &mut disk, 99)?;
         assert_eq!(rt; left.status, Status::Disk, "{command}");
         assert_eq!(rt; text_of(left.err.bytes())?, "fault: disk\n");
@@ -296,7 +296,7 @@ fn words_beside_them_are_no_command(rt: HostRuntime) -> Result<(), Fail> {
         "up",
     ] {
         let mut disk = SureDisk::new(alloc, 0, 149, 0)?;
-        fill(&mut disk, ONE)?;
+        fill(&mut disk)?;
         let left = run_over(alloc, line, &mut disk, 99)?;
         assert_eq!(rt; left.status, Status::Words, "{line}");
         assert_eq!(rt; text_of(left.err.bytes())?, "words: no such command\n");

@@ -39,11 +39,13 @@ nodes-none size some =
     let below = div_below (0 + size - 1) size 1 some (omega (arith, some)) in
     omega (arith, below)
 
+-- n whole blocks and a piece of at least one byte and at most a block take n + 1 nodes
 pub nodes-push : (size n k : ℕ) → 1 ≤ k → k ≤ size → (n * size + k + size - 1) / size ≡ n + 1
 nodes-push size n k some most =
     let is : n * size + k + size - 1 ≡ (n + 1) * size + (k - 1) = (let e : (n + 1) * size ≡ n * size + size = omega arith in omega (arith, e, some)) in
     ap (λ (x : ℕ). x / size) is ∙ div-mul-add (n + 1) size (k - 1) (omega (arith, some, most))
 
+-- n whole blocks of at least one byte take n nodes
 pub nodes-whole : (size n : ℕ) → 1 ≤ size → (n * size + size - 1) / size ≡ n
 nodes-whole size n some =
     let is : n * size + size - 1 ≡ n * size + (size - 1) = omega (arith, some) in
@@ -65,9 +67,11 @@ filled-more (suc size) (x ∷ piece) m few short =
 pub filled : (size : ℕ) (piece : List ℕ) → length piece ≤ size → take size (piece ++ replicate size 0) ≡ piece ++ replicate (size - length piece) 0
 filled size piece short = filled-more size piece size (omega arith) short
 
+-- a block of an archive has at least 16 bytes
 pub some_bytes : (shape : Shape) → 16 ≤ shape.block
 some_bytes shape = let h = shape.in_profile in grind (arith, nat_tests)
 
+-- bytes of length 0 are none
 pub nil_of : (bytes : List ℕ) → length bytes ≡ 0 → bytes ≡ []
 nil_of [] none = refl
 nil_of (x ∷ bytes) none = absurd (omega arith)
@@ -76,14 +80,17 @@ nil_of (x ∷ bytes) none = absurd (omega arith)
 pub nodes_none : (shape : Shape) (k : ℕ) → k ≡ 0 → nodes_for shape k ≡ 0
 nodes_none shape k none = ap (λ (n : ℕ). (n + shape.block - 1) / shape.block) none ∙ nodes-none shape.block (let some = some_bytes shape in omega (arith, some))
 
+-- at least one byte and at most a block take one node
 pub nodes_one : (shape : Shape) (k : ℕ) → 1 ≤ k → k ≤ shape.block → nodes_for shape k ≡ 1
 nodes_one shape k some most =
     let e : k + shape.block - 1 ≡ 0 * shape.block + k + shape.block - 1 = omega arith in
     ap (λ (n : ℕ). n / shape.block) e ∙ nodes-push shape.block 0 k some most
 
+-- an object without bytes has no blocks
 pub no_blocks : (shape : Shape) (bytes : List ℕ) → length bytes ≡ 0 → object_blocks shape bytes ≡ []
 no_blocks shape bytes none = ap (λ (n : ℕ). cut_blocks shape.block n bytes) (nodes_none shape (length bytes) none)
 
+-- an object of at least one byte and at most a block has one block, its bytes filled with zeros
 pub one_block : (shape : Shape) (bytes : List ℕ) → 1 ≤ length bytes → length bytes ≤ shape.block → object_blocks shape bytes ≡ take shape.block (bytes ++ replicate shape.block 0) ∷ []
 one_block shape bytes some most = ap (λ (n : ℕ). cut_blocks shape.block n bytes) (nodes_one shape (length bytes) some most)
 

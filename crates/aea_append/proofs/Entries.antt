@@ -18,6 +18,8 @@ six a b c d e f pa pc pd pe pf = simp (length-append) (omega arith)
 length-front : (o : Stored) → length o.digest ≡ 32 → length (front o) ≡ 50 + length o.name
 length-front o wide = six (to_be_bytes w16 (length o.name)) o.name (to_be_bytes w64 o.size) o.digest (to_be_bytes w32 o.first) (to_be_bytes w32 o.count) refl refl wide refl refl
 
+-- the entry of an object whose nodes are all new has 56 bytes, those of its name and 32 for each block's digest,
+-- where each digest, the object's too, has 32
 pub length-entry : (o : Stored) → length o.digest ≡ 32 → ((i : ℕ) → i < length o.digests → length (get_or o.digests i []) ≡ 32) → length (entry (Object o)) ≡ 56 + length o.name + 32 * length o.digests
 length-entry o wide long =
     let rest : length (rest_of (Object o)) ≡ 50 + length o.name + 32 * length o.digests =

@@ -68,6 +68,8 @@ stopped_before one tells fault told v Fits old new fixed writes =
 
 -- ---- a commit behind the cells
 
+-- cells that are written, and then the ledger's file alone, are a change of the archive that leaves its old blocks
+-- and the files besides it, where the room of a put has that of the ledger's write
 pub both_write : (tells first second : Type 0) (v : Opened) (name : List ℕ) (left rest : Option (List ℕ)) (end : ℕ) (old mid new : State) → WritesCells tells v.shape (limit_when v.raised) (IsBlockIn v.shape v.lattice.n) first old mid
     → OnlyWrites tells (HasRoomTo mid 0 end) second (ChangesOnly 0) mid new → (HasPutRoom v name left rest old → HasRoomTo old 0 end)
     → OnlyWrites tells (HasPutRoom v name left rest old) second (ChangesArchive v.shape (limit_when v.raised) (IsBlockIn v.shape v.lattice.n) (IsBesides v.shape)) old new
@@ -80,6 +82,8 @@ both_write tells first second v name left rest end old mid new cells commit room
     (changes_ledger v.shape (limit_when v.raised) (IsBlockIn v.shape v.lattice.n) d e only))
     (λ has. has.sites) (λ has time. time.room 0 end (room has)) cells commit
 
+-- where the disk tells, and nothing was pending on the ledger's file, calls that write cells and then add a record
+-- by a change of that file alone add it over all
 pub adds_put : HasOneReading → (tells first second fits : Type 0) → tells → (v : Opened) (records : List Record) (r : Record) (payload : BlockId → List ℕ) (old mid new : State) → AreItsRecords v records (old.files 0) → IsFixed old 0
     → WritesCells tells v.shape (limit_when v.raised) (IsBlockIn v.shape v.lattice.n) first old mid → OnlyWrites tells fits second (ChangesOnly 0) mid new
     → Adds v.shape records (r ∷ []) payload mid new → Adds v.shape records (r ∷ []) payload old new
@@ -101,5 +105,6 @@ pub cells_stay : (shape : Shape) (before last : ℕ) (payload : BlockId → List
 cells_stay shape before last payload mid new only cells b on =
     subst (λ (l : List ℕ). take (length (cell_of b (payload b))) (drop (home_place shape b) l) ≡ cell_of b (payload b)) (sym (only (home_file shape b) (no_home_in_ledger shape b))) (cells b on)
 
+-- a change of the ledger's file alone leaves each home of the archive as it reads with zeros past the end
 pub padded_commit : (v : Opened) (mid new : Files) → ChangesOnly 0 mid new → KeepsPadded v.shape (IsBlockIn v.shape v.lattice.n) mid new
 padded_commit v mid new only = padded_others v.shape (IsBlockIn v.shape v.lattice.n) 0 mid new (λ a kept. no_home_in_ledger v.shape a) (λ f other. only f other)

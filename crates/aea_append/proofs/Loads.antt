@@ -96,6 +96,8 @@ found_next tells v c class strand count below place alpha found next (Some x) ol
       ),
     )
 
+-- heads that are loaded from the first strands are loaded from one more, where its head was loaded or its last
+-- parity found damaged, the other heads stay, and the lesser of the two blocks found is kept
 pub load_next : (tells : Type 0) (v : Opened) (c : Files) (old new : Woven) (class : Class) (strand count : ℕ) (found next answer : Option BlockId)
     → HasParity v.lattice class → strand < strands_of v.lattice class → strands_before v.lattice class + strand ≡ count → v.lattice.alpha ≡ v.shape.alpha
     → HasLoaded tells v c old count found
@@ -137,11 +139,13 @@ load_none tells v c heads lattice size zeros = record {
 
 -- ---- the same over files that read the same, where the disk tells
 
+-- a head that is loaded from some files is loaded from others that are the same where the disk tells
 pub loaded_same : (tells : Type 0) (v : Opened) (c d : Files) (class : Class) (head : List ℕ) → (tells → c ≡ d) → (last : Option ℕ) → IsLoaded tells v c class head last → IsLoaded tells v d class head last
 loaded_same tells v c d class head same None loaded = loaded
 loaded_same tells v c d class head same (Some g) loaded =
     (loaded.0, loaded.1, λ told. subst (λ (f : Files). HasAtHome v.shape (block_of g class) (cell_of (block_of g class) head) f) (same told) (loaded.2 told))
 
+-- what was found on a strand in some files is found there in others that are the same where the disk tells
 pub found_same : (tells : Type 0) (v : Opened) (c d : Files) (class : Class) (strand : ℕ) → (tells → c ≡ d) → (found : Option BlockId) → IsFoundOn tells v c class strand found → IsFoundOn tells v d class strand found
 found_same tells v c d class strand same None found = λ told b last is on. subst (λ (f : Files). IsIntactBy v.shape v.digests f b) (same told) (found told b last is on)
 found_same tells v c d class strand same (Some b) found =
@@ -149,10 +153,12 @@ found_same tells v c d class strand same (Some b) found =
 
 -- ---- what was found lies in the lattice
 
+-- a block that was found on the first strands is one of the lattice
 pub found_inside : (tells : Type 0) (v : Opened) (c : Files) (count : ℕ) (found : Option BlockId) → IsFound tells v c count found → IfSome found (HasBlock v.lattice)
 found_inside tells v c count None f = tt
 found_inside tells v c count (Some b) f = last_inside v.lattice b f.0
 
+-- a block that was found on one strand is one of the lattice
 pub found_on_inside : (tells : Type 0) (v : Opened) (c : Files) (class : Class) (strand : ℕ) (found : Option BlockId) → IsFoundOn tells v c class strand found → IfSome found (HasBlock v.lattice)
 found_on_inside tells v c class strand None f = tt
 found_on_inside tells v c class strand (Some b) f = last_inside v.lattice b f.0

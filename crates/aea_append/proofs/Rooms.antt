@@ -53,12 +53,15 @@ room_within v =
 
 -- ---- what getters of a ledger answered, as its value has it
 
+-- what the getters of a ledger answered gives its room: the nodes that are left times the bytes of a block
 pub limit_is : (v : Opened) (limit n from block from2 : ℕ) (l : Lattice) (shape : Shape) → limit ≡ limit_when v.raised → l ≡ v.lattice → n ≡ l.n → from ≡ limit - n → shape ≡ v.shape → block ≡ shape.block → from2 ≡ block → from * from2 ≡ room_left v
 limit_is v limit n from block from2 l shape a b c d e f g =
     let one : from ≡ limit_when v.raised - v.lattice.n = omega (arith, d, a, c, ap (λ (m : Lattice). m.n) b) in
     let two : from2 ≡ v.shape.block = g ∙ f ∙ ap (λ (s : Shape). s.block) e in
     ap (λ (x : ℕ). x * from2) one ∙ ap (λ (x : ℕ). (limit_when v.raised - v.lattice.n) * x) two
 
+-- cells that were written within the rows of every count of nodes that holds the old ones and the bytes left were
+-- written within the limit of the ledger, whose shape and lattice these are
 pub all_writes : RecordsAreFew → (tells fault other : Type 0) (v : Opened) (shape : Shape) (l : Lattice) (limit : ℕ) (old new : State) → HasSomeRecords v → shape ≡ v.shape → l ≡ v.lattice → limit ≡ room_left v → (other → fault)
     → ((nodes : ℕ) → l.n + nodes_for shape limit ≤ nodes → WritesCells tells shape nodes (IsBlockIn shape l.n) fault old new)
     → WritesCells tells v.shape (limit_when v.raised) (IsBlockIn v.shape v.lattice.n) other old new
@@ -68,6 +71,8 @@ all_writes law tells fault other v shape l limit old new some same grid is so wr
     cells_as tells fault other v.shape (limit_when v.raised) (IsBlockIn v.shape v.lattice.n) old new so
     (two (limit_when v.raised) (room_fits law v limit some (omega (arith, is))))
 
+-- the homes that are kept, with zeros past the ends, by a ledger's shape and lattice as its getters answered them
+-- are kept by those of its value
 pub all_padded : (v : Opened) (shape : Shape) (l : Lattice) (old new : Files) → shape ≡ v.shape → l ≡ v.lattice → KeepsPadded shape (IsBlockIn shape l.n) old new → KeepsPadded v.shape (IsBlockIn v.shape v.lattice.n) old new
 all_padded v shape l old new same grid padded =
     subst (λ (k : Lattice). KeepsPadded v.shape (IsBlockIn v.shape k.n) old new) grid (subst (λ (s : Shape). KeepsPadded s (IsBlockIn s l.n) old new) same padded)
@@ -90,6 +95,7 @@ taken_some : (bytes xs : List ℕ) (rest : Option (List ℕ)) → Consumes (Some
 taken_some bytes xs None none = absurd none
 taken_some bytes xs (Some ys) is = omega (arith, ap length is, length-append xs ys)
 
+-- what was taken of a source that tells its bytes is no longer than these
 pub taken_long : (left : Option (List ℕ)) (bytes xs : List ℕ) (rest : Option (List ℕ)) → left ≡ Some bytes → Consumes left rest xs → length xs ≤ length bytes
 taken_long left bytes xs rest is taken = taken_some bytes xs rest (subst (λ (l : Option (List ℕ)). Consumes l rest xs) is taken)
 
@@ -97,5 +103,6 @@ all_some : (bytes xs : List ℕ) (rest : Option (List ℕ)) → Consumes (Some b
 all_some bytes xs None none end = absurd none
 all_some bytes xs (Some ys) is end = omega (arith, ap length is, length-append xs ys, ap length end)
 
+-- what was taken of a source that tells its bytes, up to its end, is as long as these
 pub all_long : (left : Option (List ℕ)) (bytes xs : List ℕ) (rest : Option (List ℕ)) → left ≡ Some bytes → Consumes left rest xs → IsAtEnd rest → length xs ≡ length bytes
 all_long left bytes xs rest is taken end = all_some bytes xs rest (subst (λ (l : Option (List ℕ)). Consumes l rest xs) is taken) end

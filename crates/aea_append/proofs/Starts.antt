@@ -49,6 +49,7 @@ heads_start tells v files heads has c strand parity below =
     head_start tells v files heads has.size c strand (last_open v.lattice c strand) refl (all_loaded tells v files heads has c strand p u)
     ∙ ap (λ (l : Lattice). head_by heads.size (loaded_payload v.lattice heads) c (last_open l c strand)) (sym has.lattice)
 
+-- where all heads are loaded and nothing was found damaged, they are those of no data woven behind the lattice
 pub woven_start : (tells : Type 0) (v : Opened) (files after : Files) (heads : Woven) → HasLoaded tells v files heads (all_strands v.lattice) None
     → HasWoven tells v.shape v.lattice v.digests files after heads [] []
 woven_start tells v files after heads has =
@@ -74,9 +75,12 @@ woven_start tells v files after heads has =
       wide = λ b on. absurd (let x = on.after in let y = on.most in omega (arith, x, y, n));
     }
 
+-- where all strands were looked at and nothing was found damaged, all last parities are intact if the disk tells
 pub intact_start : (tells : Type 0) (v : Opened) (files : Files) (heads : Woven) → HasLoaded tells v files heads (all_strands v.lattice) None → tells → AreLastsIntact v.shape v.lattice v.digests files
 intact_start tells v files heads has told b last = has.least told b last (place_below v.lattice b last)
 
+-- a block that was found when all strands were looked at is a last parity and, if the disk tells, the damaged one
+-- with the least number
 pub first_damaged : (tells : Type 0) (v : Opened) (files : Files) (heads : Woven) (b : BlockId) → HasLoaded tells v files heads (all_strands v.lattice) (Some b)
     → IsLastParity v.lattice b × (tells → IsFirstDamagedLast v.shape v.lattice v.digests files b)
 first_damaged tells v files heads b has =
@@ -89,6 +93,7 @@ abbrev block_in : BlockId → PutFault → BlockId
 block_in d (HeadDamaged b) = b
 block_in d fault = d
 
+-- faults of a damaged last parity that are the same name the same block
 pub same_head : {T : Type 0} (x y : BlockId) → ◌≡◌ {A = Result T PutFault} (Err (HeadDamaged x)) (Err (HeadDamaged y)) → x ≡ y
 same_head x y e = ap (block_in x) (fault_is (HeadDamaged x) (HeadDamaged y) e)
 
@@ -96,5 +101,6 @@ abbrev nodes_in : PutFault → ℕ
 nodes_in (Full n) = n
 nodes_in fault = 0
 
+-- faults of a full archive that are the same name the same number of nodes
 pub same_nodes : {T : Type 0} (m n : ℕ) → ◌≡◌ {A = Result T PutFault} (Err (Full m)) (Err (Full n)) → m ≡ n
 same_nodes m n e = ap nodes_in (fault_is (Full m) (Full n) e)

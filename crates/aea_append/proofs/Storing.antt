@@ -47,6 +47,7 @@ module _ (tells : Type 0) (v : Opened) (name : List ℕ) (k count : ℕ) (digest
   pub grown_by : IsGrown v.lattice (v.lattice.n + count) t.heads.lattice
   grown_by = record { shape = t.woven.grown.shape; nodes = (let n = t.nodes in omega (arith, n, counted)); fences = t.woven.grown.fences }
 
+  -- all that a source had, taken and woven behind the ledger's lattice, is the next record's object under the name
   pub next_woven : IsNextStored v.shape v.lattice t.heads.lattice t.woven.payload name t.bytes (next_stored v name k digest count digests)
   next_woven = record {
     name_is = refl;

@@ -23,6 +23,7 @@ use Rattle.aea_append.proofs.Cuts.{cut-push, some_bytes, nodes_none, nodes_one, 
 pub grown_same : (l : Lattice) (n : ℕ) → n ≡ l.n → IsGrown l n l
 grown_same l n same = record { shape = record { alpha = refl; s = refl; p = refl }; nodes = sym same; fences = refl }
 
+-- where source, hasher, heads, digests and files stay as they are, no bytes were taken
 pub takes_none : (tells : Type 0) (shape : Shape) (left : Option (List ℕ)) (h : Sha256) (v : Woven) (digests : List (List ℕ)) (files : Files) → Takes tells shape 0 left left h h v v digests digests files files
 takes_none tells shape left h v digests files = record {
   bytes = [];

@@ -107,6 +107,8 @@ module _ (longer : LongerDataKeepValues) (shape : Shape) (l m : Lattice) (grown 
       omega (arith, below, past, same_number b)))
       (cases_lt l.n b.node)
 
+  -- the digests of the old blocks, with those of the new ones behind them, are those of all blocks of the grown
+  -- lattice, where the new payloads are its values
   pub digests-joined : (olds ds : List (List ℕ)) → olds ≡ map old_digest (blocks_of l) → AreDigestsOn shape l.n m.n payload ds → olds ++ ds ≡ map new_digest (blocks_of m)
   digests-joined olds ds are on =
       let size : length olds ≡ l.n * (1 + l.alpha) = ap length are ∙ length-map (blocks_of l) old_digest ∙ length-blocks_of l in

@@ -30,6 +30,8 @@ pub record StandsAtHome (shape : Shape) (b : BlockId) (recorded payload : List �
   pub intact : IsIntact shape b recorded c
   pub payload_is : payload_in shape (home_bytes shape b c) ≡ payload
 
+-- a block whose cell stands at its home, with the recorded digest and a payload of a block's size, is intact and
+-- has this payload there
 pub stands : CellsHaveLengths → CellsHaveParts → (shape : Shape) (b : BlockId) (recorded payload : List ℕ) (c : Files) → length payload ≡ shape.block → block_digest b payload ≡ recorded → HasAtHome shape b (cell_of b payload) c
     → StandsAtHome shape b recorded payload c
 stands lengths parts shape b recorded payload c wide digest here =
@@ -42,6 +44,8 @@ stands lengths parts shape b recorded payload c wide digest here =
           ∙ (parts b payload).1;
     }
 
+-- last parities with the recorded digests, whose cells stand at their homes, have the payloads of the lattice of
+-- each data list for which they are honest
 pub lasts_are_values : CellsHaveLengths → CellsHaveParts → LastsAreValues
 lasts_are_values lengths parts shape l digests datas payload c honest recorded home wide b last =
     let here = stands lengths parts shape b (recorded_in shape digests b) (payload b) c (wide b last) (recorded b last) (home b last) in
@@ -65,6 +69,8 @@ module _ (lengths : CellsHaveLengths) (parts : CellsHaveParts) (damage : PlainDa
       ∙ ap (λ (n : ℕ). get_or ds (number_in shape b - n) []) long
       ∙ are.each b on)
 
+  -- survivors that are honest, in plain damage, are so after blocks were added, where the old homes stay and the
+  -- new ones have their cells
   pub survivors_stay_honest : SurvivorsStayHonest
   survivors_stay_honest shape l m digests ds datas more payload c d grown le alpha long counted values wide are cells padded intact honest plain =
       let inside : (b : BlockId) → HasBlock m b → b.node ≤ l.n → HasBlock l b =

@@ -72,6 +72,7 @@ no_nodes shape = record {
   fenced = refl;
 }
 
+-- an archive without records records no data
 pub none_record_none : NoneRecordNone
 none_record_none shape = record {
   valid = tt;
@@ -82,6 +83,8 @@ none_record_none shape = record {
   objects = λ k d inside. absurd (omega (arith, inside));
 }
 
+-- records of a data list, with the next record of an object behind them, record the list with the object's blocks
+-- behind it, where the payloads of the last parities are those of its lattice
 pub next_records_more : LongerDataKeepValues → NextRecordsMore
 next_records_more longer shape records datas l m payload name bytes o old is lasts are next n =
     let w = shape.block in

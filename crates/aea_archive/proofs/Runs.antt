@@ -69,6 +69,8 @@ All-head P o objects all = all 0 o (omega arith)
 All-tail : (P : NewObject → Type 0) (o : NewObject) (objects : List NewObject) → All P (o ∷ objects) → All P objects
 All-tail P o objects all = λ k d inside. all (suc k) d (omega (arith, inside))
 
+-- records of a data list, with those of objects put one after the other behind them, record the list with the blocks
+-- of all these objects behind it, where the payloads of the last parities are those of its lattice
 pub objects_record_more : LongerDataKeepValues → ObjectsRecordMore
 objects_record_more longer shape records [] datas l m payload [] old is lasts bytes follow same = record {
   recorded = subst (λ (rs : List Record). AreRecordsOf shape rs (datas ++ [])) (sym (append-nil records)) (subst (λ (ds : List (List ℕ)). AreRecordsOf shape records ds) (sym (append-nil datas)) old);
@@ -122,6 +124,7 @@ objects_record_more longer shape records (r ∷ added) datas l m payload (o ∷ 
           (cases_lt mid.n b.node));
     }
 
+-- an archive that was made, and into which objects were put, records their blocks
 pub puts_record : LongerDataKeepValues → PutsRecord
 puts_record longer shape records l m payload objects is bytes valid next =
     (objects_record_more longer shape [] records [] l m payload objects (none_record_none shape) is

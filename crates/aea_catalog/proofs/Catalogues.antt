@@ -148,8 +148,11 @@ module _ (pairs : List Pair) (order : List ℕ) (kept : IsKept pairs order) wher
     wider_is : wider ≡ insert order i (length pairs)
     wider_is = inserted ∙ ap (insert order i) last
 
+    -- with the entry put last, and its index in the gap for its name, there is still one index for each entry, and
+    -- the names rise in this order, and are names
     pub more_kept : IsKept more wider
     more_kept = rw (pushed, wider_is) (kept_after pairs order kept pair i name gap)
 
+    -- and their map is the one from before with what the entry has put under its name
     pub more_objects : objects_of more wider ≡ finite.insert (objects_of pairs order) pair.0 pair.1
     more_objects = rw (pushed, wider_is) (objects_after pairs order kept pair i name gap)

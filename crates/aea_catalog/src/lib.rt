@@ -2,7 +2,7 @@
 //!
 //! A name is 1 to 255 bytes of UTF-8 text without control characters (`specs/Names.antt`). An object is told by where its
 //! nodes lie, how long it is and what its SHA-256 (FIPS 180-4) is. The catalogue lists its objects in the order of the
-//! names' bytes, and gives none up: an object under a name stays (`specs/Catalogs.antt`).
+//! names' bytes; entries are never removed: an object under a name stays (`specs/Catalogs.antt`).
 #![tactic(auto)]
 
 pub mod catalog;

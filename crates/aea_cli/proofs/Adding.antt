@@ -53,6 +53,7 @@ pub record Agrees {T U : Type 0} (gave : Result T Failure) (answer : Result U Fa
   pub there : (f : Failure) → f ≢ failure.Output → answer ≡ Err f → gave ≡ Err f
   pub back : (f : Failure) → f ≢ failure.Output → gave ≡ Err f → answer ≡ Err f
 
+-- an answer with a failure agrees with a call that gave the same failure
 pub agrees_failed : {T U : Type 0} (f : Failure) → Agrees {T = T} {U = U} (Err f) (Err f)
 agrees_failed {T} {U} f = record {
   well = λ e. elim e [ inl ok ↦ absurd (false≢true ok) | inr is ↦ inr (ap Err (err_same {T = U} f failure.Output is)) ];
@@ -60,6 +61,7 @@ agrees_failed {T} {U} f = record {
   back = λ g differs is. ap Err (err_same {T = T} f g is);
 }
 
+-- a run that adds a record by what was given does so by each answer that agrees with it
 pub adds_as : {T U : Type 0} (adds : List Record → Record) (tells : Type 0) (old new : State) (gave : Result T Failure) (answer : Result U Failure) → Agrees gave answer → Adds adds tells old new gave → Adds adds tells old new answer
 adds_as {T} {U} adds tells old new gave answer agrees does = record {
   stands = λ e. does.stands (agrees.well e);
@@ -229,6 +231,8 @@ adds_done {T} reading adds keeps tells v w r fault old mid new value does done =
   in_room = λ fits. (λ is. let h : Ok value ≡ Err failure.Disk = is in cc, (commit_sure adds tells v r fault old mid new does fits).1);
 }
 
+-- where a record was committed, or the disk failed at that, each other file stays, and a fault of the answer has
+-- its cause if it is one of the commit
 pub rest_committed : (adds : List Record → Record) (tells : Type 0) (v : Opened) (r : Record) (fault other : Type 0) (old mid new : State) → IsCommitting adds tells v r fault old mid new → (other → fault) → KeepsTheRest tells other old new
 rest_committed adds tells v r fault other old mid new does so = record {
   others = others_both tells 0 old mid new does.opens.reads.time does.writes.time

@@ -20,6 +20,7 @@ pub record AreBehindOpening (bytes : List ℕ) (causes : Refusal → Type 0) : T
   pub from : (why : Refusal) → OpeningCauses bytes why → causes why
   pub back : (why : Refusal) → causes why → OpeningCauses bytes why ⊎ (IsSomeLedger bytes × (2 ≤ place_of why))
 
+-- bytes that are a ledger of these records are some ledger
 pub some_ledger : (bytes : List ℕ) (shape : Shape) (records : List Record) → HasLedger shape records bytes → IsSomeLedger bytes
 some_ledger bytes shape records ledger = record { shape = shape; records = records; end = length (spelled shape records); ledger = ledger }
 

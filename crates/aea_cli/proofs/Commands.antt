@@ -33,6 +33,7 @@ are_small l =
       n = omega arith;
     }
 
+-- what holds of an option if it is none may be replaced by what follows from it
 pub if_none_weaker : {A : Type 0} → (o : Option A) (P Q : Type 0) → (P → Q) → IfNone o P → IfNone o Q
 if_none_weaker None P Q f h = f h
 if_none_weaker (Some x) P Q f h = tt

@@ -64,6 +64,7 @@ pub record IsUnmade (shape : Shape) (tells : Type 0) (old new : State) (fault : 
   pub sure : NeverFails (HasRoomTo old 0 18) (fault ≢ creation.DiskFault) old new
   pub refused : tells → HasOpenHeader (old.files 0) → NeverFails (HasRoom old) (fault ≡ creation.Occupied) old new
 
+-- where making the archive failed, the run did what `create` does, with that failure and nothing printed
 pub creates_failed : (shape : Shape) (tells : Type 0) (old new : State) (out : SinkState) (fault : CreateFault) → IsUnmade shape tells old new fault
     → Creates shape tells old new out out (Err (creation_failure fault))
 creates_failed shape tells old new out creation.Occupied unmade = record {
@@ -125,15 +126,18 @@ pub record IsMade (shape : Shape) (tells : Type 0) (old new : State) : Type 0 wh
 abbrev pub IsPrinting : Answer → Type 0
 IsPrinting answer = (answer ≡ Ok Done) ⊎ (answer ≡ Err failure.Output)
 
+-- where the line was printed or the output failed, a status that is answered is `Done`
 pub printing_done : (answer : Answer) → IsPrinting answer → IfOk answer (λ status. status ≡ Done)
 printing_done (Ok s) (inl e) = cc
 printing_done (Ok s) (inr e) = let h : Ok s ≡ Err failure.Output = e in cc
 printing_done (Err f) printing = tt
 
+-- where the line was printed or the output failed, the answer is no failure but one of the output
 pub printing_never : (answer : Answer) (f : Failure) → IsPrinting answer → f ≢ failure.Output → answer ≡ Err f → ⊥
 printing_never answer f (inl e) differs is = let h : Ok Done ≡ Err f = sym e ∙ is in cc
 printing_never answer f (inr e) differs is = let h : Err failure.Output ≡ Err f = sym e ∙ is in differs cc
 
+-- where the archive was made, and then its line printed or the output failed, the run did what `create` does
 pub creates_made : (shape : Shape) (tells : Type 0) (old new : State) (before after : SinkState) (answer : Answer) → IsPrinting answer → IsMade shape tells old new
     → PrintsText before after answer (created_line shape) → Creates shape tells old new before after answer
 creates_made shape tells old new before after answer printing made prints = record {
@@ -152,6 +156,8 @@ creates_made shape tells old new before after answer printing made prints = reco
   refused_in_room = λ told header room. absurd (header_or_none (old.files 0) header (made.stands told).free);
 }
 
+-- where the archive was made, and the line was printed or the output failed, no cause of a refusal stands if the
+-- disk tells, and the answer is no refusal
 pub made_refuses : (shape : Shape) (tells : Type 0) (old new : State) (answer : Answer) → IsPrinting answer → IsMade shape tells old new → Refuses tells (CreateCauses (old.files 0)) answer
 made_refuses shape tells old new answer printing made =
     refuses_none tells (CreateCauses (old.files 0)) answer

@@ -82,10 +82,13 @@ pub answer_words : (a : Answer) → IfOk a IsWell → answer_status a ≡ status
 answer_words (Ok s) well is = absurd (never_well failure.Words s is well)
 answer_words (Err f) well is = ap Err (is_words f is)
 
+-- an answer with the status of a refusal is one, where a status is answered only if all went well
 pub answer_refused : (a : Answer) → IfOk a IsWell → answer_status a ≡ status.Refused → (why : Refusal) × (a ≡ Err (failure.Refused why))
 answer_refused (Ok s) well is = elim well [ inl e ↦ let h : status.Done ≡ status.Refused = sym e ∙ is in cc | inr e ↦ let h : status.Damage ≡ status.Refused = sym e ∙ is in cc ]
 answer_refused (Err f) well is = let why = is_refused f is in (why.0, ap Err why.1)
 
+-- an answer with the status of a fault of the disk is that failure, where a status is answered only if all
+-- went well
 pub answer_disk : (a : Answer) → IfOk a IsWell → answer_status a ≡ status.Disk → a ≡ Err failure.Disk
 answer_disk (Ok s) well is = absurd (never_well failure.Disk s is well)
 answer_disk (Err f) well is = ap Err (is_disk f is)
@@ -94,6 +97,8 @@ pub answer_input : (a : Answer) → IfOk a IsWell → answer_status a ≡ status
 answer_input (Ok s) well is = absurd (never_well failure.Input s is well)
 answer_input (Err f) well is = ap Err (is_input f is)
 
+-- an answer with the status of a fault of the output is that failure, where a status is answered only if all
+-- went well
 pub answer_output : (a : Answer) → IfOk a IsWell → answer_status a ≡ status.Output → a ≡ Err failure.Output
 answer_output (Ok s) well is = absurd (never_well failure.Output s is well)
 answer_output (Err f) well is = ap Err (is_output f is)

@@ -194,6 +194,7 @@ opened_not_disk v e = cc
 refused_same : (why : Refusal) → failure.Refused why ≡ failure.Disk → ⊥
 refused_same why e = cc
 
+-- where the call that adds a fence failed, with the failure of that fault what holds of a run that adds one holds
 pub unfenced_adds : {T : Type 0} → HasOneReading → FencesMayFollow → (tells : Type 0) (v : Opened) (fault : FenceFault) (old mid new : State) → IsUnfenced tells v fault old mid new → Adds {T = T} next_fence tells old new (Err (fence_failure fault))
 unfenced_adds {T} reading follow tells v (fencing.AlreadyFenced n) old mid new gave =
     subst (λ (s : State). Adds {T = T} next_fence tells old s (Err (failure.Refused (AlreadyFenced n)))) (sym (gave.unchanged (λ e. cc)))
@@ -204,6 +205,7 @@ unfenced_adds {T} reading follow tells v fencing.TooManyFences old mid new gave 
 unfenced_adds {T} reading follow tells v fencing.DiskFault old mid new gave =
     adds_failed reading next_fence tells v (Fence v.lattice.n) _ old mid new (unfenced_committing follow tells v old mid new gave) refl
 
+-- where the call that adds a fence to the opened ledger failed, the failure tells each refusal
 pub unfenced_refuses : {T : Type 0} → HasOneReading → (tells : Type 0) (v : Opened) (fault : FenceFault) (old mid new : State) → IsUnfenced tells v fault old mid new → Refuses {T = T} tells (FenceCauses (old.files 0)) (Err (fence_failure fault))
 unfenced_refuses {T} reading tells v (fencing.AlreadyFenced n) old mid new gave =
     let is = (gave.already n).0 refl in
@@ -225,6 +227,7 @@ failure_disk fencing.DiskFault e = refl
 err_same : {T : Type 0} (f g : Failure) → (let one : Result T Failure = Err f in one ≡ Err g) → f ≡ g
 err_same f g e = cc
 
+-- where the call that adds a fence failed, each other file stays, and an answered fault of the disk has its cause
 pub unfenced_rest : {T : Type 0} (tells : Type 0) (v : Opened) (fault : FenceFault) (old mid new : State) → IsUnfenced tells v fault old mid new → KeepsTheRest tells (let answer : Result T Failure = Err (fence_failure fault) in answer ≡ Err failure.Disk) old new
 unfenced_rest {T} tells v fault old mid new gave = record {
   others = others_both tells 0 old mid new gave.opens.reads.time gave.writes.time
@@ -254,19 +257,24 @@ fenced_committing follow tells v w nodes old mid new gave = record {
   writes = subst (λ (n : ℕ). OnlyWrites tells (HasRoomTo mid 0 n) ⊥ (ChangesOnly 0) mid new) (let e : v.end + 11 ≡ v.end + length (entry (Fence v.lattice.n)) + 1 = omega arith in e) gave.writes;
 }
 
+-- where a fence was added, what holds of a run that adds one holds with any value as its answer
 pub fenced_adds : {T : Type 0} → HasOneReading → FencesMayFollow → BlocksAreInside → RecordsAreFew → (tells : Type 0) (v w : Opened) (nodes : ℕ) (old mid new : State) (value : T) → IsFencedNow tells v w nodes old mid new → Adds next_fence tells old new (Ok value)
 fenced_adds reading follow inside few tells v w nodes old mid new value gave =
     adds_done reading next_fence (fence_records inside few) tells v w (Fence v.lattice.n) ⊥ old mid new value (fenced_committing follow tells v w nodes old mid new gave) gave.committed
 
+-- where a fence was added, no cause of a refusal stands if the disk tells, and an answer with a value is no
+-- refusal
 pub fenced_refuses : {T : Type 0} → HasOneReading → (tells : Type 0) (v w : Opened) (nodes : ℕ) (old mid new : State) (value : T) → IsFencedNow tells v w nodes old mid new → Refuses tells (FenceCauses (old.files 0)) (Ok value)
 fenced_refuses reading tells v w nodes old mid new value gave =
     refuses_none tells (FenceCauses (old.files 0)) (Ok value) (λ why e. let h : Ok value ≡ Err (failure.Refused why) = e in cc)
     (λ told why first. none_against reading tells old mid v gave.opens gave.free gave.few told why first.stands)
 
+-- where a fence was added, each other file stays, time goes on, and the count of faults does not fall
 pub fenced_rest : {T : Type 0} → FencesMayFollow → (tells : Type 0) (v w : Opened) (nodes : ℕ) (old mid new : State) (value : T) → IsFencedNow tells v w nodes old mid new → KeepsTheRest tells (let answer : Result T Failure = Ok value in answer ≡ Err failure.Disk) old new
 fenced_rest {T} follow tells v w nodes old mid new value gave =
     rest_committed next_fence tells v (Fence v.lattice.n) ⊥ _ old mid new (fenced_committing follow tells v w nodes old mid new gave) (λ is. let h : (let answer : Result T Failure = Ok value in answer ≡ Err failure.Disk) = is in cc)
 
+-- where a fence was added and the disk tells, the number that was given is that of the ledger's nodes
 pub fenced_nodes : HasOneReading → (tells : Type 0) (v w : Opened) (nodes : ℕ) (old mid new : State) → IsFencedNow tells v w nodes old mid new → tells → (shape : Shape) (records : List Record) → HasLedger shape records (old.files 0) → nodes ≡ nodes_of records
 fenced_nodes reading tells v w nodes old mid new gave told shape records has =
     let one = gave.opens.this_one told in

@@ -42,6 +42,8 @@ opened_more old new P Q from opened = record {
   later = λ t c after before here. from c (opened.later t c after before here);
 }
 
+-- where the first sync failed, or from it on each image has a fact, the same is so of a fact that follows from
+-- that
 pub opening_more : (old new : State) (P Q : Files → Type 0) → ((c : Files) → P c → Q c) → HasOpening old new P → HasOpening old new Q
 opening_more old new P Q from (inl kept) = inl kept
 opening_more old new P Q from (inr opened) = inr (opened_more old new P Q from opened)
@@ -141,6 +143,7 @@ opening_first bytes NoArchive cause = record { stands = cause; none = λ other b
 opening_first bytes (LedgerBad at) cause = record { stands = cause; none = none_before_bad bytes at cause }
 opening_first bytes why cause = absurd cause
 
+-- a cause of the opening is one of the first two in the order of refusals
 pub opening_early : (bytes : List ℕ) (why : Refusal) → OpeningCauses bytes why → place_of why < 2
 opening_early bytes NoArchive cause = omega arith
 opening_early bytes (LedgerBad at) cause = omega arith

@@ -45,11 +45,13 @@ stats_opened counted tells old new before after v answer opens telling prints = 
   prints = λ records has. subst (PrintsText before after answer) (line_is counted v records has) prints;
 }
 
+-- where the archive was opened, the answer is no failure but one of the output or want of memory
 pub telling_never : (answer : Answer) (f : Failure) → IsTelling answer → (f ≡ failure.Output → ⊥) → (f ≡ failure.Memory → ⊥) → answer ≡ Err f → ⊥
 telling_never answer f (inl e) output memory is = let h : Ok Done ≡ Err f = sym e ∙ is in cc
 telling_never answer f (inr (inl e)) output memory is = let h : Err failure.Output ≡ Err f = sym e ∙ is in output cc
 telling_never answer f (inr (inr e)) output memory is = let h : Err failure.Memory ≡ Err f = sym e ∙ is in memory cc
 
+-- an answer with an opened ledger is no failure
 pub opened_never : (v : Opened) (f : Failure) → Ok v ≡ Err f → ⊥
 opened_never v f e = cc
 

@@ -108,6 +108,8 @@ unraised_committing tells v old mid new gave = record {
   writes = subst (λ (n : ℕ). OnlyWrites tells (HasRoomTo mid 0 n) (raising.DiskFault ≡ raising.DiskFault) (ChangesOnly 0) mid new) (let e : v.end + 11 ≡ v.end + length (entry Raise) + 1 = omega arith in e) gave.writes;
 }
 
+-- where the call that raises the limit failed, with the failure of that fault what holds of a run that adds the
+-- raise holds
 pub unraised_adds : {T : Type 0} → HasOneReading → (tells : Type 0) (v : Opened) (fault : UpgradeFault) (old mid new : State) → IsUnraised tells v fault old mid new → Adds {T = T} next_raise tells old new (Err (upgrade_failure fault))
 unraised_adds {T} reading tells v raising.AlreadyUpgraded old mid new gave =
     subst (λ (s : State). Adds {T = T} next_raise tells old s (Err (failure.Refused AlreadyUpgraded))) (sym (gave.unchanged refl))
@@ -115,6 +117,7 @@ unraised_adds {T} reading tells v raising.AlreadyUpgraded old mid new gave =
 unraised_adds {T} reading tells v raising.DiskFault old mid new gave =
     adds_failed reading next_raise tells v Raise _ old mid new (unraised_committing tells v old mid new gave) refl
 
+-- where the call that raises the limit of the opened ledger failed, the failure tells each refusal
 pub unraised_refuses : {T : Type 0} → HasOneReading → (tells : Type 0) (v : Opened) (fault : UpgradeFault) (old mid new : State) → IsUnraised tells v fault old mid new → Refuses {T = T} tells (UpgradeCauses (old.files 0)) (Err (upgrade_failure fault))
 unraised_refuses {T} reading tells v raising.AlreadyUpgraded old mid new gave =
     refuses_one tells (UpgradeCauses (old.files 0)) (Err (failure.Refused AlreadyUpgraded)) AlreadyUpgraded refl
@@ -129,6 +132,8 @@ failure_disk raising.DiskFault e = refl
 err_same : {T : Type 0} (f g : Failure) → (let one : Result T Failure = Err f in one ≡ Err g) → f ≡ g
 err_same f g e = cc
 
+-- where the call that raises the limit failed, each other file stays, and an answered fault of the disk has its
+-- cause
 pub unraised_rest : {T : Type 0} (tells : Type 0) (v : Opened) (fault : UpgradeFault) (old mid new : State) → IsUnraised tells v fault old mid new → KeepsTheRest tells (let answer : Result T Failure = Err (upgrade_failure fault) in answer ≡ Err failure.Disk) old new
 unraised_rest {T} tells v fault old mid new gave = record {
   others = others_both tells 0 old mid new gave.opens.reads.time gave.writes.time
@@ -156,15 +161,19 @@ raised_committing tells v w old mid new gave = record {
   writes = subst (λ (n : ℕ). OnlyWrites tells (HasRoomTo mid 0 n) ⊥ (ChangesOnly 0) mid new) (let e : v.end + 11 ≡ v.end + length (entry Raise) + 1 = omega arith in e) gave.writes;
 }
 
+-- where the limit was raised, what holds of a run that adds the raise holds with any value as its answer
 pub raised_adds : {T : Type 0} → HasOneReading → (tells : Type 0) (v w : Opened) (old mid new : State) (value : T) → IsRaisedNow tells v w old mid new → Adds next_raise tells old new (Ok value)
 raised_adds reading tells v w old mid new value gave =
     adds_done reading next_raise raise_records tells v w Raise ⊥ old mid new value (raised_committing tells v w old mid new gave) gave.committed
 
+-- where the limit was raised, no cause of a refusal stands if the disk tells, and an answer with a value is no
+-- refusal
 pub raised_refuses : {T : Type 0} → HasOneReading → (tells : Type 0) (v w : Opened) (old mid new : State) (value : T) → IsRaisedNow tells v w old mid new → Refuses tells (UpgradeCauses (old.files 0)) (Ok value)
 raised_refuses reading tells v w old mid new value gave =
     refuses_none tells (UpgradeCauses (old.files 0)) (Ok value) (λ why e. let h : Ok value ≡ Err (failure.Refused why) = e in cc)
     (λ told why first. none_against reading tells old mid v gave.opens gave.free told why first.stands)
 
+-- where the limit was raised, each other file stays, time goes on, and the count of faults does not fall
 pub raised_rest : {T : Type 0} → (tells : Type 0) (v w : Opened) (old mid new : State) (value : T) → IsRaisedNow tells v w old mid new → KeepsTheRest tells (let answer : Result T Failure = Ok value in answer ≡ Err failure.Disk) old new
 raised_rest {T} tells v w old mid new value gave =
     rest_committed next_raise tells v Raise ⊥ _ old mid new (raised_committing tells v w old mid new gave) (λ is. let h : (let answer : Result T Failure = Ok value in answer ≡ Err failure.Disk) = is in cc)

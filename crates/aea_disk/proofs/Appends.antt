@@ -69,11 +69,13 @@ goes_reads events others n e goes =
     let reads = same_reads events others n goes.same in
     λ i f. after (here i) (reads i) f
 
+-- where one more call is listed behind calls that are logged, the files are what it makes of those before it
 pub lists_files : (old new : Log) (call : Call) (more : List ℕ) → IsLogged old.spaces old.calls old.bytes → Lists old new call more → (log_state new).files ≡ after (event_of new.bytes call) (log_state old).files
 lists_files old new call more logged lists =
     subst (λ (m : ℕ). reads_at (events_of new.calls new.bytes) m ≡ after (event_of new.bytes call) (log_state old).files) (sym (lists_length old new call more lists))
     (goes_reads (events_of old.calls old.bytes) (events_of new.calls new.bytes) (length old.calls) (event_of new.bytes call) (lists_goes old new call more logged lists))
 
+-- one more call behind calls that are logged: time goes on, and earlier images and the rooms stay
 pub lists_time : (old new : Log) (call : Call) (more : List ℕ) → IsLogged old.spaces old.calls old.bytes → Lists old new call more → Passes (log_state old) (log_state new)
 lists_time old new call more logged lists =
     let size = lists_length old new call more lists in
@@ -150,6 +152,7 @@ files_of-set spaces file space f within =
     rw there (ap (λ (e : Extent). e.bytes) (get_or-set_other spaces file f space empty_extent other)))
     (cases_eq f file)
 
+-- a file of the list replaced by one of the same room leaves the room of each file as it was
 pub room_of-set : (spaces : List Extent) (file : ℕ) (space : Extent) (f : ℕ) → file < length spaces → space.room ≡ room_of spaces file → room_of (set spaces file space) f ≡ room_of spaces f
 room_of-set spaces file space f within same =
     ⊎_elim
@@ -161,6 +164,7 @@ room_of-set spaces file space f within same =
 pub files_of-write : (spaces : List Extent) (file at : ℕ) (bytes : List ℕ) (space : Extent) → file < length spaces → space.bytes ≡ overwritten (files_of spaces file) at bytes → (f : ℕ) → files_of (set spaces file space) f ≡ after (Wrote file at bytes) (files_of spaces) f
 files_of-write spaces file at bytes space within is f = files_of-set spaces file space f within ∙ ap (λ (l : List ℕ). if f == file then l else files_of spaces f) is
 
+-- where a file of the list is replaced by one with its first bytes, the files are those after a cut of it
 pub files_of-cut : (spaces : List Extent) (file len : ℕ) (space : Extent) → file < length spaces → space.bytes ≡ take len (files_of spaces file) → (f : ℕ) → files_of (set spaces file space) f ≡ after (Shortened file len) (files_of spaces) f
 files_of-cut spaces file len space within is f = files_of-set spaces file space f within ∙ ap (λ (l : List ℕ). if f == file then l else files_of spaces f) is
 
@@ -180,6 +184,7 @@ quiet_images bytes (Write file at from n) reads before c quiet as_reads here = a
 quiet_images bytes (Cut file len) reads before c quiet as_reads here = absurd quiet
 quiet_images bytes Sync reads before c quiet as_reads here = let same : c ≡ reads = λ i f. here f i in subst before (sym same) as_reads
 
+-- calls that are logged are so with one more behind them that leaves the files as they read
 pub quiet_logged : (spaces : List Extent) (calls : List Call) (call : Call) (bytes : List ℕ) → IsQuiet call → IsLogged spaces calls bytes → IsLogged spaces (calls ++ call ∷ []) bytes
 quiet_logged spaces calls call bytes quiet logged =
     let small : (x : Call) → IsQuiet x → (end_of x ≡ 0) × (file_of x ≡ 0) × (end_in_file x ≡ 0) =

@@ -273,6 +273,7 @@ writes_others tells fits fault step file old new leaves writes = record {
   images = λ t c from to here. let was = writes.crash t c from to here in (was.0, was.1, leaves was.0 c was.2);
 }
 
+-- calls that change the files by a step alone keep those that a test picks, where the step leaves these alone
 pub writes_where : (tells fits fault : Type 0) (step : Files → Files → Type 0) (keep : ℕ → Type 0) (old new : State) → ((c d : Files) → step c d → (f : ℕ) → keep f → d f ≡ c f) → OnlyWrites tells fits fault step old new → KeepsWhere tells keep old new
 writes_where tells fits fault step keep old new leaves writes = record {
   reads = λ tell. leaves old.files new.files (writes.contents tell);

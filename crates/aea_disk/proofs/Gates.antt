@@ -46,5 +46,6 @@ new_of_old gate body first second new was has = record { before = has.before ∙
 pub old_of_old : (gate : ℕ) (first second new : List ℕ) → HasOld gate first second → HasOld gate second new → HasOld gate first new
 old_of_old gate first second new was has = record { before = has.before ∙ was.before; shut = has.shut }
 
+-- where the second has the first's bytes before a closed gate, what is new over the first is so over the second
 pub new_of_new : (gate : ℕ) (body first second new : List ℕ) → HasOld gate first second → HasNew gate body first new → HasNew gate body second new
 new_of_new gate body first second new was has = record { before = has.before ∙ sym was.before; opened = has.opened; behind = has.behind }

@@ -31,9 +31,11 @@ during_both old mid new P first second early late t c from to here =
     (λ after. late t c (omega arith) to here)
     (cases_lt t mid.moment)
 
+-- time passes from each state to itself, as where no call is made
 pub passes_none : (s : State) → Passes s s
 passes_none s = record { later = omega arith; keeps = λ t c early. (λ here. here, λ here. here); room = λ f n has. has }
 
+-- where time passes from one state to a second, and from that to a third, it passes from first to third
 pub passes_both : (old mid new : State) → Passes old mid → Passes mid new → Passes old new
 passes_both old mid new first second = record {
   later = omega (arith, first.later, second.later);
@@ -78,6 +80,7 @@ others_change tells file step old new follows reads = record {
   images = λ t c from to here. let was = follows t c from to here in (was.0, was.1, was.2.others);
 }
 
+-- calls that keep the images and, where it is told, the contents keep all files other than this one
 pub others_kept : (tells : Type 0) (file : ℕ) (old new : State) → KeepsImages old new → (tells → new.files ≡ old.files) → KeepsOthers tells file old new
 others_kept tells file old new keeps same = record {
   reads = λ told f other. ap (λ (c : Files). c f) (same told);
@@ -90,6 +93,7 @@ others_none tells file s = record {
   images = λ t c from to here. let is : t ≡ s.moment = omega arith in (c, subst (λ (m : ℕ). s.image m c) is here, λ f other. refl);
 }
 
+-- two runs, one after the other, that each keep the files other than this one keep them together
 pub others_both : (tells : Type 0) (file : ℕ) (old mid new : State) → Passes old mid → Passes mid new → KeepsOthers tells file old mid → KeepsOthers tells file mid new → KeepsOthers tells file old new
 others_both tells file old mid new first second early late = record {
   reads = λ told f other. late.reads told f other ∙ early.reads told f other;
@@ -170,6 +174,8 @@ where_change tells keep file step old mid new apart first second follows reads e
       images = λ t c from to here. let was = follows t c from to here in (was.0, was.1, λ f kept. was.2.others f (apart f kept));
     })
 
+-- a run that keeps the files that a test picks does so with calls behind it that keep the images and, where it is
+-- told, the contents
 pub where_kept : (tells : Type 0) (keep : ℕ → Type 0) (old mid new : State) → Passes old mid → Passes mid new → KeepsImages mid new → (tells → new.files ≡ mid.files) → KeepsWhere tells keep old mid → KeepsWhere tells keep old new
 where_kept tells keep old mid new first second keeps same early =
     where_both tells keep old mid new first second early

@@ -28,7 +28,7 @@ Follows step old new = (t : ℕ) (c : Files) → old.moment ≤ t → t ≤ new.
 abbrev pub KeepsImages : State → State → Type 0
 KeepsImages old new = (t : ℕ) (c : Files) → old.moment ≤ t → t ≤ new.moment → new.image t c → old.image old.moment c
 
--- within one call no image is new but at its first moment after the entry
+-- each image of a moment of a call is also one of each earlier moment of it after the entry
 abbrev pub Settles : State → State → Type 0
 Settles old new = (t u : ℕ) (c : Files) → old.moment < t → t ≤ u → u ≤ new.moment → new.image u c → new.image t c
 

@@ -16,6 +16,7 @@ pub record AreSame (a b c x y z : List ℕ) : Type 0 where
   pub middle : b ≡ y
   pub last : c ≡ z
 
+-- if two lists of three parts are the same, and the first and the last parts are as long, each part is the same
 pub same_three : (a b c x y z : List ℕ) → length a ≡ length x → length c ≡ length z → a ++ b ++ c ≡ x ++ y ++ z → AreSame a b c x y z
 same_three a b c x y z front back same =
     let long : length (a ++ b) ≡ length (x ++ y) =

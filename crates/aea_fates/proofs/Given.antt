@@ -107,6 +107,7 @@ module _ (l : Lattice) (known : BlockId → Bool) (b : BlockId) (equations : Lis
             ]
       ]
 
+-- a block of the lattice that is not known is the XOR of the known blocks of its listed equations, whatever the data
 pub sums-give : SumsGiveBlocks
 sums-give l known b equations has unknown sum w datas is =
     first-others w (value_of l w datas) b (known_blocks l known equations) (λ k. length-value_at l w datas k.node k.class is)

@@ -6,6 +6,7 @@ use Rattle.aea_lattice.specs.Equations.{is_odd_count}
 use Rattle.aea_lattice.specs.Parity.{differ}
 use Rattle.aea_lattice.proofs.Odd.{odd-cons, Each}
 
+-- an odd number of the items kept by q passes p exactly where an odd number of all items passes both
 pub odd-filter : {A : Type 0} → (p q : A → Bool) (xs : List A) → is_odd_count p (filter q xs) ≡ is_odd_count (λ x. q x && p x) xs
 odd-filter p q [] = refl
 odd-filter p q (x ∷ xs) =

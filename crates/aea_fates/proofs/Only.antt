@@ -30,6 +30,7 @@ pub data Greatest (f : ℕ → Bool) (m : ℕ) : Type 0 where
   greatest : (c : ℕ) → c < m → f c ≡ true → ((k : ℕ) → k < m → f k ≡ true → k ≤ c) → Greatest f m
   nothing : ((k : ℕ) → k < m → f k ≡ false) → Greatest f m
 
+-- some number below m passes and is the greatest of those that do, or none below m passes
 pub find_greatest : (f : ℕ → Bool) (m : ℕ) → Greatest f m
 find_greatest f zero = nothing (λ k less. absurd (omega arith))
 find_greatest f (suc m) =
@@ -64,6 +65,7 @@ differ-equal false false h = refl
 differ_both : (a b : Bool) → a ≡ true → b ≡ true → differ a b ≡ false
 differ_both a b ha hb = ap (λ x. differ x b) ha ∙ ap not hb
 
+-- two tests that agree on each item of a list keep the same items
 pub filter_each : {A : Type 0} → (p q : A → Bool) (xs : List A) → Each (λ x. p x ≡ q x) xs → filter p xs ≡ filter q xs
 filter_each p q [] h = refl
 filter_each p q (x ∷ xs) h =
@@ -127,6 +129,7 @@ module _ (l : Lattice) (known : BlockId → Bool) where
             ])
       ]
 
+  -- two lists of equations of the same block, for the same known blocks, are one
   pub sum_one : (b : BlockId) (xs ys : List EqId) → IsSum l known b xs → IsSum l known b ys → xs ≡ ys
   sum_one b xs ys hx hy =
       hx.ordered
@@ -136,6 +139,7 @@ module _ (l : Lattice) (known : BlockId → Bool) where
 
   -- ---- no block has both
 
+  -- no block of the lattice has both listed equations and listed nodes
   pub not_both_kinds : (b : BlockId) (xs : List EqId) (ns : List ℕ) → HasBlock l b → IsSum l known b xs → IsWord l known b ns → ⊥
   not_both_kinds b xs ns has sum word =
       let w = word.chosen.1 in
@@ -190,6 +194,7 @@ module _ (l : Lattice) (known : BlockId → Bool) where
   each-nodes_to zero P h = tt
   each-nodes_to (suc i) P h = Each-append P (nodes_to i) (suc i ∷ []) (each-nodes_to i P (λ k first most. h k first (omega arith))) (h (suc i) (omega arith) (omega arith), tt)
 
+  -- two lists of nodes of the same block, for the same known blocks, are one
   pub word_one : (b : BlockId) (xs ys : List ℕ) → IsWord l known b xs → IsWord l known b ys → xs ≡ ys
   word_one b xs ys hx hy =
       let e = hx.chosen.0 in

@@ -30,6 +30,7 @@ pub record Passing (p : BlockId → Bool) (bs : List BlockId) : Type 0 where
   pub stands : list_any (same_block item) bs ≡ true
   pub passes : p item ≡ true
 
+-- where some block of a list passes, there is a block that stands in the list and passes
 pub any_some : (p : BlockId → Bool) (bs : List BlockId) → list_any p bs ≡ true → Passing p bs
 any_some p [] h = absurd (false≢true h)
 any_some p (b ∷ bs) h = elim (or_cases (p b) (list_any p bs) h) [
@@ -292,6 +293,8 @@ module _ (l : Lattice) (known part : BlockId → Bool) (is_part : IsPart l known
         ordered = word.ordered;
       }
 
+-- a list of a part's block, where all that stands outside the part is known too, is its list for the known blocks
+-- alone
 pub parts-alone : PartsStandAlone
 parts-alone l known part is_part b has inside = (
   sum_alone l known part is_part b,

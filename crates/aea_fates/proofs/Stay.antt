@@ -42,6 +42,7 @@ listed_to l s t same b nodes w = record {
   ordered = w.ordered;
 }
 
+-- marking also blocks that the known ones determine leaves the listed nodes of each block as they are
 pub words-stay : (l : Lattice) (known more : BlockId → Bool) → ((d : BlockId) → HasBlock l d → IsTrue (known d) → IsTrue (more d))
     → ((d : BlockId) → HasBlock l d → IsTrue (more d) → Determines l known d)
     → (b : BlockId) (nodes : List ℕ) → IsWord l known b nodes ↔ IsWord l more b nodes

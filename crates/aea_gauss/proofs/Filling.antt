@@ -24,6 +24,7 @@ each-All : (P : EqId → Type 0) (es : List EqId) → Each P es → All P es
 each-All P [] h = All-nil P
 each-All P (e ∷ es) h = All-cons P e es h.0 (each-All P es h.1)
 
+-- the equations up to the last node n are equations of the lattice
 pub equations_inside : (l : Lattice) (i : ℕ) → i ≡ l.n → All (HasEquation l) (equations_to l i)
 equations_inside l i all = subst (λ n. All (HasEquation l) (equations_to l n)) (sym all) (each-All (HasEquation l) (equations_of l) (each-equations_of l))
 
@@ -38,6 +39,7 @@ pub record Filled (done wide : ℕ) (row : ℕ → ℕ → Bool) (old new : List
 pub filled_none : (wide : ℕ) (row : ℕ → ℕ → Bool) (old : List ℕ) → ((k : ℕ) → get_or old k 0 ≡ 0) → Filled 0 wide row old old
 filled_none wide row old zeros = record { long = refl; rows = λ i k less. absurd (omega arith); rest = λ k most. zeros k }
 
+-- after n filled rows, turning the bits of row n fills one row more
 pub filled_more : (n wide : ℕ) (row : ℕ → ℕ → Bool) (t : ℕ → Bool) (old now new : List ℕ) → Filled n wide row old now → Turns (n * wide) wide t now new
     → ((k : ℕ) → t k ≡ row n k) → Filled (n + 1) wide row old new
 filled_more n wide row t old now new before turns same = record {
@@ -59,6 +61,7 @@ filled_more n wide row t old now new before turns same = record {
   rest = λ k most. turns.outside k (inr (omega arith)) ∙ before.rest k (omega arith);
 }
 
+-- a list that reads 0 everywhere still does with one 0 more
 pub zeros_push : (xs : List ℕ) → ((k : ℕ) → get_or xs k 0 ≡ 0) → (k : ℕ) → get_or (xs ++ 0 ∷ []) k 0 ≡ 0
 zeros_push [] h zero = refl
 zeros_push [] h (suc k) = refl
@@ -67,12 +70,14 @@ zeros_push (x ∷ xs) h (suc k) = zeros_push xs (λ j. h (suc j)) k
 
 -- ---- lists that are read one item after another
 
+-- the kept ones of the first k + 1 blocks are those of the first k, and block k where it passes
 pub blocks_more : (p : BlockId → Bool) (bs : List BlockId) (k : ℕ) (b : BlockId) → k < length bs → slice_get bs k ≡ Some b
     → filter p (take (k + 1) bs) ≡ filter p (take k bs) ++ cond (p b) (b ∷ []) []
 blocks_more p bs k b less here =
     let at : get_or bs k b ≡ b = sym (unwrap_or-slice_get bs k b) ∙ ap (λ o. unwrap_or o b) here in
     filter_more p bs k b less ∙ ap (λ x. filter p (take k bs) ++ cond (p x) (x ∷ []) []) at
 
+-- those of the first i equations that have an unknown block are all such, where the lattice has no more than i
 pub live_whole : (l : Lattice) (known : BlockId → Bool) (live es : List EqId) (i : ℕ) → live ≡ filter (is_live l known) (take i es) → length es ≤ i → es ≡ equations_of l
     → live ≡ live_equations l known
 live_whole l known live es i h past all = h ∙ ap (filter (is_live l known)) (take_past es i past ∙ all)
@@ -83,6 +88,7 @@ live_whole l known live es i h past all = h ∙ ap (filter (is_live l known)) (t
     take_past (e ∷ es) zero past = absurd (omega arith)
     take_past (e ∷ es) (suc i) past = ap (λ xs. e ∷ xs) (take_past es i (omega arith))
 
+-- the first n items of two joined lists are the first list, where that has n items
 pub taken_front : (n : ℕ) (xs ys : List ℕ) → n ≡ length xs → take n (xs ++ ys) ≡ xs
 taken_front n xs ys e = ap (λ k. take k (xs ++ ys)) e ∙ front xs ys
   where
@@ -91,6 +97,7 @@ taken_front n xs ys e = ap (λ k. take k (xs ++ ys)) e ∙ front xs ys
     front [] (y ∷ ys) = refl
     front (x ∷ xs) ys = (let e : length (x ∷ xs) ≡ suc (length xs) = omega arith in ap (λ k. take k (x ∷ (xs ++ ys))) e) ∙ ap (λ zs. x ∷ zs) (front xs ys)
 
+-- the unknown ones of the first i blocks are all unknown blocks, where the lattice has no more than i
 pub unknown_whole : (l : Lattice) (known : BlockId → Bool) (blocks : List BlockId) (i : ℕ) → blocks ≡ filter (λ b. not (known b)) (take i (blocks_of l)) → length (blocks_of l) ≤ i
     → blocks ≡ unknown_blocks l known
 unknown_whole l known blocks i h past = h ∙ ap (filter (λ b. not (known b))) (take_all (blocks_of l) i past)

@@ -109,6 +109,7 @@ input_stands l e q g (Some x) is some =
     ap (list_any (same_block g)) (sym is)
     ∙ or_left (same_block g x) (list_any (same_block g) (q.datum ∷ q.output ∷ [])) (ap (same_block g) same ∙ same_block-refl g)
 
+-- where an optional block is g, what holds of g holds of whatever block it is
 pub some_from : (q : Option BlockId) (P : BlockId → Type 0) (g : BlockId) → q ≡ Some g → P g → ForSome q P
 some_from q P g is h x at = subst P (one_some q g x is at) h
 

@@ -43,6 +43,7 @@ module _ (one : ListsAreOne) (l : Lattice) (known : BlockId → Bool) where
       ap (λ z. z ∷ xs) (fate_one x y inside.0 same.0 (All-head (IsFate l known) x xs hx) (All-head (IsFate l known) y ys hy))
       ∙ ap (λ zs. y ∷ zs) (lists_one xs ys same.1 inside.1 (All-tail (IsFate l known) x xs hx) (All-tail (IsFate l known) y ys hy))
 
+-- where each block of a lattice has at most one list, two lists of its fates for the same known blocks are one
 pub fates-one : ListsAreOne → FatesAreOne
 fates-one one l known fates others hf ho =
     lists_one one l known fates others (hf.blocks ∙ sym ho.blocks)

@@ -242,6 +242,7 @@ part_unknown l kn w a less =
     split false true h = (refl, refl)
     split false false h = absurd (false≢true h)
 
+-- the blocks of a part, if they are listed in number order, all stand in the list of unknown blocks
 pub part_stands : (l : Lattice) (kn : BlockId → Bool) (us bs : List BlockId) (es : List EqId) → us ≡ unknown_blocks l kn → AreListed l bs → ArePart l kn bs es → All (StandsIn us) bs
 part_stands l kn us bs es us_are listed p =
     All-from_get_or (StandsIn us) bs (block_of 0 Datum)
@@ -253,9 +254,11 @@ part_stands l kn us bs es us_are listed p =
     stands_at same_block same_block-equal (block_in bs a) us (block_of 0 Datum)
     (subst (λ xs. list_any (same_block (block_in bs a)) xs ≡ true) (sym us_are) ((passing-among l (λ d. not (kn d)) (block_in bs a)).1 (has, ap not unknown)))))
 
+-- the equations of a part are equations of the lattice
 pub part_inside : (l : Lattice) (kn : BlockId → Bool) (bs : List BlockId) (es : List EqId) → ArePart l kn bs es → All (HasEquation l) es
 part_inside l kn bs es p = subst (All (HasEquation l)) (sym p.equations_are) (live_inside l (known_or_outside kn p.within))
 
+-- a part has fewer than 2^23 equations
 pub part_few : (l : Lattice) (kn : BlockId → Bool) (bs : List BlockId) (es : List EqId) → ArePart l kn bs es → length es < 2 ^ 23
 part_few l kn bs es p = subst (λ xs. length xs < 8388608) (sym p.equations_are) (live_few l (known_or_outside kn p.within))
 
@@ -334,6 +337,8 @@ taken l us all rest now old new f p is =
     let fewer = p.fewer in
     (omega arith, sym (ap (λ xs. fate_in xs (length now)) is ∙ get_or_push now f (Word (block_of 0 Datum) []) (length now) refl) ∙ p.waits (length now) (omega arith), long)
 
+-- where the last fates of a part are put and the others wait, to set the last of these at the place of its block,
+-- in a list in number order, puts one more
 pub putting_more : (l : Lattice) (us : List BlockId) → AreListed l us → (all rest now old fates : List Fate) (f : Fate) (a : ℕ) → Putting l us all rest old fates
     → rest ≡ now ++ f ∷ [] → a < length us → block_in us a ≡ block_of_fate f → Putting l us all now old (set fates a f)
 putting_more l us listed all rest now old fates f a p is less here =
@@ -377,6 +382,7 @@ pub record Solved (l : Lattice) (kn : BlockId → Bool) (us : List BlockId) (par
   pub blocks : map block_of_fate fates ≡ us
   pub right : (c a : ℕ) → c < count → a < length us → StandsIn (get_or parts c []) (block_in us a) → IsFate l kn (fate_in fates a)
 
+-- where the fates of the next part are right, and those that were right still are, one part more is solved
 pub solved_more : (l : Lattice) (kn : BlockId → Bool) (us : List BlockId) (parts : List (List BlockId)) (count : ℕ) (part : List BlockId) (old new : List Fate)
     → Solved l kn us parts count old → part ≡ get_or parts count [] → map block_of_fate new ≡ us → Rights l kn us part old new → Solved l kn us parts (count + 1) new
 solved_more l kn us parts count part old new before is blocks rights = record {
@@ -387,6 +393,8 @@ solved_more l kn us parts count part old new before is blocks rights = record {
   ];
 }
 
+-- where the first parts are solved, as many as there are unknown blocks or more, and each of these blocks stands in
+-- one of so many parts, the fates are those of the lattice
 pub solved_all : (l : Lattice) (kn : BlockId → Bool) (us : List BlockId) (parts : List (List BlockId)) (count : ℕ) (fates : List Fate) → us ≡ unknown_blocks l kn
     → length us ≤ count → Solved l kn us parts count fates
     → ((a : ℕ) → a < length us → (c : ℕ) × (c < length us) × StandsIn (get_or parts c []) (block_in us a)) → AreFates l kn fates
@@ -401,6 +409,7 @@ solved_all l kn us parts count fates us_are many solved whole = record {
       solved.right at.0 a (omega arith) inside at.2));
 }
 
+-- blocks and equations that equal those of a part are those of a part
 pub part_from : (l : Lattice) (kn : BlockId → Bool) (bs cs : List BlockId) (es fs : List EqId) → ArePart l kn cs fs → bs ≡ cs → es ≡ fs → ArePart l kn bs es
 part_from l kn bs cs es fs p same_blocks same_equations = record {
   within = p.within;
@@ -409,11 +418,14 @@ part_from l kn bs cs es fs p same_blocks same_equations = record {
   equations_are = same_equations ∙ p.equations_are;
 }
 
+-- where unknown blocks always are listed in number order, so are the blocks of a part
 pub part_listed : UnknownAreListed → (l : Lattice) (kn : BlockId → Bool) (bs : List BlockId) (es : List EqId) → ArePart l kn bs es → AreListed l bs
 part_listed law l kn bs es p = subst (AreListed l) (sym p.blocks_are) (law l (known_or_outside kn p.within))
 
 -- ---- buckets
 
+-- where item k is put at the end of the bucket of its label, the buckets below the count have the first k + 1 items
+-- by their labels, if they had the first k
 pub bucket_more : {A : Type 0} → (items : List A) (labels : List ℕ) (old new : List (List A)) (count k : ℕ) (x d : A) → k < length items → get_or labels k 0 < count
     → x ≡ get_or items k d → new ≡ set old (get_or labels k 0) (get_or old (get_or labels k 0) [] ++ x ∷ []) → length old ≡ count
     → ((c : ℕ) → c < count → get_or old c [] ≡ items_at (λ j. get_or labels j 0 == c) (take k items))

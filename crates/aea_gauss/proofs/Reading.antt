@@ -24,12 +24,14 @@ use Rattle.aea_gauss.specs.Told.{AreLeads}
 
 -- ---- leads over more columns
 
+-- the least column of a row is its least one over any other number of columns that is above it
 pub lead_narrow : (cols big : ℕ) (r : ℕ → Bool) (c : ℕ) → c < cols → IsLead big r c → IsLead cols r c
 lead_narrow cols big r c less h = record { below = less; here = h.here; least = h.least }
 
 lead_wide : (cols big : ℕ) (r : ℕ → Bool) (c : ℕ) → cols ≤ big → IsLead cols r c → IsLead big r c
 lead_wide cols big r c le h = record { below = (let b = h.below in omega arith); here = h.here; least = h.least }
 
+-- a column that is the least of no row over some columns is that of none over fewer
 pub free_narrow : (rows cols big : ℕ) (m : ℕ → ℕ → Bool) (c : ℕ) → cols ≤ big → IsFree rows big m c → IsFree rows cols m c
 free_narrow rows cols big m c le free i less h = free i less (lead_wide cols big (m i) c le h)
 
@@ -42,6 +44,7 @@ reduced_wide rows cols big m past reduced i j c i_less j_less other lead = elim 
 
 -- ---- the table of leads
 
+-- at a place within a list the default does not matter
 pub same_default : {A : Type 0} → (xs : List A) (k : ℕ) (a b : A) → k < length xs → get_or xs k a ≡ get_or xs k b
 same_default [] k a b less = absurd (omega arith)
 same_default (x ∷ xs) zero a b less = refl
@@ -53,10 +56,12 @@ pub entry_of : (rows cols : ℕ) (m : ℕ → ℕ → Bool) (leads : List (Optio
 entry_of rows cols m leads k x d are less is =
     subst (λ o. MatchOption o (IsFree rows cols m k) (λ i. (i < rows) × IsLead cols (m i) k)) (sym (is ∙ same_default leads k d None less)) (are k less)
 
+-- where an optional number is none, what is said for none holds
 pub at_none : (x : Option ℕ) (P : Type 0) (Q : ℕ → Type 0) → MatchOption x P Q → x ≡ None → P
 at_none None P Q h is = h
 at_none (Some i) P Q h is = absurd (cc)
 
+-- where an optional number is some i, what is said for some holds of i
 pub at_some : (x : Option ℕ) (P : Type 0) (Q : ℕ → Type 0) (i : ℕ) → MatchOption x P Q → x ≡ Some i → Q i
 at_some None P Q i h is = absurd (cc)
 at_some (Some j) P Q i h is = let same : j ≡ i = cc in subst Q same h
@@ -99,6 +104,7 @@ leads_begin cols m leads none a less =
 pub word_itself : (rows : ℕ) (m : ℕ → ℕ → Bool) (f k : ℕ) → k ≡ f → true ≡ word_at rows m f k
 word_itself rows m f k same = sym (ap (λ b. b || odd_below (λ i. is_lead (m i) k && m i f) rows) (eq-eqb k f same))
 
+-- in reduced rows the word of f has another column k that leads a row exactly where that row has f
 pub word_led : (rows cols : ℕ) (m : ℕ → ℕ → Bool) (f k i : ℕ) → IsReduced rows cols m → k ≢ f → i < rows → IsLead cols (m i) k → m i f ≡ word_at rows m f k
 word_led rows cols m f k i reduced other less lead =
     sym
@@ -110,6 +116,7 @@ word_led rows cols m f k i reduced other less lead =
     ])
     ∙ ap (λ b. b && m i f) (lead_test cols (m i) k lead))
 
+-- the word of f has no column, besides f, that is the least of no row
 pub word_free : (rows cols : ℕ) (m : ℕ → ℕ → Bool) (f k : ℕ) → k ≢ f → k < cols → IsFree rows cols m k → false ≡ word_at rows m f k
 word_free rows cols m f k other less free =
     sym
@@ -122,6 +129,8 @@ word_free rows cols m f k other less free =
 
 -- ---- lists that are read one place after another
 
+-- the nodes read off the first k + 1 blocks are those of the first k, and that of block k where it is a datum
+-- and its place passes
 pub nodes-more : (p : ℕ → Bool) (bs : List BlockId) (k : ℕ) (d : BlockId) → k < length bs
     → nodes_at p (take (k + 1) bs) ≡ nodes_at p (take k bs) ++ cond (p k && class_number (get_or bs k d).class == 0) ((get_or bs k d).node ∷ []) []
 nodes-more p [] k d less = absurd (omega arith)
@@ -138,6 +147,7 @@ nodes-more p (b ∷ bs) (suc k) d less =
       | inr no' ↦ rw no' rest
     ]
 
+-- the equations read off the first k + 1 are those of the first k, and equation k where its place passes
 pub equations-more : (p : ℕ → Bool) (es : List EqId) (k : ℕ) (d : EqId) → k < length es
     → equations_at p (take (k + 1) es) ≡ equations_at p (take k es) ++ cond (p k) (get_or es k d ∷ []) []
 equations-more p [] k d less = absurd (omega arith)
@@ -158,6 +168,7 @@ take-snoc (x ∷ xs) (suc k) d less =
     let next : suc k + 1 ≡ suc (k + 1) = omega arith in
     ap (λ n. take n (x ∷ xs)) next ∙ ap (λ ys. x ∷ ys) (take-snoc xs k d (omega arith))
 
+-- fates of the first a blocks, in order, and then one of block a are fates of the first a + 1
 pub blocks-told : (blocks : List BlockId) (fates : List Fate) (fate : Fate) (a : ℕ) → map block_of_fate fates ≡ take a blocks → a < length blocks
     → block_of_fate fate ≡ block_in blocks a → map block_of_fate (fates ++ fate ∷ []) ≡ take (a + 1) blocks
 blocks-told blocks fates fate a before less is =
@@ -166,6 +177,7 @@ blocks-told blocks fates fate a before less is =
     ∙ ap (λ b. take a blocks ++ b ∷ []) is
     ∙ sym (take-snoc blocks a (block_of 0 Datum) less)
 
+-- the first k items of a list are all of it, where it has no more than k
 pub take-all : {A : Type 0} → (xs : List A) (k : ℕ) → length xs ≤ k → take k xs ≡ xs
 take-all [] zero past = refl
 take-all [] (suc k) past = refl
@@ -204,6 +216,8 @@ pub record Left (l : Lattice) (blocks : List BlockId) (equations : List EqId) (w
   pub reduction : IsReduction (length equations) (length blocks + length equations) (small_start l blocks equations) (bit_matrix wide words)
   pub reduced : IsReduced (length equations) (64 * wide) (bit_matrix wide words)
 
+-- where the rows were filled as at first and then reduced, with bits past the columns 0, the words are what
+-- elimination leaves
 pub left_by : (l : Lattice) (blocks : List BlockId) (equations : List EqId) (cols rows wide : ℕ) (first lent last back : List ℕ) → cols ≡ length blocks + length equations
     → rows ≡ length equations → wide ≡ words_for cols → lent ≡ first → back ≡ last
     → ((i k : ℕ) → i < length equations → k < 64 * wide → bit_matrix wide first i k ≡ small_start l blocks equations i k)

@@ -5,11 +5,13 @@ use Rattle.aea_lattice.specs.Parity.{differ}
 use Rattle.aea_gauss_laws.specs.Parities.{odd_below}
 use Rattle.aea_lattice.proofs.Odd.{differ-comm, differ-assoc, differ-self, differ-false_r, differ-and, Each, Each-more, Each-map, Each-from_map}
 
+-- tests that agree on all numbers below m have the same parity there
 pub odd_below-same : (f g : ℕ → Bool) (m : ℕ) → ((k : ℕ) → k < m → f k ≡ g k) → odd_below f m ≡ odd_below g m
 odd_below-same f g zero h = refl
 odd_below-same f g (suc m) h =
     ap (λ b. differ b (f m)) (odd_below-same f g m (λ k less. h k (omega arith))) ∙ ap (differ (odd_below g m)) (h m (omega arith))
 
+-- where no number below m passes, the parity is even
 pub odd_below-none : (f : ℕ → Bool) (m : ℕ) → ((k : ℕ) → k < m → f k ≡ false) → odd_below f m ≡ false
 odd_below-none f zero h = refl
 odd_below-none f (suc m) h =
@@ -21,11 +23,13 @@ differ-swap a b c d =
     ∙ ap (differ a) (sym (differ-assoc b c d) ∙ ap (λ x. differ x d) (differ-comm b c) ∙ differ-assoc c b d)
     ∙ sym (differ-assoc a c (differ b d))
 
+-- the parity of where two tests differ is the XOR of their parities
 pub odd_below-differ : (f g : ℕ → Bool) (m : ℕ) → odd_below (λ k. differ (f k) (g k)) m ≡ differ (odd_below f m) (odd_below g m)
 odd_below-differ f g zero = refl
 odd_below-differ f g (suc m) =
     ap (λ b. differ b (differ (f m) (g m))) (odd_below-differ f g m) ∙ differ-swap (odd_below f m) (odd_below g m) (f m) (g m)
 
+-- the parity of a test together with one fixed condition is odd exactly where that holds and the test's is odd
 pub odd_below-and : (b : Bool) (f : ℕ → Bool) (m : ℕ) → odd_below (λ k. b && f k) m ≡ (b && odd_below f m)
 odd_below-and true f m = refl
 odd_below-and false f m = odd_below-none (λ k. false) m (λ k less. refl)
@@ -119,6 +123,7 @@ space-lacks P m s = record {
   sum = λ u v hu hv. (s.sum u v hu.0 hv.0, ap (λ b. differ b (v m)) hu.1 ∙ hv.1);
 }
 
+-- a family that has the empty test and sums has, with a test, also that test together with one fixed condition
 pub P-scaled : (P : (ℕ → Bool) → Type 0) → IsSpace P → (b : Bool) (p : ℕ → Bool) → P p → P (λ k. b && p k)
 P-scaled P s true p hp = hp
 P-scaled P s false p hp = s.none
@@ -127,10 +132,12 @@ pub differ-true : (b : Bool) → differ b b ≡ false
 differ-true true = refl
 differ-true false = refl
 
+-- with true as second, a conjunction is its first
 pub and-true : (b : Bool) → (b && true) ≡ b
 and-true true = refl
 and-true false = refl
 
+-- with false as second, a conjunction is false
 pub and-false : (b : Bool) → (b && false) ≡ false
 and-false true = refl
 and-false false = refl
@@ -184,6 +191,8 @@ each-lacks : (P : (ℕ → Bool) → Type 0) (m : ℕ) (rows : List (ℕ → Boo
 each-lacks P m [] hp hl = tt
 each-lacks P m (r ∷ rows) hp hl = ((hp.0, hl.0), each-lacks P m rows hp.1 hl.1)
 
+-- where a family with the empty test and sums has all the rows, one of its tests is the target below m,
+-- or some test meets all rows evenly and the target oddly below m
 pub alternative : (m : ℕ) (P : (ℕ → Bool) → Type 0) → IsSpace P → (rows : List (ℕ → Bool)) → Each P rows → (t : ℕ → Bool) → Outcome m P rows t
 alternative zero P s rows each t = reached (λ k. false) s.none (λ k less. absurd (omega arith))
 alternative (suc m) P s rows each t =

@@ -47,9 +47,11 @@ module _ (l : Lattice) (known : BlockId → Bool) (b : BlockId) (inside : HasBlo
         | inr not_known ↦ word-case open' not_known
       ]
 
+-- a set determines a block of the lattice exactly where the block is in it or some equations give it from the set
 pub determined-sums : DeterminedAreSums
 determined-sums l known b inside = (determined-given l known b inside, determined-from l known b inside)
 
+-- a set does not determine a block of the lattice exactly where some codeword has the block and none of the set
 pub undetermined-words : UndeterminedAreWords
 undetermined-words l known b inside =
     (undetermined-word l known b inside, λ word. word-not_determined l known word.0 b inside word.1.contains word.1.misses)

@@ -28,6 +28,7 @@ use Rattle.aea_gauss_laws.proofs.Columns.{odd_below-same, odd_below-one, meets, 
 abbrev pub block_at : Lattice → ℕ → BlockId
 block_at l k = get_or (blocks_of l) k (block_of 0 Datum)
 
+-- at the number of a block of the lattice is that block
 pub block_at-number : (l : Lattice) (b : BlockId) → HasBlock l b → block_at l (number_of l b) ≡ b
 block_at-number l b h =
     sym (unwrap_or-slice_get (blocks_of l) (number_of l b) (block_of 0 Datum))
@@ -42,6 +43,7 @@ odd_below-shift p x xs d (suc m) =
     ap (λ b. differ b (p (get_or xs m d))) (odd_below-shift p x xs d m)
     ∙ differ-assoc (p x) (odd_below (λ k. p (get_or xs k d)) m) (p (get_or xs m d))
 
+-- the parity over all places of a list, of whether the item there passes, is that of the items that pass
 pub odd_below-list : {A : Type 0} → (p : A → Bool) (xs : List A) (d : A) → odd_below (λ k. p (get_or xs k d)) (length xs) ≡ is_odd_count p xs
 odd_below-list p [] d = refl
 odd_below-list p (x ∷ xs) d =
@@ -53,6 +55,7 @@ odd_below-list p (x ∷ xs) d =
     length-cons : {A : Type 0} → (x : A) (xs : List A) → length (x ∷ xs) ≡ suc (length xs)
     length-cons x xs = omega arith
 
+-- the parity over all numbers of blocks, of whether the block there passes, is that of the blocks that pass
 pub odd_below-blocks : (l : Lattice) (p : BlockId → Bool) → odd_below (λ k. p (block_at l k)) (blocks_count l) ≡ is_odd_count p (blocks_of l)
 odd_below-blocks l p =
     ap (odd_below (λ k. p (block_at l k))) (sym (length-blocks_of l)) ∙ odd_below-list p (blocks_of l) (block_of 0 Datum)
@@ -63,6 +66,7 @@ Each-get_or P [] k d each less = absurd (omega arith)
 Each-get_or P (x ∷ xs) zero d each less = each.0
 Each-get_or P (x ∷ xs) (suc k) d each less = Each-get_or P xs k d each.1 (omega arith)
 
+-- at each number below the count of blocks is a block of the lattice
 pub block_at-inside : (l : Lattice) (k : ℕ) → k < blocks_count l → HasBlock l (block_at l k)
 block_at-inside l k less = Each-get_or (HasBlock l) (blocks_of l) k (block_of 0 Datum) (each-blocks_of l) (omega (arith, length-blocks_of l))
 
@@ -97,10 +101,12 @@ module _ (l : Lattice) (known : BlockId → Bool) (b : BlockId) (inside : HasBlo
 abbrev pub IsSumAt : Lattice → (BlockId → Bool) → (ℕ → Bool) → Type 0
 IsSumAt l known v = (t : EqId → Bool) × ((k : ℕ) → v k ≡ (not (known (block_at l k)) && adds_up_to l t (block_at l k)))
 
+-- a conjunction with an XOR is the XOR of the conjunctions
 pub and-differ : (a b c : Bool) → (a && differ b c) ≡ differ (a && b) (a && c)
 and-differ true b c = refl
 and-differ false b c = refl
 
+-- with false as second, a conjunction is false
 pub and-no : (a : Bool) → (a && false) ≡ false
 and-no true = refl
 and-no false = refl
@@ -189,12 +195,15 @@ numbered-number l k =
     let row : (k / (1 + l.alpha) + 1 - 1) * (1 + l.alpha) ≡ (1 + l.alpha) * (k / (1 + l.alpha)) = ap (λ j. j * (1 + l.alpha)) back ∙ mul_comm (k / (1 + l.alpha)) (1 + l.alpha) in
     omega arith)
 
+-- the block at a number below the count of blocks has that number
 pub number-block_at : (l : Lattice) (k : ℕ) → k < blocks_count l → number_of l (block_at l k) ≡ k
 number-block_at l k less =
     ap (λ j. number_of l (block_at l j)) (sym (numbered-number l k))
     ∙ ap (number_of l) (block_at-number l (numbered l k) (numbered-inside l k less))
     ∙ numbered-number l k
 
+-- the row of an equation meets a test oddly exactly where an odd number of the equation's blocks are unknown
+-- with a number that passes
 pub row-meets : (l : Lattice) (known : BlockId → Bool) (x : ℕ → Bool) (e : EqId) → HasEquation l e
     → meets (row_of l known e) x (blocks_count l) ≡ is_odd_count (set_at l known x) (equation_blocks l e)
 row-meets l known x e has =
@@ -254,6 +263,7 @@ either_from l known b inside not_known (missed x even odd) =
       misses = λ d has is_known. sym (word d has) ∙ ap (λ a. not a && x (number_of l d)) is_known;
     })
 
+-- a block of the lattice that is not known is given by some equations, or a codeword has it and no known block
 pub one_or_other : (l : Lattice) (known : BlockId → Bool) (b : BlockId) → HasBlock l b → known b ≡ false → Either l known b
 one_or_other l known b inside not_known =
     either_from l known b inside not_known

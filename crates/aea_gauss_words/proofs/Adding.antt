@@ -9,12 +9,15 @@ use Rattle.aea_gauss_words.specs.Tables.{Sets, word_of, xor_of, AreTables, has_l
 
 -- ---- tests of ranges
 
+-- the test `within` passes at each number from a to before b
 pub within_yes : (a b x : ℕ) → a ≤ x → x < b → within a b x ≡ true
 within_yes a b x low high = ap (λ t. not t && nat_lt x b) (le-ltb x a low) ∙ lt-ltb x b high
 
+-- the test `within` passes at no number below a
 pub within_low : (a b x : ℕ) → x < a → within a b x ≡ false
 within_low a b x low = ap (λ t. not t && nat_lt x b) (lt-ltb x a low)
 
+-- the test `within` passes at no number from b on
 pub within_high : (a b x : ℕ) → b ≤ x → within a b x ≡ false
 within_high a b x high = ap (λ t. not (nat_lt x a) && t) (le-ltb x b high) ∙ and-no (not (nat_lt x a))
   where
@@ -51,6 +54,7 @@ sums_none rows wide from at len table picks old r w r_less less =
     let none : within from (from + 0) r ≡ false = elim (side from (from + 0) r) [ low h is ↦ is | inner h k is ↦ absurd (omega arith) | high h is ↦ is ] in
     sym (ap (λ b. cond (b && within at (at + len) w) (bit_xor (word_of wide old r w) (four (λ t. get_or table (t * 16384 + get_or picks (4 * (r - from) + t) 0 * 64 + (w - at)) 0))) (word_of wide old r w)) none)
 
+-- a run of a row's words, in a row that is one of `count` from `from` on, ends within the words of all rows
 pub row_inside : (rows wide from i count at len : ℕ) → from + count ≤ rows → i < count → at + len ≤ wide → (from + i) * wide + at + len ≤ rows * wide
 row_inside rows wide from i count at len fits less inside =
     let m : (from + i + 1) * wide ≤ rows * wide = (let s : from + i + 1 ≤ rows = omega arith in mul-le-mul_right wide s) in omega arith
@@ -126,6 +130,7 @@ module _ (rows wide from i at len p0 p1 p2 p3 : ℕ) (table picks old now new : 
           → t * 16384 + get_or picks (4 * (from + i - from) + t) 0 * 64 + (w - at) ≡ t * 16384 + p * 64 + (w - at)
       pick_at t i back p is = ap (λ n. t * 16384 + get_or picks (4 * n + t) 0 * 64 + (w - at)) back ∙ ap (λ x. t * 16384 + x * 64 + (w - at)) is
 
+  -- where i rows have the picked sums added and row from + i gets the four that its picks say, i + 1 rows have them
   pub sums_more : AddsSums rows wide from (i + 1) at len table picks old new
   sums_more r w r_less less = elim (cases_eq r (from + i)) [
     | inl same ↦
@@ -164,6 +169,7 @@ part_none rows wide lo leads from to old r w r_less less =
     sym (ap (λ b. cond (within from to r && b) (added_word wide old lo leads r w) (word_of wide old r w)) (le-ltb w 0 (omega arith))
     ∙ ap (λ b. cond b (added_word wide old lo leads r w) (word_of wide old r w)) (and-none (within from to r)))
 
+-- the group that is added to the words before `at` is added to whole rows, where no row has more words
 pub part_all : (rows wide lo : ℕ) (leads : List (Option ℕ)) (from to at : ℕ) (old new : List ℕ) → wide ≤ at → AddsPart rows wide lo leads from to at old new → AddsGroup rows wide lo leads from to old new
 part_all rows wide lo leads from to at old new all part r w r_less less =
     part r w r_less less
@@ -292,6 +298,8 @@ added_same wide lo old now leads r w inside less row group =
 pub group_none : (rows wide lo : ℕ) (leads : List (Option ℕ)) (old : List ℕ) → AddsGroup rows wide lo leads 0 0 old old
 group_none rows wide lo leads old r w r_less less = sym (ap (λ b. cond b (added_word wide old lo leads r w) (word_of wide old r w)) (within_high 0 0 r (omega arith)))
 
+-- where the group is added to the rows before `from`, and then to those from there to before `to`, it is added to
+-- all before `to`; the group is among the rows, and its listed columns are within a row
 pub group_more : (rows wide lo : ℕ) (leads : List (Option ℕ)) (from to : ℕ) (old now new : List ℕ) → lo + 32 ≤ rows → from ≤ to → AreInside wide leads
     → AddsGroup rows wide lo leads 0 from old now → AddsGroup rows wide lo leads from to now new → AddsGroup rows wide lo leads 0 to old new
 group_more rows wide lo leads from to old now new fits order inside before after r w r_less less =

@@ -41,6 +41,7 @@ other_bit old new from into w r j k adds other less =
     (let below = word_below w k less in
     elim (rows_apart w r j other) [ inl before ↦ inl (omega arith) | inr after ↦ inr (omega arith) ]))
 
+-- where row j has column c, the XOR of its words with those of another row i adds row i to row j alone
 pub added_one : (rows w i j c : ℕ) (old new : List ℕ) → i ≢ j → bit_matrix w old j c ≡ true → Adds (i * w) (j * w) w old new
     → IsClearedOne rows (64 * w) (bit_matrix w old) (bit_matrix w new) i c j
 added_one rows w i j c old new other has adds r k r_less less =
@@ -80,6 +81,7 @@ added_none rows w i j c old none r k r_less less =
     and-no true = refl
     and-no false = refl
 
+-- two runs of `wide` words each that have no word in common have none in their first n, where n is no greater
 pub apart_less : (from into n wide : ℕ) → n ≤ wide → Apart from into wide → Apart from into n
 apart_less from into n wide le (inl h) = inl (omega arith)
 apart_less from into n wide le (inr h) = inr (omega arith)
@@ -112,6 +114,7 @@ word_lead words start wide at less before some fits =
         let low : (64 * at + j) % 64 ≡ j = omega arith in
         ap (λ h. bit_at (get_or words (start + h) 0) ((64 * at + j) % 64) == 1) high ∙ ap (λ h. bit_at (get_or words (start + at) 0) h == 1) low
 
+-- where a row has no column in its first `at` words and the next word is 0, it has none in at + 1 words
 pub none_more : (words : List ℕ) (start at : ℕ) → ((k : ℕ) → k < 64 * at → is_bit words start k ≡ false) → get_or words (start + at) 0 ≡ 0
     → (k : ℕ) → k < 64 * (at + 1) → is_bit words start k ≡ false
 none_more words start at before zero_word k less =

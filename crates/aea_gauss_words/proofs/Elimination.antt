@@ -72,21 +72,25 @@ added_within : (rows cols : ℕ) (old new : ℕ → ℕ → Bool) (i : ℕ) (q :
 added_within rows cols old new i q i_less adds v sum =
     (picks_of rows i q sum.0, λ k less. sum.1 k less ∙ added_sum rows cols old new i q i_less adds sum.0 k less)
 
+-- adding a row to some of the others leaves the XORs of sets of rows the same
 pub added_sums : (rows cols : ℕ) (old new : ℕ → ℕ → Bool) (i : ℕ) (q : ℕ → Bool) → i < rows → AddsRow rows cols old new i q → SameSums rows cols old new
 added_sums rows cols old new i q i_less adds v =
     (added_within rows cols new old i q i_less (added_back rows cols old new i q i_less adds) v, added_within rows cols old new i q i_less adds v)
 
+-- where column c is cleared by row i, row i is added to the other rows that have c
 pub cleared_adds : (rows cols : ℕ) (old new : ℕ → ℕ → Bool) (i c : ℕ) → IsCleared rows cols old new i c → AddsRow rows cols old new i (λ r. not (r == i) && old r c)
 cleared_adds rows cols old new i c cleared = record {
   not_itself = ap (λ b. not b && old i c) (eq-eqb i i refl);
   each = cleared;
 }
 
+-- where the XORs of sets of rows stay the same twice, they are the same from the first to the last
 pub sums_through : (rows cols : ℕ) (first now last : ℕ → ℕ → Bool) → SameSums rows cols first now → SameSums rows cols now last → SameSums rows cols first last
 sums_through rows cols first now last before after v = (λ h. (after v).0 ((before v).0 h), λ h. (before v).1 ((after v).1 h))
 
 -- ---- the first n rows have their leads alone
 
+-- the least column of a row is that of each row that has the same columns
 pub lead_same : (cols : ℕ) (r s : ℕ → Bool) (c : ℕ) → ((k : ℕ) → k < cols → r k ≡ s k) → IsLead cols r c → IsLead cols s c
 lead_same cols r s c same h = record {
   below = h.below;
@@ -144,6 +148,8 @@ module _ (rows cols : ℕ) (old new : ℕ → ℕ → Bool) (i c : ℕ) (i_less 
         ]
       ]
 
+  -- where the least columns of the first i rows are alone, and row i is added to the others that have its own,
+  -- those of the first i + 1 rows are alone
   pub reduced_more : ReducedTo (suc i) rows cols new
   reduced_more p j d p_less j_less other h =
       elim (cases_lt p i) [
@@ -181,6 +187,7 @@ pub part_all : (rows cols : ℕ) (old new : ℕ → ℕ → Bool) (i c : ℕ) �
 part_all rows cols old new i c part r k r_less less =
     part r k r_less less ∙ ap (λ b. differ (old r k) ((b && (not (r == i) && old r c)) && old i k)) (lt-ltb r rows r_less)
 
+-- where column c is cleared by row i in the first n rows, clearing it in row n too makes n + 1
 pub part_more : (rows cols : ℕ) (old now new : ℕ → ℕ → Bool) (i c n : ℕ) → i < rows → c < cols → n < rows → PartCleared rows cols old now i c n → IsClearedOne rows cols now new i c n
     → PartCleared rows cols old new i c (n + 1)
 part_more rows cols old now new i c n i_less c_less n_less part one r k r_less less =
@@ -212,9 +219,11 @@ part_more rows cols old now new i c n i_less c_less n_less part one r k r_less l
           | inr ge ↦ le-ltb r n ge ∙ sym (le-ltb r (n + 1) (omega arith))
         ]
 
+-- the XORs of sets of rows are the same for a matrix and itself
 pub sums_same : (rows cols : ℕ) (m : ℕ → ℕ → Bool) → SameSums rows cols m m
 sums_same rows cols m v = (λ h. h, λ h. h)
 
+-- the least columns of the first 0 rows are alone
 pub reduced_none : (rows cols : ℕ) (m : ℕ → ℕ → Bool) → ReducedTo 0 rows cols m
 reduced_none rows cols m p j c less = absurd (omega arith)
 
@@ -229,6 +238,7 @@ narrow_sums rows cols big old new le from v sum =
     let wide = from (sum_of_rows rows old sum.0) (sum.0, λ k less. refl) in
     (wide.0, λ k less. sum.1 k less ∙ wide.1 k (omega arith))
 
+-- a reduction over some columns is one over fewer
 pub narrow : (rows cols big : ℕ) (old new : ℕ → ℕ → Bool) → cols ≤ big → IsReduction rows big old new → IsReduction rows cols old new
 narrow rows cols big old new le reduction = record {
   same_sums = λ v. (
@@ -239,6 +249,7 @@ narrow rows cols big old new le reduction = record {
       reduction.reduced i j c i_less j_less other (record { below = (let below = lead.below in omega arith); here = lead.here; least = lead.least });
 }
 
+-- columns from `cols` to before `big` that no old row has, no row of a reduction has
 pub still_empty : (rows cols big : ℕ) (old new : ℕ → ℕ → Bool) → IsReduction rows big old new → Empty cols big rows old → Empty cols big rows new
 still_empty rows cols big old new reduction empty i k i_less most less =
     let sum = (reduction.same_sums (new i)).1 (row_is_sum_of_rows rows big new i i_less) in

@@ -118,6 +118,7 @@ module _ (rows wide lo : ℕ) (words new : List ℕ) (leads : List (Option ℕ))
       (adds r (k / 64) r_less (omega arith)
       ∙ ap (λ b. cond b (added_word wide words lo leads r (k / 64)) (word_of wide words r (k / 64))) (within_yes 0 rows r (omega arith) r_less))
 
+  -- with the group added, whose rows lack each other's least columns, the XORs of sets of rows are the same
   pub new_sums : SameSums rows (64 * wide) m (bit_matrix wide new)
   new_sums =
       sums_through rows (64 * wide) m (added lo m hit 32) (bit_matrix wide new) (group_sums rows (64 * wide) lo 32 m hit fits inside each)
@@ -130,6 +131,7 @@ module _ (rows wide lo : ℕ) (words new : List ℕ) (leads : List (Option ℕ))
       entries_sums : (rows cols : ℕ) (a b : ℕ → ℕ → Bool) → ((r k : ℕ) → r < rows → k < cols → a r k ≡ b r k) → SameSums rows cols a b
       entries_sums rows cols a b e v = (entries_half rows cols a b e v, entries_half rows cols b a (λ r k r_less less. sym (e r k r_less less)) v)
 
+  -- with such a group added, the least columns of the first lo + 32 rows are alone if those of the first lo were
   pub new_reduced : ReducedTo lo rows (64 * wide) m → ReducedTo (lo + 32) rows (64 * wide) (bit_matrix wide new)
   new_reduced before p j c p_less j_less other h =
       same j c j_less h.below
@@ -149,11 +151,14 @@ leads_inside wide words lo leads are s c less is = at (get_or leads s None) is (
 pub leaves_none : (rows cols : ℕ) (m : ℕ → ℕ → Bool) → LeavesReduced rows cols 0 m m
 leaves_none rows cols m = record { sums = sums_same rows cols m; reduced = reduced_none rows cols m }
 
+-- a step that keeps the sums, and reduces the first `next` rows where the first n are reduced, leads on from n
+-- to `next`
 pub leaves_more : (rows cols n next : ℕ) (old now new : ℕ → ℕ → Bool) → LeavesReduced rows cols n old now → SameSums rows cols now new
     → (ReducedTo n rows cols now → ReducedTo next rows cols new) → LeavesReduced rows cols next old new
 leaves_more rows cols n next old now new before sums reduced =
     record { sums = sums_through rows cols old now new before.sums sums; reduced = reduced before.reduced }
 
+-- where the sums are kept and the least columns of all rows are alone, the rows are a reduction
 pub leaves_all : (rows cols n : ℕ) (old new : ℕ → ℕ → Bool) → rows ≤ n → LeavesReduced rows cols n old new → IsReduction rows cols old new
 leaves_all rows cols n old new all leaves =
     record { same_sums = leaves.sums; reduced = λ i j c i_less j_less other lead. leaves.reduced i j c (omega arith) j_less other lead }
@@ -263,11 +268,14 @@ mid_after xs ys a n i room long past =
     ∙ get_or-append-add ys (drop n (drop a xs)) j 0
     ∙ get_or-drop n (drop a xs) j 0 ∙ get_or-drop a xs (n + j) 0 ∙ ap (λ k. get_or xs k 0) back
 
+-- the words of thirty-two rows from row lo on, taken out of those of all rows, are n = 32 * wide
 pub middle_long : (rows wide lo n : ℕ) (words : List ℕ) → lo + 32 ≤ rows → length words ≡ rows * wide → n ≡ 32 * wide → length (take n (drop (lo * wide) words)) ≡ n
 middle_long rows wide lo n words fits long is =
     let end : (lo + 32) * wide ≤ rows * wide = mul-le-mul_right wide fits in
     length-take-le n (drop (lo * wide) words) (let l = length-drop (lo * wide) words in omega arith)
 
+-- where the words of thirty-two rows from lo on are replaced by those of a reduction of them, that group of all rows
+-- is reduced
 pub middle_reduces : (rows wide lo n : ℕ) (words inner : List ℕ) → lo + 32 ≤ rows → length words ≡ rows * wide → n ≡ 32 * wide → length inner ≡ n
     → IsReduction 32 (64 * wide) (bit_matrix wide (take n (drop (lo * wide) words))) (bit_matrix wide inner)
     → ReducesGroup rows (64 * wide) lo (bit_matrix wide words) (bit_matrix wide (take (lo * wide) words ++ (inner ++ drop n (drop (lo * wide) words))))

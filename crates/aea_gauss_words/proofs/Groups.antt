@@ -108,5 +108,6 @@ module _ (rows cols lo n : ℕ) (old hit : ℕ → ℕ → Bool) (fits : lo + n 
   pub group_sums : SameSums rows cols old (added lo old hit n)
   group_sums = sums n (omega arith)
 
+  -- where the least columns of the first lo rows were alone, with the group added those of the first lo + n are
   pub group_reduced : ReducedTo lo rows cols old → ReducedTo (lo + n) rows cols (added lo old hit n)
   group_reduced = reduced n (omega arith)

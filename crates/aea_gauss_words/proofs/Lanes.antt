@@ -57,6 +57,8 @@ adds_more from into d n old now new apart before after = record {
   ];
 }
 
+-- where `at` words of a run have become their XOR with those of a run apart from it, and the next is set to its
+-- XOR, at + 1 words have
 pub adds_set : (at from into : ℕ) (old now : List ℕ) → into + at < length old → Apart from into (at + 1) → Adds from into at old now
     → Adds from into (at + 1) old (set now (into + at) (bit_xor (get_or now (into + at) 0) (get_or now (from + at) 0)))
 adds_set at from into old now room apart before =

@@ -19,6 +19,7 @@ below_top f m all here k less =
       | inr h ↦ let same : m ≡ k = omega arith in ap f (sym same) ∙ here
     ]
 
+-- some number below m passes and none before it, or none below m passes
 pub find_least : (f : ℕ → Bool) (m : ℕ) → Least f m
 find_least f zero = nothing (λ k less. absurd (omega arith))
 find_least f (suc m) =
@@ -36,6 +37,7 @@ pub record Some_below (f : ℕ → Bool) (m : ℕ) : Type 0 where
   pub below : place < m
   pub here : f place ≡ true
 
+-- where the parity below m is odd, some number below m passes
 pub odd_some : (f : ℕ → Bool) (m : ℕ) → odd_below f m ≡ true → Some_below f m
 odd_some f m h =
     elim (find_least f m) [
@@ -72,6 +74,7 @@ lead_picks rows cols m reduced i c less lead p =
     (λ j j_less other. ap (λ b. p j && b) (reduced i j c less j_less (λ e. other (sym e)) lead) ∙ and-false (p j))
     ∙ ap (λ b. p i && b) lead.here ∙ and-true (p i)
 
+-- two least columns of the same row are one
 pub lead_unique : (cols : ℕ) (r : ℕ → Bool) (c d : ℕ) → IsLead cols r c → IsLead cols r d → c ≡ d
 lead_unique cols r c d hc hd =
     elim (cases_lt c d) [
@@ -110,6 +113,7 @@ lead_of_sum rows cols m reduced v sum c less here below =
     let both = and_parts (sum.0 some.place) (m some.place c) some.here in
     lead_of_row rows cols m reduced v sum.0 sum.1 c less below some.place some.below both.0 both.1
 
+-- each row is the XOR of a set of rows
 pub row_is_sum_of_rows : (rows cols : ℕ) (m : ℕ → ℕ → Bool) (i : ℕ) → i < rows → IsSumOfRows rows cols m (m i)
 row_is_sum_of_rows rows cols m i less = (
   λ j. j == i,

@@ -34,6 +34,7 @@ doubled_more base size begin len x words old now new less short before sets = re
   ];
 }
 
+-- the place of a set of the first n rows is below 2^n
 pub place_below : (picks : ℕ → Bool) (n : ℕ) → place_of picks n < 2 ^ n
 place_below picks zero = omega arith
 place_below picks (suc n) =
@@ -44,6 +45,7 @@ place_below picks (suc n) =
       | inr no' ↦ (let here : cond (picks n) (2 ^ n) 0 ≡ 0 = cond-false (picks n) (2 ^ n) 0 no' in omega arith)
     ]
 
+-- 2^s is at most 128 where s is below 8
 pub pow_small : (s : ℕ) → s < 8 → 2 ^ s ≤ 128
 pow_small zero less = omega arith
 pow_small (suc zero) less = omega arith
@@ -68,6 +70,8 @@ filling_none base len row old new short sets = record {
   sums = λ picks k less. (let at : base + 0 * 64 + k ≡ base + k = omega arith in ap (λ i. get_or new i 0) at ∙ sets.inside k less);
 }
 
+-- where the sums of n rows stand in the table, n below 8, and behind them are put those with row n added,
+-- the sums of n + 1 rows stand in it
 pub filling_more : (base n len size begin : ℕ) (row : ℕ → ℕ → ℕ) (words old now new : List ℕ) → n < 8 → len ≤ 64 → size ≡ 2 ^ n → size ≤ 128 → Filling base n len row old now
     → length new ≡ length now
     → ((k : ℕ) → (k < base + size * 64) ⊎ (base + 2 * size * 64 ≤ k) → get_or new k 0 ≡ get_or now k 0)
@@ -104,6 +108,7 @@ table_kept base len row old new short kept is picks k less =
     let low = place_below picks 8 in
     kept (base + place_of picks 8 * 64 + k) (omega arith) (omega arith) ∙ is picks k less
 
+-- where the first t tables stand, table t does now, and nothing outside it changed, the first t + 1 stand
 pub tables_more : (row : ℕ → ℕ → ℕ → ℕ) (len t : ℕ) (old new : List ℕ) → len ≤ 64
     → ((k : ℕ) → (k < t * 16384) ⊎ (t * 16384 + 16384 ≤ k) → get_or new k 0 ≡ get_or old k 0)
     → IsTable (t * 16384) 8 len (row t) new → ((u : ℕ) → u < t → IsTable (u * 16384) 8 len (row u) old)

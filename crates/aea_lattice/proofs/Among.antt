@@ -12,14 +12,17 @@ use Rattle.aea_lattice.proofs.Derivations.{among-filter}
 use Rattle.aea_lattice.proofs.Odd.{odd-cons, Each}
 use Rattle.aea_lattice.proofs.Once.{block_once, each-blocks_of}
 
+-- what holds of each item by recursion on the list (`Each`) holds of all its items (`All`)
 pub Each-All : {A : Type 0} → (P : A → Type 0) (xs : List A) → Each P xs → All P xs
 Each-All P [] each = All-nil P
 Each-All P (x ∷ xs) each = All-cons P x xs each.0 (Each-All P xs each.1)
 
+-- what holds of all items of a list (`All`) holds of each by recursion on the list (`Each`)
 pub All-Each : {A : Type 0} → (P : A → Type 0) (xs : List A) → All P xs → Each P xs
 All-Each P [] all = tt
 All-Each P (x ∷ xs) all = (all 0 x (omega arith), All-Each P xs (λ k d inside. all (suc k) d (omega arith)))
 
+-- every item of the list of the blocks of a lattice is a block of the lattice
 pub blocks-inside : BlocksAreInside
 blocks-inside l = Each-All (HasBlock l) (blocks_of l) (each-blocks_of l)
 
@@ -48,6 +51,7 @@ each-kept test P (d ∷ ds) each = elim (cases_Bool (test d)) [
   | inr dropped ↦ rw dropped (each-kept test P ds each.1)
 ]
 
+-- among the blocks of a lattice that pass a test are exactly its blocks that pass it
 pub passing-among : PassingAreAmong
 passing-among l test b = (
   λ among. among-each (λ d. HasBlock l d × IsTrue (test d)) (filter test (blocks_of l)) b (each-kept test (HasBlock l) (blocks_of l) (each-blocks_of l)) among,

@@ -20,6 +20,7 @@ odd-one : (b : Bool) → ((0 + cond b 1 0) % 2 == 1) ≡ b
 odd-one true = refl
 odd-one false = refl
 
+-- the codeword of a set of nodes contains a parity exactly where an odd number of the set are in its prefix
 pub codeword-parity : (l : Lattice) (nodes : ℕ → Bool) (i : ℕ) (c : Class) → 1 ≤ class_number c
     → codeword_at l nodes i c ≡ is_odd_count nodes (prefix l c i)
 codeword-parity l nodes i Datum h = absurd (omega arith)
@@ -27,6 +28,8 @@ codeword-parity l nodes i Horiz h = refl
 codeword-parity l nodes i Right h = refl
 codeword-parity l nodes i Left h = refl
 
+-- where g stands just before i on a strand, the codeword of a set contains the parity of i exactly where it
+-- contains that of g or i is in the set, but not both
 pub codeword-after : (l : Lattice) (nodes : ℕ → Bool) (i g : ℕ) (c : Class) → 1 ≤ class_number c → previous l c i ≡ Some g
     → codeword_at l nodes i c ≡ differ (codeword_at l nodes g c) (nodes i)
 codeword-after l nodes i g c parity was =
@@ -35,6 +38,8 @@ codeword-after l nodes i g c parity was =
     ∙ odd-snoc nodes (prefix l c g) i
     ∙ ap (λ b. differ b (nodes i)) (sym (codeword-parity l nodes g c parity))
 
+-- where a strand begins at a node, the codeword of a set contains the node's parity exactly where the node is in
+-- the set
 pub codeword-begin : (l : Lattice) (nodes : ℕ → Bool) (i : ℕ) (c : Class) → 1 ≤ class_number c → 1 ≤ i → previous l c i ≡ None
     → codeword_at l nodes i c ≡ nodes i
 codeword-begin l nodes i c parity some none =
@@ -104,6 +109,7 @@ codeword-even_at l nodes set is e has (Some g) was =
     ∙ ap (differ (set (block_of g e.class)))
     (sym (is (block_of e.node Datum) (record { first = has.node.first; last = has.node.last; used = omega arith }))))
 
+-- a set of blocks that is the codeword of some nodes meets every equation evenly
 pub codeword-even : (l : Lattice) (nodes : ℕ → Bool) (set : BlockId → Bool) → IsCodewordOf l nodes set → MeetsEvenly l set
 codeword-even l nodes set is e has = codeword-even_at l nodes set is e has (previous l e.class e.node) refl
 
@@ -143,9 +149,12 @@ even-class l set even i Horiz first last used = even-parity l set even i i Horiz
 even-class l set even i Right first last used = even-parity l set even i i Right (omega arith) first last (omega arith) used
 even-class l set even i Left first last used = even-parity l set even i i Left (omega arith) first last (omega arith) used
 
+-- a set of blocks that meets every equation evenly is the codeword of the nodes whose datum it contains
 pub even-codeword : (l : Lattice) (set : BlockId → Bool) → MeetsEvenly l set → IsCodewordOf l (λ i. set (block_of i Datum)) set
 even-codeword l set even b inside = even-class l set even b.node b.class inside.first inside.last inside.used
 
+-- a set of blocks is the codeword of some nodes exactly where it meets every equation evenly; it is then that
+-- of the nodes whose datum it contains
 pub codewords-even : (l : Lattice) (set : BlockId → Bool)
     → (((nodes : ℕ → Bool) × IsCodewordOf l nodes set) ↔ MeetsEvenly l set)
     × (MeetsEvenly l set → IsCodewordOf l (λ i. set (block_of i Datum)) set)

@@ -16,6 +16,7 @@ use Rattle.aea_lattice.proofs.Prefixes.{previous-first, previous-before}
 
 -- ---- blocks
 
+-- two classes with the same number are one
 pub class_number-equal : (c d : Class) → class_number c ≡ class_number d → c ≡ d
 class_number-equal Datum Datum h = refl
 class_number-equal Datum Horiz h = absurd (omega arith)
@@ -34,28 +35,31 @@ class_number-equal Left Horiz h = absurd (omega arith)
 class_number-equal Left Right h = absurd (omega arith)
 class_number-equal Left Left h = refl
 
+-- two blocks with the same node and the same class are one
 pub block_equal : (a b : BlockId) → a.node ≡ b.node → a.class ≡ b.class → a ≡ b
 block_equal a b node class = ap (λ i. block_of i a.class) node ∙ ap (λ c. block_of b.node c) class
 
+-- two blocks that the test `same_block` finds the same are one
 pub same_block-equal : (a b : BlockId) → same_block a b ≡ true → a ≡ b
 same_block-equal a b h =
     let parts = and_parts (a.node == b.node) (class_number a.class == class_number b.class) h in
     block_equal a b (eqb-true a.node b.node parts.0)
     (class_number-equal a.class b.class (eqb-true (class_number a.class) (class_number b.class) parts.1))
 
+-- the test `same_block` finds each block the same as itself
 pub same_block-refl : (b : BlockId) → same_block b b ≡ true
 same_block-refl b =
     and_from (b.node == b.node) (class_number b.class == class_number b.class) (eq-eqb b.node b.node refl)
     (eq-eqb (class_number b.class) (class_number b.class) refl)
 
--- a block and its number
+-- the number of a block of a lattice is less than the count of its blocks
 pub number_below : (l : Lattice) (b : BlockId) → HasBlock l b → number_of l b < blocks_count l
 number_below l b h =
     let i : b.node - 1 + 1 ≤ l.n = omega (arith, h.first, h.last) in
     let m : (b.node - 1 + 1) * (1 + l.alpha) ≤ l.n * (1 + l.alpha) = mul-le-mul_right (1 + l.alpha) i in
     omega (arith, h.used)
 
--- places in rows of w go by row and then by column
+-- of places in rows of w, counted row by row, two with the same number are in one row
 row_equal : (w i c j d : ℕ) → c < w → d < w → i * w + c ≡ j * w + d → i ≡ j
 row_equal w i c j d hc hd same =
     elim (cases_lt i j) [
@@ -66,6 +70,7 @@ row_equal w i c j d hc hd same =
       ]
     ]
 
+-- two blocks of a lattice with the same number are one
 pub number_equal : (l : Lattice) (a b : BlockId) → HasBlock l a → HasBlock l b → number_of l a ≡ number_of l b → a ≡ b
 number_equal l a b ha hb same =
     let rows : a.node - 1 ≡ b.node - 1 =
@@ -128,6 +133,7 @@ any_input (Some j) k e p h i =
     let same : j ≡ k = cc in
     or_left (p (block_of j e.class)) (p (block_of e.node Datum) || (p (block_of e.node e.class) || false)) (subst (λ x. p (block_of x e.class) ≡ true) (sym same) i)
 
+-- every block that stands in an equation is its datum, its output or its input
 pub member : (l : Lattice) (e : EqId) (d : BlockId) → IsTrue (is_in_equation l e d) → Member l e d
 member l e d h =
     elim (among_all (previous l e.class e.node) e (same_block d) h) [
@@ -136,12 +142,15 @@ member l e d h =
       | input g was s ↦ input g was (same_block-equal d (block_of g e.class) s)
     ]
 
+-- the datum of an equation stands in it
 pub datum_in : (l : Lattice) (e : EqId) → IsTrue (is_in_equation l e (block_of e.node Datum))
 datum_in l e = any_two (previous l e.class e.node) e (same_block (block_of e.node Datum)) (two_datum e (same_block (block_of e.node Datum)) (same_block-refl (block_of e.node Datum)))
 
+-- the output of an equation stands in it
 pub output_in : (l : Lattice) (e : EqId) → IsTrue (is_in_equation l e (block_of e.node e.class))
 output_in l e = any_two (previous l e.class e.node) e (same_block (block_of e.node e.class)) (two_output e (same_block (block_of e.node e.class)) (same_block-refl (block_of e.node e.class)))
 
+-- the input of an equation, where it has one, stands in it
 pub input_in : (l : Lattice) (e : EqId) (g : ℕ) → previous l e.class e.node ≡ Some g → IsTrue (is_in_equation l e (block_of g e.class))
 input_in l e g was = any_input (previous l e.class e.node) g e (same_block (block_of g e.class)) was (same_block-refl (block_of g e.class))
 
@@ -162,11 +171,12 @@ member_inside l e d has h =
           subst (HasBlock l) (sym same) (record { first = input_first l e g was; last = omega (arith, has.node.last); used = has.class.used })
     ]
 
--- the datum, the output and the input of an equation are different blocks
+-- no datum is a parity of the class of an equation of the lattice
 pub datum_parity : (l : Lattice) (e : EqId) (i k : ℕ) → HasEquation l e → block_of i Datum ≢ block_of k e.class
 datum_parity l e i k has same =
     let none : 0 ≡ class_number e.class = ap (λ b. class_number b.class) same in omega (arith, has.class.parity)
 
+-- the input of an equation is not its output
 pub input_output : (l : Lattice) (e : EqId) (g : ℕ) → previous l e.class e.node ≡ Some g → block_of g e.class ≢ block_of e.node e.class
 input_output l e g was same =
     let node : g ≡ e.node = ap (λ b. b.node) same in
@@ -188,6 +198,7 @@ forced_output l known e has datum_known input_known = record {
   ];
 }
 
+-- an equation of the lattice forces its datum where its output is known, and its input if it has one
 pub forced_datum : (l : Lattice) (known : BlockId → Bool) (e : EqId) → HasEquation l e
     → known (block_of e.node e.class) ≡ true
     → ((g : ℕ) → previous l e.class e.node ≡ Some g → known (block_of g e.class) ≡ true)
@@ -202,6 +213,7 @@ forced_datum l known e has output_known input_known = record {
   ];
 }
 
+-- an equation of the lattice that has an input forces it where its datum and its output are known
 pub forced_input : (l : Lattice) (known : BlockId → Bool) (e : EqId) (g : ℕ) → previous l e.class e.node ≡ Some g
     → HasEquation l e → known (block_of e.node Datum) ≡ true → known (block_of e.node e.class) ≡ true
     → IsForcedBy l known (block_of g e.class) e
@@ -248,9 +260,13 @@ spent l known e b by_output by_datum by_input forced =
 abbrev pub is_settled : Bool → Bool → Bool → Bool
 is_settled i d o = not ((i && d && not o) || (i && o && not d) || (d && o && not i))
 
+-- the marks say what is known of an equation's input, datum and output
 pub record AreMarks (l : Lattice) (known : BlockId → Bool) (e : EqId) (i d o : Bool) : Type 0 where
+  -- whether the input is known; true where the equation has none
   pub input : MatchOption (option_map (λ k. block_of k e.class) (previous l e.class e.node)) (i ≡ true) (λ b. i ≡ known b)
+  -- whether the datum is known
   pub datum : d ≡ known (block_of e.node Datum)
+  -- whether the output is known
   pub output : o ≡ known (block_of e.node e.class)
 
 settled_output : (i d o : Bool) → is_settled i d o ≡ true → i ≡ true → d ≡ true → o ≡ true
@@ -285,6 +301,7 @@ input_one None k e known i m was = absurd (cc)
 input_one (Some j) k e known i m was =
     let same : j ≡ k = cc in ap (λ n. known (block_of n e.class)) (sym same) ∙ sym m
 
+-- an equation whose marks are settled forces no block that is not known
 pub spent_settled : (l : Lattice) (known : BlockId → Bool) (e : EqId) (i d o : Bool) → is_settled i d o ≡ true → AreMarks l known e i d o
     → (b : BlockId) → IsForcedBy l known b e → known b ≡ true
 spent_settled l known e i d o s marks b forced =
@@ -298,22 +315,27 @@ spent_settled l known e i d o s marks b forced =
     ∙ settled_input i d o s (marks.datum ∙ datum_known) (marks.output ∙ output_known))
     forced
 
+-- an equation of the lattice forces its output where the marks of its input and its datum are true
 pub output_by_marks : (l : Lattice) (known : BlockId → Bool) (e : EqId) (o : Bool) → HasEquation l e → AreMarks l known e true true o
     → IsForcedBy l known (block_of e.node e.class) e
 output_by_marks l known e o has marks =
     forced_output l known e has (sym marks.datum) (λ g was. input_one (previous l e.class e.node) g e known true marks.input was)
 
+-- an equation of the lattice forces its datum where the marks of its input and its output are true
 pub datum_by_marks : (l : Lattice) (known : BlockId → Bool) (e : EqId) (d : Bool) → HasEquation l e → AreMarks l known e true d true
     → IsForcedBy l known (block_of e.node Datum) e
 datum_by_marks l known e d has marks =
     forced_datum l known e has (sym marks.output) (λ g was. input_one (previous l e.class e.node) g e known true marks.input was)
 
+-- an equation of the lattice forces its input, if it has one, where the mark of the input is false
+-- and the other two are true
 pub input_by_marks : (l : Lattice) (known : BlockId → Bool) (e : EqId) (g : Option ℕ) → previous l e.class e.node ≡ g
     → HasEquation l e → AreMarks l known e false true true
     → IfSome (option_map (λ k. block_of k e.class) g) (λ b. IsForcedBy l known b e)
 input_by_marks l known e None was has marks = tt
 input_by_marks l known e (Some k) was has marks = forced_input l known e k was has (sym marks.datum) (sym marks.output)
 
+-- the input of an equation of the lattice, if it has one, is a block of the lattice
 pub input_inside : (l : Lattice) (e : EqId) (g : Option ℕ) → previous l e.class e.node ≡ g → HasEquation l e
     → IfSome (option_map (λ k. block_of k e.class) g) (HasBlock l)
 input_inside l e None was has = tt

@@ -26,12 +26,14 @@ same_block-sym a b =
       ]
     ]
 
+-- of two that are not both true, one is true exactly where they differ
 pub any-odd2 : (a b : Bool) → (a ≡ true → b ≡ true → ⊥) → (a || (b || false)) ≡ differ a b
 any-odd2 true true h = absurd (h refl refl)
 any-odd2 true false h = refl
 any-odd2 false true h = refl
 any-odd2 false false h = refl
 
+-- of three of which no two are true, one is true exactly where an odd number of them are
 pub any-odd3 : (a b c : Bool) → (a ≡ true → b ≡ true → ⊥) → (a ≡ true → c ≡ true → ⊥) → (b ≡ true → c ≡ true → ⊥) → (a || (b || (c || false))) ≡ differ a (differ b c)
 any-odd3 true true c ab ac bc = absurd (ab refl refl)
 any-odd3 true false true ab ac bc = absurd (ac refl refl)
@@ -48,6 +50,8 @@ blocks_with g e = input_blocks g e.class ++ block_of e.node Datum ∷ block_of e
 pub not_both : (d a b : BlockId) → a ≢ b → same_block d a ≡ true → same_block d b ≡ true → ⊥
 not_both d a b other ha hb = other (sym (same_block-equal d a ha) ∙ same_block-equal d b hb)
 
+-- an odd number of the blocks of the lattice are its block c and pass a test exactly where c passes it;
+-- here c is the second of the two blocks compared
 pub odd-at_left : (l : Lattice) (c : BlockId) (x : BlockId → Bool) → HasBlock l c → is_odd_count (λ d. same_block d c && x d) (blocks_of l) ≡ x c
 odd-at_left l c x h =
     ap (λ p. is_odd_count p (blocks_of l)) (same_test (λ d. same_block d c && x d) (λ d. same_block c d && x d) (λ d. ap (λ b. b && x d) (same_block-sym d c)))

@@ -24,6 +24,7 @@ joined-step f k i fs before true e = (
       rw (and_left (nat_le k f) (nat_le (suc f) i) (lt-leb k f (omega arith))) (before.1 (omega arith)),
 )
 
+-- a node, at least 1, is not parted from i exactly where it is greater than the greatest fence below i
 pub joined-after : JoinedStandAfterTheFence
 joined-after [] k i first = (λ h. first, λ h. refl)
 joined-after (f ∷ fs) k i first = joined-step f k i fs (joined-after fs k i first) (nat_le (suc f) i) refl

@@ -15,9 +15,11 @@ pub record IsWoven (s p : ℕ) : Type 0 where
   pub p_least : s ≤ p
   pub p_most : p ≤ 64
 
+-- a lattice has at least one row
 pub some_rows : (l : Lattice) → 1 ≤ l.s
 some_rows l = let h = l.in_profile in grind (arith, nat_tests)
 
+-- in a lattice with at least two parity classes, s is 2 to 16 and p is s to 64
 pub woven : (l : Lattice) → 2 ≤ l.alpha → IsWoven l.s l.p
 woven l two =
     let h = l.in_profile in
@@ -53,12 +55,14 @@ strand_at Horiz p c r = r
 strand_at Right p c r = (c + (p - r)) % p
 strand_at Left p c r = (c + r) % p
 
+-- a node lies on the strand of the place in its column and row
 pub strand_of-coordinates : (l : Lattice) (c : Class) (k : ℕ) → strand_of l c k ≡ strand_at c l.p (column l k) (row l k)
 strand_of-coordinates l Datum k = refl
 strand_of-coordinates l Horiz k = refl
 strand_of-coordinates l Right k = refl
 strand_of-coordinates l Left k = refl
 
+-- the node in column a and row r, below s, lies on the strand of that place
 pub strand_of-node_at : (l : Lattice) (c : Class) (a r : ℕ) → r < l.s → strand_of l c (node_at l.s a r) ≡ strand_at c l.p a r
 strand_of-node_at l c a r below =
     strand_of-coordinates l c (node_at l.s a r)
@@ -75,6 +79,7 @@ abbrev pub NoneBefore : Class → ℕ → ℕ → ℕ → ℕ → Type 0
 NoneBefore c s p b t =
     (x y : ℕ) → y < s → x * s + y < b * s + t → strand_at c p x y ≡ strand_at c p b t → ⊥
 
+-- on Horiz, no place of the strand of (a + 1,r) stands between (a,r) and it
 pub horiz-between : (s p a r : ℕ) → r < s → NoneBetween Horiz s p a r (a + 1) r
 horiz-between s p a r below x y hy low high same =
     elim (lexicographic s a r x y below hy low) [
@@ -85,6 +90,7 @@ horiz-between s p a r below x y hy low high same =
       | inr f ↦ let ft = f.1 in omega arith
     ]
 
+-- on Horiz, no place of the strand of (0,r) stands before it
 pub horiz-before : (s p r : ℕ) → r < s → NoneBefore Horiz s p 0 r
 horiz-before s p r below x y hy high same =
     elim (lexicographic s x y 0 r hy below high) [
@@ -92,6 +98,7 @@ horiz-before s p r below x y hy high same =
       | inr g ↦ let gt = g.1 in omega arith
     ]
 
+-- on Right with s ≤ p, no place of the strand of (a + 1,r + 1) stands between (a,r) and it
 pub right-between : (s p a r : ℕ) → s ≤ p → r + 1 < s → NoneBetween Right s p a r (a + 1) (r + 1)
 right-between s p a r le below x y hy low high same =
     elim (lexicographic s a r x y (omega arith) hy low) [
@@ -106,6 +113,7 @@ right-between s p a r le below x y hy low high same =
           apart p (x + (p - y)) (a + 1 + (p - (r + 1))) (omega arith) (omega arith) same
     ]
 
+-- on Right with s ≤ p, no place of the strand of (b,0) stands between (a,s - 1) and it, where b + s = a + p + 1
 pub right-between_top : (s p a b : ℕ) → 1 ≤ s → s ≤ p → b + s ≡ a + p + 1 → NoneBetween Right s p a (s - 1) b 0
 right-between_top s p a b some le turn x y hy low high same =
     elim (lexicographic s a (s - 1) x y (omega arith) hy low) [
@@ -116,6 +124,7 @@ right-between_top s p a b some le turn x y hy low high same =
       | inr f ↦ let ft = f.1 in omega arith
     ]
 
+-- on Right with s ≤ p, no place of the strand of (0,r) stands before it
 pub right-before : (s p r : ℕ) → s ≤ p → r < s → NoneBefore Right s p 0 r
 right-before s p r le below x y hy high same =
     elim (lexicographic s x y 0 r hy below high) [
@@ -125,6 +134,7 @@ right-before s p r le below x y hy high same =
           apart p (0 + (p - r)) (x + (p - y)) (omega arith) (omega arith) (sym same)
     ]
 
+-- on Right with s ≤ p, no place of the strand of (b,0) stands before it, for b from 0 to p - s
 pub right-before_top : (s p b : ℕ) → 1 ≤ s → s ≤ p → b + s ≤ p → NoneBefore Right s p b 0
 right-before_top s p b some le near x y hy high same =
     elim (lexicographic s x y b 0 hy (omega arith) high) [
@@ -132,6 +142,7 @@ right-before_top s p b some le near x y hy high same =
       | inr g ↦ let gt = g.1 in omega arith
     ]
 
+-- on Left with s ≤ p, no place of the strand of (a + 1,r) stands between (a,r + 1) and it
 pub left-between : (s p a r : ℕ) → s ≤ p → r + 1 < s → NoneBetween Left s p a (r + 1) (a + 1) r
 left-between s p a r le below x y hy low high same =
     elim (lexicographic s a (r + 1) x y below hy low) [
@@ -146,6 +157,7 @@ left-between s p a r le below x y hy low high same =
           apart p (a + 1 + r) (x + y) (omega arith) (omega arith) (sym same)
     ]
 
+-- on Left with s ≤ p, no place of the strand of (b,s - 1) stands between (a,0) and it, where b + s = a + p + 1
 pub left-between_bottom : (s p a b : ℕ) → 1 ≤ s → s ≤ p → b + s ≡ a + p + 1 → NoneBetween Left s p a 0 b (s - 1)
 left-between_bottom s p a b some le turn x y hy low high same =
     elim (lexicographic s a 0 x y (omega arith) hy low) [
@@ -159,6 +171,7 @@ left-between_bottom s p a b some le turn x y hy low high same =
       ]
     ]
 
+-- on Left with s ≤ p, no place of the strand of (0,r) stands before it
 pub left-before : (s p r : ℕ) → s ≤ p → r < s → NoneBefore Left s p 0 r
 left-before s p r le below x y hy high same =
     elim (lexicographic s x y 0 r hy below high) [
@@ -166,6 +179,7 @@ left-before s p r le below x y hy high same =
       | inr g ↦ let ge = g.0 in let gt = g.1 in apart p (x + y) (0 + r) (omega arith) (omega arith) same
     ]
 
+-- on Left with s ≤ p, no place of the strand of (b,s - 1) stands before it, for b from 0 to p - s
 pub left-before_bottom : (s p b : ℕ) → 1 ≤ s → s ≤ p → b + s ≤ p → NoneBefore Left s p b (s - 1)
 left-before_bottom s p b some le near x y hy high same =
     elim (lexicographic s x y b (s - 1) hy (omega arith) high) [

@@ -59,6 +59,7 @@ length-blocks_to l (suc i) =
     length-append (blocks_to l i) (row_of l.alpha (suc i))
     ∙ (let before = length-blocks_to l i in let row = (is_row l.alpha (suc i) Datum (one_to_three l)).long in omega arith)
 
+-- the list of the blocks of a lattice has as many items as the lattice has blocks
 pub length-blocks_of : (l : Lattice) → length (blocks_of l) ≡ blocks_count l
 length-blocks_of l = length-blocks_to l l.n
 

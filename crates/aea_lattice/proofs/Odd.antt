@@ -20,16 +20,20 @@ odd-plus : (b : Bool) (n : ℕ) → ((cond b 1 0 + n) % 2 == 1) ≡ differ b (n 
 odd-plus true n = odd-more n
 odd-plus false n = let same : 0 + n ≡ n = omega arith in ap (λ k. k % 2 == 1) same
 
+-- an odd number of a list's items pass a test exactly where the first passes it or an odd number of the rest do,
+-- but not both
 pub odd-cons : {A : Type 0} → (p : A → Bool) (x : A) (xs : List A) → is_odd_count p (x ∷ xs) ≡ differ (p x) (is_odd_count p xs)
 odd-cons p x xs =
     ap (λ n. n % 2 == 1) (sum_by-cons (λ y. cond (p y) 1 0) x xs) ∙ odd-plus (p x) (count_by p xs)
 
+-- the sum of two modulo 2 is the same in either order
 pub differ-comm : (a b : Bool) → differ a b ≡ differ b a
 differ-comm true true = refl
 differ-comm true false = refl
 differ-comm false true = refl
 differ-comm false false = refl
 
+-- the sum of three modulo 2 is the same, whether the first two or the last two are added first
 pub differ-assoc : (a b c : Bool) → differ (differ a b) c ≡ differ a (differ b c)
 differ-assoc true true true = refl
 differ-assoc true true false = refl
@@ -37,10 +41,12 @@ differ-assoc true false true = refl
 differ-assoc true false false = refl
 differ-assoc false b c = refl
 
+-- a truth value does not differ from itself
 pub differ-self : (a : Bool) → differ a a ≡ false
 differ-self true = refl
 differ-self false = refl
 
+-- a truth value differs from false exactly where it is true
 pub differ-false_r : (a : Bool) → differ a false ≡ a
 differ-false_r true = refl
 differ-false_r false = refl
@@ -73,6 +79,7 @@ pub odd-none : {A : Type 0} → (xs : List A) → is_odd_count (λ x. false) xs 
 odd-none [] = refl
 odd-none (x ∷ xs) = odd-cons (λ y. false) x xs ∙ odd-none xs
 
+-- a condition on a sum modulo 2 is the same as that condition on each of the two that are added
 pub differ-and : (a b c : Bool) → (differ a b && c) ≡ differ (a && c) (b && c)
 differ-and true true true = refl
 differ-and true true false = refl
@@ -80,6 +87,8 @@ differ-and true false true = refl
 differ-and true false false = refl
 differ-and false b c = refl
 
+-- an odd number of the items of two lists in a row pass a test exactly where an odd number of those of just one of
+-- the two do
 pub odd-append : {A : Type 0} → (p : A → Bool) (xs ys : List A) → is_odd_count p (xs ++ ys) ≡ differ (is_odd_count p xs) (is_odd_count p ys)
 odd-append p [] ys = refl
 odd-append p (x ∷ xs) ys =
@@ -88,6 +97,8 @@ odd-append p (x ∷ xs) ys =
     ∙ sym (differ-assoc (p x) (is_odd_count p xs) (is_odd_count p ys))
     ∙ ap (λ a. differ a (is_odd_count p ys)) (sym (odd-cons p x xs))
 
+-- an odd number of the items of a mapped list pass a test exactly where an odd number of those of the list itself
+-- pass it after the map
 pub odd-map : {A B : Type 0} → (f : A → B) (p : B → Bool) (xs : List A) → is_odd_count p (map f xs) ≡ is_odd_count (λ x. p (f x)) xs
 odd-map f p [] = refl
 odd-map f p (x ∷ xs) =
@@ -130,18 +141,22 @@ abbrev pub Each : {A : Type 0} → (A → Type 0) → List A → Type 0
 Each P [] = Unit {0}
 Each P (x ∷ xs) = P x × Each P xs
 
+-- what each item of two lists has, each item of the two in a row has
 pub Each-append : {A : Type 0} → (P : A → Type 0) (xs ys : List A) → Each P xs → Each P ys → Each P (xs ++ ys)
 Each-append P [] ys hx hy = hy
 Each-append P (x ∷ xs) ys hx hy = (hx.0, Each-append P xs ys hx.1 hy)
 
+-- where a second property follows from a first, each item has the second if each has the first
 pub Each-more : {A : Type 0} → (P Q : A → Type 0) (xs : List A) → ((x : A) → P x → Q x) → Each P xs → Each Q xs
 Each-more P Q [] h hx = tt
 Each-more P Q (x ∷ xs) h hx = (h x hx.0, Each-more P Q xs h hx.1)
 
+-- where what each item is mapped to has a property, each item of the mapped list has it
 pub Each-map : {A B : Type 0} → (f : A → B) (P : B → Type 0) (xs : List A) → Each (λ x. P (f x)) xs → Each P (map f xs)
 Each-map f P [] hx = tt
 Each-map f P (x ∷ xs) hx = (hx.0, Each-map f P xs hx.1)
 
+-- where each item of a mapped list has a property, what each item of the list is mapped to has it
 pub Each-from_map : {A B : Type 0} → (f : A → B) (P : B → Type 0) (xs : List A) → Each P (map f xs) → Each (λ x. P (f x)) xs
 Each-from_map f P [] hx = tt
 Each-from_map f P (x ∷ xs) hx = (hx.0, Each-from_map f P xs hx.1)

@@ -134,6 +134,7 @@ block_once l c h =
     (once_class l.alpha c.class (one_to_three l) h.used) h.first
     ∙ le-leb c.node l.n h.last
 
+-- an equation of the lattice stands in the list of equations an odd number of times
 pub equation_once : (l : Lattice) (e : EqId) → HasEquation l e → is_odd_count (same_equation e) (equations_of l) ≡ true
 equation_once l e h =
     ap (is_odd_count (same_equation e)) (equations-items l l.n)
@@ -141,13 +142,14 @@ equation_once l e h =
     (once_parity l.alpha e.class (one_to_three l) h.class.parity h.class.used) h.node.first
     ∙ le-leb e.node l.n h.node.last
 
+-- two equations that the test `same_equation` finds the same are one
 pub same_equation-equal : (a b : EqId) → same_equation a b ≡ true → a ≡ b
 same_equation-equal a b h =
     let parts = and_parts (a.node == b.node) (class_number a.class == class_number b.class) h in
     ap (λ i. equation_of i a.class) (eqb-true a.node b.node parts.0)
     ∙ ap (equation_of b.node) (class_number-equal a.class b.class (eqb-true (class_number a.class) (class_number b.class) parts.1))
 
--- the items of the lists are of the lattice
+-- each class that passes a test has what follows from passing it
 each-kept : (p : Class → Bool) (P : Class → Type 0) (cs : List Class) → ((c : Class) → p c ≡ true → P c) → Each P (filter p cs)
 each-kept p P [] h = tt
 each-kept p P (c ∷ cs) h =
@@ -166,10 +168,11 @@ each-blocks_to l (suc i) most =
           (λ c used. record { first = omega arith; last = most; used = leb-true (class_number c) l.alpha used }),
     ))
 
+-- each item of the list of the blocks of a lattice is a block of the lattice
 pub each-blocks_of : (l : Lattice) → Each (HasBlock l) (blocks_of l)
 each-blocks_of l = each-blocks_to l l.n (omega arith)
 
--- the parity classes that are used
+-- each item of the list of the parity classes of a lattice is a parity class of the lattice
 pub each-classes : (l : Lattice) → Each (HasParity l) (classes l)
 each-classes l = each-some l Horiz (Right ∷ Left ∷ []) (omega arith) (each-some l Right (Left ∷ []) (omega arith) (each-some l Left [] (omega arith) tt))
   where
@@ -189,6 +192,7 @@ each-equations_to l (suc i) most =
     (Each-more (HasParity l) (λ c. HasEquation l (equation_of (suc i) c)) (classes l)
     (λ c h. record { node = record { first = omega arith; last = most }; class = h }) (each-classes l)))
 
+-- each item of the list of the equations of a lattice is an equation of the lattice
 pub each-equations_of : (l : Lattice) → Each (HasEquation l) (equations_of l)
 each-equations_of l = each-equations_to l l.n (omega arith)
 
@@ -201,6 +205,7 @@ and-same_block c d q =
       | inr no' ↦ rw no' refl
     ]
 
+-- an odd number of the blocks of the lattice are its block c and pass a test exactly where c passes it
 pub odd-at : (l : Lattice) (c : BlockId) (q : BlockId → Bool) → HasBlock l c → is_odd_count (λ d. same_block c d && q d) (blocks_of l) ≡ q c
 odd-at l c q h =
     ap (λ p. is_odd_count p (blocks_of l)) (same_test (λ d. same_block c d && q d) (λ d. same_block c d && q c) (λ d. and-same_block c d q))
@@ -214,6 +219,7 @@ and-same_equation e f q =
       | inr no' ↦ rw no' refl
     ]
 
+-- an odd number of the equations of the lattice are its equation e and pass a test exactly where e passes it
 pub odd-at_equation : (l : Lattice) (e : EqId) (q : EqId → Bool) → HasEquation l e → is_odd_count (λ f. same_equation e f && q f) (equations_of l) ≡ q e
 odd-at_equation l e q h =
     ap (λ p. is_odd_count p (equations_of l)) (same_test (λ f. same_equation e f && q f) (λ f. same_equation e f && q e) (λ f. and-same_equation e f q))

@@ -23,6 +23,8 @@ strand-same l m same Left i = let s = same.s in let p = same.p in cc
 
 -- ---- a lattice that continues another
 
+-- where m continues l, and i is at most l's last node, the same nodes lie on the strand of i
+-- and are not parted from i in m as in l
 pub on-continued : (l m : Lattice) → Continues l m → (c : Class) (i k : ℕ) → i ≤ l.n
     → is_on m c (strand_of m c i) i k ≡ is_on l c (strand_of l c i) i k
 on-continued l m more c i k le =
@@ -49,7 +51,7 @@ module _ (l m : Lattice) (grown : IsGrown l (l.n + 1) m) (c : Class) where
       ap (λ n. filter (is_on m c strand (m.n + 1)) (nodes_to n)) nodes
       ∙ filter-same (is_on m c strand (m.n + 1)) (is_on l c strand (l.n + 1)) (suc l.n) (λ k le. on-grown strand k)
 
-  -- the new node is the last open one of its strand
+  -- the strand of the new node has the open nodes that it had, and the new node behind them
   pub open-own : open_nodes m c (strand_of m c m.n) ≡ open_nodes l c (strand_of m c m.n) ++ suc l.n ∷ []
   open-own =
       let strand = strand_of m c m.n in
@@ -93,6 +95,7 @@ open-last l c after =
 
 -- ---- the node just before the first new one
 
+-- the node just before the first one added to a lattice is the last open node of its strand, if there is one
 pub lasts-enter : LastsEnter
 lasts-enter l m n grown c =
     let next : l.n + 1 ≡ suc l.n = omega arith in

@@ -29,6 +29,7 @@ parts-more f k g i le h =
     let both = and_parts (nat_le g f) (nat_le (suc f) i) h in
     and_from (nat_le k f) (nat_le (suc f) i) (le-leb k f (let a = leb-true g f both.0 in omega arith)) both.1
 
+-- where it is false that one or the other holds, each of the two is false
 pub or_none : (x y : Bool) → (x || y) ≡ false → (x ≡ false) × (y ≡ false)
 or_none true y h = absurd (false≢true (sym h))
 or_none false y h = (refl, h)
@@ -38,6 +39,8 @@ pub parted-above : (fences : List ℕ) (k i : ℕ) → i ≤ k → is_parted fen
 parted-above [] k i le = refl
 parted-above (f ∷ fs) k i le = rw (parts-above f k i le) (parted-above fs k i le)
 
+-- where g is not parted from i, which is g or later, a node up to g is parted from i exactly where it is
+-- parted from g
 pub parted-less : (fences : List ℕ) (k g i : ℕ) → k ≤ g → g ≤ i → is_parted fences g i ≡ false → is_parted fences k i ≡ is_parted fences k g
 parted-less [] k g i le most joined = refl
 parted-less (f ∷ fs) k g i le most joined =
@@ -45,6 +48,7 @@ parted-less (f ∷ fs) k g i le most joined =
     ap (λ b. b || is_parted fs k i) (parts-less f k g i le most both.0)
     ∙ ap (λ b. parts f k g || b) (parted-less fs k g i le most both.1)
 
+-- where a node is parted from i, each earlier node is parted from i too
 pub parted-more : (fences : List ℕ) (k g i : ℕ) → k ≤ g → is_parted fences g i ≡ true → is_parted fences k i ≡ true
 parted-more [] k g i le h = h
 parted-more (f ∷ fs) k g i le h = elim (or_cases (parts f g i) (is_parted fs g i) h) [
@@ -57,6 +61,7 @@ parted-more (f ∷ fs) k g i le h = elim (or_cases (parts f g i) (is_parted fs g
 pub fences_rise : (n : ℕ) (fences : List ℕ) → are_fences n fences ≡ true → rise_to 0 n fences ≡ true
 fences_rise n fences h = (and_parts (nat_le (length fences) 16) (rise_to 0 n fences) h).1
 
+-- a lattice has at most 16 fences
 pub fences_few : (n : ℕ) (fences : List ℕ) → are_fences n fences ≡ true → length fences ≤ 16
 fences_few n fences h = leb-true (length fences) 16 (and_parts (nat_le (length fences) 16) (rise_to 0 n fences) h).0
 
@@ -82,7 +87,7 @@ rise-more low n m (f ∷ fs) le h =
     let r = rises low n f fs h in
     rise-from low m f fs (record { above = r.above; most = let most = r.most in omega arith; rest = rise-more f n m fs le r.rest })
 
--- the greater of `low` and the last of a list
+-- the last of a list, or `low` where the list is empty
 abbrev last_above : ℕ → List ℕ → ℕ
 last_above low [] = low
 last_above low (f ∷ fs) = last_above f fs
@@ -124,6 +129,7 @@ rise-past low n (f ∷ fs) k i h le =
     ap (λ b. (nat_le k f && b) || is_parted fs k i) (le-leb (suc f) i (omega arith) ∙ sym (le-leb (suc f) (suc n) (omega arith)))
     ∙ ap (λ b. parts f k (suc n) || b) (rise-past f n fs k i r.rest le)
 
+-- the fences of a lattice of n nodes part a node from one after n exactly where they part it from n + 1
 pub parted-past : (n : ℕ) (fences : List ℕ) (k i : ℕ) → are_fences n fences ≡ true → suc n ≤ i → is_parted fences k i ≡ is_parted fences k (suc n)
 parted-past n fences k i h le = rise-past 0 n fences k i (fences_rise n fences h) le
 
@@ -139,22 +145,24 @@ or_false : (x y : Bool) → y ≡ false → (x || y) ≡ x
 or_false true y h = refl
 or_false false y h = h
 
+-- further fences at n or after it change nothing in what is parted from a node up to n
 pub parted-later : (fences later : List ℕ) (n k i : ℕ) → All (λ f. n ≤ f) later → i ≤ n → is_parted (fences ++ later) k i ≡ is_parted fences k i
 parted-later fences later n k i all le =
     list_any-append (λ f. parts f k i) fences later
     ∙ or_false (is_parted fences k i) (is_parted later k i) (parted-beyond later n k i all le)
 
--- where the last fence stands at the last node, it parts all nodes from those after it
+-- the last fence parts each node up to it from each node after it
 last-parts : (f : ℕ) (fs : List ℕ) (k i : ℕ) → k ≤ last_above f fs → last_above f fs < i → is_parted (f ∷ fs) k i ≡ true
 last-parts f [] k i le lt = or_left (parts f k i) false (and_from (nat_le k f) (nat_le (suc f) i) (le-leb k f le) (le-leb (suc f) i lt))
 last-parts f (g ∷ gs) k i le lt = or_right (parts f k i) (is_parted (g ∷ gs) k i) (last-parts g gs k i le lt)
 
+-- each node up to the last fence is parted from each node after that fence
 pub parted-last : (fences : List ℕ) (k i : ℕ) → 1 ≤ k → k ≤ last_fence fences → last_fence fences < i → is_parted fences k i ≡ true
 parted-last [] k i first le lt = absurd (omega arith)
 parted-last (f ∷ fs) k i first le lt =
     let e = last_above-last f fs in last-parts f fs k i (omega arith) (omega arith)
 
--- the last fence is the greatest
+-- the last of numbers that rise from `low`, or `low` itself where there are none, is at least `low`
 last_above-most : (low n : ℕ) (fences : List ℕ) → rise_to low n fences ≡ true → low ≤ last_above low fences
 last_above-most low n [] h = omega arith
 last_above-most low n (f ∷ fs) h =
@@ -169,7 +177,7 @@ rise-open low n (f ∷ fs) k i h lt =
     let most = last_above-most f n fs r.rest in
     rw (and_left (nat_le k f) (nat_le (suc f) i) (lt-leb k f (omega arith))) (rise-open f n fs k i r.rest lt)
 
--- a node after the last fence is parted from no node
+-- where the last fence stands before the last node n, n is parted from no node
 pub parted-open : (n : ℕ) (fences : List ℕ) (i : ℕ) → are_fences n fences ≡ true → last_fence fences < n → is_parted fences n i ≡ false
 parted-open n fences i h lt = rise-open 0 n fences n i (fences_rise n fences h) (let e = last_of_all fences in omega arith)
 
@@ -177,6 +185,7 @@ last_above-within : (low n : ℕ) (fences : List ℕ) → low ≤ n → rise_to 
 last_above-within low n [] le h = le
 last_above-within low n (f ∷ fs) le h = let r = rises low n f fs h in last_above-within f n fs r.most r.rest
 
+-- the last fence of a lattice of n nodes, or 0 where there is none, is at most n
 pub last_fence-within : (n : ℕ) (fences : List ℕ) → are_fences n fences ≡ true → last_fence fences ≤ n
 last_fence-within n fences h =
     let e = last_of_all fences in let most = last_above-within 0 n fences (omega arith) (fences_rise n fences h) in omega arith

@@ -12,6 +12,7 @@ use Rattle.aea_lattice.proofs.Parted.{parted-less}
 use Rattle.aea_lattice.proofs.Strands.{last_of-snoc, filter-snoc_true}
 use Rattle.aea_lattice.proofs.Runs.{prefix-suc, previous-suc}
 
+-- a list without a last item is empty
 pub last_of-none : (xs : List ℕ) → last_of xs ≡ None → xs ≡ []
 last_of-none [] h = refl
 last_of-none (x ∷ []) h = absurd (cc)
@@ -34,6 +35,7 @@ last_is p m g here h =
     ap last_of (filter-snoc_true p (nodes_to m) (suc m) here) ∙ last_of-snoc (filter p (nodes_to m)) (suc m) in
     let same : Some g ≡ Some (suc m) = sym h ∙ at in cc
 
+-- the last item of the list of the nodes 1 to m that pass a test is the last of these nodes that passes it
 pub IsLast-last_of : (p : ℕ → Bool) (m g : ℕ) → last_of (filter p (nodes_to m)) ≡ Some g → IsLast p m g
 IsLast-last_of p zero g h = absurd (cc)
 IsLast-last_of p (suc m) g h =
@@ -54,7 +56,7 @@ filter-same p q (suc m) same =
     ∙ ap (λ b. filter q (nodes_to m) ++ cond b (suc m ∷ []) []) (same (suc m) (omega arith))
     ∙ sym (filter-append q (nodes_to m) (suc m ∷ []))
 
--- what it means that a node is on a strand
+-- a node that passes the test `is_on` lies on the strand, and no fence parts it from i
 pub on_strand : (l : Lattice) (c : Class) (strand i g : ℕ) → is_on l c strand i g ≡ true
     → (strand_of l c g ≡ strand) × (is_parted l.fences g i ≡ false)
 on_strand l c strand i g h =
@@ -77,14 +79,17 @@ run-prefix l c strand i m g later h =
 previous-is : (l : Lattice) (c : Class) (m g : ℕ) → previous l c (suc m) ≡ Some g → IsLast (is_on l c (strand_of l c (suc m)) (suc m)) m g
 previous-is l c m g h = IsLast-last_of (is_on l c (strand_of l c (suc m)) (suc m)) m g (sym (previous-suc l c m) ∙ h)
 
+-- the node just before i in the prefix of i is at least 1
 pub previous-first : (l : Lattice) (c : Class) (i g : ℕ) → previous l c i ≡ Some g → 1 ≤ g
 previous-first l c zero g h = absurd (cc)
 previous-first l c (suc m) g h = (previous-is l c m g h).first
 
+-- the node just before i in the prefix of i is less than i
 pub previous-before : (l : Lattice) (c : Class) (i g : ℕ) → previous l c i ≡ Some g → g < i
 previous-before l c zero g h = absurd (cc)
 previous-before l c (suc m) g h = omega (arith, (previous-is l c m g h).most)
 
+-- the node just before i in the prefix of i lies on the strand of i
 pub previous-strand : (l : Lattice) (c : Class) (i g : ℕ) → previous l c i ≡ Some g → strand_of l c g ≡ strand_of l c i
 previous-strand l c zero g h = absurd (cc)
 previous-strand l c (suc m) g h = (on_strand l c (strand_of l c (suc m)) (suc m) g (previous-is l c m g h).passes).0

@@ -22,6 +22,8 @@ is_on-self l c i =
 pub prefix-suc : (l : Lattice) (c : Class) (m : ℕ) → prefix l c (suc m) ≡ nodes_on l c (strand_of l c (suc m)) (suc m) m ++ suc m ∷ []
 prefix-suc l c m = filter-snoc_true (is_on l c (strand_of l c (suc m)) (suc m)) (nodes_to m) (suc m) (is_on-self l c (suc m))
 
+-- the node just before m + 1 in its prefix is the last of the nodes 1 to m that are on its strand and that no
+-- fence parts from it, if there is one
 pub previous-suc : (l : Lattice) (c : Class) (m : ℕ) → previous l c (suc m) ≡ last_of (nodes_on l c (strand_of l c (suc m)) (suc m) m)
 previous-suc l c m =
     ap next_to_last (prefix-suc l c m) ∙ next_to_last-snoc (nodes_on l c (strand_of l c (suc m)) (suc m) m) (suc m)
@@ -59,7 +61,7 @@ join-last l c strand i zero = refl
 join-last l c strand i (suc m) =
     join-step l c strand i m (join-last l c strand i m) (strand_of l c (suc m) == strand) (is_parted l.fences (suc m) i) refl refl
 
--- the node just before i in its prefix is its neighbour, where no fence parts the two
+-- the node just before i in its prefix is its neighbour, if no fence parts the two, and else there is none
 pub previous-neighbour : (l : Lattice) (c : Class) (i : ℕ) → previous l c i ≡ joined_before l i (neighbour l c i)
 previous-neighbour l c i =
     previous-last l c i
@@ -68,6 +70,7 @@ previous-neighbour l c i =
 
 -- ---- the next node
 
+-- where `joined_before` leaves node i before j, it was given i, and no fence parts i from j
 pub joined_is : (l : Lattice) (j i : ℕ) (o : Option ℕ) → joined_before l j o ≡ Some i → (o ≡ Some i) × (is_parted l.fences i j ≡ false)
 joined_is l j i None h = absurd (cc)
 joined_is l j i (Some g) h = elim (cases_Bool (is_parted l.fences g j)) [
@@ -101,11 +104,15 @@ next-only l c i o is j within before =
     let both = joined_is l j i (neighbour l c j) (sym (previous-neighbour l c j) ∙ before) in
     ap (joined_after l i) ((is j).1 (within, both.0)) ∙ cond-false (is_parted l.fences i j) None (Some j) both.1
 
+-- the node that has i just before it in its prefix is the neighbour after i, if no fence parts the two; else
+-- there is none
 pub next-joined : (l : Lattice) (c : Class) (i : ℕ) (o : Option ℕ) → IsNextNeighbour l c i o → IsNext l c i (joined_after l i o)
 next-joined l c i o is = λ j. (λ found. next-found l c i o is j found, λ q. next-only l c i o is j q.0 q.1)
 
 -- ---- the last open node
 
+-- the last open node of a strand is the strand's last node, if no fence stands at it or behind it;
+-- else there is none
 pub open-joined : (l : Lattice) (c : Class) (strand : ℕ) (o : Option ℕ) → last_node (λ k. strand_of l c k == strand) l.n ≡ o
     → last_open l c strand ≡ joined_before l (l.n + 1) o
 open-joined l c strand o is =

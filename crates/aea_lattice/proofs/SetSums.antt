@@ -90,6 +90,7 @@ module _ (l : Lattice) (w : ℕ) (datas : List (List ℕ)) (is : IsDataList l w 
       (λ b inside. ap (λ y. y && has_bit j i b) (of_sum.counted b inside)) (each-blocks_of l))
       ∙ sums_even l equations (has_bit j i) (bits-even j i)
 
+-- the XOR of blocks that a set of equations adds up to is zero, in the lattice of every data list
 pub sets-add_up : SetsAddUp
 sets-add_up l w datas equations ds is of_sum =
     let sum = xor_all w (map (value_of l w datas) ds) in
@@ -113,7 +114,7 @@ odd-passing l p b inside =
     ap (λ q. is_odd_count q (blocks_of l)) (same_test (λ d. p d && same_block b d) (λ d. same_block b d && p d) (λ d. and-comm (p d) (same_block b d)))
     ∙ odd-at l b p inside
 
--- a block stands in an equation once or not at all
+-- a block of the lattice stands in an equation of the lattice an odd number of times or not at all
 odd-equation : (l : Lattice) (e : EqId) (b : BlockId) → HasEquation l e → HasBlock l b → is_odd_count (same_block b) (equation_blocks l e) ≡ is_in_equation l e b
 odd-equation l e b has inside = sym (meet_equation l e (same_block b) has) ∙ odd-passing l (is_in_equation l e) b inside
 
@@ -148,6 +149,8 @@ each-equations l (e ∷ es) each =
     Each-append (HasBlock l) (equation_blocks l e) (flat_map (equation_blocks l) es)
     (each-equation_blocks_at l e each.0 (previous l e.class e.node) refl) (each-equations l es each.1)
 
+-- the blocks of the lattice that a set of equations adds up to, each once, are a list of what it adds up to,
+-- and so are the blocks of the equations of the set, one equation after another
 pub sums-listed : SumsAreListed
 sums-listed l t =
     let of_set = each-filter t (HasEquation l) (equations_of l) (each-equations_of l) in (

@@ -19,20 +19,24 @@ abbrev pub last_node : (ℕ → Bool) → ℕ → Option ℕ
 last_node p zero = None
 last_node p (suc i) = cond (p (suc i)) (Some (suc i)) (last_node p i)
 
+-- the last item of a list with one more at its end is that one
 pub last_of-snoc : (xs : List ℕ) (x : ℕ) → last_of (xs ++ x ∷ []) ≡ Some x
 last_of-snoc [] x = refl
 last_of-snoc (y ∷ []) x = refl
 last_of-snoc (y ∷ z ∷ zs) x = last_of-snoc (z ∷ zs) x
 
+-- just before the last item of a list with one more at its end stands the list's own last item, if it has one
 pub next_to_last-snoc : (xs : List ℕ) (x : ℕ) → next_to_last (xs ++ x ∷ []) ≡ last_of xs
 next_to_last-snoc [] x = refl
 next_to_last-snoc (y ∷ []) x = refl
 next_to_last-snoc (y ∷ z ∷ []) x = refl
 next_to_last-snoc (y ∷ z ∷ w ∷ ws) x = next_to_last-snoc (z ∷ w ∷ ws) x
 
+-- an item that passes a test, added at the end of a list, is added at the end of those that pass it
 pub filter-snoc_true : (p : ℕ → Bool) (xs : List ℕ) (x : ℕ) → p x ≡ true → filter p (xs ++ x ∷ []) ≡ filter p xs ++ x ∷ []
 filter-snoc_true p xs x e = filter-append p xs (x ∷ []) ∙ (rw e)
 
+-- an item that fails a test, added at the end of a list, adds nothing to those that pass it
 pub filter-snoc_false : (p : ℕ → Bool) (xs : List ℕ) (x : ℕ) → p x ≡ false → filter p (xs ++ x ∷ []) ≡ filter p xs
 filter-snoc_false p xs x e = filter-append p xs (x ∷ []) ∙ (rw e (append-nil (filter p xs)))
 
@@ -73,6 +77,7 @@ found-step p m g most passes none before (inr le) = let h : p (suc m) ≡ false 
 at_or_below : (g m : ℕ) → g ≤ suc m → (g ≡ suc m) ⊎ (g ≤ m)
 at_or_below g m le = elim (cases_lt m g) [ inl h ↦ inl (omega arith) | inr h ↦ inr h ]
 
+-- a node from 1 to m that passes a test, where none after it up to m does, is the last one that passes it
 pub last_node-found : (p : ℕ → Bool) (m g : ℕ) → 1 ≤ g → g ≤ m → p g ≡ true → ((k : ℕ) → g < k → k ≤ m → p k ≡ false) → last_node p m ≡ Some g
 last_node-found p zero g first most passes none = absurd (omega arith)
 last_node-found p (suc m) g first most passes none =
@@ -80,6 +85,7 @@ last_node-found p (suc m) g first most passes none =
     (λ le. last_node-found p m g first le passes (λ k gt below. none k gt (omega arith)))
     (at_or_below g m most)
 
+-- where none of the nodes 1 to m passes a test, there is no last one that passes it
 pub last_node-none : (p : ℕ → Bool) (m : ℕ) → ((k : ℕ) → 1 ≤ k → k ≤ m → p k ≡ false) → last_node p m ≡ None
 last_node-none p zero none = refl
 last_node-none p (suc m) none =
@@ -116,6 +122,7 @@ is_last-step p m g before true e found =
     here p m g e same
 is_last-step p m g before false e found = wider p m g e (before (rw e at found))
 
+-- the node found as the last of those 1 to m that pass a test passes it, and none after it up to m does
 pub IsLastNode-last_node : (p : ℕ → Bool) (m g : ℕ) → last_node p m ≡ Some g → IsLastNode p m g
 IsLastNode-last_node p zero g found = let h : None ≡ Some g = found in cc
 IsLastNode-last_node p (suc m) g found = is_last-step p m g (IsLastNode-last_node p m g) (p (suc m)) refl found
@@ -170,7 +177,8 @@ neighbour-unique l c i j k ej ek =
       ]
     ]
 
--- from places to nodes
+-- where the place of g lies on the strand of the place of a later node i, and no place of that strand stands
+-- between them, g is the neighbour before i
 pub neighbour-node_at : (l : Lattice) (c : Class) (i g a r b t : ℕ) → i ≡ node_at l.s b t → g ≡ node_at l.s a r → r < l.s → t < l.s → g < i → strand_at c l.p a r ≡ strand_at c l.p b t → NoneBetween c l.s l.p a r b t → neighbour l c i ≡ Some g
 neighbour-node_at l c i g a r b t ei eg hr ht lt same none =
     let si : strand_of l c i ≡ strand_at c l.p b t = ap (strand_of l c) ei ∙ strand_of-node_at l c b t ht in
@@ -185,6 +193,7 @@ neighbour-node_at l c i g a r b t ei eg hr ht lt same none =
           (sym (strand_of-coordinates l c k) ∙ same_k ∙ si);
     })
 
+-- where no place of its strand stands before a node's place, there is no neighbour before the node
 pub neighbour-none : (l : Lattice) (c : Class) (i b t : ℕ) → i ≡ node_at l.s b t → t < l.s → NoneBefore c l.s l.p b t → neighbour l c i ≡ None
 neighbour-none l c i b t ei ht none =
     let si : strand_of l c i ≡ strand_at c l.p b t = ap (strand_of l c) ei ∙ strand_of-node_at l c b t ht in

@@ -26,6 +26,7 @@ use Rattle.aea_lattice.proofs.Derivations.{among_cases, among-first}
 xor_cancel : (x y : ℕ) → bit_xor (bit_xor x y) y ≡ x
 xor_cancel x y = xor_assoc x y y ∙ ap (bit_xor x) (xor_self y) ∙ xor_zero_r x
 
+-- of two lists of one width, the second added twice by XOR to the first gives the first again
 pub xor_bytes-cancel : (xs ys : List ℕ) → length xs ≡ length ys → xor_bytes (xor_bytes xs ys) ys ≡ xs
 xor_bytes-cancel [] ys h = refl
 xor_bytes-cancel (x ∷ xs) [] h = absurd (omega arith)
@@ -33,6 +34,7 @@ xor_bytes-cancel (x ∷ xs) (y ∷ ys) h =
     let long : length xs ≡ length ys = omega arith in
     ap (λ a. a ∷ xor_bytes (xor_bytes xs ys) ys) (xor_cancel x y) ∙ ap (λ rest. x ∷ rest) (xor_bytes-cancel xs ys long)
 
+-- the XOR of two lists is the same in either order
 pub xor_bytes-comm : (xs ys : List ℕ) → xor_bytes xs ys ≡ xor_bytes ys xs
 xor_bytes-comm [] [] = refl
 xor_bytes-comm [] (y ∷ ys) = refl
@@ -40,6 +42,7 @@ xor_bytes-comm (x ∷ xs) [] = refl
 xor_bytes-comm (x ∷ xs) (y ∷ ys) =
     ap (λ a. a ∷ xor_bytes xs ys) (xor_comm x y) ∙ ap (λ rest. bit_xor y x ∷ rest) (xor_bytes-comm xs ys)
 
+-- the XOR of three lists is the same, whether the first two or the last two are added first
 pub xor_bytes-assoc : (xs ys zs : List ℕ) → xor_bytes (xor_bytes xs ys) zs ≡ xor_bytes xs (xor_bytes ys zs)
 xor_bytes-assoc [] ys zs = refl
 xor_bytes-assoc (x ∷ xs) [] zs = refl
@@ -47,12 +50,14 @@ xor_bytes-assoc (x ∷ xs) (y ∷ ys) [] = refl
 xor_bytes-assoc (x ∷ xs) (y ∷ ys) (z ∷ zs) =
     ap (λ a. a ∷ xor_bytes (xor_bytes xs ys) zs) (xor_assoc x y z) ∙ ap (λ rest. bit_xor x (bit_xor y z) ∷ rest) (xor_bytes-assoc xs ys zs)
 
+-- the XOR of two lists of one width has that width
 pub length-xor_bytes : (xs ys : List ℕ) → length xs ≡ length ys → length (xor_bytes xs ys) ≡ length ys
 length-xor_bytes [] [] h = refl
 length-xor_bytes [] (y ∷ ys) h = absurd (omega arith)
 length-xor_bytes (x ∷ xs) [] h = absurd (omega arith)
 length-xor_bytes (x ∷ xs) (y ∷ ys) h = let long : length xs ≡ length ys = omega arith in ap suc (length-xor_bytes xs ys long)
 
+-- the XOR of w zeros with a list of width w is that list
 pub xor_bytes-zeros : (w : ℕ) (ys : List ℕ) → length ys ≡ w → xor_bytes (replicate w 0) ys ≡ ys
 xor_bytes-zeros zero [] h = refl
 xor_bytes-zeros zero (y ∷ ys) h = absurd (omega arith)
@@ -61,6 +66,7 @@ xor_bytes-zeros (suc w) (y ∷ ys) h = let long : length ys ≡ w = omega arith 
 
 -- ---- widths
 
+-- in a data list of width w the datum of each node is w bytes long
 pub length-datum_at : (l : Lattice) (w : ℕ) (datas : List (List ℕ)) (i : ℕ) → IsDataList l w datas → length (datum_at w datas i) ≡ w
 length-datum_at l w datas i is =
     elim (cases_lt (i - 1) (length datas)) [
@@ -71,12 +77,14 @@ length-datum_at l w datas i is =
           ap (λ o. length (unwrap_or o (replicate w 0))) (slice_get_past datas (i - 1) past) ∙ length-replicate w 0
     ]
 
+-- where a list of width w is the start, the XOR of lists of width w onto it has width w
 pub length-fold : {A : Type 0} → (w : ℕ) (blocks : List A) (f : A → List ℕ) (start : List ℕ) → length start ≡ w → ((k : A) → length (f k) ≡ w)
     → length (fold xor_bytes start (map f blocks)) ≡ w
 length-fold w [] f start h each = h
 length-fold w (x ∷ xs) f start h each =
     length-fold w xs f (xor_bytes start (f x)) (length-xor_bytes start (f x) (h ∙ sym (each x)) ∙ each x) each
 
+-- a parity in the lattice of a data list is the XOR of the data of the nodes of its prefix
 pub value-parity : (l : Lattice) (w : ℕ) (datas : List (List ℕ)) (i : ℕ) (c : Class) → 1 ≤ class_number c
     → value_at l w datas i c ≡ xor_all w (map (datum_at w datas) (prefix l c i))
 value-parity l w datas i Datum h = absurd (omega arith)
@@ -84,6 +92,7 @@ value-parity l w datas i Horiz h = refl
 value-parity l w datas i Right h = refl
 value-parity l w datas i Left h = refl
 
+-- in the lattice of a data list of width w each block is w bytes long
 pub length-value_at : (l : Lattice) (w : ℕ) (datas : List (List ℕ)) (i : ℕ) (c : Class) → IsDataList l w datas
     → length (value_at l w datas i c) ≡ w
 length-value_at l w datas i Datum is = length-datum_at l w datas i is
@@ -96,6 +105,7 @@ length-value_at l w datas i Left is =
 
 -- ---- a parity is the XOR of the parity before it and its datum
 
+-- where g stands just before i on a strand, the parity of i is the XOR of the parity of g and the datum of i
 pub value-after : (l : Lattice) (w : ℕ) (datas : List (List ℕ)) (i g : ℕ) (c : Class) → 1 ≤ class_number c → previous l c i ≡ Some g
     → value_at l w datas i c ≡ xor_bytes (value_at l w datas g c) (datum_at w datas i)
 value-after l w datas i g c parity was =
@@ -105,6 +115,7 @@ value-after l w datas i g c parity was =
     ∙ fold-append xor_bytes (replicate w 0) (map (datum_at w datas) (prefix l c g)) (datum_at w datas i ∷ [])
     ∙ ap (λ v. xor_bytes v (datum_at w datas i)) (sym (value-parity l w datas g c parity))
 
+-- in the lattice of a data list, where a strand begins at a node, the node's parity on it is its datum
 pub value-begin : (l : Lattice) (w : ℕ) (datas : List (List ℕ)) (i : ℕ) (c : Class) → 1 ≤ class_number c → IsDataList l w datas
     → 1 ≤ i → previous l c i ≡ None → value_at l w datas i c ≡ datum_at w datas i
 value-begin l w datas i c parity is some none =
@@ -220,6 +231,7 @@ derivation-agrees l w xs ys known hx hy agree (b ∷ rest) h d inside k =
       | inr later ↦ derivation-agrees l w xs ys known hx hy agree rest h.0 d inside later
     ]
 
+-- a set determines each block of the lattice that is in its closure
 pub reached-determined : (l : Lattice) (known : BlockId → Bool) (b : BlockId) → HasBlock l b → IsReached l known b → Determines l known b
 reached-determined l known b inside reached w xs ys hx hy agree =
     derivation-agrees l w xs ys known hx hy agree (b ∷ reached.0) reached.1 b inside (among-first reached.0 b)
@@ -247,6 +259,7 @@ sum_to_zero l w datas e is has (Some g) was =
     ∙ xor_bytes-self (xor_bytes i d)
     ∙ ap (λ n. replicate n 0) (sym (ap length (value-after l w datas e.node g e.class has.class.parity was)) ∙ length-value_at l w datas e.node e.class is)
 
+-- the blocks of an equation of the lattice add up to zero by XOR, in the lattice of every data list
 pub equations-add_up : (l : Lattice) (w : ℕ) (datas : List (List ℕ)) (e : EqId) → IsDataList l w datas → HasEquation l e
     → xor_all w (map (value_of l w datas) (equation_blocks l e)) ≡ replicate w 0
 equations-add_up l w datas e is has = sum_to_zero l w datas e is has (previous l e.class e.node) refl

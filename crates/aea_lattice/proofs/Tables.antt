@@ -44,6 +44,7 @@ horiz-input_at l i b t answer ei ht h = elim (cases_column b) [
       ∙ sym (neighbour-node_at l Horiz i (i - l.s) w.0 t (w.0 + 1) t e (omega arith) ht ht (let some = some_rows l in omega arith) refl (horiz-between l.s l.p w.0 t ht))
 ]
 
+-- the neighbour before a node on Horiz is the node s before it, if there is one
 pub horiz-input : (l : Lattice) (i : ℕ) (answer : Option ℕ) → 1 ≤ i → IsEarlier i l.s answer → answer ≡ neighbour l Horiz i
 horiz-input l i answer first h =
     horiz-input_at l i (column l i) (row l i) answer (sym (node_at-coordinates l.s i first)) (mod_below (i - 1) l.s (some_rows l)) h
@@ -66,6 +67,8 @@ right-input_top_at l i b answer shape ei h =
           (right-between_top l.s l.p w.0 b (omega arith) least turn))
     ]
 
+-- with at least two parity classes, the neighbour on Right before a node of the top row is the node
+-- s * p + 1 - s * s before it, if there is one
 pub right-input_top : (l : Lattice) (i : ℕ) (answer : Option ℕ) → 2 ≤ l.alpha → 1 ≤ i → (i - 1) % l.s ≡ 0 → IsEarlier i (l.s * l.p + 1 - l.s * l.s) answer → answer ≡ neighbour l Right i
 right-input_top l i answer two first top h =
     right-input_top_at l i (column l i) answer (woven l two)
@@ -87,6 +90,8 @@ right-input_other_at l i b t answer shape inner ht ei h =
           (right-between l.s l.p w.0 (t - 1) least (omega arith)))
     ]
 
+-- with at least two parity classes, the neighbour on Right before a node outside the top row is the node
+-- s + 1 before it, if there is one
 pub right-input_other : (l : Lattice) (i : ℕ) (answer : Option ℕ) → 2 ≤ l.alpha → 1 ≤ i → (i - 1) % l.s ≢ 0 → IsEarlier i (l.s + 1) answer → answer ≡ neighbour l Right i
 right-input_other l i answer two first inner h =
     right-input_other_at l i (column l i) (row l i) answer (woven l two) inner (mod_below (i - 1) l.s (some_rows l)) (sym (node_at-coordinates l.s i first)) h
@@ -110,6 +115,8 @@ left-input_bottom_at l i b answer shape ei h =
           (left-between_bottom l.s l.p w.0 b (omega arith) least turn))
     ]
 
+-- with at least two parity classes, the neighbour on Left before a node of the bottom row is the node
+-- s * p - (s - 1) * (s - 1) before it, if there is one
 pub left-input_bottom : (l : Lattice) (i : ℕ) (answer : Option ℕ) → 2 ≤ l.alpha → 1 ≤ i → (i - 1) % l.s ≡ l.s - 1 → IsEarlier i (l.s * l.p - (l.s - 1) * (l.s - 1)) answer → answer ≡ neighbour l Left i
 left-input_bottom l i answer two first bottom h =
     left-input_bottom_at l i (column l i) answer (woven l two)
@@ -130,6 +137,8 @@ left-input_other_at l i b t answer shape inner ht ei h =
           (left-between l.s l.p w.0 t least (omega arith)))
     ]
 
+-- with at least two parity classes, the neighbour on Left before a node outside the bottom row is the node
+-- s - 1 before it, if there is one
 pub left-input_other : (l : Lattice) (i : ℕ) (answer : Option ℕ) → 2 ≤ l.alpha → 1 ≤ i → (i - 1) % l.s ≢ l.s - 1 → IsEarlier i (l.s - 1) answer → answer ≡ neighbour l Left i
 left-input_other l i answer two first inner h =
     left-input_other_at l i (column l i) (row l i) answer (woven l two) inner (mod_below (i - 1) l.s (some_rows l)) (sym (node_at-coordinates l.s i first)) h
@@ -143,6 +152,7 @@ horiz-output_at : (l : Lattice) (i a r : ℕ) → i ≡ node_at l.s a r → r < 
 horiz-output_at l i a r ei hr =
     neighbour-node_at l Horiz (i + l.s) i a r (a + 1) r (omega arith) ei hr hr (let some = some_rows l in omega arith) refl (horiz-between l.s l.p a r hr)
 
+-- each node is the neighbour on Horiz before the node s after it
 pub horiz-output : (l : Lattice) (i : ℕ) → 1 ≤ i → neighbour l Horiz (i + l.s) ≡ Some i
 horiz-output l i first = horiz-output_at l i (column l i) (row l i) (sym (node_at-coordinates l.s i first)) (mod_below (i - 1) l.s (some_rows l))
 
@@ -157,6 +167,8 @@ right-output_bottom_at l i a shape ei =
     (same_round l.p (a + (l.p - (l.s - 1))) ((a + l.p + 1 - l.s) + (l.p - 0)) (omega arith))
     (right-between_top l.s l.p a (a + l.p + 1 - l.s) (omega arith) least turn)
 
+-- with at least two parity classes, a node of the bottom row is the neighbour on Right before the node
+-- s * p + 1 - s * s after it
 pub right-output_bottom : (l : Lattice) (i : ℕ) → 2 ≤ l.alpha → 1 ≤ i → (i - 1) % l.s ≡ l.s - 1 → neighbour l Right (i + (l.s * l.p + 1 - l.s * l.s)) ≡ Some i
 right-output_bottom l i two first bottom =
     right-output_bottom_at l i (column l i) (woven l two)
@@ -169,6 +181,8 @@ right-output_other_at l i a r shape inner hr ei =
     (ap (λ x. x % l.p) (omega arith))
     (right-between l.s l.p a r least (omega arith))
 
+-- with at least two parity classes, a node outside the bottom row is the neighbour on Right before the node
+-- s + 1 after it
 pub right-output_other : (l : Lattice) (i : ℕ) → 2 ≤ l.alpha → 1 ≤ i → (i - 1) % l.s ≢ l.s - 1 → neighbour l Right (i + (l.s + 1)) ≡ Some i
 right-output_other l i two first inner =
     right-output_other_at l i (column l i) (row l i) (woven l two) inner (mod_below (i - 1) l.s (some_rows l)) (sym (node_at-coordinates l.s i first))
@@ -185,6 +199,8 @@ left-output_top_at l i a shape ei =
     (same_round l.p (a + 0) ((a + l.p + 1 - l.s) + (l.s - 1)) (omega arith))
     (left-between_bottom l.s l.p a (a + l.p + 1 - l.s) (omega arith) least turn)
 
+-- with at least two parity classes, a node of the top row is the neighbour on Left before the node
+-- s * p - (s - 1) * (s - 1) after it
 pub left-output_top : (l : Lattice) (i : ℕ) → 2 ≤ l.alpha → 1 ≤ i → (i - 1) % l.s ≡ 0 → neighbour l Left (i + (l.s * l.p - (l.s - 1) * (l.s - 1))) ≡ Some i
 left-output_top l i two first top =
     left-output_top_at l i (column l i) (woven l two)
@@ -198,6 +214,8 @@ left-output_other_at l i a t shape inner ht ei =
     (ap (λ x. x % l.p) (omega arith))
     (left-between l.s l.p a (t - 1) least (omega arith))
 
+-- with at least two parity classes, a node outside the top row is the neighbour on Left before the node
+-- s - 1 after it
 pub left-output_other : (l : Lattice) (i : ℕ) → 2 ≤ l.alpha → 1 ≤ i → (i - 1) % l.s ≢ 0 → neighbour l Left (i + (l.s - 1)) ≡ Some i
 left-output_other l i two first inner =
     left-output_other_at l i (column l i) (row l i) (woven l two) inner (mod_below (i - 1) l.s (some_rows l)) (sym (node_at-coordinates l.s i first))
@@ -216,6 +234,8 @@ is_next-only l c i j k answer before later within found =
     let same : j ≡ k = neighbour-unique l c i j k before found in
     later.found (omega arith) ∙ ap Some same
 
+-- where i is the neighbour before j, the answer j, or none if the lattice has no node j, is the neighbour
+-- after i
 pub IsNextNeighbour-from : (l : Lattice) (c : Class) (i j : ℕ) (answer : Option ℕ) → neighbour l c j ≡ Some i → IsLater l.n j answer → IsNextNeighbour l c i answer
 IsNextNeighbour-from l c i j answer before later =
     λ k. (λ found. is_next-found l c i j k answer before later found, λ q. is_next-only l c i j k answer before later q.0 q.1)

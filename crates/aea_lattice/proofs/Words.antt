@@ -156,6 +156,8 @@ shifted-same w false bytes v hv hb some same = refl
 length-value_of : (l : Lattice) (w : ℕ) (datas : List (List ℕ)) (b : BlockId) → IsDataList l w datas → length (value_of l w datas b) ≡ w
 length-value_of l w datas b is = length-value_at l w datas b.node b.class is
 
+-- bytes that are not all zero, added by XOR to the data of some nodes, give a data list whose lattice
+-- differs from that of the first exactly on the codeword of the nodes
 pub changes-words : (l : Lattice) (nodes : ℕ → Bool) (w : ℕ) (datas : List (List ℕ)) (bytes : List ℕ)
     → IsDataList l w datas → IsBytes w bytes → bytes ≢ replicate w 0
     → IsDataList l w (changed_from 1 nodes bytes datas)
@@ -199,6 +201,7 @@ IsDataList-zeros l = record {
 one_some : one_byte 1 ≢ replicate 1 0
 one_some h = let same : ◌≡◌ {A = ℕ} 1 0 = ap (λ xs. get_or xs 0 0) h in omega arith
 
+-- a codeword that contains no block of a set contains no block of the lattice that the set determines
 pub words-miss : (l : Lattice) (known : BlockId → Bool) (nodes : ℕ → Bool) → Misses l known nodes
     → (b : BlockId) → HasBlock l b → Determines l known b → is_in_codeword l nodes b ≡ false
 words-miss l known nodes misses b inside determined =

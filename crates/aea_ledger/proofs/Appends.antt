@@ -124,6 +124,7 @@ taken_one v w o parts r is one no_fence no_raise has = record {
   live = has.live;
 }
 
+-- an opened ledger with what the other has and what the object adds has taken the object's record
 pub made_taken : (v w : Opened) (o : Stored) (parts : Option (List Extent)) → HasMade v o parts w → HasTaken v (made o parts) w
 made_taken v w o None has = taken_one v w o None (Object o) refl refl refl refl has
 made_taken v w o (Some parts) has = taken_one v w o (Some parts) (Joined o parts) refl refl refl refl has

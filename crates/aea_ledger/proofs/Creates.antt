@@ -31,6 +31,7 @@ none_or_empty shape rest old new full is torn =
     (λ closed. inl (inr closed))
     (cases_eq (get_or new 0 0) 1)
 
+-- a file that is the empty ledger but for a 0 at its first place is the empty ledger once 1 was written there
 pub empty_opened : (shape : Shape) (rest old new : List ℕ) → old ≡ 0 ∷ rest → rest ≡ drop 1 (empty_ledger shape) → Holds 0 (1 ∷ []) old new → new ≡ empty_ledger shape
 empty_opened shape rest old new full is holds =
     holds_gate [] 0 rest new (subst (λ (l : List ℕ). Holds 0 (1 ∷ []) l new) full holds) ∙ ap (λ (l : List ℕ). 1 ∷ l) is

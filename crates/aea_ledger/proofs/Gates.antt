@@ -18,6 +18,7 @@ use Rattle.aea_ledger.proofs.Steps.{bad_at}
 abbrev pub with_cursor : Reader → Ahead → Reader
 with_cursor r cursor = record r { input = record { cursor = cursor; hasher = r.input.hasher } }
 
+-- a reader that has read these records has read them with another cursor at the same place too
 pub read_on : (old : Reader) (cursor : Ahead) (records : List Record) → cursor.place ≡ old.input.cursor.place → HasRead old records → HasRead (with_cursor old cursor) records
 read_on old cursor records place read = record {
   valid = read.valid;
@@ -29,6 +30,8 @@ read_on old cursor records place read = record {
   place = place ∙ read.place;
 }
 
+-- and they are those of the same file under another name, where the bytes of this cursor are the file's at its
+-- place
 pub told_on : (old : Reader) (cursor : Ahead) (records : List Record) (file other : List ℕ) → cursor.place ≡ old.input.cursor.place → file ≡ other → IsAhead cursor other → AreIn old records file → AreIn (with_cursor old cursor) records other
 told_on old cursor records file other place same ahead told = record {
   long = subst (λ (l : List ℕ). 18 ≤ length l) same told.long;

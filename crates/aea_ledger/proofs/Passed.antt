@@ -110,6 +110,7 @@ extents-append (suc n) m x y size =
 pub digests_none : (tells : Type 0) (file : List ℕ) (i : Input) (before : List (List ℕ)) → (tells → IsAhead i.cursor file) → HasDigests tells file i i 0 before before
 digests_none tells file i before ahead = record { text = []; long = refl; passed = passed_none tells file i ahead; digests = sym (append-nil before) }
 
+-- 32 bytes that the input went on over, put behind others as they are, are one digest that it went on over
 pub digests_one : (tells : Type 0) (file : List ℕ) (old new : Input) (bytes digest : List ℕ) (before after : List (List ℕ)) → length bytes ≡ 32 → HasPassed tells file old new bytes → digest ≡ bytes
     → after ≡ before ++ digest ∷ [] → HasDigests tells file old new 1 before after
 digests_one tells file old new bytes digest before after long passed is pushed = record {
@@ -119,6 +120,7 @@ digests_one tells file old new bytes digest before after long passed is pushed =
   digests = pushed ∙ ap (λ (d : List ℕ). before ++ d ∷ []) (is ∙ sym (take_all 32 bytes (omega (arith, long))));
 }
 
+-- the input that went on over so many digests, and then over one, went on over one more than so many
 pub digests_push : (tells : Type 0) (file : List ℕ) (old mid new : Input) (count : ℕ) (before between after : List (List ℕ)) → HasDigests tells file old mid count before between → HasDigests tells file mid new 1 between after
     → HasDigests tells file old new (count + 1) before after
 digests_push tells file old mid new count before between after early late = record {
@@ -129,6 +131,7 @@ digests_push tells file old mid new count before between after early late = reco
       ∙ ap (λ (l : List (List ℕ)). before ++ l) (sym (pieces-append 32 count 1 early.text late.text early.long));
 }
 
+-- digests that were read of a file were read of another one that is the same, where the file is told
 pub digests_in : (tells : Type 0) (file other : List ℕ) (old new : Input) (count : ℕ) (before after : List (List ℕ)) → (tells → file ≡ other) → HasDigests tells file old new count before after
     → HasDigests tells other old new count before after
 digests_in tells file other old new count before after same has = record { text = has.text; long = has.long; passed = passed_in tells file other old new has.text same has.passed; digests = has.digests }
@@ -136,6 +139,8 @@ digests_in tells file other old new count before after same has = record { text 
 pub parts_none : (tells : Type 0) (file : List ℕ) (i : Input) (before : List Extent) → (tells → IsAhead i.cursor file) → HasParts tells file i i 0 before before
 parts_none tells file i before ahead = record { text = []; long = refl; passed = passed_none tells file i ahead; parts = sym (append-nil before) }
 
+-- 8 bytes that the input went on over, put behind others as the part that they spell, are one part that it went on
+-- over
 pub parts_one : (tells : Type 0) (file : List ℕ) (old new : Input) (bytes : List ℕ) (part : Extent) (before after : List Extent) → length bytes ≡ 8 → HasPassed tells file old new bytes
     → part ≡ record { first = from_be_bytes w32 (take 4 bytes); count = from_be_bytes w32 (drop 4 bytes) } → after ≡ before ++ part ∷ [] → HasParts tells file old new 1 before after
 parts_one tells file old new bytes part before after long passed is pushed = record {
@@ -145,6 +150,7 @@ parts_one tells file old new bytes part before after long passed is pushed = rec
   parts = pushed ∙ ap (λ (e : Extent). before ++ e ∷ []) (is ∙ (λ i. record { first = from_be_bytes w32 (take 4 bytes); count = from_be_bytes w32 (sym (take_all 4 (drop 4 bytes) (omega (arith, length-drop 4 bytes, long))) i) }));
 }
 
+-- the input that went on over so many parts, and then over one, went on over one more than so many
 pub parts_push : (tells : Type 0) (file : List ℕ) (old mid new : Input) (count : ℕ) (before between after : List Extent) → HasParts tells file old mid count before between → HasParts tells file mid new 1 between after
     → HasParts tells file old new (count + 1) before after
 parts_push tells file old mid new count before between after early late = record {
@@ -155,10 +161,12 @@ parts_push tells file old mid new count before between after early late = record
       ∙ ap (λ (l : List Extent). before ++ l) (sym (extents-append count 1 early.text late.text early.long));
 }
 
+-- parts that were read of a file were read of another one that is the same, where the file is told
 pub parts_in : (tells : Type 0) (file other : List ℕ) (old new : Input) (count : ℕ) (before after : List Extent) → (tells → file ≡ other) → HasParts tells file old new count before after
     → HasParts tells other old new count before after
 parts_in tells file other old new count before after same has = record { text = has.text; long = has.long; passed = passed_in tells file other old new has.text same has.passed; parts = has.parts }
 
+-- as many parts are read as are asked for, whatever the bytes are
 pub length-extents : (n : ℕ) (bytes : List ℕ) → length (extents n bytes) ≡ n
 length-extents zero bytes = refl
 length-extents (suc n) bytes = ap suc (length-extents n (drop 8 bytes))

@@ -17,6 +17,7 @@ use Rattle.aea_records.specs.Fields.{are_apart}
 profile-small : (alpha s p : ℕ) → is_profile alpha s p ≡ true → alpha ≤ 3
 profile-small alpha s p h = grind (arith, nat_tests)
 
+-- α of a shape is at most 3
 pub alpha_small : (shape : Shape) → shape.alpha ≤ 3
 alpha_small shape =
     let parts = and_parts (is_profile shape.alpha shape.s shape.p && (nat_le 16 shape.block && nat_le shape.block 65536)) (nat_le 1 shape.sites && nat_le shape.sites 64) shape.in_profile in

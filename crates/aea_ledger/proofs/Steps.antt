@@ -177,6 +177,8 @@ abbrev pub alone_record : Reader → ObjectFields → List ℕ → Record
 alone_record old object text =
     Object (record (stored_at (take 315 old.input.cursor.bytes) object) { digests = pieces 32 (object.count * (1 + old.shape.alpha)) text })
 
+-- an input that went on over the fields of an object whose nodes are all new, and over its digests, as many as
+-- there must be and with the right number of bytes, went on over a record that may follow
 pub alone_goes : (tells : Type 0) (file : List ℕ) (old : Reader) (mid new : Input) (object : ObjectFields) (bytes count : ℕ) (before after : List (List ℕ)) → TailsAreSpelled
     → (at : IsAtHead tells file old (alone_found bytes object)) → HasPassed tells file old.input mid (take (object_end object) old.input.cursor.bytes)
     → (ds : HasDigests tells file mid new count before after) → count ≡ object.count * (1 + old.shape.alpha) → bytes ≡ 50 + object.long + 32 * count
@@ -202,6 +204,7 @@ grown_is shape records r l m count is grown nodes fences = record {
   fences_are = grown.fences ∙ is.fences_are ∙ sym fences;
 }
 
+-- the new nodes of a list of one object are those of this object
 pub one_count : (o : Stored) → sum_by (λ (q : Stored). q.count) (o ∷ []) ≡ o.count
 one_count o = omega (arith, sum_by-cons (λ (q : Stored). q.count) o [])
 
@@ -239,6 +242,8 @@ pub record MayBePut (objects : Objects) (name : List ℕ) : Type 0 where
 pub name_is : (old : Reader) (name : List ℕ) (long : ℕ) → 8 + long ≤ 315 → name ≡ bytes_at long 8 old.input.cursor.bytes → bytes_at long 8 (take 315 old.input.cursor.bytes) ≡ name
 name_is old name long short is = front-bytes_at old.input.cursor.bytes 8 long 315 short ∙ sym is
 
+-- the name that was read of an object whose nodes are all new, and whose record may follow, is a name and not
+-- taken
 pub alone_put : (tells : Type 0) (file : List ℕ) (old : Reader) (new : Input) (object : ObjectFields) (text name : List ℕ) (records : List Record) → NewNamesAreFree → HasRead old records → object.long ≤ 255
     → Goes tells file old new records (alone_record old object text) → name ≡ bytes_at object.long 8 old.input.cursor.bytes → MayBePut old.catalog.objects name
 alone_put tells file old new object text name records law read short goes is =
@@ -249,6 +254,8 @@ alone_put tells file old new object text name records law read short goes is =
           ∙ subst (λ (n : List ℕ). get (objects_of records) n ≡ None) same ((law records (bytes_at object.long 8 (take 315 old.input.cursor.bytes))).0 goes.next.stored.new);
     }
 
+-- a reader that went on over the record of an object whose nodes are all new, and took its nodes, its object and
+-- its digests, has read records, those of the file where it is told
 pub alone_read : (tells : Type 0) (file : List ℕ) (old new : Reader) (object : ObjectFields) (bytes : ℕ) (text name : List ℕ) (placed : ObjectRef) → (at : IsAtHead tells file old (alone_found bytes object))
     → Goes tells file old new.input at.records (alone_record old object text) → new.shape ≡ old.shape → IsGrown old.lattice (old.lattice.n + object.count) new.lattice
     → name ≡ bytes_at object.long 8 old.input.cursor.bytes → placed ≡ record { first = object.first; count = object.count; length = object.size; digest = object.digest }
@@ -297,6 +304,8 @@ abbrev pub joined_record : Reader → ObjectFields → ℕ → List ℕ → List
 joined_record old object parts first text =
     Joined (record (stored_at (take 315 old.input.cursor.bytes) object) { digests = pieces 32 (object.count * (1 + old.shape.alpha)) text }) (extents parts first)
 
+-- an input that went on over the fields of an object in parts, its parts, which are valid, and its digests, as
+-- many as there must be and with the right number of bytes, went on over a record that may follow
 pub joined_goes : (tells : Type 0) (file : List ℕ) (old : Reader) (mid behind new : Input) (object : ObjectFields) (bytes parts count : ℕ) (none all : List Extent) (before after : List (List ℕ)) → TailsAreSpelled
     → (at : IsAtHead tells file old (joined_found bytes object parts)) → HasPassed tells file old.input mid (take (object_end object + 4) old.input.cursor.bytes)
     → (ps : HasParts tells file mid behind parts none all) → (ds : HasDigests tells file behind new count before after) → none ≡ [] → old.lattice.n ≡ nodes_of at.records
@@ -317,6 +326,7 @@ joined_goes tells file old mid behind new object bytes parts count none all befo
     (All-append (λ b. b < 2 ^ 8) ps.text ds.text ps.passed.are ds.passed.are)
     (ps.text, ds.text, refl, ps.long, good, digests_spell old.shape bytes (54 + 8 * parts) (stored_at (take 315 old.input.cursor.bytes) object) (λ p. Joined p (extents parts ps.text)) ds.text long size)
 
+-- the name that was read of an object in parts whose record may follow is a name and not taken
 pub joined_put : (tells : Type 0) (file : List ℕ) (old : Reader) (new : Input) (object : ObjectFields) (parts : ℕ) (first text name : List ℕ) (records : List Record) → NewNamesAreFree → HasRead old records → object.long ≤ 255
     → Goes tells file old new records (joined_record old object parts first text) → name ≡ bytes_at object.long 8 old.input.cursor.bytes → MayBePut old.catalog.objects name
 joined_put tells file old new object parts first text name records law read short goes is =
@@ -327,6 +337,8 @@ joined_put tells file old new object parts first text name records law read shor
           ∙ subst (λ (n : List ℕ). get (objects_of records) n ≡ None) same ((law records (bytes_at object.long 8 (take 315 old.input.cursor.bytes))).0 goes.next.stored.new);
     }
 
+-- a reader that went on over the record of an object in parts, and took its new nodes, its object with the parts
+-- and its digests, has read records, those of the file where it is told
 pub joined_read : (tells : Type 0) (file : List ℕ) (old new : Reader) (object : ObjectFields) (bytes parts : ℕ) (first text name : List ℕ) (all : List Extent) (placed : ObjectRef) → (at : IsAtHead tells file old (joined_found bytes object parts))
     → Goes tells file old new.input at.records (joined_record old object parts first text) → new.shape ≡ old.shape → IsGrown old.lattice (old.lattice.n + object.count) new.lattice
     → name ≡ bytes_at object.long 8 old.input.cursor.bytes → all ≡ extents parts first
@@ -399,6 +411,8 @@ behind_parts tells file old mid behind object bytes parts none all at tell head 
     (ap (λ (l : List ℕ). are_parts old.shape object.size (nodes_of at.records + object.count) (extents parts l)) field
     ∙ (λ i. are_parts old.shape object.size (sym nodes i + object.count) (sym all_is i)) ∙ good)
 
+-- where the file is told, and the digests of an object in parts are not all there behind its parts, which are
+-- valid, the file is bad where they begin
 pub joined_missing : (tells : Type 0) (file : List ℕ) (old : Reader) (mid behind : Input) (object : ObjectFields) (bytes parts count place : ℕ) (none all : List Extent) → TailsAreJudged
     → (at : IsAtHead tells file old (joined_found bytes object parts)) → tells → HasPassed tells file old.input mid (take (object_end object + 4) old.input.cursor.bytes) → HasParts tells file mid behind parts none all
     → none ≡ [] → old.lattice.n ≡ nodes_of at.records → are_parts old.shape object.size (old.lattice.n + object.count) all ≡ true → count ≡ object.count * (1 + old.shape.alpha)
@@ -412,6 +426,8 @@ joined_missing tells file old mid behind object bytes parts count place none all
     ∙ digests_missing old.shape bytes (54 + 8 * parts) (stored_at (take 315 old.input.cursor.bytes) object) (λ p. Joined p (extents parts (bytes_at (8 * parts) (object_end object + 4) (drop old.input.cursor.place file)))) (object_end object + 4 + 8 * parts) (drop old.input.cursor.place file)
     (omega (arith, missing, length-drop behind.cursor.place file, length-drop old.input.cursor.place file, there.place, length-append (take (object_end object + 4) old.input.cursor.bytes) ps.text, size, ps.long, many))) is
 
+-- where the file is told, and the number of bytes of an object in parts is another, its parts being valid and its
+-- digests there, the file is bad at this number
 pub joined_wrong : (tells : Type 0) (file : List ℕ) (old : Reader) (mid behind new : Input) (object : ObjectFields) (bytes parts count place : ℕ) (none all : List Extent) (before after : List (List ℕ)) → TailsAreJudged
     → (at : IsAtHead tells file old (joined_found bytes object parts)) → tells → HasPassed tells file old.input mid (take (object_end object + 4) old.input.cursor.bytes) → HasParts tells file mid behind parts none all
     → HasDigests tells file behind new count before after → none ≡ [] → old.lattice.n ≡ nodes_of at.records → are_parts old.shape object.size (old.lattice.n + object.count) all ≡ true
@@ -442,6 +458,8 @@ short_goes : (tells : Type 0) (file : List ℕ) (old : Reader) (found : Found) (
 short_goes tells file old found new r law at passed spells =
     goes_on tells file old found new [] r law at (subst (HasPassed tells file old.input new) (sym (append-nil (take (head_end found.fields) old.input.cursor.bytes))) passed) (All-nil (λ b. b < 2 ^ 8)) spells
 
+-- a reader that went on over a fence with 4 as its number of bytes, and set it, has read records, those of the
+-- file where it is told, and is further on
 pub fence_read : (tells : Type 0) (file : List ℕ) (old new : Reader) (bytes node : ℕ) → TailsAreSpelled → (at : IsAtHead tells file old (fence_found bytes node)) → HasPassed tells file old.input new.input (take 10 old.input.cursor.bytes)
     → bytes ≡ 4 → new.shape ≡ old.shape → IsFenced old.lattice new.lattice → new.catalog.objects ≡ old.catalog.objects → new.raised ≡ old.raised → new.digests.items ≡ old.digests.items → IsReading tells file new × (old.input.cursor.place < new.input.cursor.place)
 fence_read tells file old new bytes node law at passed four shape lattice objects raised items =
@@ -475,6 +493,8 @@ fence_read tells file old new bytes node law at passed four shape lattice object
       goes.on,
     )
 
+-- a reader that went on over a raise with 4 as its number of bytes, and took it, has read records, those of the
+-- file where it is told, and is further on
 pub raise_read : (tells : Type 0) (file : List ℕ) (old new : Reader) (bytes : ℕ) → TailsAreSpelled → (at : IsAtHead tells file old (raise_found bytes)) → HasPassed tells file old.input new.input (take 10 old.input.cursor.bytes)
     → bytes ≡ 4 → new.shape ≡ old.shape → new.lattice ≡ old.lattice → new.catalog.objects ≡ old.catalog.objects → new.raised ≡ true → new.digests.items ≡ old.digests.items → IsReading tells file new × (old.input.cursor.place < new.input.cursor.place)
 raise_read tells file old new bytes law at passed four shape lattice objects raised items =
@@ -514,6 +534,7 @@ pub fence_wrong : (tells : Type 0) (file : List ℕ) (old : Reader) (bytes node 
 fence_wrong tells file old bytes node place law at tell wrong is =
     bad_tail tells file old (fence_found bytes node) 2 place law at tell (ap (λ (x : Result (Record × ℕ) ℕ). bad_of x) (unless (bytes == 4) _ (Err 2) (ne_eqb bytes 4 wrong))) is
 
+-- where the file is told, and the number of bytes of a raise is not 4, the file is bad at this number
 pub raise_wrong : (tells : Type 0) (file : List ℕ) (old : Reader) (bytes place : ℕ) → TailsAreJudged → IsAtHead tells file old (raise_found bytes) → tells → bytes ≢ 4 → place ≡ old.input.cursor.place + 2 → IsBadAt file place
 raise_wrong tells file old bytes place law at tell wrong is =
     bad_tail tells file old (raise_found bytes) 2 place law at tell (ap (λ (x : Result (Record × ℕ) ℕ). bad_of x) (unless (bytes == 4) _ (Err 2) (ne_eqb bytes 4 wrong))) is

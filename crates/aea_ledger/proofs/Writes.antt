@@ -17,7 +17,8 @@ follows_then_kept step old mid new first second follows keeps t c from to here =
     (λ after. follows mid.moment c first.later (omega arith) (keeps t c (omega arith) to here))
     (cases_lt t mid.moment)
 
--- no image is new but at its first moment
+-- where all images that each of two calls can add are there at its first moment after the entry, and the second
+-- keeps the images, that is so of both as one call
 pub settles_then_kept : (old mid new : State) → Passes old mid → Passes mid new → Settles old mid → KeepsImages mid new → Settles mid new → Settles old new
 settles_then_kept old mid new first second early keeps late t u c from later to here =
     ⊎_elim
@@ -133,6 +134,7 @@ overwritten_both old at front back =
     ∙ ap (λ (k : ℕ). before old at ++ ((front ++ back) ++ drop k old)) end
     ∙ sym (overwritten_is old at (front ++ back))
 
+-- a write right behind the place of some bytes, and then one of these there, leave what one write of both leaves
 pub holds_both : (at : ℕ) (front back old mid new : List ℕ) → Holds (at + length front) back old mid → Holds at front mid new → Holds at (front ++ back) old new
 holds_both at front back old mid new early late = late ∙ ap (λ (l : List ℕ). overwritten l at front) early ∙ overwritten_both old at front back
 

@@ -22,6 +22,7 @@ use Rattle.aea_peel.proofs.States.{mark_elsewhere}
 pub Adds-none : (l : Lattice) (n : ℕ) (ws : List EqId) → Adds l n ws ws
 Adds-none l n ws = record { kept = λ e c. c; inside = λ e c. inl c; few = omega arith }
 
+-- where one equation of the lattice is put behind those that wait, at most one was added
 pub Adds-push : (l : Lattice) (ws : List EqId) (e : EqId) → HasEquation l e → Adds l 1 ws (ws ++ e ∷ [])
 Adds-push l ws e has = record {
   kept = λ q c. Contains-append_left ws (e ∷ []) q c;
@@ -29,6 +30,7 @@ Adds-push l ws e has = record {
   few = omega (arith, length-append ws (e ∷ []));
 }
 
+-- where at most n and then at most m equations were added, at most k were, if k is no less than n + m
 pub Adds-trans : (l : Lattice) (n m k : ℕ) (a b c : List EqId) → n + m ≤ k → Adds l n a b → Adds l m b c → Adds l k a c
 Adds-trans l n m k a b c le first then = record {
   kept = λ e h. then.kept e (first.kept e h);
@@ -43,6 +45,7 @@ still l marks n old new e adds waits = elim waits [ inl c ↦ inl (adds.kept e c
 
 -- ---- the equations in which a block stands
 
+-- a class with a number of at least 1 is Horiz, Right or Left
 pub parity_classes : (c : Class) → 1 ≤ class_number c → (c ≡ Horiz) ⊎ ((c ≡ Right) ⊎ (c ≡ Left))
 parity_classes Datum h = absurd (omega arith)
 parity_classes Horiz h = inl refl

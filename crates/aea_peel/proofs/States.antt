@@ -70,6 +70,7 @@ get_push (z ∷ zs) y x (suc k) h =
 
 -- ---- the first state, one more step, and the end
 
+-- where exactly the known blocks of the lattice are marked, the marks are a state without steps
 pub IsState-start : (l : Lattice) (known : BlockId → Bool) (marks : List Bool) → ((b : BlockId) → HasBlock l b → is_marked l marks b ≡ known b) → IsState l known [] marks
 unfolding IsDistinct
 IsState-start l known marks same = record {
@@ -151,6 +152,8 @@ forced-push l known steps s now earlier k t h =
           (sym (ap (λ n. take n (steps ++ s ∷ [])) p.0 ∙ take-append_seam steps (s ∷ []))) now)
     ]
 
+-- with one more step and its mark a state remains one, where there is a mark for each block of the lattice, and
+-- the step's equation forces its block, one of the lattice that is not marked yet, from marked ones
 pub IsState-push : (l : Lattice) (known : BlockId → Bool) (steps : List Step) (marks : List Bool) (s : Step)
     → length marks ≡ blocks_count l → HasBlock l s.block
     → IsForcedBy l (is_marked l marks) s.block s.by → is_marked l marks s.block ≡ false

@@ -39,6 +39,7 @@ true-and : (a b : Bool) → a ≡ true → (a && b) ≡ b
 true-and true b h = refl
 true-and false b h = absurd (false≢true h)
 
+-- whether a block of the lattice is marked is told by the mark at its number
 pub marked-at : (l : Lattice) (marks : List Bool) (b : BlockId) → HasBlock l b → is_marked l marks b ≡ get_or marks (number_of l b) false
 marked-at l marks b has = true-and (is_inside l b) (get_or marks (number_of l b) false) (inside-true l b has)
 
@@ -61,6 +62,8 @@ mark_elsewhere l marks b d has_d other =
     ∙ get_or-set_other marks (number_of l b) (number_of l d) true false other
     ∙ sym (marked-at l marks d has_d)
 
+-- with one more mark a state remains one, where there is a mark for each block of the lattice, and an equation
+-- forces the block that gets it, one of the lattice, from marked ones
 pub state-mark : (l : Lattice) (known : BlockId → Bool) (marks : List Bool) (b : BlockId) (e : EqId) → length marks ≡ blocks_count l
     → HasBlock l b → IsForcedBy l (is_marked l marks) b e → IsState l known marks → IsState l known (set marks (number_of l b) true)
 state-mark l known marks b e long has_b forced state = record {
@@ -78,6 +81,7 @@ state-mark l known marks b e long has_b forced state = record {
       ];
 }
 
+-- where exactly the known blocks of the lattice are marked, the marks are a state
 pub state-start : (l : Lattice) (known : BlockId → Bool) (marks : List Bool)
     → ((b : BlockId) → HasBlock l b → is_marked l marks b ≡ known b) → IsState l known marks
 state-start l known marks same = record {
@@ -151,6 +155,7 @@ marked-reached l known marks state spent b has reached =
     (λ c member. marked c (member_inside l e c forced.equation member)) forced)))
     b reached)
 
+-- where each equation is spent, the blocks that a state marks, in number order, are the closure of those known
 pub closure-end : (l : Lattice) (known : BlockId → Bool) (marks : List Bool) (blocks : List BlockId) → IsState l known marks
     → ((e : EqId) → HasEquation l e → IsSpent l marks e) → blocks ≡ filter (is_marked l marks) (blocks_of l) → IsClosure l known blocks
 closure-end l known marks blocks state spent are =
@@ -187,12 +192,14 @@ marks-of m l same = ap (λ (x : Lattice). let y : Marked = record { lattice = x;
 
 -- ---- what marks force, in the lattice and wherever
 
+-- a block that is forced by the marks as read for any block is forced by those read for blocks of the lattice alone
 pub forced-inside : (l : Lattice) (marks : List Bool) (b : BlockId) (e : EqId)
     → IsForcedBy l (marked.is_marked (record { lattice = l; marks = marks })) b e → IsForcedBy l (is_marked l marks) b e
 forced-inside l marks b e forced =
     forced-more l (marked.is_marked (record { lattice = l; marks = marks })) (is_marked l marks) b e
     (λ d member h. marked-at l marks d (member_inside l e d forced.equation member) ∙ h) forced
 
+-- an equation spent by the marks as read for any block is spent by those read for blocks of the lattice alone
 pub spent-inside : (l : Lattice) (marks : List Bool) (e : EqId) → marked.IsSpent (record { lattice = l; marks = marks }) e → IsSpent l marks e
 spent-inside l marks e spent b forced =
     marked-at l marks b (member_inside l e b forced.equation forced.contains)

@@ -36,6 +36,7 @@ pub sum_of-cons : (w : ℕ) (datum : ℕ → List ℕ) (k : ℕ) (nodes : List �
 sum_of-cons w datum k nodes wide =
     ap (λ s. fold xor_bytes s (map datum nodes)) (xor_bytes-zeros w (datum k) (wide.each k)) ∙ fold_from w datum wide nodes (datum k) (wide.each k)
 
+-- where each datum has w bytes, the sum of two lists of nodes together is the XOR of their sums
 pub sum_of-append : (w : ℕ) (datum : ℕ → List ℕ) (ks ns : List ℕ) → IsWide w datum → sum_of w datum (ks ++ ns) ≡ xor_bytes (sum_of w datum ks) (sum_of w datum ns)
 sum_of-append w datum [] ns wide = sym (xor_bytes-zeros w (sum_of w datum ns) (length-sum_of w datum ns wide))
 sum_of-append w datum (k ∷ ks) ns wide =

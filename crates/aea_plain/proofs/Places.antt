@@ -29,6 +29,7 @@ classes_to a = filter (λ c. nat_le (class_number c) a) (Horiz ∷ Right ∷ Lef
 pub get_or-blocks_of : (l : Lattice) (b d : BlockId) → HasBlock l b → get_or (blocks_of l) (number_of l b) d ≡ b
 get_or-blocks_of l b d has = get_or_from_slice_get (blocks_of l) (number_of l b) b d (slice_get-blocks_of l b has)
 
+-- the number of a block of the lattice is a place within the list of its blocks
 pub inside_blocks : (l : Lattice) (b : BlockId) → HasBlock l b → number_of l b < length (blocks_of l)
 inside_blocks l b has = subst (λ n. number_of l b < n) (sym (length-blocks_of l)) (number_below l b has)
 
@@ -39,12 +40,14 @@ filter-block_kept l p b k has at passes =
     subst (λ n. filter p (take (n + 1) (blocks_of l)) ≡ filter p (take n (blocks_of l)) ++ b ∷ []) at
     (filter-take_kept p (blocks_of l) (number_of l b) b (inside_blocks l b has) (get_or-blocks_of l b b has) passes)
 
+-- the next block in number order adds nothing to those that pass a test, where it fails
 pub filter-block_dropped : (l : Lattice) (p : BlockId → Bool) (b : BlockId) (k : ℕ) → HasBlock l b → number_of l b ≡ k → p b ≡ false
     → filter p (take (k + 1) (blocks_of l)) ≡ filter p (take k (blocks_of l))
 filter-block_dropped l p b k has at fails =
     subst (λ n. filter p (take (n + 1) (blocks_of l)) ≡ filter p (take n (blocks_of l))) at
     (filter-take_dropped p (blocks_of l) (number_of l b) b (inside_blocks l b has) (get_or-blocks_of l b b has) fails)
 
+-- as many of the blocks as the lattice has, or more, are all of them
 pub take-blocks_of : (l : Lattice) (k : ℕ) → blocks_count l ≤ k → take k (blocks_of l) ≡ blocks_of l
 take-blocks_of l k all = take_all k (blocks_of l) (subst (λ n. n ≤ k) (sym (length-blocks_of l)) all)
 
@@ -118,6 +121,7 @@ All-equations_at P (suc (suc (suc zero))) i few each =
     (All-cons P (equation_of i Left) [] (each Left (omega arith) (omega arith)) (All-nil P)))
 All-equations_at P (suc (suc (suc (suc a)))) i few each = absurd (omega arith)
 
+-- the equations of the nodes 1 to i are equations of the lattice, where it has so many nodes
 pub equations_inside : (l : Lattice) (i : ℕ) → i ≤ l.n → All (HasEquation l) (equations_to l i)
 equations_inside l zero most = All-nil (HasEquation l)
 equations_inside l (suc i) most =

@@ -11,6 +11,7 @@ pub record IsRows (X : Type 0) (rows : ℕ → List X) (row : ℕ → List X) (w
   pub more : (i : ℕ) → rows (suc i) ≡ rows i ++ row (suc i)
   pub wide : (i : ℕ) → length (row i) ≡ w
 
+-- the rows 1 to i, each of w items, have i * w items
 pub length-rows : {X : Type 0} (rows row : ℕ → List X) (w : ℕ) → IsRows X rows row w → (i : ℕ) → length (rows i) ≡ i * w
 length-rows rows row w h zero = ap length h.none ∙ omega arith
 length-rows rows row w h (suc i) =
@@ -56,6 +57,7 @@ filter-take_kept p xs i x inside is passes =
     ∙ ap (λ y. filter p (take i xs) ++ cond (p y) (y ∷ []) []) is
     ∙ kept (p x) (filter p (take i xs)) x passes
 
+-- one more item, which fails a test, adds nothing to those of the first items that pass it
 pub filter-take_dropped : {X : Type 0} (p : X → Bool) (xs : List X) (i : ℕ) (x : X) → i < length xs → get_or xs i x ≡ x → p x ≡ false
     → filter p (take (i + 1) xs) ≡ filter p (take i xs)
 filter-take_dropped p xs i x inside is fails =

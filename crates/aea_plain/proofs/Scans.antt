@@ -23,6 +23,7 @@ last k first = omega arith
 same : (k : ℕ) → 1 ≤ k → k + 1 - 1 ≡ suc (k - 1)
 same k first = omega arith
 
+-- of the nodes 1 to k those pass a test that do before k, and k, where k passes
 pub filter-node_kept : (p : ℕ → Bool) (k : ℕ) → 1 ≤ k → p k ≡ true
     → filter p (nodes_to (k + 1 - 1)) ≡ filter p (nodes_to (k - 1)) ++ k ∷ []
 filter-node_kept p k first passes =
@@ -30,6 +31,7 @@ filter-node_kept p k first passes =
     ∙ filter-snoc_true p (nodes_to (k - 1)) (suc (k - 1)) (ap p (last k first) ∙ passes)
     ∙ ap (λ n. filter p (nodes_to (k - 1)) ++ n ∷ []) (last k first)
 
+-- of the nodes 1 to k those pass a test that do before k, where k fails
 pub filter-node_dropped : (p : ℕ → Bool) (k : ℕ) → 1 ≤ k → p k ≡ false
     → filter p (nodes_to (k + 1 - 1)) ≡ filter p (nodes_to (k - 1))
 filter-node_dropped p k first fails =
@@ -58,11 +60,13 @@ pub odd-node_member : (p f : ℕ → Bool) (k : ℕ) → 1 ≤ k → p k ≡ tru
 odd-node_member p f k first on member =
     ap (is_odd_count f) (filter-node_kept p k first on) ∙ odd-more_true f (filter p (nodes_to (k - 1))) k member
 
+-- one more node on the strand that is no member does not change whether the number of members on it is odd
 pub odd-node_other : (p f : ℕ → Bool) (k : ℕ) → 1 ≤ k → p k ≡ true → f k ≡ false
     → is_odd_count f (filter p (nodes_to (k + 1 - 1))) ≡ is_odd_count f (filter p (nodes_to (k - 1)))
 odd-node_other p f k first on other =
     ap (is_odd_count f) (filter-node_kept p k first on) ∙ odd-more_false f (filter p (nodes_to (k - 1))) k other
 
+-- one more node that is not on the strand does not change whether the number of members on it is odd
 pub odd-node_off : (p f : ℕ → Bool) (k : ℕ) → 1 ≤ k → p k ≡ false
     → is_odd_count f (filter p (nodes_to (k + 1 - 1))) ≡ is_odd_count f (filter p (nodes_to (k - 1)))
 odd-node_off p f k first off = ap (is_odd_count f) (filter-node_dropped p k first off)
@@ -103,6 +107,7 @@ next-found l c i k first after most on none =
           (joined_is l j i (neighbour l c j) (sym (previous-neighbour l c j) ∙ h.1)).0),
     )
 
+-- where each later node lies on another strand than i or a fence parts i from it, no node has i just before it
 pub next-none : (l : Lattice) (c : Class) (i : ℕ)
     → ((j : ℕ) → i < j → j ≤ l.n → is_on l c (strand_of l c j) j i ≡ false) → IsNext l c i None
 next-none l c i none =

@@ -26,6 +26,7 @@ expand place m r k = at_place (m r) (place k)
 
 module _ (rows n big : ℕ) (used : ℕ → ℕ) (place : ℕ → Option ℕ) (are : AreUsed n big used place) (old new : ℕ → ℕ → Bool)
     (empty : (r k : ℕ) → r < rows → k < big → place k ≡ None → old r k ≡ false) where
+  -- with the unused columns empty, the matrix has at the used column of place a what the small one has at a
   pub there : (r a : ℕ) → a < n → expand place new r (used a) ≡ new r a
   there r a less = ap (at_place (new r)) (are.placed a less)
 

@@ -23,6 +23,7 @@ rises-less : {A : Type 0} → (f : A → ℕ) (low least : ℕ) (xs : List A) �
 rises-less f low least [] le h = tt
 rises-less f low least (x ∷ xs) le h = (let first = h.0 in omega arith, h.1)
 
+-- the items that are kept of a rising list rise
 pub rises-filter : {A : Type 0} → (f : A → ℕ) (p : A → Bool) (low : ℕ) (xs : List A) → RisesFrom f low xs → RisesFrom f low (filter p xs)
 rises-filter f p low [] h = tt
 rises-filter f p low (x ∷ xs) h =
@@ -119,6 +120,7 @@ next_index p x xs d (Some i) h j is =
     let rest = h i refl in
     subst (IsIndex p (x ∷ xs) d) same (record { inside = (let less = rest.inside in omega arith); passes = rest.passes })
 
+-- where index_of finds a place, it is one of the list and the item there passes
 pub index-some : {A : Type 0} → (p : A → Bool) (xs : List A) (d : A) (j : ℕ) → index_of p xs ≡ Some j → IsIndex p xs d j
 index-some p [] d j is = absurd (cc)
 index-some p (x ∷ xs) d j is =
@@ -132,6 +134,7 @@ index-some p (x ∷ xs) d j is =
           next_index p x xs d (index_of p xs) (λ i h. index-some p xs d i h) j rest)
     ]
 
+-- where the item at place j passes and none before it does, index_of finds j
 pub index-at : {A : Type 0} → (p : A → Bool) (xs : List A) (d : A) (j : ℕ) → j < length xs → p (get_or xs j d) ≡ true
     → ((i : ℕ) → i < j → p (get_or xs i d) ≡ false) → index_of p xs ≡ Some j
 index-at p [] d j inside passes before = absurd (omega arith)
@@ -140,6 +143,7 @@ index-at p (x ∷ xs) d (suc j) inside passes before =
     ap (λ b. cond b (Some 0) (option_map (λ j. suc j) (index_of p xs))) (before 0 (omega arith))
     ∙ ap (option_map (λ j. suc j)) (index-at p xs d j (omega arith) passes (λ i less. before (suc i) (omega arith)))
 
+-- where index_of finds no place, no item of the list passes
 pub index-none : {A : Type 0} → (p : A → Bool) (xs : List A) (d : A) → index_of p xs ≡ None → (j : ℕ) → j < length xs → p (get_or xs j d) ≡ false
 index-none p [] d is j inside = absurd (omega arith)
 index-none p (x ∷ xs) d is j inside =

@@ -35,12 +35,15 @@ module _ (l : Lattice) (known : BlockId → Bool) (m : ℕ → ℕ → Bool) (li
   whole : IsReduction (rows_of l known) (columns l) (start l known) m
   whole = subst (λ es. IsReduction (length es) (columns l) (start l known) m) live_is reduction
 
+  -- in a reduction, an unknown block of the lattice that is the least column of no row has the nodes of its own word
   pub fate_free : (b : BlockId) → HasBlock l b → known b ≡ false → IsFree (length live) (columns l) m (number_of l b)
       → IsWord l known b (nodes_in l (length live) m (number_of l b))
   fate_free b has unknown =
       subst (λ es. IsFree (length es) (columns l) m (number_of l b) → IsWord l known b (nodes_in l (length es) m (number_of l b))) (sym live_is)
       (free_word l known m whole b has unknown)
 
+  -- in a reduction, a block that is the least column of a row, whose next column f is also a block, has the nodes
+  -- of the word of f
   pub fate_with : (b : BlockId) (f i : ℕ) → HasBlock l b → i < length live → IsLead (columns l) (m i) (number_of l b)
       → number_of l b < f → f < blocks_count l → m i f ≡ true → ((k : ℕ) → number_of l b < k → k < f → m i k ≡ false)
       → IsWord l known b (nodes_in l (length live) m f)
@@ -57,6 +60,7 @@ module _ (l : Lattice) (known : BlockId → Bool) (m : ℕ → ℕ → Bool) (li
       (subst (λ c. IsWord l known b (nodes_in l (rows_of l known) m c)) number
       (row_word_of l known m whole b (block_at l f) has (block_at-inside l f f_less) i below row))
 
+  -- in a reduction, a block that is the least column of a row without a further block has that row's equations
   pub fate_sum : (b : BlockId) (i : ℕ) → HasBlock l b → i < length live → IsLead (columns l) (m i) (number_of l b)
       → ((k : ℕ) → number_of l b + 1 ≤ k → k < blocks_count l → m i k ≡ false)
       → IsSum l known b (filter (λ e. m i (equation_column l e)) live)

@@ -520,12 +520,14 @@ module _ (l : Lattice) (known : BlockId → Bool) (m : ℕ → ℕ → Bool)
         ])))));
   }
 
+-- each reduction of the rows over the used columns tells the fates
 pub small-rows : SmallRowsTellFates
 small-rows l known blocks equations m blocks_are equations_are reduction =
     let P : List BlockId → List EqId → Type 0 = λ bs fs. IsReduction (length fs) (length bs + length fs) (small_start l bs fs) m → TellSmall l known bs fs m in
     let at : P blocks equations = subst (λ bs. P bs equations) (sym blocks_are) (subst (P (unknown_blocks l known)) (sym equations_are) (λ h. tell l known m h)) in
     at reduction
 
+-- the blocks that are not known are blocks of the lattice in number order, and fewer than 2^23
 pub unknown-listed : UnknownAreListed
 unknown-listed l known = record {
   inside = λ k b less.

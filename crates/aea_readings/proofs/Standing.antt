@@ -29,9 +29,11 @@ use Rattle.aea_gauss_words.proofs.Reduced.{row_is_sum_of_rows, space_sum}
 
 -- ---- columns
 
+-- the column of an equation stands behind those of the blocks
 pub column_high : (l : Lattice) (e : EqId) → blocks_count l ≤ equation_column l e
 column_high l e = omega arith
 
+-- the column of an equation of the lattice is one of the lattice's columns
 pub column_below : (l : Lattice) (e : EqId) → HasEquation l e → equation_column l e < columns l
 column_below l e has = let below = output_below l e has in omega arith
 
@@ -55,11 +57,13 @@ column-test l e f he hf =
 
 -- ---- the row of an equation
 
+-- at the column of a block the row of an equation has whether the block is unknown and stands in the equation
 pub row_low : (l : Lattice) (known : BlockId → Bool) (e : EqId) (k : ℕ) → k < blocks_count l
     → row_at l known e k ≡ (not (known (block_at l k)) && is_in_equation l e (block_at l k))
 row_low l known e k less =
     cond-true (nat_lt k (blocks_count l)) (not (known (block_at l k)) && is_in_equation l e (block_at l k)) (k == equation_column l e) (lt-ltb k (blocks_count l) less)
 
+-- behind the blocks the row of an equation has the equation's own column alone
 pub row_high : (l : Lattice) (known : BlockId → Bool) (e : EqId) (k : ℕ) → blocks_count l ≤ k → row_at l known e k ≡ (k == equation_column l e)
 row_high l known e k most =
     cond-false (nat_lt k (blocks_count l)) (not (known (block_at l k)) && is_in_equation l e (block_at l k)) (k == equation_column l e) (le-ltb k (blocks_count l) most)
@@ -217,6 +221,7 @@ set_high l known q k most less here =
 
 -- ---- the equations that have rows
 
+-- the equations that have an unknown block are equations of the lattice
 pub live_inside : (l : Lattice) (known : BlockId → Bool) → All (HasEquation l) (live_equations l known)
 live_inside l known k d less =
     (each_place (IsKept l known) (live_equations l known) k d (each-kept l known (equations_of l) (each-equations_of l)) less).has
@@ -232,6 +237,7 @@ equations_few l (suc i) =
     let both = length-append (equations_to l i) (map (equation_of (suc i)) (classes l)) in
     omega arith
 
+-- fewer than 2^23 equations have an unknown block
 pub live_few : (l : Lattice) (known : BlockId → Bool) → length (live_equations l known) < 2 ^ 23
 live_few l known =
     let a = length-filter (is_live l known) (equations_of l) in

@@ -47,9 +47,11 @@ below_none : (r : ℕ → Bool) (c : ℕ) → ((k : ℕ) → k < c → r k ≡ f
 below_none r zero h = refl
 below_none r (suc c) h = and_from (has_none_below r c) (not (r c)) (below_none r c (λ k less. h k (omega arith))) (ap not (h c (omega arith)))
 
+-- the least column of a row passes the test for it
 pub lead_test : (cols : ℕ) (r : ℕ → Bool) (c : ℕ) → IsLead cols r c → is_lead r c ≡ true
 lead_test cols r c lead = and_from (r c) (has_none_below r c) lead.here (below_none r c lead.least)
 
+-- a column below `cols` that passes the test is the least column of the row
 pub test_lead : (cols : ℕ) (r : ℕ → Bool) (c : ℕ) → c < cols → is_lead r c ≡ true → IsLead cols r c
 test_lead cols r c less h =
     let both = and_parts (r c) (has_none_below r c) h in
@@ -57,6 +59,7 @@ test_lead cols r c less h =
 
 -- ---- codewords of nodes that agree on the nodes of the lattice
 
+-- what holds of each number from 1 to i holds of each node up to i
 pub each-nodes_to : (i : ℕ) (P : ℕ → Type 0) → ((k : ℕ) → 1 ≤ k → k ≤ i → P k) → Each P (nodes_to i)
 each-nodes_to zero P h = tt
 each-nodes_to (suc i) P h = Each-append P (nodes_to i) (suc i ∷ []) (each-nodes_to i P (λ k first most. h k first (omega arith))) (h (suc i) (omega arith) (omega arith), tt)

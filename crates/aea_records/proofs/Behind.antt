@@ -87,9 +87,11 @@ compare shape earlier (r ∷ records) (q ∷ others) x y follow follows same =
 closed_ends : (shape : Shape) (earlier : List Record) (gate : ℕ) (after : List ℕ) → gate ≢ open_gate → GoesOn shape earlier (gate ∷ after) → ⊥
 closed_ends shape earlier gate after closed on = closed (ap (λ (l : List ℕ). slice_index l 0) on.spelling)
 
+-- nothing is not some number
 pub none_is_not_some : (n : ℕ) → None ≡ Some n → ⊥
 none_is_not_some n e = absurd cc
 
+-- numbers are the same where the options that hold them are
 pub same_some : (m n : ℕ) → Some m ≡ Some n → m ≡ n
 same_some m n e = cc
 
@@ -99,6 +101,7 @@ on_is_good : (shape : Shape) (earlier : List Record) (rest : List ℕ) (fault : 
 on_is_good shape earlier rest fault on bad =
     none_is_not_some fault (sym (ap (gate_fault shape (known_of earlier)) on.spelling ∙ next_gate shape earlier on.r on.after on.next) ∙ bad)
 
+-- behind the header, the same bytes are not two lists of records that a closed gate ends
 pub have_one_reading : HaveOneReading
 have_one_reading shape records others rest mine theirs =
     elim (compare shape [] records others (mine.gate ∷ mine.after) (theirs.gate ∷ theirs.after) mine.valid theirs.valid (sym mine.spelling ∙ theirs.spelling)) [
@@ -107,6 +110,7 @@ have_one_reading shape records others rest mine theirs =
       | inr (inr on) ↦ absurd (closed_ends shape records mine.gate mine.after mine.closed on)
     ]
 
+-- behind the header, records that a closed gate ends are bad at no place
 pub records_are_not_bad : RecordsAreNotBad
 records_are_not_bad shape records rest at mine bad =
     elim (compare shape [] records bad.records (mine.gate ∷ mine.after) bad.more mine.valid bad.valid (sym mine.spelling ∙ bad.spelling)) [
@@ -116,6 +120,7 @@ records_are_not_bad shape records rest at mine bad =
       | inr (inr on) ↦ closed_ends shape records mine.gate mine.after mine.closed on
     ]
 
+-- behind the header, no bytes are bad at two places
 pub are_bad_at_one_place : AreBadAtOnePlace
 are_bad_at_one_place shape rest at other mine theirs =
     elim (compare shape [] mine.records theirs.records mine.more theirs.more mine.valid theirs.valid (sym mine.spelling ∙ theirs.spelling)) [
@@ -208,5 +213,6 @@ from_gate (suc bound) shape rest records (gate ∷ after) valid few spelling are
           ]
     ]
 
+-- behind the header, any bytes are records that a closed gate ends, or bad at some place
 pub each_are_one_or_bad : EachAreOneOrBad
 each_are_one_or_bad shape rest are = from_gate (suc (length rest)) shape rest [] rest tt (omega arith) refl are (omega arith)

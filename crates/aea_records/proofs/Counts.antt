@@ -183,6 +183,8 @@ bounded shape records valid =
     along shape (AreBounded shape) (bounded-next shape) [] records
     (record { objects = omega arith; nodes = omega arith; few_fences = omega arith; fences = refl; short = omega arith; digests = omega arith }) valid
 
+-- records of a ledger have not too many objects, nodes and fences, their fences are those of a lattice with their
+-- nodes, and their spelling has at most 2^28 bytes for each object and for 18 more
 pub records_are_few : RecordsAreFew
 records_are_few shape records valid =
     let b = bounded shape records valid in
@@ -193,9 +195,12 @@ records_are_few shape records valid =
       short = omega (arith, length-append (header shape) (flat_map entry records), b.short, b.few_fences, raises-small (list_any is_raise records));
     }
 
+-- records of a ledger have a digest for each block of their nodes
 pub digests_are_counted : DigestsAreCounted
 digests_are_counted shape records valid = (bounded shape records valid).digests
 
+-- a fence may follow records of a ledger behind the last node, where the last fence stands before that node and
+-- there are fewer fences than the most
 pub fences_may_follow : FencesMayFollow
 fences_may_follow shape records valid before few =
     let b = bounded shape records valid in

@@ -14,6 +14,7 @@ nothing : (xs : List ℕ) → length xs ≡ 0 → xs ≡ []
 nothing [] e = refl
 nothing (x ∷ xs) e = absurd (omega (arith, e))
 
+-- 8 n bytes are read as n parts, which are spelled by these bytes
 pub extents_spelled : (n : ℕ) (bytes : List ℕ) → AreBytes bytes → length bytes ≡ 8 * n → (length (extents n bytes) ≡ n) × (bytes ≡ flat_map part (extents n bytes))
 extents_spelled zero bytes are size = (refl, nothing bytes (omega (arith, size)))
 extents_spelled (suc n) bytes are size =

@@ -38,6 +38,7 @@ last_before (g ∷ fences) f low n rise =
       λ none. more.1 (or_parts (f == n) (stands (g ∷ fences) n) none).1,
     )
 
+-- where fences rise up to n, and the last stands before n, n is not 0 and none stands there
 pub may_stand : (fences : List ℕ) (n : ℕ) → rise_to 0 n fences ≡ true → last_fence fences < n → (not (n == 0) ≡ true) × (stands fences n ≡ false)
 may_stand [] n rise lt = (ap not (ne_eqb n 0 (λ e. absurd (omega (arith, lt, e)))), refl)
 may_stand (f ∷ fences) n rise lt = (ap not (ne_eqb n 0 (λ e. absurd (omega (arith, lt, e)))), (last_before fences f 0 n rise).0 lt)
@@ -70,6 +71,8 @@ by_true : (b : Bool) → (b ≡ true → ⊥) → false ≡ b
 by_true true never = absurd (never refl)
 by_true false never = refl
 
+-- where the nodes and fences known are a lattice's, no fence may be next at its last node, unless the last one
+-- stands before it and there are fewer than the most
 pub no_fence_there : (known : Known) (l : Lattice) (node : ℕ) → known.nodes ≡ l.n → known.fences ≡ l.fences → node ≡ l.n → (last_fence l.fences < l.n → length l.fences < greatest_fences → ⊥) → false ≡ is_next_fence known node
 no_fence_there known l node nodes fences last never =
     by_true (is_next_fence known node) (λ is.
@@ -80,6 +83,7 @@ no_fence_there known l node nodes fences last never =
     (stands_before l.fences l.n (rises l) (ap (λ (n : ℕ). not (n == 0)) (sym last) ∙ c.1) ((λ i. stands (sym fences i) (sym last i)) ∙ not-true (stands known.fences node) b.1))
     (omega (arith, ltb-true (length known.fences) greatest_fences a.1, ap length fences)))
 
+-- where the nodes known are a lattice's, no fence may be next at a node that is not its last
 pub other_node : (known : Known) (l : Lattice) (node : ℕ) → known.nodes ≡ l.n → node ≢ l.n → false ≡ is_next_fence known node
 other_node known l node nodes other =
     by_true (is_next_fence known node) (λ is.

@@ -13,6 +13,7 @@ chosen : {X : Type 0} (b : Bool) (x y : X) → b ≡ true → (if b then x else 
 chosen true x y e = refl
 chosen false x y e = cc
 
+-- what a table spells is judged so where it stands in bytes, whatever follows it
 pub spelled_is_judged : SpelledIsJudged
 spelled_is_judged A (Part n test next) text rest bytes at v spells within stands =
     let part = spells.0 in
@@ -49,6 +50,7 @@ both {X = X} {Y = Y} {Z = Z} p q e same = ap (λ (r : Result (X × Y) Z). held r
 whole-AreBytes : (bytes : List ℕ) (at n : ℕ) → at + n ≤ length bytes → AreBytes bytes → AreBytes (bytes_at n at bytes)
 whole-AreBytes bytes at n within are = part-AreBytes bytes at n (length bytes) within (subst AreBytes (sym (take_all (length bytes) bytes (omega arith))) are)
 
+-- where a table judges bytes to be valid, a text of it stands there that says what was judged
 pub judged_is_spelled : JudgedIsSpelled
 judged_is_spelled A (Part n test next) bytes at end v are within judged =
     let part : List ℕ = bytes_at n at bytes in

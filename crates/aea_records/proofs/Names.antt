@@ -10,6 +10,7 @@ use Rattle.std.proofs.lemmas.Slice.Eq.{bytes_eq-Decides}
 use Rattle.aea_catalog.specs.Names.{is_plain_byte, IsName}
 use Rattle.aea_records.specs.Format.{Stored}
 
+-- where the test finds no object with the name, all of them have other names
 pub new-free : (earlier : List Stored) (name : List ℕ) → list_any (λ o. bytes_eq o.name name) earlier ≡ false → All (λ e. e.name ≢ name) earlier
 new-free [] name e = All-nil (λ (r : Stored). r.name ≢ name)
 new-free (r ∷ earlier) name e =
@@ -18,11 +19,13 @@ new-free (r ∷ earlier) name e =
     (λ same. false≢true (sym parts.0 ∙ (bytes_eq-Decides r.name name).1 same))
     (new-free earlier name parts.1)
 
+-- and the other way round: where all have other names, the test finds none
 pub free-new : (earlier : List Stored) (name : List ℕ) → All (λ e. e.name ≢ name) earlier → list_any (λ o. bytes_eq o.name name) earlier ≡ false
 free-new earlier name h =
     list_any_none (λ (r : Stored). bytes_eq r.name name) earlier
     (λ k d lt. false_from_ne_true (bytes_eq (get_or earlier k d).name name) (λ e. h k d lt ((bytes_eq-Decides (get_or earlier k d).name name).0 e)))
 
+-- where the test finds no fence at the node, all of them stand elsewhere
 pub new-fence : (fences : List ℕ) (node : ℕ) → list_any (λ f. f == node) fences ≡ false → All (λ f. f ≢ node) fences
 new-fence [] node e = All-nil (λ (f : ℕ). f ≢ node)
 new-fence (f ∷ fences) node e =
@@ -31,6 +34,7 @@ new-fence (f ∷ fences) node e =
     (λ same. false≢true (sym parts.0 ∙ eq-eqb f node same))
     (new-fence fences node parts.1)
 
+-- and the other way round: where all stand elsewhere, the test finds none
 pub fence-new : (fences : List ℕ) (node : ℕ) → All (λ f. f ≢ node) fences → list_any (λ f. f == node) fences ≡ false
 fence-new fences node h =
     list_any_none (λ (f : ℕ). f == node) fences

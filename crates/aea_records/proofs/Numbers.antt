@@ -54,6 +54,7 @@ wide8 = record {
   below = λ bytes fits. omega (arith, byte_below bytes fits 0);
 }
 
+-- 2 bytes spell the numbers below 2^16, each in one way
 pub wide16 : IsWide w16 (2 ^ 16)
 wide16 = record {
   len = λ n. refl;
@@ -63,6 +64,7 @@ wide16 = record {
   below = λ bytes fits. omega (arith, byte_below bytes fits 0, byte_below bytes fits 1);
 }
 
+-- 4 bytes spell the numbers below 2^32, each in one way
 pub wide32 : IsWide w32 (2 ^ 32)
 wide32 = record {
   len = λ n. refl;
@@ -72,6 +74,7 @@ wide32 = record {
   below = λ bytes fits. omega (arith, byte_below bytes fits 0, byte_below bytes fits 1, byte_below bytes fits 2, byte_below bytes fits 3);
 }
 
+-- 8 bytes spell the numbers below 2^64, each in one way
 pub wide64 : IsWide w64 (2 ^ 64)
 wide64 = record {
   len = λ n. refl;

@@ -117,6 +117,7 @@ joined_spelled shape earlier o parts next =
     is_raised true h = refl
     is_raised false h = absurd (omega (arith, h))
 
+-- the body of a record that may follow is a text of the fields, and says this record
 pub next_is_spelled : NextIsSpelled
 next_is_spelled shape earlier (Object o) next = object_spelled shape earlier o next
 next_is_spelled shape earlier (Joined o parts) next = joined_spelled shape earlier o parts next

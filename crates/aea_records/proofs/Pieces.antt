@@ -14,6 +14,7 @@ use Rattle.aea_records.specs.TableLaws.{AreBytes}
 use Rattle.aea_records.specs.Format.{part}
 use Rattle.aea_records.specs.Fields.{pieces, extents, are_apart}
 
+-- lists of w bytes each, joined, have w bytes for each list
 pub length-joined : (w : ℕ) (ds : List (List ℕ)) → All (IsBytes w) ds → length (flat_map (λ d. d) ds) ≡ w * length ds
 length-joined w [] each = omega arith
 length-joined w (d ∷ ds) each =
@@ -50,10 +51,12 @@ joined_again w (suc n) bytes size =
     step_of : (w n : ℕ) → w * suc n ≡ w + w * n
     step_of w n = omega arith
 
+-- n pieces are cut where n are asked for, whatever the bytes are
 pub length-pieces : (w n : ℕ) (bytes : List ℕ) → length (pieces w n bytes) ≡ n
 length-pieces w zero bytes = refl
 length-pieces w (suc n) bytes = ap suc (length-pieces w n (drop w bytes))
 
+-- w n bytes that are cut in n pieces are cut in pieces of w bytes
 pub each-piece : (w n : ℕ) (bytes : List ℕ) → length bytes ≡ w * n → AreBytes bytes → All (IsBytes w) (pieces w n bytes)
 each-piece w zero bytes size are = All-nil (IsBytes w)
 each-piece w (suc n) bytes size are =
@@ -67,6 +70,7 @@ each-piece w (suc n) bytes size are =
 
 -- ---- parts
 
+-- parts are spelled in 8 bytes each
 pub length-parts : (parts : List Extent) → length (flat_map part parts) ≡ 8 * length parts
 length-parts [] = refl
 length-parts (e ∷ parts) = omega (arith, length-append (part e) (flat_map part parts), length-parts parts, length-append (to_be_bytes w32 e.first) (to_be_bytes w32 e.count))
@@ -75,6 +79,7 @@ length-parts (e ∷ parts) = omega (arith, length-append (part e) (flat_map part
 abbrev pub IsNarrow : Extent → Type 0
 IsNarrow e = (e.first < 2 ^ 32) × (e.count < 2 ^ 32)
 
+-- parts whose numbers are below 2^32 are read again from their spelling
 pub extents_again : (parts : List Extent) → All IsNarrow parts → extents (length parts) (flat_map part parts) ≡ parts
 extents_again [] narrow = refl
 extents_again (e ∷ parts) narrow =

@@ -59,6 +59,7 @@ taken_from objects (Joined o parts ∷ records) name =
 taken_from objects (Fence node ∷ records) name = taken_from objects records name
 taken_from objects (Raise ∷ records) name = taken_from objects records name
 
+-- something is found under a name exactly where the object of a record has it
 pub names_are_found : NamesAreFound
 names_are_found records name =
     taken_from empty records name ∙ ap (λ (o : Option Placed). is_some o || is_taken records name) (get-empty (slice_cmp nat_cmp) name)
@@ -116,6 +117,7 @@ of_from objects (Raise ∷ records) name placed e =
 none_is_not_some : (placed : Placed) → None ≡ Some placed → ⊥
 none_is_not_some placed e = absurd cc
 
+-- what is found under a name is what one of the records places there
 pub objects_are_of_records : ObjectsAreOfRecords
 objects_are_of_records records name placed e =
     elim (of_from empty records name placed e) [
@@ -140,6 +142,7 @@ free_name records name new = none_of (get (objects_of records) name) (names_are_
 none_is : (o : Option Placed) → o ≡ None → is_some o ≡ false
 none_is o e = ap is_some e
 
+-- no object of the records has a name exactly where nothing is found under it
 pub new_names_are_free : NewNamesAreFree
 new_names_are_free records name =
     (λ new. free_name records name new, λ none. new-free (stored_of records) name (sym (names_are_found records name) ∙ none_is (get (objects_of records) name) none))
@@ -163,9 +166,12 @@ count-next shape earlier (Fence node) counted next =
 count-next shape earlier Raise counted next =
     ap len (objects-push empty earlier Raise) ∙ counted ∙ (let z : length (stored_of earlier) ≡ length (stored_of earlier) + 0 = omega arith in z) ∙ sym (stored-push earlier Raise)
 
+-- of records of a ledger, as many objects are kept as there are records of one
 pub objects_are_counted : ObjectsAreCounted
 objects_are_counted shape records valid = along shape IsCounted (count-next shape) [] records (len-empty (slice_cmp nat_cmp) Placed) valid
 
+-- what a reader knows by the objects, nodes, fences and raise of a ledger's records is what is known of the
+-- records
 pub readers_know : ReadersKnow
 readers_know shape records valid = λ i. record {
   taken = λ name. names_are_found records name i;

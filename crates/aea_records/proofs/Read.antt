@@ -203,6 +203,7 @@ full_object known more e = first_of (known.objects == greatest_objects) e
 full_joined : (known : Known) (more : List ℕ) → known.raised ≡ true → is_full known (open_gate ∷ 3 ∷ more) ≡ false → (known.objects == greatest_objects) ≡ false
 full_joined known more raised e = first_of (known.objects == greatest_objects) (sym (ap (λ (b : Bool). known.objects == greatest_objects && b) raised) ∙ e)
 
+-- what the fields spell is the body of a record that may follow, where it is no object past the most
 pub spelled_is_next : SpelledIsNext
 spelled_is_next shape earlier text r few room are spells =
     let known : Known = known_of earlier in

@@ -24,6 +24,7 @@ same_shape a b alpha s p block sites = λ i. record {
 -- what a shape tells of its numbers
 pub record AreSmall (alpha s p block sites : ℕ) : Type 0 where
   pub alpha_some : 1 ≤ alpha
+  -- α is at most 3
   pub alpha_small : alpha ≤ 3
   pub s_small : s ≤ 16
   pub p_small : p ≤ 64
@@ -94,5 +95,6 @@ shape_small shape =
       sites_small = leb-true shape.sites 64 sites.1;
     }
 
+-- α of a shape is at most 3
 pub alpha_small : (shape : Shape) → shape.alpha ≤ 3
 alpha_small shape = (shape_small shape).alpha_small

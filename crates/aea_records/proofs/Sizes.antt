@@ -11,6 +11,7 @@ use Rattle.aea_records.specs.Grammar.{MayBeStored}
 use Rattle.aea_records.proofs.Shapes.{alpha_small}
 use Rattle.aea_records.proofs.Pieces.{length-joined, length-parts}
 
+-- the limit on nodes, raised or not, is at most the raised one
 pub limit_small : (raised : Bool) → limit_when raised ≤ raised_limit
 limit_small true = omega arith
 limit_small false = omega arith
@@ -21,14 +22,18 @@ six a b c d e f pa pc pd pe pf = simp (length-append) (omega arith)
 pub length-front : (o : Stored) → length o.digest ≡ 32 → length (front o) ≡ 50 + length o.name
 length-front o wide = six (to_be_bytes w16 (length o.name)) o.name (to_be_bytes w64 o.size) o.digest (to_be_bytes w32 o.first) (to_be_bytes w32 o.count) refl refl wide refl refl
 
+-- an object whose new nodes fit the limit has at most 1048576 · 4 new blocks
 pub few-digests : (shape : Shape) (earlier : List Record) (o : Stored) → nodes_of earlier + o.count ≤ limit_of earlier → o.count * (1 + shape.alpha) ≤ 1048576 * 4
 few-digests shape earlier o fits =
     mul-le o.count (1 + shape.alpha) 1048576 4 (omega (arith, fits, limit_small (list_any is_raise earlier))) (omega (arith, alpha_small shape))
 
+-- behind its number of bytes, an object that may be stored with new nodes alone has 50 bytes, its name, and 32
+-- bytes for each new block
 pub length-object : (shape : Shape) (earlier : List Record) (o : Stored) → MayBeStored shape earlier o → length (rest_of (Object o)) ≡ 50 + length o.name + 32 * (o.count * (1 + shape.alpha))
 length-object shape earlier o may =
     omega (arith, length-append (front o) (flat_map (λ d. d) o.digests), length-front o may.digest.wide, length-joined 32 o.digests may.each, ap (λ (n : ℕ). 32 * n) may.digests)
 
+-- and one in parts has 54 bytes, 8 for each part, its name, and 32 for each new block
 pub length-parted : (shape : Shape) (earlier : List Record) (o : Stored) (parts : List Extent) → MayBeStored shape earlier o
     → length (rest_of (Joined o parts)) ≡ 54 + 8 * length parts + length o.name + 32 * (o.count * (1 + shape.alpha))
 length-parted shape earlier o parts may =

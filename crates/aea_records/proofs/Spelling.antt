@@ -29,6 +29,7 @@ pub record IsNumber {A : Type 0} (w : Width) (limit : ℕ) (test : ℕ → Bool)
   pub are : AreBytes rest
   pub more : Spells (next n) rest v
 
+-- bytes that a number and the fields behind it spell begin with a number below the limit that passes its test
 pub number_spelled : {A : Type 0} (w : Width) (limit : ℕ) (wide : IsWide w limit) (test : ℕ → Bool) (next : ℕ → Table A) (text : List ℕ) (v : A)
     → AreBytes text → Spells (number w test next) text v → IsNumber w limit test next text v
 number_spelled w limit wide test next text v are spells =
@@ -68,6 +69,7 @@ pub record AreTwo {A B : Type 0} (table : Table A) (more : A → Table B) (text 
   pub first : Spells table front v
   pub second : Spells (more v) back w
 
+-- what two tables one behind the other spell is a text of the first, and behind it one of the second
 pub then_spelled : {A B : Type 0} (table : Table A) (more : A → Table B) (text : List ℕ) (w : B) → Spells (and_then table more) text w → AreTwo table more text w
 then_spelled (Part n test next) more text w spells =
     let two = then_spelled (next spells.0) more spells.1 w spells.5 in

@@ -96,23 +96,28 @@ to_name known next w long there is good =
     passes 2 (λ b. is_length (from_be_bytes w16 b)) (λ b. name_part known next (from_be_bytes w16 b)) 6 w there (ap is_length (sym is) ∙ good)
     ∙ ap (λ (n : ℕ). judge (name_part known next n) 8 w) (sym is)
 
+-- where the length of the name and the name are there and valid, what is judged from the first of an object's
+-- fields on is what is judged from the object's length on
 pub to_size : (known : Known) (next : Stored → Table (ℕ × Head)) (w : List ℕ) (long : ℕ) → has w 8 ≡ true → long ≡ from_be_bytes w16 (bytes_at 2 6 w) → is_length long ≡ true
     → has w (8 + long) ≡ true → is_new_name known (bytes_at long 8 w) ≡ true
     → judge (front_fields known next) 6 w ≡ judge (size_part known next (bytes_at long 8 w)) (8 + long) w
 to_size known next w long there is good name_there new =
     to_name known next w long there is good ∙ passes long (is_new_name known) (λ name. size_part known next name) 8 w name_there new
 
+-- where the object's length is there, what is judged from it on is what is judged from its digest on
 pub to_digest : (known : Known) (next : Stored → Table (ℕ × Head)) (name : List ℕ) (w : List ℕ) (at size : ℕ) → has w (at + 8) ≡ true → size ≡ from_be_bytes w64 (bytes_at 8 at w)
     → judge (size_part known next name) at w ≡ judge (digest_part known next name size) (at + 8) w
 to_digest known next name w at size there is =
     passes 8 (λ b. any (from_be_bytes w64 b)) (λ b. digest_part known next name (from_be_bytes w64 b)) at w there refl
     ∙ ap (λ (n : ℕ). judge (digest_part known next name n) (at + 8) w) (sym is)
 
+-- where its digest is there, what is judged from it on is what is judged from its first new node on
 pub to_first : (known : Known) (next : Stored → Table (ℕ × Head)) (name : List ℕ) (size : ℕ) (w : List ℕ) (at : ℕ) (digest : List ℕ) → has w (at + 32) ≡ true → digest ≡ bytes_at 32 at w
     → judge (digest_part known next name size) at w ≡ judge (first_part known next name size digest) (at + 32) w
 to_first known next name size w at digest there is =
     passes 32 any (λ d. first_part known next name size d) at w there refl ∙ ap (λ (d : List ℕ). judge (first_part known next name size d) (at + 32) w) (sym is)
 
+-- where its first new node is there and valid, what is judged from it on is what is judged of the fields behind it
 pub to_next : (known : Known) (next : Stored → Table (ℕ × Head)) (name : List ℕ) (size : ℕ) (digest : List ℕ) (w : List ℕ) (at first : ℕ) → has w (at + 4) ≡ true
     → first ≡ from_be_bytes w32 (bytes_at 4 at w) → is_next_node known first ≡ true
     → judge (first_part known next name size digest) at w ≡ judge (next (stored_with name size digest first)) (at + 4) w
@@ -127,6 +132,7 @@ bad_name known next w long there is good bad =
     to_name known next w long there is good
     ∙ ap (λ (b : Bool). if b then judge (size_part known next (bytes_at long 8 w)) (8 + long) w else Err 8) bad
 
+-- two tests do not both hold where the second fails
 pub none_of : (a b : Bool) → b ≡ false → (a && b) ≡ false
 none_of true false e = refl
 none_of false b e = refl
@@ -136,15 +142,19 @@ pub first_none : (a b : Bool) → a ≡ false → (a && b) ≡ false
 first_none false b e = refl
 first_none true b e = absurd (let f : true ≡ false = e in cc)
 
+-- where the 8 bytes of an object's length are not there, what is bad is this field
 pub missing_size : (known : Known) (next : Stored → Table (ℕ × Head)) (name w : List ℕ) (at : ℕ) → has w (at + 8) ≡ false → judge (size_part known next name) at w ≡ Err at
 missing_size known next name w at none = is_missing 8 (λ b. any (from_be_bytes w64 b)) (λ b. digest_part known next name (from_be_bytes w64 b)) at w none
 
+-- where the 32 bytes of an object's digest are not there, what is bad is this field
 pub missing_digest : (known : Known) (next : Stored → Table (ℕ × Head)) (name : List ℕ) (size : ℕ) (w : List ℕ) (at : ℕ) → has w (at + 32) ≡ false → judge (digest_part known next name size) at w ≡ Err at
 missing_digest known next name size w at none = is_missing 32 any (λ d. first_part known next name size d) at w none
 
+-- where the 4 bytes of an object's first new node are not there, what is bad is this field
 pub missing_first : (known : Known) (next : Stored → Table (ℕ × Head)) (name : List ℕ) (size : ℕ) (digest w : List ℕ) (at : ℕ) → has w (at + 4) ≡ false → judge (first_part known next name size digest) at w ≡ Err at
 missing_first known next name size digest w at none = is_missing 4 (λ b. is_next_node known (from_be_bytes w32 b)) (λ b. next (stored_with name size digest (from_be_bytes w32 b))) at w none
 
+-- where an object's first new node is not the next one, what is bad is this field
 pub invalid_first : (known : Known) (next : Stored → Table (ℕ × Head)) (name : List ℕ) (size : ℕ) (digest w : List ℕ) (at : ℕ) → is_next_node known (from_be_bytes w32 (bytes_at 4 at w)) ≡ false → judge (first_part known next name size digest) at w ≡ Err at
 invalid_first known next name size digest w at bad = is_invalid 4 (λ b. is_next_node known (from_be_bytes w32 b)) (λ b. next (stored_with name size digest (from_be_bytes w32 b))) at w bad
 
@@ -156,13 +166,17 @@ is_count shape known size count = count == nodes_for shape size && is_within kno
 abbrev pub object_next : ℕ → Stored → ℕ → Table (ℕ × Head)
 object_next bytes o count = End (bytes, ObjectHead (record o { count = count }))
 
+-- where the number of new nodes of an object with these alone is there and valid, the object is judged valid with
+-- it
 pub to_object : (shape : Shape) (known : Known) (bytes : ℕ) (o : Stored) (w : List ℕ) (at n : ℕ) → has w (at + 4) ≡ true → n ≡ from_be_bytes w32 (bytes_at 4 at w) → is_count shape known o.size n ≡ true
     → judge (object_fields shape known bytes o) at w ≡ Ok ((bytes, ObjectHead (record o { count = n })), at + 4)
 to_object shape known bytes o w at n there is good = to_number32 (is_count shape known o.size) (object_next bytes o) at n w there is good
 
+-- where it is not there, what is bad is this number
 pub no_object : (shape : Shape) (known : Known) (bytes : ℕ) (o : Stored) (w : List ℕ) (at : ℕ) → has w (at + 4) ≡ false → judge (object_fields shape known bytes o) at w ≡ Err at
 no_object shape known bytes o w at none = no_number32 (is_count shape known o.size) (object_next bytes o) at w none
 
+-- where it is not as many as the length takes, or not within the limit, what is bad is this number
 pub bad_object : (shape : Shape) (known : Known) (bytes : ℕ) (o : Stored) (w : List ℕ) (at n : ℕ) → n ≡ from_be_bytes w32 (bytes_at 4 at w) → is_count shape known o.size n ≡ false
     → judge (object_fields shape known bytes o) at w ≡ Err at
 bad_object shape known bytes o w at n is bad = bad_number32 (is_count shape known o.size) (object_next bytes o) at n w is bad
@@ -176,24 +190,31 @@ parts_next bytes o count parts = End (bytes, JoinedHead (record o { count = coun
 abbrev pub joined_next : ℕ → Stored → ℕ → Table (ℕ × Head)
 joined_next bytes o count = number w32 is_few (parts_next bytes o count)
 
+-- where the number of new nodes of an object in parts is there and within the limit, what is judged from it on is
+-- what is judged from its number of parts on
 pub to_count : (known : Known) (bytes : ℕ) (o : Stored) (w : List ℕ) (at n : ℕ) → has w (at + 4) ≡ true → n ≡ from_be_bytes w32 (bytes_at 4 at w) → is_within known n ≡ true
     → judge (joined_fields known bytes o) at w ≡ judge (joined_next bytes o n) (at + 4) w
 to_count known bytes o w at n there is good = to_number32 (is_within known) (joined_next bytes o) at n w there is good
 
+-- where it is not there, what is bad is this number
 pub no_count : (known : Known) (bytes : ℕ) (o : Stored) (w : List ℕ) (at : ℕ) → has w (at + 4) ≡ false → judge (joined_fields known bytes o) at w ≡ Err at
 no_count known bytes o w at none = no_number32 (is_within known) (joined_next bytes o) at w none
 
+-- where it is not within the limit, what is bad is this number
 pub bad_count : (known : Known) (bytes : ℕ) (o : Stored) (w : List ℕ) (at n : ℕ) → n ≡ from_be_bytes w32 (bytes_at 4 at w) → is_within known n ≡ false
     → judge (joined_fields known bytes o) at w ≡ Err at
 bad_count known bytes o w at n is bad = bad_number32 (is_within known) (joined_next bytes o) at n w is bad
 
+-- where the number of parts is there and at most the raised limit, the object is judged valid with it, up to here
 pub to_parts : (bytes : ℕ) (o : Stored) (count : ℕ) (w : List ℕ) (at n : ℕ) → has w (at + 4) ≡ true → n ≡ from_be_bytes w32 (bytes_at 4 at w) → is_few n ≡ true
     → judge (joined_next bytes o count) at w ≡ Ok ((bytes, JoinedHead (record o { count = count }) n), at + 4)
 to_parts bytes o count w at n there is good = to_number32 is_few (parts_next bytes o count) at n w there is good
 
+-- where it is not there, what is bad is this number
 pub no_parts : (bytes : ℕ) (o : Stored) (count : ℕ) (w : List ℕ) (at : ℕ) → has w (at + 4) ≡ false → judge (joined_next bytes o count) at w ≡ Err at
 no_parts bytes o count w at none = no_number32 is_few (parts_next bytes o count) at w none
 
+-- where it is more than the raised limit, what is bad is this number
 pub bad_parts : (bytes : ℕ) (o : Stored) (count : ℕ) (w : List ℕ) (at n : ℕ) → n ≡ from_be_bytes w32 (bytes_at 4 at w) → is_few n ≡ false → judge (joined_next bytes o count) at w ≡ Err at
 bad_parts bytes o count w at n is bad = bad_number32 is_few (parts_next bytes o count) at n w is bad
 
@@ -205,16 +226,21 @@ bytes_next shape known kind bytes = kind_fields shape known bytes kind
 abbrev pub kind_next : Shape → Known → ℕ → Table (ℕ × Head)
 kind_next shape known kind = number w32 any (bytes_next shape known kind)
 
+-- where the kind is there and may come, what is judged from it on is what is judged from the number of bytes on
 pub to_bytes : (shape : Shape) (known : Known) (w : List ℕ) (kind : ℕ) → 2 ≤ length w → kind ≡ slice_index w 1 → is_kind known kind ≡ true
     → judge (head_fields shape known) 1 w ≡ judge (kind_next shape known kind) 2 w
 to_bytes shape known w kind there is good = to_kind (is_kind known) (kind_next shape known) kind w there is good
 
+-- where the number of bytes is there, whatever it is, what is judged from it on is what is judged of the kind's
+-- fields
 pub to_fields : (shape : Shape) (known : Known) (w : List ℕ) (kind n : ℕ) → has w 6 ≡ true → n ≡ from_be_bytes w32 (bytes_at 4 2 w)
     → judge (kind_next shape known kind) 2 w ≡ judge (kind_fields shape known n kind) 6 w
 to_fields shape known w kind n there is = to_number32 any (bytes_next shape known kind) 2 n w there is refl
 
+-- where the number of bytes is not there, what is bad is this number
 pub no_bytes : (shape : Shape) (known : Known) (w : List ℕ) (kind : ℕ) → has w 6 ≡ false → judge (kind_next shape known kind) 2 w ≡ Err 2
 no_bytes shape known w kind none = no_number32 any (bytes_next shape known kind) 2 w none
 
+-- where the kind is not there, or may not come, what is bad is the kind
 pub bad_kind : (shape : Shape) (known : Known) (w : List ℕ) → (2 ≤ length w → is_kind known (slice_index w 1) ≡ false) → judge (head_fields shape known) 1 w ≡ Err 1
 bad_kind shape known w bad = no_kind (is_kind known) (kind_next shape known) w bad

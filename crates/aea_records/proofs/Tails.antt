@@ -45,6 +45,8 @@ head_fault shape known window rest some gate room is =
     ∙ ap (λ (x : Result ((ℕ × Head) × ℕ) ℕ). bad_of (judge_then x (λ v end. judge (tail_fields shape known v) end rest)))
     (sym (heads_are_short shape known rest 315 (omega arith)) ∙ ap (judge (head_fields shape known) 1) (sym is))
 
+-- where a gate is open, before no object past the most, and the fields behind it up to the first that may be long
+-- are valid in the first 315 bytes, what is bad from the gate on is what is bad of the others
 pub tails_are_judged : TailsAreJudged
 tails_are_judged shape known window rest v end head is =
     head_fault shape known window rest head.there head.gate head.room is
@@ -73,6 +75,8 @@ pub no_gate : (shape : Shape) (known : Known) (window rest : List ℕ) → lengt
 no_gate shape known window [] none is = refl
 no_gate shape known window (x ∷ rest) none is = absurd (omega (arith, none, ap length is, length-take 315 (x ∷ rest)))
 
+-- an open gate, before no object past the most, valid fields up to the first that may be long, and a text of the
+-- others behind them are the entry of a record that may follow those of a ledger
 pub tails_are_spelled : TailsAreSpelled
 tails_are_spelled shape earlier window back v end r valid head are spells =
     let known : Known = known_of earlier in

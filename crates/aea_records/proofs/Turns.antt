@@ -20,6 +20,7 @@ same_choice : {X : Type 0} (b c : Bool) (x y z : X) → b ≡ c → (c ≡ true 
 same_choice b true x y z e h = ap (λ (d : Bool). if d then x else z) e ∙ h refl
 same_choice b false x y z e h = ap (λ (d : Bool). if d then x else z) e
 
+-- fields that end within a front of the bytes are judged in it as in all of them
 pub fronts_are_judged_alike : FrontsAreJudgedAlike
 fronts_are_judged_alike A (Part n test next) bytes at size within =
     let same : bytes_at n at (take size bytes) ≡ bytes_at n at bytes = front-bytes_at bytes at n size within.0 in
@@ -41,6 +42,7 @@ judge_chosen : {A B : Type 0} (b : Bool) (x : Result (A × ℕ) ℕ) (e : ℕ) (
 judge_chosen true x e more = refl
 judge_chosen false x e more = refl
 
+-- two tables one behind the other are judged one after the other
 pub judged_in_turn : JudgedInTurn
 judged_in_turn A B (Part n test next) more bytes at =
     let go : Bool = has bytes (at + n) && test (bytes_at n at bytes) in
@@ -52,6 +54,7 @@ judged_in_turn A B (Late place good next) more bytes at =
     ∙ sym (judge_chosen good (judge next at bytes) place (λ v end. judge (more v) end bytes))
 judged_in_turn A B (End a) more bytes at = refl
 
+-- no text of a table begins another one, and none says two things
 pub each_has_one_text : EachHasOneText
 each_has_one_text A table text other x y v w mine theirs same =
     let first = spelled_is_judged A table text x (text ++ x) 0 v mine (omega arith) refl in

@@ -48,6 +48,7 @@ same_header a b records others x y bytes mine theirs = one_shape a b bytes (head
 
 -- ---- one reading
 
+-- no file is a ledger of two shapes, of two lists of records, or with two ends
 pub one_reading : HasOneReading
 one_reading bytes shape other records others end last mine theirs =
     let shapes : shape ≡ other = same_header shape other records others (mine.gate ∷ mine.after) (theirs.gate ∷ theirs.after) bytes mine.spelling theirs.spelling in
@@ -67,6 +68,7 @@ good_records bytes shape records end at mine bad =
     records_are_not_bad shape records (drop 17 bytes) (length (flat_map entry bad.records) + bad.fault) (ledger_behind bytes shape records end mine)
     (subst (λ (s : Shape). IsBadBehind s (drop 17 bytes) (length (flat_map entry bad.records) + bad.fault)) shapes (bad_behind bytes at bad))
 
+-- a ledger is bad at no place
 pub not_bad : LedgersAreNotBad
 not_bad bytes shape records end at mine bad =
     elim bad.bad [
@@ -87,6 +89,7 @@ one_bad_record bytes at other mine theirs =
     (subst (λ (s : Shape). IsBadBehind s (drop 17 bytes) (length (flat_map entry theirs.records) + theirs.fault)) shapes (bad_behind bytes other theirs)) in
     omega (arith, mine.place, theirs.place, long_spelled mine.shape mine.records, long_spelled theirs.shape theirs.records, same)
 
+-- no file is bad at two places
 pub one_place : IsBadAtOnePlace
 one_place bytes at other mine theirs =
     elim mine.bad [
@@ -111,6 +114,7 @@ in_front : (shape : Shape) (records : List Record) (rest more bytes : List ℕ) 
 in_front shape records rest more bytes spelling is =
     spelling ∙ ap (λ (l : List ℕ). header shape ++ l) is ∙ sym (append_assoc (header shape) (flat_map entry records) more)
 
+-- a file of bytes whose header is open is a ledger, or bad at some place
 pub one_or_bad : EachIsOneOrBad
 one_or_bad bytes fits opened =
     elim (cases_first (first_bad (header_fields bytes))) [

@@ -39,6 +39,8 @@ kind_within shape known bytes kind is =
       | inr (inr (inr four)) ↦ subst (λ (k : ℕ). IsWithin (kind_fields shape known bytes k) 6 315) (sym four) (omega arith, λ limit good. tt)
     ]
 
+-- the fields of a record up to the first that may be long are judged in the first 315 bytes from its gate on, or
+-- more, as in all of them
 pub heads_are_short : HeadsAreShort
 heads_are_short shape known bytes size long =
     fronts_are_judged_alike (ℕ × Head) (head_fields shape known) bytes 1 size

@@ -19,6 +19,8 @@ written_home shape b bytes old new size changes =
     subst (λ (n : ℕ). ChangesFile (home_file shape b) (Torn (home_place shape b) n) old new) size
     (changes_wider (home_file shape b) (Holds (home_place shape b) bytes) (Torn (home_place shape b) (length bytes)) old new (λ xs ys. holds_torn (home_place shape b) bytes xs ys) changes)
 
+-- calls that change the home of one block alone keep the homes and the intact blocks of all others,
+-- as they read and in the images
 pub keeps_shelf : RowsGoOverSites → (tells : Type 0) (shape : Shape) (b : BlockId) (old new : State) → IsBlockOf shape b
     → Follows (ChangesHome shape b) old new → (tells → ChangesHome shape b old.files new.files) → KeepsShelf tells shape (λ a. a ≢ b) old new
 keeps_shelf rows tells shape b old new has_b follows changes =

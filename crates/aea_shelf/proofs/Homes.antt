@@ -28,6 +28,7 @@ home_on_sites shape b =
     let number = number_in shape b in
     (omega arith, omega (arith, mod-lt (number % shape.sites + number / shape.sites) {m = shape.sites} (some_sites shape)))
 
+-- a block of an archive has at most 65,536 bytes
 pub few_bytes : (shape : Shape) → shape.block ≤ 65536
 few_bytes shape = let h = shape.in_profile in grind (arith, nat_tests)
 
@@ -146,6 +147,7 @@ row_below k n m some below =
 number_below : (alpha class node most : ℕ) → 1 ≤ node → node ≤ most → class ≤ alpha → (node - 1) * (1 + alpha) + class < (1 + alpha) * most
 number_below alpha class node most first last used = mul-add-lt (node - 1) (1 + alpha) class most (omega (arith, first, last)) (omega (arith, used))
 
+-- a home ends within the rows of so many nodes, where the block's node is one of them
 pub home_in_rows : (shape : Shape) (n : ℕ) (b : BlockId) → IsBlockOf shape b → b.node ≤ n → home_place shape b + cell_size shape ≤ site_bytes shape n
 home_in_rows shape n b has_b last =
     let below = number_below shape.alpha (class_number b.class) b.node n has_b.first last has_b.used in

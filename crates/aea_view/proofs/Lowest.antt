@@ -27,6 +27,8 @@ pub record IsLowest (word place k : ℕ) : Type 0 where
   pub set : has_bit word k ≡ true
   pub before : (j : ℕ) → place ≤ j → j < k → has_bit word j ≡ false
 
+-- where a bit is set from a place on in a word of 64 bits, the lowest such stands as far behind the place as the
+-- word moved down by the place has trailing zeros
 pub lowest-from : (word place : ℕ) → word < 2 ^ 64 → 0 < word / 2 ^ place → IsLowest word place (place + trailing_zeros w64 (word / 2 ^ place))
 lowest-from word place fits some =
     let rest = word / 2 ^ place in
@@ -54,6 +56,7 @@ turned_bit zero less = refl
 turned_bit (suc zero) less = refl
 turned_bit (suc (suc b)) less = absurd (omega arith)
 
+-- each bit of a word of 64 bits that is turned is set where it was not
 pub turned-bits : (word k : ℕ) → word < 2 ^ 64 → k < 64 → has_bit (bit_not w64 word) k ≡ not (has_bit word k)
 turned-bits word k fits within =
     ap (λ (x : ℕ). x == 1) (bit_at_not w64 word k fits within) ∙ turned_bit (bit_at word k) (bit_at-lt word k)

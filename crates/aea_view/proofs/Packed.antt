@@ -46,6 +46,8 @@ bit-set words k word value within here others i =
       ],
     )
 
+-- where the word of truth value k is replaced by one with a new value as its bit and the same other bits, the
+-- first n truth values, k among them, have the new value at k and are else as they were
 pub bits-set : (n : ℕ) (words : List ℕ) (k word : ℕ) (value : Bool) → k < n → k / 64 < length words
     → has_bit word (k % 64) ≡ value
     → ((j : ℕ) → j < 64 → j ≢ k % 64 → has_bit word j ≡ has_bit (get_or words (k / 64) 0) j)

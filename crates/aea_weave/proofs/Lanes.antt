@@ -75,6 +75,7 @@ xors_set k old src now less before = record {
   ];
 }
 
+-- where all numbers have become their XOR with those of a source as long, the list is the XOR of the two
 pub xors_whole : (old src new : List ℕ) → length old ≡ length src → Xors 0 (length old) old src new → new ≡ xor_bytes old src
 xors_whole old src new long h =
     bytes_same new (xor_bytes old src) (h.long ∙ sym (length-xor_bytes old src long ∙ sym long))

@@ -49,6 +49,7 @@ pieces-get w (suc n) (suc k) a bytes at inside =
     ∙ ap (take w) (drop-drop (k * w) w bytes)
     ∙ ap (λ b. take w (drop b bytes)) start
 
+-- each of the n pieces of w bytes of n * w zeros is w zeros
 pub pieces-zeros : (w n k : ℕ) → k < n → get_or (pieces w n (replicate (n * w) 0)) k [] ≡ replicate w 0
 pieces-zeros w n k inside =
     let most : (k + 1) * w ≤ n * w = mul-le-mul_right w (omega arith) in
@@ -56,6 +57,7 @@ pieces-zeros w n k inside =
     ∙ ap (take w) (drop-replicate (k * w) (n * w) 0)
     ∙ take-replicate w (n * w - k * w) 0 (omega arith)
 
+-- the first n pieces of any bytes are n
 pub length-pieces : (w n : ℕ) (bytes : List ℕ) → length (pieces w n bytes) ≡ n
 length-pieces w zero bytes = refl
 length-pieces w (suc n) bytes = ap suc (length-pieces w n (drop w bytes))
@@ -67,9 +69,11 @@ place-below w n k some within = elim (cases_lt k n) [
   | inr past ↦ let most : n * w ≤ k * w = mul-le-mul_right w past in absurd (omega arith)
 ]
 
+-- the piece k of w bytes ends within n pieces, where k is less than n
 pub block-within : (w n k : ℕ) → k < n → k * w + w ≤ n * w
 block-within w n k inside = let most : (k + 1) * w ≤ n * w = mul-le-mul_right w (omega arith) in omega arith
 
+-- the w bytes at a place are w bytes, where the list goes on so far
 pub length-block : (w a : ℕ) (bytes : List ℕ) → a + w ≤ length bytes → length (take w (drop a bytes)) ≡ w
 length-block w a bytes within =
     let rest : length (drop a bytes) ≡ length bytes - a = length-drop a bytes in

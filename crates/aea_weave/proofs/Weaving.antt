@@ -75,6 +75,7 @@ module _ (l m : Lattice) (more : Continues l m) (w : ℕ) (datas tail : List (Li
   value-kept Right = parity-kept Right (omega arith)
   value-kept Left = parity-kept Left (omega arith)
 
+-- where m continues l and more data follow, the blocks of l keep their values
 pub longer-keep : LongerDataKeepValues
 longer-keep l m more w datas tail long b has = value-kept l m more w datas tail long b.node has.first has.last b.class
 
@@ -178,6 +179,7 @@ sum-last l w datas c strand (Some g) parity is =
     value-parity l w datas g c parity
     ∙ sym (ap (λ nodes. xor_all w (map (datum_at w datas) nodes)) (run-prefix l c strand (l.n + 1) l.n g (omega arith) is))
 
+-- heads that are the parities of their strands' last open nodes, zeros where there is none, are the strand sums
 pub last-sums : LastParitiesAreSums
 last-sums v datas is each = record {
   is_data = is;

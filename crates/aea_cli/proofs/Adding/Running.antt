@@ -35,6 +35,8 @@ agrees_printed v answer (inr e) = record {
 pub rest_stays : (tells fault : Type 0) (old new : State) → KeepsTheRest tells fault old new → KeepsWhere tells (λ file. file ≡ 0 → ⊥) old new
 rest_stays tells fault old new rest = where_others tells _ 0 old new (λ k keep. keep) rest.others
 
+-- a run that adds a record, over a disk that tells, begins with a sync: once that has succeeded every image has
+-- each file but the ledger's as it read
 pub adds_opens : {T : Type 0} (adds : List Record → Record) (tells : Type 0) (old new : State) (answer : Result T Failure) → Adds adds tells old new answer → tells → HasOpening old new (KeepsFiles (λ file. file ≡ 0 → ⊥) old.files)
 adds_opens adds tells old new answer does told = opening_more old new _ _ (λ c may k keep. may.others k keep) (does.stops told)
 

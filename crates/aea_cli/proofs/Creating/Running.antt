@@ -16,6 +16,7 @@ use Rattle.aea_cli.specs.Worlds.{world}
 use Rattle.aea_cli.proofs.OpeningCases.{opening_more}
 use Rattle.aea_cli.proofs.Refusing.{refuses_told}
 
+-- what `create` did, when it is refused, and that it changes the ledger's file alone give what holds of its run
 pub create_runs : (shape : Shape) (tells : Type 0) (old new : State) (input : SourceState) (before after : SinkState) (answer : Answer)
     → Creates shape tells old new before after answer → Refuses tells (CreateCauses (old.files 0)) answer → OnlyWrites tells (HasRoomTo old 0 18) (answer ≡ Err failure.Disk) (ChangesOnly 0) old new
     → Runs (Create shape) (world tells old input before) (world tells new input after) answer

@@ -25,6 +25,7 @@ take-suc_at [] k x here = let h : None ≡ Some x = here in cc
 take-suc_at (y ∷ ys) zero x here = let h : Some y ≡ Some x = here in let e : y ≡ x = cc in ap (λ z. z ∷ []) e
 take-suc_at (y ∷ ys) (suc k) x here = ap (λ zs. y ∷ zs) (take-suc_at ys k x here)
 
+-- a place within a list has an item
 pub within_some : {X : Type 0} → (xs : List X) (k : ℕ) → k < length xs → slice_get xs k ≡ None → ⊥
 within_some [] k below none = omega arith
 within_some (x ∷ xs) zero below none = let h : Some x ≡ None = none in cc
@@ -34,6 +35,7 @@ within_some (x ∷ xs) (suc k) below none = within_some xs k (omega arith) none
 pub take-more : {X : Type 0} → (xs : List X) (k : ℕ) (x : X) → slice_get xs k ≡ Some x → take (k + 1) xs ≡ take k xs ++ x ∷ []
 take-more xs k x here = ap (λ n. take n xs) (one_more k) ∙ take-suc_at xs k x here
 
+-- of blocks and one more those are listed that were before, and this one if it is listed
 pub filter-more : (listed : BlockId → Bool) (xs : List BlockId) (b : BlockId) (v : Bool) → listed b ≡ v → filter listed (xs ++ b ∷ []) ≡ filter listed xs ++ cond v (b ∷ []) []
 filter-more listed xs b true e = filter-append listed xs (b ∷ []) ∙ (rw e)
 filter-more listed xs b false e = filter-append listed xs (b ∷ []) ∙ (rw e)
@@ -64,6 +66,7 @@ length_more : (ys : List BlockId) (b : BlockId) (v : Bool) → length (ys ++ con
 length_more ys b true = length-append ys (b ∷ [])
 length_more ys b false = length-append ys []
 
+-- counts of the listed blocks, raised by what one more block is, are the counts with it
 pub counts-more : (listed reached : BlockId → Bool) (xs : List BlockId) (b : BlockId) (v w : Bool) (old new : Counts) → listed b ≡ v → reached b ≡ w
     → new.listed ≡ old.listed + cond v 1 0 → new.peeled ≡ old.peeled + cond (v && w) 1 0 → new.stuck ≡ old.stuck + cond (v && not w) 1 0
     → AreCounts old reached (filter listed xs) → AreCounts new reached (filter listed (xs ++ b ∷ []))

@@ -83,16 +83,19 @@ pub record IsTaken (l : Lattice) (list rest : List ℕ) (line : ℕ) (marks : Li
 pub taken_none : (l : Lattice) (list : List ℕ) (marks : List Bool) → length marks ≡ blocks_count l → AreMarks l marks (λ b. false) → IsTaken l list list 0 marks
 taken_none l list marks long clear = record { others = refl; named = λ k d below. absurd (omega arith); long = long; marked = clear }
 
+-- where no block is marked, no line of the damage list is taken yet
 pub taken_start : (l : Lattice) (list : List ℕ) → IsTaken l list list 0 (replicate (blocks_count l) false)
 taken_start l list =
     taken_none l list (replicate (blocks_count l) false) (length-replicate (blocks_count l) false)
     (λ b inside. get_or-replicate (blocks_count l) (number_of l b) false false (number_below l b inside))
 
+-- where nothing is left of the text, all its lines name blocks, and the marks are at those that are listed
 pub taken_all : (l : Lattice) (list rest : List ℕ) (line : ℕ) (marks : List Bool) → rest ≡ [] → IsTaken l list rest line marks → All (NamesBlock l) (lines_of list) × AreMarks l marks (is_listed list)
 taken_all l list rest line marks none taken =
     let whole : take line (lines_of list) ≡ lines_of list = take-none (lines_of list) line (taken.others ∙ ap lines_of none) in
     (rw whole at taken.named, λ b inside. taken.marked b inside ∙ ap (λ ls. is_named ls b) whole)
 
+-- where the next line names no block, it is the first bad one of the damage list
 pub taken_bad : (l : Lattice) (list rest text next : List ℕ) (line : ℕ) (marks : List Bool) → lines_of rest ≡ text ∷ lines_of next → (NamesBlock l text → ⊥) → IsTaken l list rest line marks → IsFirstBad l list (line + 1)
 taken_bad l list rest text next line marks first none taken =
     let back : line ≡ line + 1 - 1 = omega arith in
@@ -146,6 +149,7 @@ same_or_not l b d hb hd =
       ]
     ]
 
+-- where the next line names a block of the lattice, it is taken with the mark of that block
 pub taken_more : (l : Lattice) (list rest text next : List ℕ) (line : ℕ) (marks : List Bool) (b : BlockId) → lines_of rest ≡ text ∷ lines_of next → HasBlock l b → text ≡ text_of b → IsTaken l list rest line marks → IsTaken l list next (line + 1) (set marks (number_of l b) true)
 taken_more l list rest text next line marks b first hb named taken =
     let L = lines_of list in

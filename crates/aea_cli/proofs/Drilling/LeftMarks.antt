@@ -9,6 +9,7 @@ use Rattle.aea_lattice.proofs.Equations.{number_below}
 use Rattle.aea_view.specs.Marked.{Marked}
 use Rattle.aea_cli.specs.Drill.Marks.{marks_in, AreMarks}
 
+-- a truth value that is turned twice is as it was
 pub twice : (b : Bool) → not (not b) ≡ b
 twice true = refl
 twice false = refl

@@ -41,6 +41,7 @@ fences_added tells old new before after nodes answer printing small counted adds
   some = (nodes, (small, prints));
 }
 
+-- what `fence` did, when it is refused, and that it keeps each other file give what holds of its run
 pub fence_runs : (tells : Type 0) (old new : State) (input : SourceState) (before after : SinkState) (answer : Answer)
     → Fences tells old new before after answer → Refuses tells (FenceCauses (old.files 0)) answer → KeepsTheRest tells (answer ≡ Err failure.Disk) old new
     → Runs Fence (world tells old input before) (world tells new input after) answer

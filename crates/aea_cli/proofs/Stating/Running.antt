@@ -55,6 +55,7 @@ ok_told : (tells : Type 0) (gave : Result Opened Failure) (bytes : List ℕ) →
 ok_told tells (Ok v) bytes told one = one told
 ok_told tells (Err f) bytes told one = tt
 
+-- what `stat` did and when it is refused give what holds of its run
 pub stat_runs : (tells : Type 0) (old new : State) (input : SourceState) (before after : SinkState) (answer : Answer)
     → Stats tells old new before after answer → Refuses tells (OpeningCauses (old.files 0)) answer
     → Runs Stat (world tells old input before) (world tells new input after) answer

@@ -35,6 +35,7 @@ upgrades_added tells old new before after value answer printing adds prints = re
   prints = prints;
 }
 
+-- what `upgrade` did, when it is refused, and that it keeps each other file give what holds of its run
 pub upgrade_runs : (tells : Type 0) (old new : State) (input : SourceState) (before after : SinkState) (answer : Answer)
     → Upgrades tells old new before after answer → Refuses tells (UpgradeCauses (old.files 0)) answer → KeepsTheRest tells (answer ≡ Err failure.Disk) old new
     → Runs Upgrade (world tells old input before) (world tells new input after) answer

@@ -1,6 +1,8 @@
 -- What is left at each end of a call that puts: before the record, and behind it.
-use Rattle.std.proofs.Common.{◌≡◌, inl, inr, ℕ, List, [], ◌∷◌, length, take, drop, Option, refl, sym, ap, subst, arith}
+use Rattle.std.proofs.Common.{◌≡◌, inl, inr, ℕ, List, [], ◌∷◌, ◌++◌, length, take, drop, Option, refl, sym, ap, subst, arith}
+use Rattle.std.proofs.lemmas.List.{append-nil}
 use Rattle.aea_lattice.specs.declared.blocks.BlockId.{BlockId}
+use Rattle.aea_lattice.specs.declared.grid.Lattice.{Lattice}
 use Rattle.aea_lattice.specs.declared.shape.Shape.{Shape}
 use Rattle.aea_disk.specs.Files.{Files, ChangesOnly}
 use Rattle.aea_disk.specs.State.{State, IsFixed, HasRoomTo}
@@ -15,10 +17,12 @@ use Rattle.aea_records.specs.Format.{Record, limit_when, nodes_of}
 use Rattle.aea_records.specs.Laws.{HasOneReading}
 use Rattle.aea_ledger.specs.Values.{Opened}
 use Rattle.aea_ledger.specs.Next.{AreItsRecords}
+use Rattle.aea_ledger.specs.Recorded.{AreRecordsOf}
 use Rattle.aea_ledger.specs.Stops.{HasLedger}
 use Rattle.aea_archive.specs.Blocks.{IsBlockIn}
 use Rattle.aea_archive.specs.Cells.{IsBesides, IsNoSite, ChangesArchive, HaveSitesRoom, AreAtHome}
 use Rattle.aea_archive.specs.Next.{NewObject}
+use Rattle.aea_archive.specs.Data.{RecordsMore}
 use Rattle.aea_archive.specs.Stretches.{Adds}
 use Rattle.aea_archive.proofs.Cells.{changes_both, changes_less, changes_ledger, file_kept}
 use Rattle.aea_archive.proofs.Stretches.{has_ledger, adds_nothing, adds_later}
@@ -46,6 +50,13 @@ leaves_ledger tells fault told v old new fixed writes = record {
   reads = (writes.contents told).stay 0 (inl refl);
 }
 
+-- no object more records no data more
+none_more : (shape : Shape) (records : List Record) (datas : List (List ℕ)) (l : Lattice) (payload : BlockId → List ℕ) → AreRecordsOf shape records datas → RecordsMore shape records [] datas [] l l payload
+none_more shape records datas l payload old = record {
+  recorded = subst (λ (ds : List (List ℕ)). AreRecordsOf shape (records ++ []) ds) (sym (append-nil datas)) (subst (λ (rs : List Record). AreRecordsOf shape rs datas) (sym (append-nil records)) old);
+  values = λ b on. absurd (let a = on.after in let m = on.most in omega (arith, a, m));
+}
+
 -- nothing was stored
 pub stopped_before : HasOneReading → (tells fault : Type 0) → tells → (v : Opened) (Fits : NewObject → Type 0) (old new : State) → IsFixed old 0 → WritesCells tells v.shape (limit_when v.raised) (IsBlockIn v.shape v.lattice.n) fault old new → MayHaveStored v Fits old new
 stopped_before one tells fault told v Fits old new fixed writes =
@@ -63,6 +74,7 @@ stopped_before one tells fault told v Fits old new fixed writes =
           adds_nothing one v.shape records [] (λ b. []) old new writes.earlier
           (during_more old new (λ c. c 0 ≡ old.files 0) (λ c. HasLedger v.shape records (c 0)) (λ c same. subst (HasLedger v.shape records) (sym same) ledger) leaves.images)
           (subst (HasLedger v.shape records) (sym leaves.reads) ledger);
+      records_more = λ records datas has valid recorded honest. none_more v.shape records datas v.lattice (λ b. []) recorded;
       long = (let same = ap length leaves.reads in omega (arith, same));
     }
 

@@ -16,7 +16,7 @@ use Rattle.aea_ledger.specs.Stops.{HasLedger}
 use Rattle.aea_shelf.proofs.Runs.{synced_held}
 use Rattle.aea_shelf.specs.Writes.{KeepsPadded, KeepsIntact}
 use Rattle.aea_records.specs.Format.{Stored, Record, Object, nodes_for, fences_of, digests_of}
-use Rattle.aea_records.specs.Grammar.{IsNext, MayFollow}
+use Rattle.aea_records.specs.Grammar.{IsNext, MayFollow, AreRecords}
 use Rattle.aea_records.specs.Laws.{DigestsAreCounted}
 use Rattle.aea_ledger.specs.Values.{Opened, HasRecords}
 use Rattle.aea_ledger.specs.Next.{next_stored}
@@ -93,6 +93,17 @@ module _ (tells : Type 0) (v : Opened) (name : List ℕ) (k count : ℕ) (digest
         (stands lengths parts v.shape b (recorded_in v.shape (digests_of (records ++ Object (next_stored v name k digest count digests) ∷ [])) b) (t.woven.payload b) new.files (t.woven.wide b here)
         (recorded_of (digests_of records) b long here ∙ ap (λ (ds : List (List ℕ)). recorded_in v.shape ds b) all) (cells b here)).intact;
   }
+
+  -- where it stands, it records the data before and the object's blocks
+  pub more_where : NextRecordsMore → LastsAreValues → tells → (records : List Record) (datas : List (List ℕ)) → HasRecords v records
+      → AreRecords v.shape (records ++ Object (next_stored v name k digest count digests) ∷ []) → AreRecordsOf v.shape records datas → AreLastsHonest v.shape v.lattice v.digests datas first
+      → RecordsMore v.shape records (Object (next_stored v name k digest count digests) ∷ []) datas (object_blocks v.shape t.bytes ++ []) v.lattice t.heads.lattice t.woven.payload
+  more_where law values told records datas has valid old honest =
+      subst (λ (more : List (List ℕ)). RecordsMore v.shape records (Object (next_stored v name k digest count digests) ∷ []) datas more v.lattice t.heads.lattice t.woven.payload)
+      (sym (append-nil (object_blocks v.shape t.bytes)))
+      (law v.shape records datas v.lattice t.heads.lattice t.woven.payload name t.bytes (next_stored v name k digest count digests) old has.lattice
+      (values v.shape v.lattice v.digests datas t.woven.payload first honest t.woven.lasts (t.woven.homes told) t.woven.lasts_wide)
+      t.are (next-last v.shape [] records (Object (next_stored v name k digest count digests)) valid) next_woven)
 
 -- ---- and the opened ledger has taken it
 

@@ -1,13 +1,14 @@
 -- What is left where an object was stored, and what may be left where the disk failed.
 use Rattle.std.specs.Prelude.{◌≡◌, ◌≢◌, ◌⊎◌, ◌≤◌, ℕ, ◌+◌, max, List, [], ◌∷◌, ◌++◌, length, Option, true}
-use Rattle.std.specs.List.{sum_by}
+use Rattle.std.specs.List.{flat_map, sum_by}
 use Rattle.std.specs.Io.KnownBytes.{Consumes, IsAtEnd}
 use Rattle.sha2.specs.Sha256.{sha256}
 use Rattle.aea_lattice.specs.declared.blocks.BlockId.{BlockId}
 use Rattle.aea_lattice.specs.declared.grid.Lattice.{Lattice}
 use Rattle.aea_disk.specs.State.{State, During}
 use Rattle.aea_records.specs.Format.{Stored, Record, Object, nodes_for, entry}
-use Rattle.aea_ledger.specs.Values.{Opened, HasRecords}
+use Rattle.aea_records.specs.Grammar.{AreRecords}
+use Rattle.aea_ledger.specs.Values.{Opened, HasRecords, IsThisOne}
 use Rattle.aea_ledger.specs.Next.{AreItsRecords}
 use Rattle.aea_ledger.specs.Recorded.{AreRecordsOf}
 use Rattle.aea_archive.specs.Lasts.{AreLastsRecorded, AreLastsAtHome, AreLastsHonest}
@@ -31,6 +32,8 @@ pub record HasStored (tells : Type 0) (v w : Opened) (o : NewObject) (old new : 
   -- the opened ledger has the record behind those that it had
   pub value : (records : List Record) → HasRecords v records → HasRecords w (records ++ Object r ∷ [])
   pub live : w.live ≡ true
+  pub same_shape : w.shape ≡ v.shape
+  pub this_one : tells → IsThisOne w (new.files 0)
   -- the disk: what each image of each moment has, and what stands
   pub adds : tells → (records : List Record) → AreItsRecords v records (old.files 0) → Adds v.shape records (Object r ∷ []) payload old new
   pub added : tells → (records : List Record) → AreItsRecords v records (old.files 0) → HasAdded v.shape records (Object r ∷ []) new
@@ -64,6 +67,11 @@ pub record MayHaveStored (v : Opened) (Fits : NewObject → Type 0) (old new : S
   pub lattice : Lattice
   pub next : AreNextRecords v.shape v.lattice lattice payload objects added
   pub adds : (records : List Record) → AreItsRecords v records (old.files 0) → Adds v.shape records added payload old new
+  -- where the record stands, each data list that was recorded, and for which the last parities are honest, is recorded with
+  -- the object's blocks
+  pub records_more : (records : List Record) (datas : List (List ℕ)) → HasRecords v records → AreRecords v.shape (records ++ added)
+      → AreRecordsOf v.shape records datas → AreLastsHonest v.shape v.lattice v.digests datas old.files
+      → RecordsMore v.shape records added datas (flat_map (λ o. object_blocks v.shape o.bytes) objects) v.lattice lattice payload
   -- no write went past the gate that would end the new ledger
   pub long : length (new.files 0) ≤ max (length (old.files 0)) (v.end + sum_by (λ r. length (entry r)) added + 1)
 

@@ -20,7 +20,7 @@ use Rattle.aea_append.specs.declared.fault.PutFault.TheVariants.{DiskFault, Head
 use Rattle.aea_append.proofs.Rooms.{fits_room, taken_long, all_long}
 use Rattle.aea_append.proofs.Starts.{same_head, same_nodes}
 use Rattle.aea_append.proofs.Leaving.{cells_wider, leaves_ledger, stopped_before, both_write, adds_put, its_later, cells_stay, padded_commit}
-use Rattle.aea_append.proofs.Storing.{next_woven, added_of, woven_to, next_of, more_of, honest_of}
+use Rattle.aea_append.proofs.Storing.{next_woven, more_where, added_of, woven_to, next_of, more_of, honest_of}
 use Rattle.aea_append.proofs.store.put_checked.Goals as goal
 
 pub returns-in-Err-DiskFault-clause-writes : goal.returns-in-Err-DiskFault-clause-writes
@@ -384,6 +384,8 @@ returns-in-Err-DiskFault-commit_object-clause-stopped g c is told =
           adds_put c.ledgers_have_one_reading.ensures tells bad _ _ told v records (Object stored) t.woven.payload old mid new its (c.requires.fixed told) c.weave_object.ensures.writes c.commit_object.ensures.writes
           (c.commit_object.ensures.adds told records t.woven.payload (its_later tells bad told v records old mid c.weave_object.ensures.writes its)
           (subst (λ (n : ℕ). AreAtHome v.shape v.lattice.n n t.woven.payload mid.files) last (t.woven.cells told)));
+      records_more = λ records datas has valid recorded honest.
+          more_where tells v name k nodes digest left rest digests old.files mid.files counted t c.next_records_more.ensures c.lasts_are_values.ensures told records datas has valid recorded honest;
       long = (let same = ap length ((c.weave_object.ensures.writes.contents told).stay 0 (inl refl)) in let most = c.commit_object.ensures.long told in
           let sum : sum_by (λ (r : Record). length (entry r)) (Object stored ∷ []) ≡ length (entry (Object stored)) = omega arith in omega (arith, same, most, sum));
     }
@@ -425,6 +427,8 @@ returns-in-Ok-commit_object-clause-stored g c =
         next = next_of tells v w name k nodes digest left rest digests old.files mid.files counted t same c.requires.opened.0 c.requires.opened.1 (value c.requires.opened.0 c.requires.opened.1);
         value = value;
         live = c.in-Ok-commit_object.ensures.live_on;
+        same_shape = same;
+        this_one = c.in-Ok-commit_object.ensures.this_one;
         adds = λ told records its.
             adds_put c.ledgers_have_one_reading.ensures tells bad _ _ told v records (Object stored) t.woven.payload old mid new its (c.requires.fixed told) c.weave_object.ensures.writes c.commit_object.ensures.writes
             (c.commit_object.ensures.adds told records t.woven.payload (its_later tells bad told v records old mid c.weave_object.ensures.writes its)

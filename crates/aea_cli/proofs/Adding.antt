@@ -50,6 +50,7 @@ untouched tells old new opening opens differs = record {
 -- how an answer tells what was done, and not what was printed
 pub record Agrees {T U : Type 0} (gave : Result T Failure) (answer : Result U Failure) : Type 0 where
   pub well : IsOk answer ⊎ (answer ≡ Err failure.Output) → IsOk gave ⊎ (gave ≡ Err failure.Output)
+  pub done : IsOk gave ⊎ (gave ≡ Err failure.Output) → IsOk answer ⊎ (answer ≡ Err failure.Output)
   pub there : (f : Failure) → f ≢ failure.Output → answer ≡ Err f → gave ≡ Err f
   pub back : (f : Failure) → f ≢ failure.Output → gave ≡ Err f → answer ≡ Err f
 
@@ -57,6 +58,7 @@ pub record Agrees {T U : Type 0} (gave : Result T Failure) (answer : Result U Fa
 pub agrees_failed : {T U : Type 0} (f : Failure) → Agrees {T = T} {U = U} (Err f) (Err f)
 agrees_failed {T} {U} f = record {
   well = λ e. elim e [ inl ok ↦ absurd (false≢true ok) | inr is ↦ inr (ap Err (err_same {T = U} f failure.Output is)) ];
+  done = λ e. elim e [ inl ok ↦ absurd (false≢true ok) | inr is ↦ inr (ap Err (err_same {T = T} f failure.Output is)) ];
   there = λ g differs is. ap Err (err_same {T = U} f g is);
   back = λ g differs is. ap Err (err_same {T = T} f g is);
 }
@@ -113,7 +115,7 @@ opened_not : (v : Opened) (f : Failure) → Ok v ≡ Err f → ⊥
 opened_not v f e = cc
 
 -- the records of what was opened are those of the bytes, before the commit too
-its_records : (tells : Type 0) (old mid : State) (v : Opened) → Opens tells old mid (Ok v) → tells → (one : IsThisOne v (old.files 0)) → AreItsRecords v one.records (mid.files 0)
+pub its_records : (tells : Type 0) (old mid : State) (v : Opened) → Opens tells old mid (Ok v) → tells → (one : IsThisOne v (old.files 0)) → AreItsRecords v one.records (mid.files 0)
 its_records tells old mid v opens told one = record {
   has = one.has;
   ledger = subst (λ (c : Files). IsLedger (c 0) v.shape one.records v.end) (sym (opens.reads.contents told)) one.ledger;

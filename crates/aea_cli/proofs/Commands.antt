@@ -12,7 +12,7 @@ use Rattle.aea_lattice.specs.Profile.{is_profile, is_shape, greatest_nodes}
 use Rattle.aea_lattice.specs.declared.grid.Lattice.{Lattice}
 use Rattle.aea_lattice.specs.declared.shape.Shape.{Shape}
 use Rattle.aea_cli.specs.declared.command.Command.{Command}
-use Rattle.aea_cli.specs.declared.command.Command.TheVariants.{Drill, Create, Stat, Fence, Upgrade}
+use Rattle.aea_cli.specs.declared.command.Command.TheVariants.{Drill, Create, Stat, Put, Fence, Upgrade}
 use Rattle.aea_cli.specs.Words.{Means, AreNoDrill, AreNoCreate, IsDrilled}
 
 -- the numbers of a lattice fit 32 bits
@@ -181,6 +181,14 @@ shapes_equal words a b ea eb =
     (decimal_injective a.block b.block (omega arith) (omega arith) dblock)
     (decimal_injective a.sites b.sites (omega arith) (omega arith) dsites)
 
+-- a list of two items is its two items
+pub two_items : {X : Type 0} → (xs : List X) (a b : X) → 2 ≤ length xs → length xs < 3 → a ≡ get_or xs 0 a → b ≡ get_or xs 1 b → xs ≡ a ∷ b ∷ []
+two_items [] a b least most ea eb = absurd (omega arith)
+two_items (v ∷ vs) a b least most ea eb =
+    let va : a ≡ v = ea in
+    let rest = one_item vs b (omega arith) (omega arith) eb in
+    cc
+
 -- a number for each kind of command
 kind : Command → ℕ
 kind (Drill l) = 0
@@ -188,16 +196,19 @@ kind (Create shape) = 1
 kind Stat = 2
 kind Fence = 3
 kind Upgrade = 4
+kind (Put name) = 5
 
 -- the kind that the first word names
 kind_by : List (List ℕ) → ℕ
-kind_by [] = 5
+kind_by [] = 6
 kind_by (word ∷ words) =
     if bytes_eq word (codes "drill")
     then 0
     else if bytes_eq word (codes "create")
     then 1
-    else if bytes_eq word (codes "stat") then 2 else if bytes_eq word (codes "fence") then 3 else 4
+    else if bytes_eq word (codes "stat")
+    then 2
+    else if bytes_eq word (codes "fence") then 3 else if bytes_eq word (codes "upgrade") then 4 else 5
 
 -- the first word tells the kind
 kind_is : (words : List (List ℕ)) (a : Command) → Means words a → kind_by words ≡ kind a
@@ -205,8 +216,13 @@ unfolding kind kind_by
 kind_is words (Drill l) means = ap kind_by means.0
 kind_is words (Create shape) means = ap kind_by means
 kind_is words Stat means = ap kind_by means
+kind_is words (Put name) means = ap kind_by means
 kind_is words Fence means = ap kind_by means
 kind_is words Upgrade means = ap kind_by means
+
+-- the words of a put have one name
+names_equal : (words : List (List ℕ)) (a b : List ℕ) → Means words (Put a) → Means words (Put b) → a ≡ b
+names_equal words a b one two = let same = sym one ∙ two in cc
 
 -- words mean one command at most
 pub one_command : (words : List (List ℕ)) (a b : Command) → Means words a → Means words b → a ≡ b
@@ -214,6 +230,7 @@ unfolding kind
 one_command words (Drill a) (Drill b) one two = ap Drill (drills_equal words a b one two)
 one_command words (Create a) (Create b) one two = ap Create (shapes_equal words a b one two)
 one_command words Stat Stat one two = refl
+one_command words (Put a) (Put b) one two = ap Put (names_equal words a b one two)
 one_command words Fence Fence one two = refl
 one_command words Upgrade Upgrade one two = refl
 one_command words a b one two = let same : kind a ≡ kind b = sym (kind_is words a one) ∙ kind_is words b two in cc

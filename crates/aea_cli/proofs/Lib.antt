@@ -11,3 +11,4 @@ pub mod Adding
 pub mod Fencing
 pub mod Upgrading
 pub mod Recording
+pub mod Putting

@@ -1,7 +1,7 @@
 -- Why commands are refused, in the order of refusals.
 use Rattle.std.specs.Prelude.{◌≡◌, ◌<◌, ◌⊎◌, ℕ, Result, Err}
 use Rattle.aea_cli.specs.declared.refusal.Refusal.{Refusal}
-use Rattle.aea_cli.specs.declared.refusal.Refusal.TheVariants.{InputTooLong, BadBlock, NoArchive, LedgerBad, Occupied, AlreadyFenced, TooManyFences, AlreadyUpgraded}
+use Rattle.aea_cli.specs.declared.refusal.Refusal.TheVariants.{InputTooLong, BadBlock, NoArchive, LedgerBad, Occupied, BadName, NameTaken, CatalogFull, HeadDamaged, Full, AlreadyFenced, TooManyFences, AlreadyUpgraded}
 use Rattle.aea_cli.specs.declared.refusal.Failure.{Failure}
 use Rattle.aea_cli.specs.declared.refusal.Failure.TheVariants as failure
 
@@ -10,11 +10,16 @@ abbrev pub place_of : Refusal → ℕ
 place_of NoArchive = 0
 place_of (LedgerBad at) = 1
 place_of Occupied = 2
-place_of (AlreadyFenced nodes) = 3
-place_of TooManyFences = 4
-place_of AlreadyUpgraded = 5
-place_of InputTooLong = 6
-place_of (BadBlock k) = 7
+place_of BadName = 3
+place_of NameTaken = 4
+place_of CatalogFull = 5
+place_of (HeadDamaged block) = 6
+place_of (Full nodes) = 7
+place_of (AlreadyFenced nodes) = 8
+place_of TooManyFences = 9
+place_of AlreadyUpgraded = 10
+place_of InputTooLong = 11
+place_of (BadBlock k) = 12
 
 -- the cause stands, and none that comes before it
 pub record IsFirst (causes : Refusal → Type 0) (why : Refusal) : Type 0 where

@@ -1,12 +1,12 @@
 -- The table of the commands: what each touches, why it is refused, and what a run of it does.
-use Rattle.std.specs.Prelude.{◌≡◌, ◌≢◌, ℕ, List, [], Err, IsSome, unwrap_or}
+use Rattle.std.specs.Prelude.{◌≡◌, ◌≢◌, ◌≤◌, ℕ, List, [], Err, IsSome, unwrap_or}
 use Rattle.aea_disk.specs.Files.{KeepsFiles}
 use Rattle.aea_disk.specs.State.{KeepsWhere, HasRoom, HasRoomTo}
 use Rattle.aea_lattice.specs.declared.shape.Shape.{Shape}
 use Rattle.aea_records.specs.Format.{Record, nodes_of}
 use Rattle.aea_ledger.specs.Stops.{HasOpening, HasLedger}
 use Rattle.aea_cli.specs.declared.command.Command.{Command}
-use Rattle.aea_cli.specs.declared.command.Command.TheVariants.{Drill, Create, Stat, Fence, Upgrade}
+use Rattle.aea_cli.specs.declared.command.Command.TheVariants.{Drill, Create, Stat, Put, Fence, Upgrade}
 use Rattle.aea_cli.specs.declared.refusal.Refusal.{Refusal}
 use Rattle.aea_cli.specs.declared.refusal.Failure.TheVariants as failure
 use Rattle.aea_cli.specs.declared.status.Status.{Status}
@@ -16,6 +16,7 @@ use Rattle.aea_cli.specs.Stat.{Stats, IsStatOf}
 use Rattle.aea_cli.specs.Adding.{FitsRecord}
 use Rattle.aea_cli.specs.Fence.{Fences, FenceCauses, next_fence, fence_line}
 use Rattle.aea_cli.specs.Upgrade.{Upgrades, UpgradeCauses, next_raise, upgraded_line}
+use Rattle.aea_cli.specs.Put.{greatest_sites, Puts, PutCauses, FitsPut, stored_line, object_of}
 use Rattle.aea_cli.specs.Causes.{Refuses}
 use Rattle.aea_cli.specs.Failures.{Answer}
 use Rattle.aea_cli.specs.Openings.{OpeningCauses}
@@ -27,6 +28,7 @@ abbrev pub ReadsInput : Command → Type 0
 ReadsInput (Drill l) = Unit {0}
 ReadsInput (Create shape) = ⊥
 ReadsInput Stat = ⊥
+ReadsInput (Put name) = Unit {0}
 ReadsInput Fence = ⊥
 ReadsInput Upgrade = ⊥
 
@@ -35,6 +37,7 @@ abbrev pub UsesDisk : Command → Type 0
 UsesDisk (Drill l) = ⊥
 UsesDisk (Create shape) = Unit {0}
 UsesDisk Stat = Unit {0}
+UsesDisk (Put name) = Unit {0}
 UsesDisk Fence = Unit {0}
 UsesDisk Upgrade = Unit {0}
 
@@ -43,6 +46,7 @@ abbrev pub MayChange : Command → ℕ → Type 0
 MayChange (Drill l) file = ⊥
 MayChange (Create shape) file = file ≡ 0
 MayChange Stat file = ⊥
+MayChange (Put name) file = file ≤ greatest_sites
 MayChange Fence file = file ≡ 0
 MayChange Upgrade file = file ≡ 0
 
@@ -59,6 +63,7 @@ abbrev pub Causes : Command → World → Refusal → Type 0
 Causes (Drill l) w = DamageCauses l (input_of w)
 Causes (Create shape) w = CreateCauses (w.disk.files 0)
 Causes Stat w = OpeningCauses (w.disk.files 0)
+Causes (Put name) w = PutCauses name w.disk.files (input_of w)
 Causes Fence w = FenceCauses (w.disk.files 0)
 Causes Upgrade w = UpgradeCauses (w.disk.files 0)
 
@@ -67,6 +72,7 @@ abbrev pub FitsDisk : Command → World → Type 0
 FitsDisk (Drill l) w = Unit {0}
 FitsDisk (Create shape) w = HasRoomTo w.disk 0 18
 FitsDisk Stat w = HasRoom w.disk
+FitsDisk (Put name) w = FitsPut name w.tells w.input.left w.disk
 FitsDisk Fence w = FitsRecord next_fence w.tells w.disk
 FitsDisk Upgrade w = FitsRecord next_raise w.tells w.disk
 
@@ -75,6 +81,7 @@ abbrev pub FitsOutput : Command → World → Type 0
 FitsOutput (Drill l) w = (text : List ℕ) (status : Status) → IsOutcome l (input_of w) text status → FitsText w.out text
 FitsOutput (Create shape) w = FitsText w.out (created_line shape)
 FitsOutput Stat w = (text : List ℕ) → IsStatOf (w.disk.files 0) text → FitsText w.out text
+FitsOutput (Put name) w = (shape : Shape) (records : List Record) → HasLedger shape records (w.disk.files 0) → FitsText w.out (stored_line shape (object_of name (input_of w)))
 FitsOutput Fence w = (shape : Shape) (records : List Record) → HasLedger shape records (w.disk.files 0) → FitsText w.out (fence_line (nodes_of records))
 FitsOutput Upgrade w = FitsText w.out upgraded_line
 
@@ -83,6 +90,7 @@ abbrev pub Does : Command → World → World → Answer → Type 0
 Does (Drill l) old new answer = Drills l old.input new.input old.out new.out answer
 Does (Create shape) old new answer = Creates shape old.tells old.disk new.disk old.out new.out answer
 Does Stat old new answer = Stats old.tells old.disk new.disk old.out new.out answer
+Does (Put name) old new answer = Puts name old.tells old.disk new.disk old.input.left new.input.left old.out new.out answer
 Does Fence old new answer = Fences old.tells old.disk new.disk old.out new.out answer
 Does Upgrade old new answer = Upgrades old.tells old.disk new.disk old.out new.out answer
 

@@ -8,6 +8,8 @@ use Rattle.aea_ledger.specs.declared.fences.FenceFault.{FenceFault}
 use Rattle.aea_ledger.specs.declared.fences.FenceFault.TheVariants as fence
 use Rattle.aea_ledger.specs.declared.raise.UpgradeFault.{UpgradeFault}
 use Rattle.aea_ledger.specs.declared.raise.UpgradeFault.TheVariants as upgrade
+use Rattle.aea_append.specs.declared.fault.PutFault.{PutFault}
+use Rattle.aea_append.specs.declared.fault.PutFault.TheVariants as put
 use Rattle.aea_cli.specs.declared.refusal.Refusal.TheVariants as refusal
 use Rattle.aea_cli.specs.declared.refusal.Failure.{Failure}
 use Rattle.aea_cli.specs.declared.refusal.Failure.TheVariants as failure
@@ -57,6 +59,17 @@ opening_failure opening.NoArchive = failure.Refused refusal.NoArchive
 opening_failure (opening.LedgerBad at) = failure.Refused (refusal.LedgerBad at)
 opening_failure opening.DiskFault = failure.Disk
 opening_failure opening.NoMemory = failure.Memory
+
+-- the failure where no object was stored
+abbrev pub put_failure : PutFault → Failure
+put_failure put.BadName = failure.Refused refusal.BadName
+put_failure put.NameTaken = failure.Refused refusal.NameTaken
+put_failure put.CatalogFull = failure.Refused refusal.CatalogFull
+put_failure (put.HeadDamaged block) = failure.Refused (refusal.HeadDamaged block)
+put_failure (put.Full nodes) = failure.Refused (refusal.Full nodes)
+put_failure put.ReadFault = failure.Input
+put_failure put.DiskFault = failure.Disk
+put_failure put.NoMemory = failure.Memory
 
 -- the failure where no fence was added
 abbrev pub fence_failure : FenceFault → Failure

@@ -13,6 +13,8 @@ pub mod Stat
 pub mod Adding
 pub mod Fence
 pub mod Upgrade
+pub mod Growing
+pub mod Put
 pub mod Does
 pub mod Ends
 pub mod Surely

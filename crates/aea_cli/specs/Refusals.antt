@@ -1,7 +1,8 @@
 -- The lines on `err` where a command did not end well.
 use Rattle.std.specs.Prelude.{ℕ, List, ◌++◌, codes, decimal}
+use Rattle.aea_lattice.specs.Texts.{text_of}
 use Rattle.aea_cli.specs.declared.refusal.Refusal.{Refusal}
-use Rattle.aea_cli.specs.declared.refusal.Refusal.TheVariants.{InputTooLong, BadBlock, NoArchive, LedgerBad, Occupied, AlreadyFenced, TooManyFences, AlreadyUpgraded}
+use Rattle.aea_cli.specs.declared.refusal.Refusal.TheVariants.{InputTooLong, BadBlock, NoArchive, LedgerBad, Occupied, BadName, NameTaken, CatalogFull, HeadDamaged, Full, AlreadyFenced, TooManyFences, AlreadyUpgraded}
 use Rattle.aea_cli.specs.Lines.{newline}
 
 -- of a refusal
@@ -11,6 +12,11 @@ refusal_line (BadBlock k) = codes "refused: bad block at line " ++ decimal k ++ 
 refusal_line NoArchive = codes "refused: no archive" ++ newline
 refusal_line (LedgerBad at) = codes "refused: ledger bad at " ++ decimal at ++ newline
 refusal_line Occupied = codes "refused: occupied" ++ newline
+refusal_line BadName = codes "refused: bad name" ++ newline
+refusal_line NameTaken = codes "refused: name taken" ++ newline
+refusal_line CatalogFull = codes "refused: catalog full" ++ newline
+refusal_line (HeadDamaged block) = codes "refused: head damaged " ++ text_of block ++ newline
+refusal_line (Full nodes) = codes "refused: full at " ++ decimal nodes ++ codes " nodes\n"
 refusal_line (AlreadyFenced nodes) = codes "refused: already fenced at " ++ decimal nodes ++ newline
 refusal_line TooManyFences = codes "refused: too many fences" ++ newline
 refusal_line AlreadyUpgraded = codes "refused: already upgraded" ++ newline

@@ -3,15 +3,16 @@ use Rattle.std.specs.Prelude.{◌≡◌, ◌≤◌, ℕ, List, [], ◌∷◌, co
 use Rattle.aea_lattice.specs.declared.grid.Lattice.{Lattice}
 use Rattle.aea_lattice.specs.declared.shape.Shape.{Shape}
 use Rattle.aea_cli.specs.declared.command.Command.{Command}
-use Rattle.aea_cli.specs.declared.command.Command.TheVariants.{Drill, Create, Stat, Fence, Upgrade}
+use Rattle.aea_cli.specs.declared.command.Command.TheVariants.{Drill, Create, Stat, Put, Fence, Upgrade}
 
--- The words of a command, each number in decimal: `drill A S P N`, `create A S P B M`, `stat`, `fence` and
--- `upgrade`.
+-- The words of a command, each number in decimal: `drill A S P N`, `create A S P B M`, `stat`, `put NAME`, `fence` and
+-- `upgrade`. Any word may stand for NAME.
 abbrev pub words_of : Command → List (List ℕ)
 words_of (Drill l) = codes "drill" ∷ decimal l.alpha ∷ decimal l.s ∷ decimal l.p ∷ decimal l.n ∷ []
 words_of (Create shape) =
     codes "create" ∷ decimal shape.alpha ∷ decimal shape.s ∷ decimal shape.p ∷ decimal shape.block ∷ decimal shape.sites ∷ []
 words_of Stat = codes "stat" ∷ []
+words_of (Put name) = codes "put" ∷ name ∷ []
 words_of Fence = codes "fence" ∷ []
 words_of Upgrade = codes "upgrade" ∷ []
 
@@ -29,6 +30,7 @@ abbrev pub Means : List (List ℕ) → Command → Type 0
 Means words (Drill l) = (words ≡ words_of (Drill l)) × IsDrilled l
 Means words (Create shape) = words ≡ words_of (Create shape)
 Means words Stat = words ≡ words_of Stat
+Means words (Put name) = words ≡ words_of (Put name)
 Means words Fence = words ≡ words_of Fence
 Means words Upgrade = words ≡ words_of Upgrade
 
@@ -39,6 +41,20 @@ AreNoDrill words = (l : Lattice) → Means words (Drill l) → ⊥
 -- the words mean no making of an archive
 abbrev pub AreNoCreate : List (List ℕ) → Type 0
 AreNoCreate words = (shape : Shape) → Means words (Create shape) → ⊥
+
+-- the words mean no storing of an object
+abbrev pub AreNoPut : List (List ℕ) → Type 0
+AreNoPut words = (name : List ℕ) → Means words (Put name) → ⊥
+
+-- the words mean the storing of an object, under some name
+abbrev pub IsSomePut : List (List ℕ) → Type 0
+IsSomePut words = (name : List ℕ) × Means words (Put name)
+
+-- the words mean no command of one word
+pub record AreNoPlain (words : List (List ℕ)) : Type 0 where
+  pub stat : Means words Stat → ⊥
+  pub fence : Means words Fence → ⊥
+  pub upgrade : Means words Upgrade → ⊥
 
 -- the words mean no command
 abbrev pub AreNoCommand : List (List ℕ) → Type 0

@@ -1,11 +1,13 @@
 //! The words of the command line.
 
-ghost use Rattle.std.specs.Prelude.{map, string_bytes, IsOk, IfSome, IfNone, IfOk};
-ghost use Rattle.aea_cli.specs.Words.{Means, AreNoCommand};
+ghost use Rattle.std.specs.Prelude.{map, string_bytes, IfSome, IfNone, IfOk, OnErr};
+ghost use Rattle.aea_cli.specs.Words.{Means, AreNoPlain, AreNoCommand, IsSomePut};
 
 use crate::create::parse_create;
 use crate::drill::parse_drill;
+use crate::put::parse_put;
 use crate::words::is_word;
+use aea_catalog::NameText;
 use aea_lattice::{Lattice, Shape};
 use std::alloc::{AllocError, Global};
 
@@ -18,23 +20,19 @@ pub enum Command {
     Create { shape: Shape },
     /// Prints what stands in the archive.
     Stat,
+    /// Stores the input as an object under the name.
+    Put { name: NameText },
     /// Adds a fence behind the last node of the archive.
     Fence,
     /// Raises the archive's limit on nodes.
     Upgrade,
 }
 
-// The command of the words, if they are one.
-fn command_of(words: &[String]) -> Option<Command>
+// The command of one word alone, if the words are one.
+fn plain_command(words: &[String]) -> Option<Command>
     ensures found { IfSome result (Means (map string_bytes words.now)) }
-    ensures none { IfNone result (AreNoCommand (map string_bytes words.now)) }
+    ensures none { IfNone result (AreNoPlain (map string_bytes words.now)) }
 {
-    if let Some(lattice) = parse_drill(words) {
-        return Some(Command::Drill { lattice });
-    }
-    if let Some(shape) = parse_create(words) {
-        return Some(Command::Create { shape });
-    }
     if is_word(words, "stat") {
         return Some(Command::Stat);
     }
@@ -47,13 +45,31 @@ fn command_of(words: &[String]) -> Option<Command>
     None
 }
 
-/// The command that the words mean, None where they mean none: `drill A S P N` with the numbers of a lattice,
-/// `create A S P B M` with those of the shape of an archive, `stat`, `fence` and `upgrade`, each number in decimal
-/// without sign and leading zeros. Takes no memory today.
-pub fn parse_words(_alloc: Global, words: &[String]) -> Result<Option<Command>, AllocError>
-    ensures sure { IsOk result }
+// The command of the words, if they are one.
+fn command_of(alloc: Global, words: &[String]) -> Result<Option<Command>, AllocError>
     ensures found { IfOk result (λ answer. IfSome answer (Means (map string_bytes words.now))) }
     ensures none { IfOk result (λ answer. IfNone answer (AreNoCommand (map string_bytes words.now))) }
+    ensures memory { OnErr result (IsSomePut (map string_bytes words.now)) }
 {
-    Ok(command_of(words))
+    if let Some(lattice) = parse_drill(words) {
+        return Ok(Some(Command::Drill { lattice }));
+    }
+    if let Some(shape) = parse_create(words) {
+        return Ok(Some(Command::Create { shape }));
+    }
+    if let Some(name) = parse_put(alloc, words)? {
+        return Ok(Some(Command::Put { name }));
+    }
+    Ok(plain_command(words))
+}
+
+/// The command that the words mean, None where they mean none: `drill A S P N` with the numbers of a lattice,
+/// `create A S P B M` with those of the shape of an archive, `stat`, `put NAME`, `fence` and `upgrade`, each number in
+/// decimal without sign and leading zeros. It takes memory for a name alone.
+pub fn parse_words(alloc: Global, words: &[String]) -> Result<Option<Command>, AllocError>
+    ensures found { IfOk result (λ answer. IfSome answer (Means (map string_bytes words.now))) }
+    ensures none { IfOk result (λ answer. IfNone answer (AreNoCommand (map string_bytes words.now))) }
+    ensures memory { OnErr result (IsSomePut (map string_bytes words.now)) }
+{
+    command_of(alloc, words)
 }

@@ -8,6 +8,7 @@ mod drill;
 mod fence;
 mod numbers;
 mod program;
+mod put;
 mod refusal;
 mod report;
 mod stat;

@@ -15,6 +15,7 @@ use crate::command::{Command, parse_words};
 use crate::create::create;
 use crate::drill::drill;
 use crate::fence::fence;
+use crate::put::put_input;
 use crate::refusal::Failure;
 use crate::report::report;
 use crate::stat::stat;
@@ -46,6 +47,7 @@ fn carry_out<D: Disk, S: Source, O: Sink>(
         Command::Drill { lattice } => drill(alloc, lattice, input, out),
         Command::Create { shape } => create(alloc, shape, disk, out),
         Command::Stat => stat(alloc, disk, out),
+        Command::Put { name } => put_input(alloc, name.bytes(), disk, input, out),
         Command::Fence => fence(alloc, disk, out),
         Command::Upgrade => upgrade(alloc, disk, out),
     }
@@ -72,8 +74,9 @@ fn execute<D: Disk, S: Source, O: Sink>(
     ensures disk { (command : Command) → Means (map string_bytes words.now) command → (UsesDisk command → ⊥)
         → (disk.new ≡ disk.old) × (result ≢ Err Failure.Disk) }
 {
-    let Ok(parsed) = parse_words(alloc, words) else {
-        return Err(Failure::Memory);
+    let parsed = match parse_words(alloc, words) {
+        Ok(parsed) => parsed,
+        Err(_) => return Err(Failure::Memory),
     };
     let Some(command) = parsed else {
         return Err(Failure::Words);

@@ -2,7 +2,9 @@
 
 ghost use Rattle.std.specs.Prelude.{◌≡◌};
 
+use aea_append::PutFault;
 use aea_io::WriteFault;
+use aea_lattice::BlockId;
 use aea_ledger::{CreateFault, FenceFault, OpenFault, UpgradeFault};
 use std::alloc::AllocError;
 
@@ -19,6 +21,16 @@ pub enum Refusal {
     LedgerBad { at: u64 },
     /// There is an archive in the folder, or what was one.
     Occupied,
+    /// The bytes are no name.
+    BadName,
+    /// An object has the name.
+    NameTaken,
+    /// There are 65,536 objects, the most that there may be.
+    CatalogFull,
+    /// The last parity of a strand is damaged: the one with the least number.
+    HeadDamaged { block: BlockId },
+    /// The object takes more nodes than are left. The number of nodes that are there.
+    Full { nodes: u32 },
     /// There is no node behind the last fence of the archive. The number of nodes.
     AlreadyFenced { nodes: u32 },
     /// The archive has 16 fences, the most that there may be.
@@ -74,6 +86,35 @@ impl From<OpenFault> for Failure {
             },
             OpenFault::DiskFault => Failure::Disk,
             OpenFault::NoMemory => Failure::Memory,
+        }
+    }
+}
+
+impl From<PutFault> for Failure {
+    ghost use Rattle.aea_cli.specs.Failures.{put_failure};
+
+    ghost from_gives = { λ fault failure. failure ≡ put_failure fault };
+
+    fn from(fault: PutFault) -> Failure {
+        match fault {
+            PutFault::BadName => Failure::Refused {
+                why: Refusal::BadName,
+            },
+            PutFault::NameTaken => Failure::Refused {
+                why: Refusal::NameTaken,
+            },
+            PutFault::CatalogFull => Failure::Refused {
+                why: Refusal::CatalogFull,
+            },
+            PutFault::HeadDamaged { block } => Failure::Refused {
+                why: Refusal::HeadDamaged { block },
+            },
+            PutFault::Full { nodes } => Failure::Refused {
+                why: Refusal::Full { nodes },
+            },
+            PutFault::ReadFault => Failure::Input,
+            PutFault::DiskFault => Failure::Disk,
+            PutFault::NoMemory => Failure::Memory,
         }
     }
 }

@@ -1,6 +1,8 @@
 //! The line on `err` where a command did not end well.
 
 ghost use Rattle.std.specs.Prelude.{◌≡◌, ◌≤◌, [], OnOk};
+ghost use Rattle.aea_lattice.specs.Texts.{letter_of};
+ghost use Rattle.aea_cli.specs.declared.refusal.Refusal.{Refusal};
 ghost use Rattle.aea_cli.specs.Refusals.{refusal_line};
 ghost use Rattle.aea_cli.specs.Failures.{failure_line, failure_status};
 ghost use Rattle.aea_io.specs.Written.{IsFlushed};
@@ -10,6 +12,33 @@ ghost use Rattle.aea_cli.specs.Printed.{PutsLine};
 use crate::refusal::{Failure, Refusal};
 use crate::status::Status;
 use aea_io::{Page, Sink, WriteFault, finish, print, print_number};
+use aea_lattice::{BlockId, Class};
+
+// The letter of a class.
+fn class_letter(class: Class) -> u8
+    ensures { result ≡ letter_of class }
+{
+    match class {
+        Class::Datum => b'd',
+        Class::Horiz => b'h',
+        Class::Right => b'r',
+        Class::Left => b'l',
+    }
+}
+
+// Prints `refused: head damaged B`.
+fn print_damaged_head<E: Sink>(
+    err: &mut E,
+    page: &mut Page,
+    block: BlockId,
+) -> Result<(), WriteFault>
+    ensures { Prints (E.state err.old) page.old (E.state err.new) page.new result (refusal_line (Refusal.HeadDamaged block)) }
+{
+    print(err, page, b"refused: head damaged ")?;
+    print(err, page, &[class_letter(block.class)])?;
+    print_number(err, page, b"", u64::from(block.node))?;
+    print(err, page, b"\n")
+}
 
 // Prints the line of a refusal.
 fn print_refusal<E: Sink>(err: &mut E, page: &mut Page, why: Refusal) -> Result<(), WriteFault>
@@ -27,6 +56,14 @@ fn print_refusal<E: Sink>(err: &mut E, page: &mut Page, why: Refusal) -> Result<
             print(err, page, b"\n")
         }
         Refusal::Occupied => print(err, page, b"refused: occupied\n"),
+        Refusal::BadName => print(err, page, b"refused: bad name\n"),
+        Refusal::NameTaken => print(err, page, b"refused: name taken\n"),
+        Refusal::CatalogFull => print(err, page, b"refused: catalog full\n"),
+        Refusal::HeadDamaged { block } => print_damaged_head(err, page, block),
+        Refusal::Full { nodes } => {
+            print_number(err, page, b"refused: full at ", u64::from(nodes))?;
+            print(err, page, b" nodes\n")
+        }
         Refusal::AlreadyFenced { nodes } => {
             print_number(err, page, b"refused: already fenced at ", u64::from(nodes))?;
             print(err, page, b"\n")

@@ -1,6 +1,6 @@
 -- What is printed behind an added record, and what holds of a run of a command that adds one.
-use Rattle.std.proofs.Common.{◌≡◌, inl, inr, List, refl, sym, ◌∙◌, Ok, Err}
-use Rattle.std.specs.Prelude.{Result}
+use Rattle.std.proofs.Common.{◌≡◌, inl, inr, List, refl, sym, ◌∙◌, Ok, Err, subst}
+use Rattle.std.specs.Prelude.{Result, IsOk}
 use Rattle.aea_disk.specs.Files.{KeepsFiles}
 use Rattle.aea_disk.specs.State.{State, KeepsWhere}
 use Rattle.aea_disk.proofs.Moments.{where_others}
@@ -8,7 +8,6 @@ use Rattle.aea_ledger.specs.Stops.{HasOpening}
 use Rattle.aea_records.specs.Format.{Record}
 use Rattle.aea_cli.specs.declared.refusal.Refusal.{Refusal}
 use Rattle.aea_cli.specs.declared.refusal.Failure.{Failure}
-use Rattle.aea_cli.specs.declared.refusal.Failure.TheVariants as failure
 use Rattle.aea_cli.specs.declared.status.Status.TheVariants.{Done}
 use Rattle.aea_cli.specs.Adding.{Adds, KeepsTheRest}
 use Rattle.aea_cli.specs.Causes.{Refuses}
@@ -17,16 +16,19 @@ use Rattle.aea_cli.proofs.Adding.{Agrees}
 use Rattle.aea_cli.proofs.Creating.{IsPrinting, printing_never}
 use Rattle.aea_cli.proofs.OpeningCases.{opening_more}
 use Rattle.aea_cli.proofs.Refusing.{refuses_done}
+use Rattle.aea_cli.specs.declared.refusal.Failure.TheVariants as failure
 
 -- the line was printed, or the output failed: the disk does not tell which
 pub agrees_printed : {T : Type 0} (v : T) (answer : Answer) → IsPrinting answer → Agrees (Ok v) answer
 agrees_printed v answer (inl e) = record {
   well = λ _. inl refl;
+  done = λ _. inl (subst IsOk (sym e) refl);
   there = λ f differs is. let h : Ok Done ≡ Err f = sym e ∙ is in cc;
   back = λ f differs is. let h : Ok v ≡ Err f = is in cc;
 }
 agrees_printed v answer (inr e) = record {
   well = λ _. inl refl;
+  done = λ _. inr e;
   there = λ f differs is. let h : Err failure.Output ≡ Err f = sym e ∙ is in absurd (differs cc);
   back = λ f differs is. let h : Ok v ≡ Err f = is in cc;
 }

@@ -60,7 +60,7 @@ none_before_long l input InputTooLong before cause = omega arith
 none_before_long l input (BadBlock k) before cause = omega arith
 none_before_long l input other before cause = cause
 
-none_before_bad : (l : Lattice) (input : List ℕ) → length input ≤ greatest_input → (other : Refusal) → place_of other < 7 → DamageCauses l input other → ⊥
+none_before_bad : (l : Lattice) (input : List ℕ) → length input ≤ greatest_input → (other : Refusal) → place_of other < 12 → DamageCauses l input other → ⊥
 none_before_bad l input short InputTooLong before cause = omega arith
 none_before_bad l input short (BadBlock k) before cause = omega arith
 none_before_bad l input short other before cause = cause

@@ -1,6 +1,7 @@
 use Rattle.aea_cli.proofs.Drilling.Running.{drill_runs}
 use Rattle.aea_cli.proofs.Creating.Running.{create_runs}
 use Rattle.aea_cli.proofs.Stating.Running.{stat_runs}
+use Rattle.aea_cli.proofs.Putting.Running.{put_runs}
 use Rattle.aea_cli.proofs.Fencing.Running.{fence_runs}
 use Rattle.aea_cli.proofs.Upgrading.Running.{upgrade_runs}
 use Rattle.aea_cli.proofs.program.carry_out.Goals as goal
@@ -13,6 +14,10 @@ returns-in-Create-clause-runs g c = rw c.in-Create.is (create_runs _ _ _ _ _ _ _
 
 pub returns-in-Stat-clause-runs : goal.returns-in-Stat-clause-runs
 returns-in-Stat-clause-runs g c = rw c.in-Stat.is (stat_runs _ _ _ _ _ _ _ c.stat.ensures.stats c.stat.ensures.refuses)
+
+pub returns-in-Put-clause-runs : goal.returns-in-Put-clause-runs
+returns-in-Put-clause-runs g c =
+    rw (c.in-Put.is, ← c.bytes.ensures) (put_runs _ _ _ _ _ _ _ _ _ c.put_input.ensures.puts c.put_input.ensures.refuses c.put_input.ensures.rest)
 
 pub returns-in-Fence-clause-runs : goal.returns-in-Fence-clause-runs
 returns-in-Fence-clause-runs g c = rw c.in-Fence.is (fence_runs _ _ _ _ _ _ _ c.fence.ensures.fences c.fence.ensures.refuses c.fence.ensures.rest)

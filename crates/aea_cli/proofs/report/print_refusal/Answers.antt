@@ -1,3 +1,4 @@
+use Rattle.std.proofs.Common.{codes}
 use Rattle.aea_cli.specs.Lines.{newline}
 use Rattle.aea_io.proofs.Printing.{prints_then, prints_stopped}
 use Rattle.aea_cli.proofs.report.print_refusal.Goals as goal
@@ -26,6 +27,23 @@ returns-in_err-print_number-in-LedgerBad g c =
 pub returns-in_ok-print_number-in-LedgerBad : goal.returns-in_ok-print_number-in-LedgerBad
 returns-in_ok-print_number-in-LedgerBad g c =
     rw c.in-LedgerBad.is (prints_then c.in_ok-print_number-in-LedgerBad.ensures c.print-in-LedgerBad.ensures)
+
+pub returns-in-BadName : goal.returns-in-BadName
+returns-in-BadName g c = rw c.in-BadName.is c.print-in-BadName.ensures
+
+pub returns-in-NameTaken : goal.returns-in-NameTaken
+returns-in-NameTaken g c = rw c.in-NameTaken.is c.print-in-NameTaken.ensures
+
+pub returns-in-CatalogFull : goal.returns-in-CatalogFull
+returns-in-CatalogFull g c = rw c.in-CatalogFull.is c.print-in-CatalogFull.ensures
+
+pub returns-in_err-print_number-in-Full : goal.returns-in_err-print_number-in-Full
+returns-in_err-print_number-in-Full g c =
+    rw c.in-Full.is (prints_stopped (codes " nodes\n") c.from_residual-in_err-print_number-in-Full.ensures.0 (rw c.from-in-Full.ensures at c.in_err-print_number-in-Full.ensures))
+
+pub returns-in_ok-print_number-in-Full : goal.returns-in_ok-print_number-in-Full
+returns-in_ok-print_number-in-Full g c =
+    rw c.in-Full.is (prints_then (rw c.from-in-Full.ensures at c.in_ok-print_number-in-Full.ensures) c.print-in-Full.ensures)
 
 pub returns-in_err-print_number-in-AlreadyFenced : goal.returns-in_err-print_number-in-AlreadyFenced
 returns-in_err-print_number-in-AlreadyFenced g c =

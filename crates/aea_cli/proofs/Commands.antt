@@ -12,7 +12,7 @@ use Rattle.aea_lattice.specs.Profile.{is_profile, is_shape, greatest_nodes}
 use Rattle.aea_lattice.specs.declared.grid.Lattice.{Lattice}
 use Rattle.aea_lattice.specs.declared.shape.Shape.{Shape}
 use Rattle.aea_cli.specs.declared.command.Command.{Command}
-use Rattle.aea_cli.specs.declared.command.Command.TheVariants.{Drill, Create, Stat, Put, Fence, Upgrade}
+use Rattle.aea_cli.specs.declared.command.Command.TheVariants.{Drill, Create, Stat, Put, Fence, Upgrade, Scrub}
 use Rattle.aea_cli.specs.Words.{Means, AreNoDrill, AreNoCreate, IsDrilled}
 
 -- the numbers of a lattice fit 32 bits
@@ -196,11 +196,12 @@ kind (Create shape) = 1
 kind Stat = 2
 kind Fence = 3
 kind Upgrade = 4
-kind (Put name) = 5
+kind Scrub = 5
+kind (Put name) = 6
 
 -- the kind that the first word names
 kind_by : List (List ℕ) → ℕ
-kind_by [] = 6
+kind_by [] = 7
 kind_by (word ∷ words) =
     if bytes_eq word (codes "drill")
     then 0
@@ -208,7 +209,9 @@ kind_by (word ∷ words) =
     then 1
     else if bytes_eq word (codes "stat")
     then 2
-    else if bytes_eq word (codes "fence") then 3 else if bytes_eq word (codes "upgrade") then 4 else 5
+    else if bytes_eq word (codes "fence")
+    then 3
+    else if bytes_eq word (codes "upgrade") then 4 else if bytes_eq word (codes "scrub") then 5 else 6
 
 -- the first word tells the kind
 kind_is : (words : List (List ℕ)) (a : Command) → Means words a → kind_by words ≡ kind a
@@ -219,6 +222,7 @@ kind_is words Stat means = ap kind_by means
 kind_is words (Put name) means = ap kind_by means
 kind_is words Fence means = ap kind_by means
 kind_is words Upgrade means = ap kind_by means
+kind_is words Scrub means = ap kind_by means
 
 -- the words of a put have one name
 names_equal : (words : List (List ℕ)) (a b : List ℕ) → Means words (Put a) → Means words (Put b) → a ≡ b
@@ -233,4 +237,5 @@ one_command words Stat Stat one two = refl
 one_command words (Put a) (Put b) one two = ap Put (names_equal words a b one two)
 one_command words Fence Fence one two = refl
 one_command words Upgrade Upgrade one two = refl
+one_command words Scrub Scrub one two = refl
 one_command words a b one two = let same : kind a ≡ kind b = sym (kind_is words a one) ∙ kind_is words b two in cc

@@ -6,6 +6,7 @@ pub mod FailureCases
 pub mod OpeningCases
 pub mod Creating
 pub mod Stating
+pub mod Scrubbing
 pub mod Behind
 pub mod Adding
 pub mod Fencing

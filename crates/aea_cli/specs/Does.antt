@@ -1,18 +1,21 @@
 -- The table of the commands: what each touches, why it is refused, and what a run of it does.
-use Rattle.std.specs.Prelude.{◌≡◌, ◌≢◌, ◌≤◌, ℕ, List, [], Err, IsSome, unwrap_or}
+use Rattle.std.specs.Prelude.{◌≡◌, ◌≢◌, ◌≤◌, ℕ, Bool, List, [], Err, IsSome, unwrap_or}
 use Rattle.aea_disk.specs.Files.{KeepsFiles}
 use Rattle.aea_disk.specs.State.{KeepsWhere, HasRoom, HasRoomTo}
+use Rattle.aea_lattice.specs.declared.blocks.BlockId.{BlockId}
+use Rattle.aea_lattice.specs.declared.grid.Lattice.{Lattice}
 use Rattle.aea_lattice.specs.declared.shape.Shape.{Shape}
 use Rattle.aea_records.specs.Format.{Record, nodes_of}
 use Rattle.aea_ledger.specs.Stops.{HasOpening, HasLedger}
 use Rattle.aea_cli.specs.declared.command.Command.{Command}
-use Rattle.aea_cli.specs.declared.command.Command.TheVariants.{Drill, Create, Stat, Put, Fence, Upgrade}
+use Rattle.aea_cli.specs.declared.command.Command.TheVariants.{Drill, Create, Stat, Put, Fence, Upgrade, Scrub}
 use Rattle.aea_cli.specs.declared.refusal.Refusal.{Refusal}
 use Rattle.aea_cli.specs.declared.refusal.Failure.TheVariants as failure
 use Rattle.aea_cli.specs.declared.status.Status.{Status}
 use Rattle.aea_cli.specs.Create.{CreateCauses, Creates, created_line}
 use Rattle.aea_cli.specs.Drill.{DamageCauses, Drills, IsOutcome}
 use Rattle.aea_cli.specs.Stat.{Stats, IsStatOf}
+use Rattle.aea_cli.specs.Scrub.{Scrubs, TellsIntact, scrub_text}
 use Rattle.aea_cli.specs.Adding.{FitsRecord}
 use Rattle.aea_cli.specs.Fence.{Fences, FenceCauses, next_fence, fence_line}
 use Rattle.aea_cli.specs.Upgrade.{Upgrades, UpgradeCauses, next_raise, upgraded_line}
@@ -31,6 +34,7 @@ ReadsInput Stat = ⊥
 ReadsInput (Put name) = Unit {0}
 ReadsInput Fence = ⊥
 ReadsInput Upgrade = ⊥
+ReadsInput Scrub = ⊥
 
 -- the command makes calls of the disk
 abbrev pub UsesDisk : Command → Type 0
@@ -40,6 +44,7 @@ UsesDisk Stat = Unit {0}
 UsesDisk (Put name) = Unit {0}
 UsesDisk Fence = Unit {0}
 UsesDisk Upgrade = Unit {0}
+UsesDisk Scrub = Unit {0}
 
 -- the command may change the file
 abbrev pub MayChange : Command → ℕ → Type 0
@@ -49,6 +54,7 @@ MayChange Stat file = ⊥
 MayChange (Put name) file = file ≤ greatest_sites
 MayChange Fence file = file ≡ 0
 MayChange Upgrade file = file ≡ 0
+MayChange Scrub file = ⊥
 
 -- it leaves the file
 abbrev pub Keeps : Command → ℕ → Type 0
@@ -66,6 +72,7 @@ Causes Stat w = OpeningCauses (w.disk.files 0)
 Causes (Put name) w = PutCauses name w.disk.files (input_of w)
 Causes Fence w = FenceCauses (w.disk.files 0)
 Causes Upgrade w = UpgradeCauses (w.disk.files 0)
+Causes Scrub w = OpeningCauses (w.disk.files 0)
 
 -- the disk has room for all that a run of the command writes
 abbrev pub FitsDisk : Command → World → Type 0
@@ -75,6 +82,7 @@ FitsDisk Stat w = HasRoom w.disk
 FitsDisk (Put name) w = FitsPut name w.tells w.input.left w.disk
 FitsDisk Fence w = FitsRecord next_fence w.tells w.disk
 FitsDisk Upgrade w = FitsRecord next_raise w.tells w.disk
+FitsDisk Scrub w = HasRoom w.disk
 
 -- the output has room for all that a run of the command prints
 abbrev pub FitsOutput : Command → World → Type 0
@@ -84,6 +92,7 @@ FitsOutput Stat w = (text : List ℕ) → IsStatOf (w.disk.files 0) text → Fit
 FitsOutput (Put name) w = (shape : Shape) (records : List Record) → HasLedger shape records (w.disk.files 0) → FitsText w.out (stored_line shape (object_of name (input_of w)))
 FitsOutput Fence w = (shape : Shape) (records : List Record) → HasLedger shape records (w.disk.files 0) → FitsText w.out (fence_line (nodes_of records))
 FitsOutput Upgrade w = FitsText w.out upgraded_line
+FitsOutput Scrub w = (l : Lattice) (intact : BlockId → Bool) → TellsIntact w.disk.files l intact → FitsText w.out (scrub_text l intact)
 
 -- what a run of the command did
 abbrev pub Does : Command → World → World → Answer → Type 0
@@ -93,6 +102,7 @@ Does Stat old new answer = Stats old.tells old.disk new.disk old.out new.out ans
 Does (Put name) old new answer = Puts name old.tells old.disk new.disk old.input.left new.input.left old.out new.out answer
 Does Fence old new answer = Fences old.tells old.disk new.disk old.out new.out answer
 Does Upgrade old new answer = Upgrades old.tells old.disk new.disk old.out new.out answer
+Does Scrub old new answer = Scrubs old.tells old.disk new.disk old.out new.out answer
 
 -- what the command uses of the disk and of the input tells its contents
 pub record IsTold (command : Command) (w : World) : Type 0 where

@@ -10,6 +10,7 @@ pub mod Openings
 pub mod Drill
 pub mod Create
 pub mod Stat
+pub mod Scrub
 pub mod Adding
 pub mod Fence
 pub mod Upgrade

@@ -3,10 +3,10 @@ use Rattle.std.specs.Prelude.{◌≡◌, ◌≤◌, ℕ, List, [], ◌∷◌, co
 use Rattle.aea_lattice.specs.declared.grid.Lattice.{Lattice}
 use Rattle.aea_lattice.specs.declared.shape.Shape.{Shape}
 use Rattle.aea_cli.specs.declared.command.Command.{Command}
-use Rattle.aea_cli.specs.declared.command.Command.TheVariants.{Drill, Create, Stat, Put, Fence, Upgrade}
+use Rattle.aea_cli.specs.declared.command.Command.TheVariants.{Drill, Create, Stat, Put, Fence, Upgrade, Scrub}
 
--- The words of a command, each number in decimal: `drill A S P N`, `create A S P B M`, `stat`, `put NAME`, `fence` and
--- `upgrade`. Any word may stand for NAME.
+-- The words of a command, each number in decimal: `drill A S P N`, `create A S P B M`, `stat`, `put NAME`, `fence`,
+-- `upgrade` and `scrub`. Any word may stand for NAME.
 abbrev pub words_of : Command → List (List ℕ)
 words_of (Drill l) = codes "drill" ∷ decimal l.alpha ∷ decimal l.s ∷ decimal l.p ∷ decimal l.n ∷ []
 words_of (Create shape) =
@@ -15,6 +15,7 @@ words_of Stat = codes "stat" ∷ []
 words_of (Put name) = codes "put" ∷ name ∷ []
 words_of Fence = codes "fence" ∷ []
 words_of Upgrade = codes "upgrade" ∷ []
+words_of Scrub = codes "scrub" ∷ []
 
 -- the most nodes of a drill
 abbrev pub drill_limit : ℕ
@@ -33,6 +34,7 @@ Means words Stat = words ≡ words_of Stat
 Means words (Put name) = words ≡ words_of (Put name)
 Means words Fence = words ≡ words_of Fence
 Means words Upgrade = words ≡ words_of Upgrade
+Means words Scrub = words ≡ words_of Scrub
 
 -- the words mean no drill
 abbrev pub AreNoDrill : List (List ℕ) → Type 0
@@ -55,6 +57,7 @@ pub record AreNoPlain (words : List (List ℕ)) : Type 0 where
   pub stat : Means words Stat → ⊥
   pub fence : Means words Fence → ⊥
   pub upgrade : Means words Upgrade → ⊥
+  pub scrub : Means words Scrub → ⊥
 
 -- the words mean no command
 abbrev pub AreNoCommand : List (List ℕ) → Type 0

@@ -26,6 +26,8 @@ pub enum Command {
     Fence,
     /// Raises the archive's limit on nodes.
     Upgrade,
+    /// Prints the damaged blocks of the archive.
+    Scrub,
 }
 
 // The command of one word alone, if the words are one.
@@ -41,6 +43,9 @@ fn plain_command(words: &[String]) -> Option<Command>
     }
     if is_word(words, "upgrade") {
         return Some(Command::Upgrade);
+    }
+    if is_word(words, "scrub") {
+        return Some(Command::Scrub);
     }
     None
 }
@@ -64,8 +69,8 @@ fn command_of(alloc: Global, words: &[String]) -> Result<Option<Command>, AllocE
 }
 
 /// The command that the words mean, None where they mean none: `drill A S P N` with the numbers of a lattice,
-/// `create A S P B M` with those of the shape of an archive, `stat`, `put NAME`, `fence` and `upgrade`, each number in
-/// decimal without sign and leading zeros. It takes memory for a name alone.
+/// `create A S P B M` with those of the shape of an archive, `stat`, `put NAME`, `fence`, `upgrade` and `scrub`, each
+/// number in decimal without sign and leading zeros. It takes memory for a name alone.
 pub fn parse_words(alloc: Global, words: &[String]) -> Result<Option<Command>, AllocError>
     ensures found { IfOk result (λ answer. IfSome answer (Means (map string_bytes words.now))) }
     ensures none { IfOk result (λ answer. IfNone answer (AreNoCommand (map string_bytes words.now))) }

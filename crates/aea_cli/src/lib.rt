@@ -11,6 +11,7 @@ mod program;
 mod put;
 mod refusal;
 mod report;
+mod scrub;
 mod stat;
 mod status;
 mod surely;

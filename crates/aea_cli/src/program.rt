@@ -18,6 +18,7 @@ use crate::fence::fence;
 use crate::put::put_input;
 use crate::refusal::Failure;
 use crate::report::report;
+use crate::scrub::scrub;
 use crate::stat::stat;
 use crate::status::Status;
 use crate::upgrade::upgrade;
@@ -50,6 +51,7 @@ fn carry_out<D: Disk, S: Source, O: Sink>(
         Command::Put { name } => put_input(alloc, name.bytes(), disk, input, out),
         Command::Fence => fence(alloc, disk, out),
         Command::Upgrade => upgrade(alloc, disk, out),
+        Command::Scrub => scrub(alloc, disk, out),
     }
 }
 

@@ -115,6 +115,10 @@ swap_cases : (b : Bool) → cond (not b) Done Damage ≡ cond b Damage Done
 swap_cases true = refl
 swap_cases false = refl
 
+-- damage where a block passes the test, by the number of those that do
+pub status-length : (p : BlockId → Bool) (blocks : List BlockId) → cond (length (filter p blocks) == 0) Done Damage ≡ cond (list_any p blocks) Damage Done
+status-length p blocks = ap (λ b. cond b Done Damage) (none_passes p blocks) ∙ swap_cases (list_any p blocks)
+
 -- and the status
 pub status-counts : (counts : Counts) (reached : BlockId → Bool) (blocks : List BlockId) → AreCounts counts reached blocks → cond (counts.stuck == 0) Done Damage ≡ status_of reached blocks
 status-counts counts reached blocks are =

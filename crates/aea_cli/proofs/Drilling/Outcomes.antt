@@ -16,7 +16,8 @@ mark_test l marks b = get_or marks (number_of l b) false
 pub marks_themselves : (l : Lattice) (marks : List Bool) → AreMarks l marks (mark_test l marks)
 marks_themselves l marks b inside = refl
 
-iff_same : (a b : Bool) → (a ≡ true → b ≡ true) → (b ≡ true → a ≡ true) → a ≡ b
+-- two truth values that follow from each other are the same
+pub iff_same : (a b : Bool) → (a ≡ true → b ≡ true) → (b ≡ true → a ≡ true) → a ≡ b
 iff_same true b to from = sym (to refl)
 iff_same false true to from = from refl
 iff_same false false to from = refl

@@ -1,7 +1,7 @@
 -- Blocks that are passed over: those from one number to another, where none of them is marked.
-use Rattle.std.proofs.Common.{◌≡◌, ℕ, zero, suc, ◌+◌, ◌-◌, ◌*◌, ◌/◌, ◌%◌, ◌<◌, ◌≤◌, List, take, length, get_or, inl, inr, Some, None, Option, Bool, false, refl, sym, ◌∙◌, ap, arith}
+use Rattle.std.proofs.Common.{◌≡◌, ℕ, zero, suc, ◌+◌, ◌-◌, ◌*◌, ◌/◌, ◌%◌, ◌<◌, ◌≤◌, List, take, length, get_or, inl, inr, Some, None, Option, Bool, true, false, refl, sym, ◌∙◌, ap, subst, arith}
 use Rattle.std.specs.Prelude.{slice_get, filter}
-use Rattle.std.proofs.lemmas.List.{append-nil}
+use Rattle.std.proofs.lemmas.List.{append-nil, take_all}
 use Rattle.std.proofs.Math.Nat.{mod-lt, div-lt_iff_lt-mul, div-mul-le_self, mod-eq-sub-div-mul}
 use Rattle.aea_lattice.specs.declared.blocks.BlockId.{BlockId}
 use Rattle.aea_lattice.specs.declared.blocks.Class.{Class}
@@ -9,7 +9,7 @@ use Rattle.aea_lattice.specs.declared.blocks.Class.TheVariants.{Datum, Horiz, Ri
 use Rattle.aea_lattice.specs.declared.grid.Lattice.{Lattice}
 use Rattle.aea_lattice.specs.Blocks.{HasBlock, class_number, block_of, number_of, blocks_count, blocks_of}
 use Rattle.aea_lattice.proofs.Numbers.{one_to_three, length-blocks_of, slice_get-blocks_of}
-use Rattle.aea_view.specs.Marked.{Marked, AreClear}
+use Rattle.aea_view.specs.Marked.{Marked, AreClear, IsNextMarked}
 use Rattle.aea_cli.specs.Drill.Marks.{AreMarks}
 use Rattle.aea_cli.proofs.Drilling.BlockLines.{filter-more, take-more, within_some}
 
@@ -89,3 +89,24 @@ passing-skip l m test from k are clear up within =
     sym (ap (λ n. filter test (take n (blocks_of l))) e)
     ∙ pass_over test (blocks_of l) from (k - from) (omega arith)
     (λ j x after below here. unlisted l m test from k j x are clear after (omega arith) (omega arith) here)
+
+-- the next marked block passes the test of the marks
+pub is_next : (l : Lattice) (m : Marked) (test : BlockId → Bool) (from k : ℕ) (b : BlockId) → AreMarks l m.marks test → IsNextMarked m from k → HasBlock l b → number_of l b ≡ k → test b ≡ true
+is_next l m test from k b are next inside number = sym (are b inside) ∙ ap (λ i. get_or m.marks i false) number ∙ next.marked
+
+-- the blocks up to it that pass
+pub up_to : (l : Lattice) (m : Marked) (test : BlockId → Bool) (from k : ℕ) → m.lattice ≡ l → AreMarks l m.marks test → IsNextMarked m from k
+    → filter test (take k (blocks_of l)) ≡ filter test (take from (blocks_of l))
+up_to l m test from k same are next =
+    let count = ap blocks_count same in
+    let below = next.inside in
+    passing-skip l m test from k are next.clear next.later (omega arith)
+
+-- all that pass, where no more is marked
+pub all_of : (l : Lattice) (m : Marked) (test : BlockId → Bool) (from : ℕ) → m.lattice ≡ l → AreMarks l m.marks test → AreClear m from (blocks_count m.lattice) → from ≤ blocks_count l
+    → filter test (take from (blocks_of l)) ≡ filter test (blocks_of l)
+all_of l m test from same are clear within =
+    let long = length-blocks_of l in
+    let whole : take (blocks_count l) (blocks_of l) ≡ blocks_of l = take_all (blocks_count l) (blocks_of l) (omega arith) in
+    let none : AreClear m from (blocks_count l) = subst (λ (x : Lattice). AreClear m from (blocks_count x)) same clear in
+    sym (passing-skip l m test from (blocks_count l) are none within (omega arith)) ∙ ap (filter test) whole

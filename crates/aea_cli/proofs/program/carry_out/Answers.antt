@@ -4,6 +4,7 @@ use Rattle.aea_cli.proofs.Stating.Running.{stat_runs}
 use Rattle.aea_cli.proofs.Putting.Running.{put_runs}
 use Rattle.aea_cli.proofs.Fencing.Running.{fence_runs}
 use Rattle.aea_cli.proofs.Upgrading.Running.{upgrade_runs}
+use Rattle.aea_cli.proofs.Scrubbing.Running.{scrub_runs}
 use Rattle.aea_cli.proofs.program.carry_out.Goals as goal
 
 pub returns-in-Drill-clause-runs : goal.returns-in-Drill-clause-runs
@@ -24,3 +25,6 @@ returns-in-Fence-clause-runs g c = rw c.in-Fence.is (fence_runs _ _ _ _ _ _ _ c.
 
 pub returns-in-Upgrade-clause-runs : goal.returns-in-Upgrade-clause-runs
 returns-in-Upgrade-clause-runs g c = rw c.in-Upgrade.is (upgrade_runs _ _ _ _ _ _ _ c.upgrade.ensures.upgrades c.upgrade.ensures.refuses c.upgrade.ensures.rest)
+
+pub returns-in-Scrub-clause-runs : goal.returns-in-Scrub-clause-runs
+returns-in-Scrub-clause-runs g c = rw c.in-Scrub.is (scrub_runs _ _ _ _ _ _ _ c.scrub.ensures.scrubs c.scrub.ensures.refuses)

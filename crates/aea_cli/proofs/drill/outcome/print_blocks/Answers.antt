@@ -1,16 +1,10 @@
-use Rattle.std.proofs.Common.{◌≡◌, ◌+◌, ◌≤◌, ℕ, Bool, true, false, cond, Err, refl, sym, ◌∙◌, ap, subst, get_or, take, drop, arith}
+use Rattle.std.proofs.Common.{◌≡◌, ◌+◌, ◌≤◌, ℕ, Bool, true, false, cond, Err, refl, ◌∙◌, ap, take, drop, arith}
 use Rattle.std.specs.Prelude.{not, filter}
 use Rattle.std.specs.List.{flat_map}
-use Rattle.std.proofs.lemmas.List.{take_all}
-use Rattle.aea_lattice.specs.declared.blocks.BlockId.{BlockId}
-use Rattle.aea_lattice.specs.declared.grid.Lattice.{Lattice}
-use Rattle.aea_lattice.specs.Blocks.{HasBlock, number_of, blocks_count, blocks_of}
-use Rattle.aea_lattice.proofs.Numbers.{length-blocks_of}
-use Rattle.aea_view.specs.Marked.{Marked, AreClear, IsNextMarked}
+use Rattle.aea_lattice.specs.Blocks.{blocks_count, blocks_of}
 use Rattle.aea_cli.specs.Drill.{line_of}
-use Rattle.aea_cli.specs.Drill.Marks.{AreMarks}
 use Rattle.aea_cli.proofs.Drilling.BlockLines.{lines-around, lines-more, counts-more, take-more, mark_is}
-use Rattle.aea_cli.proofs.Drilling.Skipping.{passing-skip}
+use Rattle.aea_cli.proofs.Drilling.Skipping.{is_next, up_to, all_of}
 use Rattle.aea_io.proofs.Printing.{prints_then, prints_stopped, prints_failed, prints_as}
 use Rattle.aea_cli.proofs.drill.outcome.print_blocks.Goals as goal
 
@@ -21,27 +15,6 @@ at_most_one false = omega arith
 turned : (b : Bool) → ◌≡◌ {A = ℕ} (cond b 0 1) (cond (not b) 1 0)
 turned true = refl
 turned false = refl
-
--- the next marked block passes the test of the marks
-is_next : (l : Lattice) (m : Marked) (test : BlockId → Bool) (from k : ℕ) (b : BlockId) → AreMarks l m.marks test → IsNextMarked m from k → HasBlock l b → number_of l b ≡ k → test b ≡ true
-is_next l m test from k b are next inside number = sym (are b inside) ∙ ap (λ i. get_or m.marks i false) number ∙ next.marked
-
--- the blocks up to it that pass
-up_to : (l : Lattice) (m : Marked) (test : BlockId → Bool) (from k : ℕ) → m.lattice ≡ l → AreMarks l m.marks test → IsNextMarked m from k
-    → filter test (take k (blocks_of l)) ≡ filter test (take from (blocks_of l))
-up_to l m test from k same are next =
-    let count = ap blocks_count same in
-    let below = next.inside in
-    passing-skip l m test from k are next.clear next.later (omega arith)
-
--- all that pass, where no more is marked
-all_of : (l : Lattice) (m : Marked) (test : BlockId → Bool) (from : ℕ) → m.lattice ≡ l → AreMarks l m.marks test → AreClear m from (blocks_count m.lattice) → from ≤ blocks_count l
-    → filter test (take from (blocks_of l)) ≡ filter test (blocks_of l)
-all_of l m test from same are clear within =
-    let long = length-blocks_of l in
-    let whole : take (blocks_count l) (blocks_of l) ≡ blocks_of l = take_all (blocks_count l) (blocks_of l) (omega arith) in
-    let none : AreClear m from (blocks_count l) = subst (λ (x : Lattice). AreClear m from (blocks_count x)) same clear in
-    sym (passing-skip l m test from (blocks_count l) are none within (omega arith)) ∙ ap (filter test) whole
 
 pub returns-in_err-print_listed-clause-prints : goal.returns-in_err-print_listed-clause-prints
 returns-in_err-print_listed-clause-prints g c is_listed is_reached listed reached =

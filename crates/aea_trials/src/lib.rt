@@ -15,4 +15,6 @@ mod examples;
 #[cfg(test)]
 mod faults;
 #[cfg(test)]
+mod scrubbing;
+#[cfg(test)]
 mod sizes;

@@ -1,7 +1,7 @@
 //! What the trials share.
 
-use aea_cli::{Status, run_surely};
-use aea_disk::SureDisk;
+use aea_cli::{Status, run, run_surely};
+use aea_disk::{Disk, SureDisk};
 use aea_io::{SureSink, SureSource};
 use aea_lattice::{BlockId, Class};
 use std::alloc::{AllocError, Global};
@@ -54,6 +54,48 @@ pub fn run_line(alloc: Global, line: &str, list: &[u8]) -> Result<Left, AllocErr
         err,
         unread,
     })
+}
+
+/// Runs the command of these words over this disk and input, with so much room on `out`.
+pub fn run_words<D: Disk>(
+    alloc: Global,
+    texts: &[&str],
+    disk: &mut D,
+    list: &[u8],
+    room: usize,
+) -> Result<Left, AllocError> {
+    let mut words = Vec::new(alloc);
+    for text in texts {
+        words.push(String::from_str(alloc, text)?)?;
+    }
+    let mut input = SureSource::new(list);
+    let mut out = SureSink::new(alloc, room)?;
+    let mut err = SureSink::new(alloc, 64)?;
+    let status = run(
+        alloc,
+        words.as_slice(),
+        disk,
+        &mut input,
+        &mut out,
+        &mut err,
+    );
+    let unread = input.rest.len();
+    Ok(Left {
+        status,
+        out,
+        err,
+        unread,
+    })
+}
+
+/// Runs `put` with this name over this disk and input.
+pub fn run_put<D: Disk>(
+    alloc: Global,
+    disk: &mut D,
+    name: &str,
+    bytes: &[u8],
+) -> Result<Left, AllocError> {
+    run_words(alloc, &["put", name], disk, bytes, 400)
 }
 
 // The letter of a class.

@@ -94,6 +94,11 @@ fn words_that_are_no_command_read_nothing(rt: HostRuntime) -> Result<(), Fail> {
         "create 2 3 2 64 4",
         "stat x",
         "Stat",
+        "put",
+        "put a b",
+        "Put a",
+        "puts a",
+        "pu a",
     ] {
         let left = run_line(rt.alloc(), line, b"d1\n")?;
         assert_eq!(rt; left.status, Status::Words, "{line}");

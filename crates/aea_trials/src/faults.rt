@@ -73,6 +73,8 @@ fn faults_give_their_statuses(rt: HostRuntime) -> Result<(), Fail> {
         ("drill 1 1 0 0", Faults { err_call: 2, ..NONE }, Status::Refused, "", "refused: bad block at line 1\n"),
         ("drill", Faults { read: 1, out_call: 1, ..NONE }, Status::Words, "", "words: no such command\n"),
         ("drill", Faults { err_call: 1, ..NONE }, Status::Words, "", ""),
+        ("put", Faults { read: 1, out_call: 1, ..NONE }, Status::Words, "", "words: no such command\n"),
+        ("put a", Faults { read: 1, out_call: 1, ..NONE }, Status::Refused, "", "refused: no archive\n"),
     ] {
         let left = run_failing(rt.alloc(), line, b"d1\nh1\n", faults)?;
         assert_eq!(rt; left.status, status, "{line} {faults:?}");

@@ -1,5 +1,6 @@
-//! Trials of the whole program and of its plans: the worked examples, archives, fences and raises of the limit, disks and
-//! streams that fail, damage lists of the greatest length, and damage by chance against the plain programs.
+//! Trials of the whole program and of its plans: the worked examples, archives, objects that are put and their blocks, fences
+//! and raises of the limit, disks and streams that fail, damage lists of the greatest length, and damage by chance against
+//! the plain programs.
 #![tactic(auto)]
 
 #[cfg(test)]
@@ -16,5 +17,10 @@ mod examples;
 mod faults;
 #[cfg(test)]
 mod scrubbing;
+mod putting;
 #[cfg(test)]
 mod sizes;
+#[cfg(test)]
+mod stopped;
+#[cfg(test)]
+mod woven;

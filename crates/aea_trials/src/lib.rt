@@ -16,8 +16,9 @@ mod examples;
 #[cfg(test)]
 mod faults;
 #[cfg(test)]
-mod scrubbing;
 mod putting;
+#[cfg(test)]
+mod scrubbing;
 #[cfg(test)]
 mod sizes;
 #[cfg(test)]

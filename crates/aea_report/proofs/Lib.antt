@@ -1,0 +1,13 @@
+mod Writes
+mod PrintedFits
+mod PrintedReports
+mod Splits
+mod Plain
+mod Readings
+mod Short
+mod Beginnings
+mod Decisions
+mod Heads
+mod Lines
+mod Following
+mod Judging

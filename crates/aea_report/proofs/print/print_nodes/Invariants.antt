@@ -1,0 +1,10 @@
+use Rattle.std.proofs.Common.{Ok, take}
+use Rattle.aea_io.specs.declared.traits.WriteFault.{WriteFault}
+use Rattle.aea_io.specs.Pages.{Prints}
+use Rattle.aea_report.specs.Format.{numbers_text}
+use Rattle.aea_report.proofs.print.print_nodes.Given as goal
+
+abbrev pub invariant-loop-k : goal.invariant-loop-k
+invariant-loop-k g l =
+    let O = g.O.Sink in
+    Prints {T = Unit {0}} {E = WriteFault} (O.state l.fn.out) l.fn.page (O.state l.out) l.page (Ok tt) (numbers_text (take l.k l.nodes))

@@ -1,0 +1,5 @@
+mod Blocks
+mod Payloads
+mod Checks
+mod Copies
+mod Getting

@@ -1,0 +1,69 @@
+use Rattle.std.proofs.Common.{◌≡◌, ℕ, suc, ◌+◌, ◌<◌, ◌≤◌, refl, sym, ◌∙◌, ap, subst, arith}
+use Rattle.std.specs.Prelude.{All, IsErr}
+use Rattle.std.proofs.lemmas.Bool.Decides.{nat_tests}
+use Rattle.std.proofs.lemmas.List.Elements.{All-nil}
+use Rattle.aea_lattice.specs.declared.blocks.BlockId.{BlockId}
+use Rattle.aea_lattice.specs.declared.blocks.Class.TheVariants.{Datum}
+use Rattle.aea_lattice.specs.Blocks.{block_of}
+use Rattle.aea_disk.specs.Files.{Files}
+use Rattle.aea_disk.proofs.Frames.{reads_none, reads_both, reads_as}
+use Rattle.aea_archive.specs.Blocks.{IsIntactBy}
+use Rattle.aea_fetch.specs.Objects.{data_from}
+use Rattle.aea_fetch.proofs.Checks.{intact_more, one_at, first_at}
+use Rattle.aea_fetch.proofs.check.check_part.Goals as goal
+
+pub loop-k-init : goal.loop-k-init
+loop-k-init g c = record {
+  within = omega arith;
+  buffer = c.requires.buffer;
+  intact = λ told. All-nil (IsIntactBy c.args.ledger.now.shape c.args.ledger.now.digests (g.D.Disk.state c.args.disk.now).files);
+  reads = reads_none g.D.Disk.tells ⊥ (g.D.Disk.state c.args.disk.now) (λ none. none);
+}
+
+pub returns-in-Ok-Bad-clause-found : goal.returns-in-Ok-Bad-clause-found
+returns-in-Ok-Bad-clause-found g c =
+    let v = c.args.ledger.now in
+    let old = g.D.Disk.state c.args.disk.now in
+    let first = c.args.part.first in
+    let k = c.loop-k.k in
+    let below : k < c.args.part.count = grind (arith, nat_tests, c.loop-k-test.true) in (
+      one_at v.shape v.digests old.files first k c.args.part.count below,
+      λ told.
+          first_at v.shape v.digests old.files first k c.args.part.count below (c.loop-k.invariant.intact told)
+          (subst (λ (f : Files). IsIntactBy v.shape v.digests f (block_of (first + k) Datum) → ⊥) (c.loop-k.invariant.reads.contents told) ((c.in-Ok-Bad.ensures.bad told).0 c.in-Ok-Bad.field-0-is)),
+    )
+
+pub returns-in-Ok-Bad-clause-reads : goal.returns-in-Ok-Bad-clause-reads
+returns-in-Ok-Bad-clause-reads g c =
+    reads_as g.D.Disk.tells (IsErr c.read_block.result) _ (g.D.Disk.state c.args.disk.now) (g.D.Disk.state c.read_block.new.disk) (λ is. let e = is in cc)
+    (reads_both g.D.Disk.tells ⊥ (IsErr c.read_block.result) (g.D.Disk.state c.args.disk.now) (g.D.Disk.state c.loop-k.disk) (g.D.Disk.state c.read_block.new.disk) c.loop-k.invariant.reads c.read_block.ensures.reads)
+
+pub returns-in-Err-clause-reads : goal.returns-in-Err-clause-reads
+returns-in-Err-clause-reads g c =
+    reads_as g.D.Disk.tells (IsErr c.read_block.result) _ (g.D.Disk.state c.args.disk.now) (g.D.Disk.state c.read_block.new.disk) (λ is. subst IsErr (sym c.in-Err.is) refl)
+    (reads_both g.D.Disk.tells ⊥ (IsErr c.read_block.result) (g.D.Disk.state c.args.disk.now) (g.D.Disk.state c.loop-k.disk) (g.D.Disk.state c.read_block.new.disk) c.loop-k.invariant.reads c.read_block.ensures.reads)
+
+pub loop-k-preserved : goal.loop-k-preserved
+loop-k-preserved g c =
+    let v = c.args.ledger.now in
+    let old = g.D.Disk.state c.args.disk.now in
+    let first = c.args.part.first in
+    let k = c.loop-k.k in
+    let below : k < c.args.part.count = grind (arith, nat_tests, c.loop-k-test.true) in
+    let next : suc k ≡ k + 1 = omega arith in
+    record {
+      within = omega (arith, below);
+      buffer = c.read_block.auto.cell ∙ c.loop-k.invariant.buffer;
+      intact = λ told.
+          subst (λ (n : ℕ). All (IsIntactBy v.shape v.digests old.files) (data_from first n)) next
+          (intact_more (IsIntactBy v.shape v.digests old.files) first k (c.loop-k.invariant.intact told)
+          (subst (λ (f : Files). IsIntactBy v.shape v.digests f (block_of (first + k) Datum)) (c.loop-k.invariant.reads.contents told) ((c.in-Ok-Intact.ensures.intact told).0 c.in-Ok-Intact.field-0-is)));
+      reads = reads_as g.D.Disk.tells (IsErr c.read_block.result) ⊥ old (g.D.Disk.state c.read_block.new.disk) (λ none. absurd none)
+          (reads_both g.D.Disk.tells ⊥ (IsErr c.read_block.result) old (g.D.Disk.state c.loop-k.disk) (g.D.Disk.state c.read_block.new.disk) c.loop-k.invariant.reads c.read_block.ensures.reads);
+    }
+
+pub returns-clause-found : goal.returns-clause-found
+returns-clause-found g c told =
+    let past : c.args.part.count ≤ c.loop-k.k = grind (arith, nat_tests, c.loop-k-test.false) in
+    let all : c.loop-k.k ≡ c.args.part.count = let w = c.loop-k.invariant.within in omega (arith, past, w) in
+    subst (λ (n : ℕ). All (IsIntactBy c.args.ledger.now.shape c.args.ledger.now.digests (g.D.Disk.state c.args.disk.now).files) (data_from c.args.part.first n)) all (c.loop-k.invariant.intact told)

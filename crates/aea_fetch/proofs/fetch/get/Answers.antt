@@ -1,0 +1,191 @@
+use Rattle.std.proofs.Common.{◌≡◌, ◌⊎◌, inl, inr, ℕ, ◌≤◌, List, [], length, take, refl, sym, ◌∙◌, ap, subst, arith, Some, None, Option, Ok, Err}
+use Rattle.std.specs.Prelude.{All, option_map, IsErr, IfErr}
+use Rattle.std.specs.FinMap.{get}
+use Rattle.aea_catalog.specs.Catalogs.{Placed, Objects}
+use Rattle.aea_lattice.specs.declared.blocks.BlockId.{BlockId}
+use Rattle.aea_disk.specs.Files.{Files}
+use Rattle.aea_disk.specs.Frames.{OnlyReads}
+use Rattle.aea_disk.proofs.Frames.{reads_none, reads_both, reads_as}
+use Rattle.aea_archive.specs.Blocks.{IsIntactBy}
+use Rattle.aea_fetch.specs.Objects.{data_of, IsFirstDamaged, ArePayloads, joined}
+use Rattle.aea_fetch.specs.Gets.{IsFound, HasSent, HasBroken, IsCopyFault}
+use Rattle.aea_fetch.specs.declared.fault.GetFault.{GetFault}
+use Rattle.aea_fetch.specs.declared.fault.GetFault.TheVariants.{Damaged, WriteFault, DiskFault, UnknownName, NoMemory}
+use Rattle.aea_fetch.proofs.Blocks.{same_placed}
+use Rattle.aea_fetch.proofs.Copies.{broken_at, sent_at}
+use Rattle.aea_fetch.proofs.Getting.{none_first, none_of, one_first, placed_of, long_enough, most_bytes}
+use Rattle.aea_fetch.proofs.fetch.get.Goals as goal
+
+pub returns-in_default-clause-reads : goal.returns-in_default-clause-reads
+returns-in_default-clause-reads g c = reads_none g.D.Disk.tells _ (g.D.Disk.state c.args.disk.now) (λ is. let e = is in cc)
+
+pub returns-in_default-cell_buffer-clause-reads : goal.returns-in_default-cell_buffer-clause-reads
+returns-in_default-cell_buffer-clause-reads g c = reads_none g.D.Disk.tells _ (g.D.Disk.state c.args.disk.now) (λ is. let e = is in cc)
+
+pub returns-in_default-new-clause-reads : goal.returns-in_default-new-clause-reads
+returns-in_default-new-clause-reads g c = reads_none g.D.Disk.tells _ (g.D.Disk.state c.args.disk.now) (λ is. let e = is in cc)
+
+pub returns-in-Ok-Some-clause-damage_refused : goal.returns-in-Ok-Some-clause-damage_refused
+returns-in-Ok-Some-clause-damage_refused g c told p b is first =
+    let v = c.args.ledger.now in
+    let old = g.D.Disk.state c.args.disk.now in
+    let found = subst (IsFound g.D.Disk.tells v.shape v.digests old.files (data_of p.parts)) c.in-Ok-Some.field-0-is (c.in-Ok-Some.ensures.found p is) in
+    let same : c.in-Ok-Some.block ≡ b = one_first v.shape v.digests old.files (data_of p.parts) c.in-Ok-Some.block b (found.1 told) first in
+    inl (ap (λ (x : BlockId). Err (Damaged x)) same)
+
+pub returns-in-Ok-Some-clause-complete : goal.returns-in-Ok-Some-clause-complete
+returns-in-Ok-Some-clause-complete g c told p is all =
+    let v = c.args.ledger.now in
+    let old = g.D.Disk.state c.args.disk.now in
+    let found = subst (IsFound g.D.Disk.tells v.shape v.digests old.files (data_of p.parts)) c.in-Ok-Some.field-0-is (c.in-Ok-Some.ensures.found p is) in
+    absurd (none_first v.shape v.digests old.files (data_of p.parts) c.in-Ok-Some.block all (found.1 told))
+
+pub returns-in-Ok-send_object-clause-got : goal.returns-in-Ok-send_object-clause-got
+returns-in-Ok-send_object-clause-got g c =
+    let v = c.args.ledger.now in
+    let name = c.args.name.now in
+    let tells = g.D.Disk.tells in
+    let old = g.D.Disk.state c.args.disk.now in
+    let mid = g.D.Disk.state c.check_parts.new.disk in
+    let object = c.in-Some.object in
+    let placed = placed_of (get v.objects name) object (sym (ap (λ (m : Objects). option_map (λ p. p.object) (get m name)) c.catalog.ensures.objects) ∙ sym c.find.ensures ∙ c.in-Some.is) in
+    let lies = c.catalog.ensures.within name placed.0 (ap (λ (m : Objects). get m name) c.catalog.ensures.objects ∙ placed.1) in
+    let length_is : object.length ≡ placed.0.object.length = ap (λ o. o.length) (sym placed.2) in
+    let sent = sent_at tells v.shape v.digests mid.files old.files (data_of placed.0.parts) object.length (g.O.Sink.state c.args.out.now) (g.O.Sink.state c.send_object.new.out) (c.check_parts.ensures.reads.contents) (c.in-Ok-send_object.ensures.sent placed.0 placed.1) in
+    let cut = subst (λ (n : ℕ). HasSent tells v.shape v.digests old.files (data_of placed.0.parts) n (g.O.Sink.state c.args.out.now) (g.O.Sink.state c.send_object.new.out)) length_is sent in
+    (placed.0, placed.1, length_is, record { payloads = cut.payloads; are = cut.are; long = long_enough tells v.shape v.digests old.files placed.0 cut.payloads cut.are lies.sum lies.count; appended = cut.appended })
+
+pub returns-in-Ok-send_object-clause-damage_refused : goal.returns-in-Ok-send_object-clause-damage_refused
+returns-in-Ok-send_object-clause-damage_refused g c told p b is first =
+    let v = c.args.ledger.now in
+    let old = g.D.Disk.state c.args.disk.now in
+    let none = subst (IsFound g.D.Disk.tells v.shape v.digests old.files (data_of p.parts)) c.in-Ok-None.field-0-is (c.in-Ok-None.ensures.found p is) in
+    absurd (none_first v.shape v.digests old.files (data_of p.parts) b (none told) first)
+
+pub returns-in-Ok-send_object-clause-reads : goal.returns-in-Ok-send_object-clause-reads
+returns-in-Ok-send_object-clause-reads g c =
+    let mine = c.send_object.result ≡ Err DiskFault in
+    reads_as g.D.Disk.tells mine _ (g.D.Disk.state c.args.disk.now) (g.D.Disk.state c.send_object.new.disk) (λ is. let e = is in cc)
+    (reads_both g.D.Disk.tells (IsErr c.check_parts.result) mine (g.D.Disk.state c.args.disk.now) (g.D.Disk.state c.check_parts.new.disk) (g.D.Disk.state c.send_object.new.disk) c.check_parts.ensures.reads c.send_object.ensures.reads)
+
+pub returns-in-Ok-send_object-clause-out_kept : goal.returns-in-Ok-send_object-clause-out_kept
+returns-in-Ok-send_object-clause-out_kept g c =
+    let v = c.args.ledger.now in
+    let name = c.args.name.now in
+    let tells = g.D.Disk.tells in
+    let old = g.D.Disk.state c.args.disk.now in
+    let mid = g.D.Disk.state c.check_parts.new.disk in
+    let object = c.in-Some.object in
+    let placed = placed_of (get v.objects name) object (sym (ap (λ (m : Objects). option_map (λ p. p.object) (get m name)) c.catalog.ensures.objects) ∙ sym c.find.ensures ∙ c.in-Some.is) in
+    (c.in-Ok-send_object.ensures.sent placed.0 placed.1).kept
+
+pub returns-in-Ok-send_object-clause-in_room : goal.returns-in-Ok-send_object-clause-in_room
+returns-in-Ok-send_object-clause-in_room g c p room is told enough =
+    let v = c.args.ledger.now in
+    let name = c.args.name.now in
+    let tells = g.D.Disk.tells in
+    let old = g.D.Disk.state c.args.disk.now in
+    let mid = g.D.Disk.state c.check_parts.new.disk in
+    let object = c.in-Some.object in
+    let placed = placed_of (get v.objects name) object (sym (ap (λ (m : Objects). option_map (λ p. p.object) (get m name)) c.catalog.ensures.objects) ∙ sym c.find.ensures ∙ c.in-Some.is) in
+    let is_placed : (p : Placed) → get v.objects name ≡ Some p → p ≡ placed.0 = λ p is. same_placed (get v.objects name) p placed.0 is placed.1 in
+    let sent = c.in-Ok-send_object.ensures.sent placed.0 placed.1 in
+    let size : p.object.length ≡ object.length = ap (λ (q : Placed). q.object.length) (is_placed p is) ∙ ap (λ o. o.length) placed.2 in
+    let most = most_bytes object.length sent.payloads in
+    ((λ e. let h = e in cc), sent.steady room told (omega (arith, most, size, enough)))
+
+pub returns-clause-damaged : goal.returns-clause-damaged
+returns-clause-damaged g c b e =
+    let v = c.args.ledger.now in
+    let name = c.args.name.now in
+    let tells = g.D.Disk.tells in
+    let old = g.D.Disk.state c.args.disk.now in
+    let mid = g.D.Disk.state c.check_parts.new.disk in
+    let object = c.in-Some.object in
+    let placed = placed_of (get v.objects name) object (sym (ap (λ (m : Objects). option_map (λ p. p.object) (get m name)) c.catalog.ensures.objects) ∙ sym c.find.ensures ∙ c.in-Some.is) in
+    let none : IsFound tells v.shape v.digests old.files (data_of placed.0.parts) None = subst (IsFound tells v.shape v.digests old.files (data_of placed.0.parts)) c.in-Ok-None.field-0-is (c.in-Ok-None.ensures.found placed.0 placed.1) in
+    let fault : c.in-Err-send_object.fault ≡ Damaged b = (let h = e in cc) in
+    let broken = broken_at tells v.shape v.digests mid.files old.files (data_of placed.0.parts) object.length (g.O.Sink.state c.args.out.now) (g.O.Sink.state c.send_object.new.out) [] c.in-Err-send_object.fault (c.check_parts.ensures.reads.contents) (c.in-Err-send_object.ensures.broken placed.0 placed.1) in
+    let both = broken.damaged b fault in
+    (placed.0, placed.1, both.0, λ told. absurd (none_of v.shape v.digests old.files (data_of placed.0.parts) b (none told) both.0 (both.1 told)))
+
+pub returns-clause-damage_refused : goal.returns-clause-damage_refused
+returns-clause-damage_refused g c told p b is first =
+    let v = c.args.ledger.now in
+    let old = g.D.Disk.state c.args.disk.now in
+    let none = subst (IsFound g.D.Disk.tells v.shape v.digests old.files (data_of p.parts)) c.in-Ok-None.field-0-is (c.in-Ok-None.ensures.found p is) in
+    absurd (none_first v.shape v.digests old.files (data_of p.parts) b (none told) first)
+
+pub returns-clause-complete : goal.returns-clause-complete
+returns-clause-complete g c told p is all =
+    let v = c.args.ledger.now in
+    let tells = g.D.Disk.tells in
+    let old = g.D.Disk.state c.args.disk.now in
+    let mid = g.D.Disk.state c.check_parts.new.disk in
+    let f = c.in-Err-send_object.fault in
+    elim c.in-Err-send_object.ensures.faults [
+      | inl found ↦
+          let broken = broken_at tells v.shape v.digests mid.files old.files (data_of p.parts) c.in-Some.object.length (g.O.Sink.state c.args.out.now) (g.O.Sink.state c.send_object.new.out) [] f (c.check_parts.ensures.reads.contents) (c.in-Err-send_object.ensures.broken p is) in
+          let both = broken.damaged found.0 found.1 in
+          absurd (none_of v.shape v.digests old.files (data_of p.parts) found.0 all both.0 (both.1 told))
+      | inr (inl e) ↦ inr (inl (ap Err e))
+      | inr (inr e) ↦ inr (inr (inl (ap Err e)))
+    ]
+
+pub returns-clause-part : goal.returns-clause-part
+returns-clause-part g c p is =
+    let v = c.args.ledger.now in
+    let name = c.args.name.now in
+    let tells = g.D.Disk.tells in
+    let old = g.D.Disk.state c.args.disk.now in
+    let mid = g.D.Disk.state c.check_parts.new.disk in
+    let object = c.in-Some.object in
+    let placed = placed_of (get v.objects name) object (sym (ap (λ (m : Objects). option_map (λ p. p.object) (get m name)) c.catalog.ensures.objects) ∙ sym c.find.ensures ∙ c.in-Some.is) in
+    let is_placed : (p : Placed) → get v.objects name ≡ Some p → p ≡ placed.0 = λ p is. same_placed (get v.objects name) p placed.0 is placed.1 in
+    let size : object.length ≡ p.object.length = sym (ap (λ (q : Placed). q.object.length) (is_placed p is) ∙ ap (λ o. o.length) placed.2) in
+    inr (subst (λ (n : ℕ). HasBroken tells v.shape v.digests old.files (data_of p.parts) n (g.O.Sink.state c.args.out.now) [] (g.O.Sink.state c.send_object.new.out) c.in-Err-send_object.fault) size
+    (broken_at tells v.shape v.digests mid.files old.files (data_of p.parts) object.length (g.O.Sink.state c.args.out.now) (g.O.Sink.state c.send_object.new.out) [] c.in-Err-send_object.fault (c.check_parts.ensures.reads.contents) (c.in-Err-send_object.ensures.broken p is)))
+
+pub returns-clause-reads : goal.returns-clause-reads
+returns-clause-reads g c =
+    let mine = c.send_object.result ≡ Err DiskFault in
+    reads_as g.D.Disk.tells mine _ (g.D.Disk.state c.args.disk.now) (g.D.Disk.state c.send_object.new.disk) (λ is. c.in-Err-send_object.is ∙ (let h : c.in-Err-send_object.fault ≡ DiskFault = (let e = is in cc) in ap Err h))
+    (reads_both g.D.Disk.tells (IsErr c.check_parts.result) mine (g.D.Disk.state c.args.disk.now) (g.D.Disk.state c.check_parts.new.disk) (g.D.Disk.state c.send_object.new.disk) c.check_parts.ensures.reads c.send_object.ensures.reads)
+
+pub returns-clause-out_kept : goal.returns-clause-out_kept
+returns-clause-out_kept g c =
+    let v = c.args.ledger.now in
+    let name = c.args.name.now in
+    let tells = g.D.Disk.tells in
+    let old = g.D.Disk.state c.args.disk.now in
+    let mid = g.D.Disk.state c.check_parts.new.disk in
+    let object = c.in-Some.object in
+    let placed = placed_of (get v.objects name) object (sym (ap (λ (m : Objects). option_map (λ p. p.object) (get m name)) c.catalog.ensures.objects) ∙ sym c.find.ensures ∙ c.in-Some.is) in
+    (c.in-Err-send_object.ensures.broken placed.0 placed.1).kept
+
+pub returns-clause-out_cause : goal.returns-clause-out_cause
+returns-clause-out_cause g c e =
+    let v = c.args.ledger.now in
+    let name = c.args.name.now in
+    let tells = g.D.Disk.tells in
+    let old = g.D.Disk.state c.args.disk.now in
+    let mid = g.D.Disk.state c.check_parts.new.disk in
+    let object = c.in-Some.object in
+    let placed = placed_of (get v.objects name) object (sym (ap (λ (m : Objects). option_map (λ p. p.object) (get m name)) c.catalog.ensures.objects) ∙ sym c.find.ensures ∙ c.in-Some.is) in
+    (c.in-Err-send_object.ensures.broken placed.0 placed.1).cause (let h = e in cc)
+
+pub returns-clause-in_room : goal.returns-clause-in_room
+returns-clause-in_room g c p room is told enough =
+    let v = c.args.ledger.now in
+    let name = c.args.name.now in
+    let tells = g.D.Disk.tells in
+    let old = g.D.Disk.state c.args.disk.now in
+    let mid = g.D.Disk.state c.check_parts.new.disk in
+    let object = c.in-Some.object in
+    let placed = placed_of (get v.objects name) object (sym (ap (λ (m : Objects). option_map (λ p. p.object) (get m name)) c.catalog.ensures.objects) ∙ sym c.find.ensures ∙ c.in-Some.is) in
+    let is_placed : (p : Placed) → get v.objects name ≡ Some p → p ≡ placed.0 = λ p is. same_placed (get v.objects name) p placed.0 is placed.1 in
+    let broken = c.in-Err-send_object.ensures.broken placed.0 placed.1 in
+    let size : p.object.length ≡ object.length = ap (λ (q : Placed). q.object.length) (is_placed p is) ∙ ap (λ o. o.length) placed.2 in
+    let most = most_bytes object.length broken.payloads in
+    let fits = broken.fits room told (omega (arith, most, size, enough)) in
+    (λ e. fits.0 (let h = e in cc), fits.1)

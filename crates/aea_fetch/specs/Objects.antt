@@ -1,0 +1,67 @@
+-- The data blocks of an object in its parts, which of them are intact, and the bytes that they have.
+use Rattle.std.specs.Prelude.{◌≡◌, ℕ, zero, suc, List, [], ◌∷◌, ◌++◌, length, take, All}
+use Rattle.std.specs.List.{flat_map}
+use Rattle.aea_lattice.specs.declared.blocks.BlockId.{BlockId}
+use Rattle.aea_lattice.specs.declared.blocks.Class.TheVariants.{Datum}
+use Rattle.aea_lattice.specs.declared.shape.Shape.{Shape}
+use Rattle.aea_lattice.specs.Blocks.{block_of}
+use Rattle.aea_catalog.specs.declared.objects.Extent.{Extent}
+use Rattle.aea_envelope.specs.Cells.{block_digest}
+use Rattle.aea_disk.specs.Files.{Files}
+use Rattle.aea_shelf.specs.Places.{home_bytes}
+use Rattle.aea_shelf.specs.Intact.{payload_in}
+use Rattle.aea_archive.specs.Blocks.{recorded_in, IsIntactBy}
+
+-- the data blocks of so many nodes from this one on, in order
+abbrev pub data_from : ℕ → ℕ → List BlockId
+data_from first zero = []
+data_from first (suc n) = block_of first Datum ∷ data_from (suc first) n
+
+-- the data blocks of a part
+abbrev pub data_in : Extent → List BlockId
+data_in e = data_from e.first e.count
+
+-- those of several parts, one part after the other
+abbrev pub data_of : List Extent → List BlockId
+data_of parts = flat_map data_in parts
+
+-- what stands at a block's home in the place of its payload
+abbrev pub payload_at : Shape → Files → BlockId → List ℕ
+payload_at shape c b = payload_in shape (home_bytes shape b c)
+
+-- A payload of the block: it has the bytes of a block, and the digest that is kept of it; and where the disk tells, it is what
+-- stands at the home.
+pub record IsPayload (tells : Type 0) (shape : Shape) (digests : List (List ℕ)) (c : Files) (b : BlockId) (payload : List ℕ) : Type 0 where
+  pub wide : length payload ≡ shape.block
+  pub digest : block_digest b payload ≡ recorded_in shape digests b
+  pub home : tells → payload ≡ payload_at shape c b
+
+-- payloads of the blocks, one of each, in order
+abbrev pub ArePayloads : Type 0 → Shape → List (List ℕ) → Files → List BlockId → List (List ℕ) → Type 0
+ArePayloads tells shape digests c [] [] = Unit {0}
+ArePayloads tells shape digests c [] (p ∷ ps) = ⊥
+ArePayloads tells shape digests c (b ∷ bs) [] = ⊥
+ArePayloads tells shape digests c (b ∷ bs) (p ∷ ps) = IsPayload tells shape digests c b p × ArePayloads tells shape digests c bs ps
+
+-- payloads one after the other
+abbrev pub joined : List (List ℕ) → List ℕ
+joined payloads = flat_map (λ p. p) payloads
+
+-- the block is one of these
+pub record IsOneOf (blocks : List BlockId) (b : BlockId) : Type 0 where
+  pub before : List BlockId
+  pub after : List BlockId
+  pub are : blocks ≡ before ++ b ∷ after
+
+-- the first one of the blocks that is not intact
+pub record IsFirstDamaged (shape : Shape) (digests : List (List ℕ)) (c : Files) (blocks : List BlockId) (b : BlockId) : Type 0 where
+  pub before : List BlockId
+  pub after : List BlockId
+  pub are : blocks ≡ before ++ b ∷ after
+  pub intact : All (IsIntactBy shape digests c) before
+  pub damaged : IsIntactBy shape digests c b → ⊥
+
+-- some of the blocks, from the first one on
+pub record IsFront (front blocks : List BlockId) : Type 0 where
+  pub after : List BlockId
+  pub are : blocks ≡ front ++ after

@@ -1,0 +1,128 @@
+//! An object that is got.
+
+ghost use Rattle.std.specs.Prelude.{◌≡◌, ◌⊎◌, ◌↔◌, ◌≤◌, ℕ, List, length, take, None, Some, All, [], Err, IfOk, OnOk, IsOk, IsErr, IfErr};
+ghost use Rattle.std.specs.FinMap.{get};
+ghost use Rattle.aea_faults.specs.Faults.{Rose};
+ghost use Rattle.aea_io.specs.Written.{IsFlushed};
+ghost use Rattle.aea_lattice.specs.declared.blocks.BlockId.{BlockId};
+ghost use Rattle.aea_disk.specs.Frames.{OnlyReads};
+ghost use Rattle.aea_shelf.specs.Places.{cell_size};
+ghost use Rattle.aea_catalog.specs.Catalogs.{Placed};
+ghost use Rattle.aea_archive.specs.Blocks.{IsIntactBy};
+ghost use Rattle.aea_fetch.specs.Objects.{data_of, IsOneOf, IsFirstDamaged};
+ghost use Rattle.aea_fetch.specs.Gets.{HasGot, HasSent, HasBroken, IsCopyFault, IsOutside};
+
+use crate::check::check_parts;
+use crate::copy::copy_parts;
+use crate::fault::GetFault;
+use crate::sheet::{Sheet, finish_on};
+use aea_disk::Disk;
+use aea_io::Sink;
+use aea_ledger::Ledger;
+use std::alloc::{AllocError, Global};
+
+// The buffer of a cell.
+fn cell_buffer(alloc: Global, ledger: &Ledger) -> Result<Vec<u8>, AllocError>
+    ensures { IfOk result (λ cell. length cell.items ≡ cell_size ledger.now.shape) }
+{
+    let size = ledger.shape().block() as usize;
+    vec![in alloc; 0; size + 48]
+}
+
+// Appends the payloads of the object's data blocks, cut to so many bytes, through a sheet without bytes, and flushes all.
+fn send_object<D: Disk, O: Sink>(
+    disk: &mut D,
+    ledger: &Ledger,
+    name: &[u8],
+    most: u64,
+    cell: &mut [u8],
+    sheet: &mut Sheet,
+    out: &mut O,
+) -> Result<(), GetFault>
+    requires buffer { length cell.old ≡ cell_size ledger.now.shape }
+    requires empty { sheet.old ≡ [] }
+    ensures sent { OnOk result ((p : Placed) → get ledger.now.objects name.now ≡ Some p → HasSent D.tells ledger.now.shape ledger.now.digests (D.state disk.old).files (data_of p.parts) most (O.state out.old) (O.state out.new)) }
+    ensures broken { IfErr result (λ fault. (p : Placed) → get ledger.now.objects name.now ≡ Some p → HasBroken D.tells ledger.now.shape ledger.now.digests (D.state disk.old).files (data_of p.parts) most (O.state out.old) [] (O.state out.new) fault) }
+    ensures faults { IfErr result IsCopyFault }
+    ensures flushed { OnOk result (IsFlushed (O.state out.new)) }
+    ensures reads { OnlyReads D.tells (result ≡ Err GetFault.DiskFault) (D.state disk.old) (D.state disk.new) }
+{
+    match copy_parts(disk, ledger, name, most, cell, sheet, out) {
+        Ok(()) => (),
+        Err(fault) => return Err(fault),
+    }
+    match finish_on(out, sheet) {
+        Ok(()) => Ok(()),
+        Err(_) => Err(GetFault::WriteFault),
+    }
+}
+
+/// Appends the bytes of the object under the name, without padding, and answers how many. A first pass reads all cells of its
+/// data blocks, in the order of its parts, and writes nothing; a second one reads them again, and appends their payloads in
+/// pieces of 64 KiB, and flushes. It takes memory for a cell, B + 48 bytes, and for one such piece, both before the first read;
+/// none after it. A block that was intact in the first pass and is not in the second, which never comes over a disk that tells
+/// its contents, is damaged too.
+pub fn get<D: Disk, O: Sink>(
+    alloc: Global,
+    ledger: &Ledger,
+    disk: &mut D,
+    name: &[u8],
+    out: &mut O,
+) -> Result<u64, GetFault>
+    // Got.
+    ensures got { IfOk result (λ n. (p : Placed) × (get ledger.now.objects name.now ≡ Some p) × (n ≡ p.object.length)
+        × HasGot D.tells ledger.now.shape ledger.now.digests (D.state disk.old).files p (O.state out.old) (O.state out.new)) }
+    ensures flushed { OnOk result (IsFlushed (O.state out.new)) }
+
+    // No object has the name.
+    ensures unknown { (result ≡ Err GetFault.UnknownName) ↔ (get ledger.now.objects name.now ≡ None) }
+
+    // A data block is damaged: the first one, found before anything is written.
+    ensures damaged { (b : BlockId) → result ≡ Err (GetFault.Damaged b) → (p : Placed) × (get ledger.now.objects name.now ≡ Some p) × IsOneOf (data_of p.parts) b
+        × (D.tells → IsFirstDamaged ledger.now.shape ledger.now.digests (D.state disk.old).files (data_of p.parts) b × (out.new ≡ out.old)) }
+    ensures damage_refused { D.tells → (p : Placed) (b : BlockId) → get ledger.now.objects name.now ≡ Some p → IsFirstDamaged ledger.now.shape ledger.now.digests (D.state disk.old).files (data_of p.parts) b
+        → (result ≡ Err (GetFault.Damaged b)) ⊎ IsOutside result }
+
+    // Where all data blocks are intact it is got, but for faults and want of memory.
+    ensures complete { D.tells → (p : Placed) → get ledger.now.objects name.now ≡ Some p → All (IsIntactBy ledger.now.shape ledger.now.digests (D.state disk.old).files) (data_of p.parts)
+        → IsOk result ⊎ ((result ≡ Err GetFault.WriteFault) ⊎ IsOutside result) }
+
+    // What was appended where it was not got: nothing, or where the second pass was cut short a first part.
+    ensures unused { (result ≡ Err GetFault.UnknownName) ⊎ (result ≡ Err GetFault.NoMemory) → (out.new ≡ out.old) × (disk.new ≡ disk.old) }
+    ensures part { IfErr result (λ fault. (p : Placed) → get ledger.now.objects name.now ≡ Some p
+        → (out.new ≡ out.old) ⊎ HasBroken D.tells ledger.now.shape ledger.now.digests (D.state disk.old).files (data_of p.parts) p.object.length (O.state out.old) [] (O.state out.new) fault) }
+
+    // The disk is only read, and when the disk and the sink are at fault.
+    ensures reads { OnlyReads D.tells (result ≡ Err GetFault.DiskFault) (D.state disk.old) (D.state disk.new) }
+    ensures out_kept { (O.state out.old).faults ≤ (O.state out.new).faults }
+    ensures out_cause { result ≡ Err GetFault.WriteFault → Rose (O.state out.old).faults (O.state out.new).faults }
+    ensures in_room { (p : Placed) (room : ℕ) → get ledger.now.objects name.now ≡ Some p → (O.state out.old).room ≡ Some room → p.object.length ≤ room
+        → (result ≡ Err GetFault.WriteFault → ⊥) × ((O.state out.new).faults ≡ (O.state out.old).faults) }
+{
+    let Some(object) = ledger.catalog().find(name) else {
+        return Err(GetFault::UnknownName);
+    };
+    let Ok(mut cell) = cell_buffer(alloc, ledger) else {
+        return Err(GetFault::NoMemory);
+    };
+    let Ok(mut sheet) = Sheet::new(alloc) else {
+        return Err(GetFault::NoMemory);
+    };
+    match check_parts(disk, ledger, name, cell.as_mut_slice()) {
+        Ok(None) => (),
+        Ok(Some(block)) => return Err(GetFault::Damaged { block }),
+        Err(_) => return Err(GetFault::DiskFault),
+    }
+    match send_object(
+        disk,
+        ledger,
+        name,
+        object.length,
+        cell.as_mut_slice(),
+        &mut sheet,
+        out,
+    ) {
+        Ok(()) => Ok(object.length),
+        Err(fault) => Err(fault),
+    }
+}

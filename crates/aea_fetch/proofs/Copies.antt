@@ -115,7 +115,7 @@ module _ (tells : Type 0) (shape : Shape) (digests : List (List ℕ)) (c d : Fil
   payloads_at same [] (p ∷ ps) are = absurd are
   payloads_at same (b ∷ bs) [] are = absurd are
   payloads_at same (b ∷ bs) (p ∷ ps) are = (
-    record { wide = are.0.wide; digest = are.0.digest; home = λ told. are.0.home told ∙ ap (λ (f : Files). payload_at shape f b) (same told) },
+    record { wide = are.0.wide; digest = are.0.digest; home = λ told. are.0.home told ∙ ap (λ (f : Files). payload_at shape f b) (same told); intact = λ told. subst (λ (f : Files). IsIntactBy shape digests f b) (same told) (are.0.intact told) },
     payloads_at same bs ps are.1,
   )
 

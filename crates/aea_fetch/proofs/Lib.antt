@@ -3,3 +3,4 @@ mod Payloads
 mod Checks
 mod Copies
 mod Getting
+mod Owns

@@ -11,7 +11,7 @@ use Rattle.aea_shelf.specs.Places.{HasAtHome, home_bytes, home_file, home_place}
 use Rattle.aea_envelope.specs.Cells.{block_digest}
 use Rattle.std.proofs.lemmas.Bool.Decides.{nat_tests}
 use Rattle.aea_shelf.specs.Intact.{payload_in}
-use Rattle.aea_archive.specs.Blocks.{recorded_in}
+use Rattle.aea_archive.specs.Blocks.{recorded_in, IsIntactBy}
 
 -- payloads of some blocks, and of others behind them
 pub payloads_append : (tells : Type 0) (shape : Shape) (digests : List (List ℕ)) (c : Files) (bs cs : List BlockId) (ps qs : List (List ℕ)) → ArePayloads tells shape digests c bs ps → ArePayloads tells shape digests c cs qs → ArePayloads tells shape digests c (bs ++ cs) (ps ++ qs)
@@ -57,12 +57,13 @@ home_is : (shape : Shape) (b : BlockId) (cell : List ℕ) (c : Files) → length
 home_is shape b cell c long at = sym at ∙ ap (λ (n : ℕ). take n (drop (home_place shape b) (c (home_file shape b)))) long
 
 -- it is a payload of the block
-pub payload_of : (tells : Type 0) (shape : Shape) (digests : List (List ℕ)) (c : Files) (b : BlockId) (cell : List ℕ) → length cell ≡ shape.block + 48 → block_digest b (payload_in shape cell) ≡ recorded_in shape digests b → (tells → HasAtHome shape b cell c)
+pub payload_of : (tells : Type 0) (shape : Shape) (digests : List (List ℕ)) (c : Files) (b : BlockId) (cell : List ℕ) → length cell ≡ shape.block + 48 → block_digest b (payload_in shape cell) ≡ recorded_in shape digests b → (tells → HasAtHome shape b cell c) → (tells → IsIntactBy shape digests c b)
     → IsPayload tells shape digests c b (payload_in shape cell)
-payload_of tells shape digests c b cell long digest at = record {
+payload_of tells shape digests c b cell long digest at intact = record {
   wide = omega (arith, length-take shape.block (drop 16 cell), length-drop 16 cell, long);
   digest = digest;
   home = λ told. ap (payload_in shape) (home_is shape b cell c long (at told));
+  intact = intact;
 }
 
 -- the first bytes of it are those of it alone

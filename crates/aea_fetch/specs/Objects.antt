@@ -6,10 +6,12 @@ use Rattle.aea_lattice.specs.declared.blocks.Class.TheVariants.{Datum}
 use Rattle.aea_lattice.specs.declared.shape.Shape.{Shape}
 use Rattle.aea_lattice.specs.Blocks.{block_of}
 use Rattle.aea_catalog.specs.declared.objects.Extent.{Extent}
+use Rattle.aea_catalog.specs.Catalogs.{Placed}
 use Rattle.aea_envelope.specs.Cells.{block_digest}
 use Rattle.aea_disk.specs.Files.{Files}
 use Rattle.aea_shelf.specs.Places.{home_bytes}
 use Rattle.aea_shelf.specs.Intact.{payload_in}
+use Rattle.aea_records.specs.Recorded.{blocks_in}
 use Rattle.aea_archive.specs.Blocks.{recorded_in, IsIntactBy}
 
 -- the data blocks of so many nodes from this one on, in order
@@ -30,11 +32,12 @@ abbrev pub payload_at : Shape → Files → BlockId → List ℕ
 payload_at shape c b = payload_in shape (home_bytes shape b c)
 
 -- A payload of the block: it has the bytes of a block, and the digest that is kept of it; and where the disk tells, it is what
--- stands at the home.
+-- stands at the home, in an intact cell.
 pub record IsPayload (tells : Type 0) (shape : Shape) (digests : List (List ℕ)) (c : Files) (b : BlockId) (payload : List ℕ) : Type 0 where
   pub wide : length payload ≡ shape.block
   pub digest : block_digest b payload ≡ recorded_in shape digests b
   pub home : tells → payload ≡ payload_at shape c b
+  pub intact : tells → IsIntactBy shape digests c b
 
 -- payloads of the blocks, one of each, in order
 abbrev pub ArePayloads : Type 0 → Shape → List (List ℕ) → Files → List BlockId → List (List ℕ) → Type 0
@@ -46,6 +49,10 @@ ArePayloads tells shape digests c (b ∷ bs) (p ∷ ps) = IsPayload tells shape 
 -- payloads one after the other
 abbrev pub joined : List (List ℕ) → List ℕ
 joined payloads = flat_map (λ p. p) payloads
+
+-- the bytes of an object in a data list: its blocks there, one after the other, cut to its length
+abbrev pub object_in : Placed → List (List ℕ) → List ℕ
+object_in p datas = take p.object.length (joined (blocks_in p.parts datas))
 
 -- the block is one of these
 pub record IsOneOf (blocks : List BlockId) (b : BlockId) : Type 0 where

@@ -2,14 +2,17 @@
 
 ghost use Rattle.std.specs.Prelude.{◌≡◌, ◌⊎◌, ◌↔◌, ◌≤◌, ℕ, List, length, take, None, Some, All, [], Err, IfOk, OnOk, IsOk, IsErr, IfErr};
 ghost use Rattle.std.specs.FinMap.{get};
+ghost use Rattle.std.specs.Io.KnownBytes.{Appends};
 ghost use Rattle.aea_faults.specs.Faults.{Rose};
 ghost use Rattle.aea_io.specs.Written.{IsFlushed};
 ghost use Rattle.aea_lattice.specs.declared.blocks.BlockId.{BlockId};
+ghost use Rattle.aea_lattice.specs.Data.{IsDataList};
 ghost use Rattle.aea_disk.specs.Frames.{OnlyReads};
 ghost use Rattle.aea_shelf.specs.Places.{cell_size};
 ghost use Rattle.aea_catalog.specs.Catalogs.{Placed};
 ghost use Rattle.aea_archive.specs.Blocks.{IsIntactBy};
-ghost use Rattle.aea_fetch.specs.Objects.{data_of, IsOneOf, IsFirstDamaged};
+ghost use Rattle.aea_archive.specs.Data.{AreSurvivorsHonest};
+ghost use Rattle.aea_fetch.specs.Objects.{data_of, object_in, IsOneOf, IsFirstDamaged};
 ghost use Rattle.aea_fetch.specs.Gets.{HasGot, HasSent, HasBroken, IsCopyFault, IsOutside};
 
 use crate::check::check_parts;
@@ -73,6 +76,10 @@ pub fn get<D: Disk, O: Sink>(
     ensures got { IfOk result (λ n. (p : Placed) × (get ledger.now.objects name.now ≡ Some p) × (n ≡ p.object.length)
         × HasGot D.tells ledger.now.shape ledger.now.digests (D.state disk.old).files p (O.state out.old) (O.state out.new)) }
     ensures flushed { OnOk result (IsFlushed (O.state out.new)) }
+
+    // Of survivors that are honest for a data list it is the object in that list.
+    ensures own { OnOk result (D.tells → (p : Placed) (datas : List (List ℕ)) → get ledger.now.objects name.now ≡ Some p → IsDataList ledger.now.lattice ledger.now.shape.block datas
+        → AreSurvivorsHonest ledger.now.shape ledger.now.lattice ledger.now.digests datas (D.state disk.old).files → Appends (O.state out.old).written (O.state out.new).written (object_in p datas)) }
 
     // No object has the name.
     ensures unknown { (result ≡ Err GetFault.UnknownName) ↔ (get ledger.now.objects name.now ≡ None) }

@@ -59,7 +59,7 @@ returns-in-Ok-clause-copied g c =
     let payload = payload_in v.shape cell in
     record {
       payloads = payload ∷ [];
-      are = (payload_of g.D.Disk.tells v.shape v.digests old.files b cell long (c.in-Ok-Intact.ensures.digest c.in-Ok-Intact.field-0-is) (c.in-Ok-Intact.ensures.bytes c.in-Ok-Intact.field-0-is), tt);
+      are = (payload_of g.D.Disk.tells v.shape v.digests old.files b cell long (c.in-Ok-Intact.ensures.digest c.in-Ok-Intact.field-0-is) (c.in-Ok-Intact.ensures.bytes c.in-Ok-Intact.field-0-is) (λ told. (c.in-Ok-Intact.ensures.intact told).0 c.in-Ok-Intact.field-0-is), tt);
       prints = subst (λ (text : List ℕ). Prints {T = Unit {0}} {E = Unit {0}} (g.O.Sink.state c.args.out.now) c.args.sheet.now (g.O.Sink.state c.print_on.new.out) c.print_on.new.sheet (Ok tt) text)
           (c.payload_front.ensures ∙ front_is v.shape cell c.args.most long)
           (prints_as tt c.in-Ok.ensures);
@@ -79,7 +79,7 @@ returns-in-Err-print_on-clause-broken g c =
       front = b ∷ [];
       is_front = record { after = []; are = refl };
       payloads = payload ∷ [];
-      are = (payload_of g.D.Disk.tells v.shape v.digests old.files b cell long (c.in-Ok-Intact.ensures.digest c.in-Ok-Intact.field-0-is) (c.in-Ok-Intact.ensures.bytes c.in-Ok-Intact.field-0-is), tt);
+      are = (payload_of g.D.Disk.tells v.shape v.digests old.files b cell long (c.in-Ok-Intact.ensures.digest c.in-Ok-Intact.field-0-is) (c.in-Ok-Intact.ensures.bytes c.in-Ok-Intact.field-0-is) (λ told. (c.in-Ok-Intact.ensures.intact told).0 c.in-Ok-Intact.field-0-is), tt);
       part = subst (λ (l : List ℕ). AppendsPart (g.O.Sink.state c.args.out.now).written (g.O.Sink.state c.print_on.new.out).written (c.args.sheet.now ++ l)) text broke.bytes;
       kept = broke.cause.kept;
       cause = λ e. broke.cause.rose;

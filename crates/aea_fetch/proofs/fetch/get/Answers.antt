@@ -8,10 +8,12 @@ use Rattle.aea_disk.specs.Frames.{OnlyReads}
 use Rattle.aea_disk.proofs.Frames.{reads_none, reads_both, reads_as}
 use Rattle.aea_archive.specs.Blocks.{IsIntactBy}
 use Rattle.aea_fetch.specs.Objects.{data_of, IsFirstDamaged, ArePayloads, joined}
-use Rattle.aea_fetch.specs.Gets.{IsFound, HasSent, HasBroken, IsCopyFault}
+use Rattle.aea_fetch.specs.Gets.{IsFound, HasSent, HasGot, HasBroken, IsCopyFault}
 use Rattle.aea_fetch.specs.declared.fault.GetFault.{GetFault}
 use Rattle.aea_fetch.specs.declared.fault.GetFault.TheVariants.{Damaged, WriteFault, DiskFault, UnknownName, NoMemory}
+use Rattle.std.specs.Io.KnownBytes.{Appends}
 use Rattle.aea_fetch.proofs.Blocks.{same_placed}
+use Rattle.aea_fetch.proofs.Owns.{own_parts_are}
 use Rattle.aea_fetch.proofs.Copies.{broken_at, sent_at}
 use Rattle.aea_fetch.proofs.Getting.{none_first, none_of, one_first, placed_of, long_enough, most_bytes}
 use Rattle.aea_fetch.proofs.fetch.get.Goals as goal
@@ -54,6 +56,17 @@ returns-in-Ok-send_object-clause-got g c =
     let sent = sent_at tells v.shape v.digests mid.files old.files (data_of placed.0.parts) object.length (g.O.Sink.state c.args.out.now) (g.O.Sink.state c.send_object.new.out) (c.check_parts.ensures.reads.contents) (c.in-Ok-send_object.ensures.sent placed.0 placed.1) in
     let cut = subst (λ (n : ℕ). HasSent tells v.shape v.digests old.files (data_of placed.0.parts) n (g.O.Sink.state c.args.out.now) (g.O.Sink.state c.send_object.new.out)) length_is sent in
     (placed.0, placed.1, length_is, record { payloads = cut.payloads; are = cut.are; long = long_enough tells v.shape v.digests old.files placed.0 cut.payloads cut.are lies.sum lies.count; appended = cut.appended })
+
+pub returns-in-Ok-send_object-clause-own : goal.returns-in-Ok-send_object-clause-own
+returns-in-Ok-send_object-clause-own g c told p datas is is_data honest =
+    let v = c.args.ledger.now in
+    let name = c.args.name.now in
+    let got = returns-in-Ok-send_object-clause-got g c in
+    let lies = c.catalog.ensures.within name p (ap (λ (m : Objects). get m name) c.catalog.ensures.objects ∙ is) in
+    let same : got.0 ≡ p = same_placed (get v.objects name) got.0 p got.1 is in
+    let mine = subst (λ (q : Placed). HasGot g.D.Disk.tells v.shape v.digests (g.D.Disk.state c.args.disk.now).files q (g.O.Sink.state c.args.out.now) (g.O.Sink.state c.send_object.new.out)) same got.3 in
+    let are = own_parts_are g.D.Disk.tells v.shape v.lattice v.digests (g.D.Disk.state c.args.disk.now).files datas told is_data honest 0 p.parts mine.payloads lies.apart mine.are in
+    subst (λ (ps : List (List ℕ)). Appends (g.O.Sink.state c.args.out.now).written (g.O.Sink.state c.send_object.new.out).written (take p.object.length (joined ps))) are mine.appended
 
 pub returns-in-Ok-send_object-clause-damage_refused : goal.returns-in-Ok-send_object-clause-damage_refused
 returns-in-Ok-send_object-clause-damage_refused g c told p b is first =

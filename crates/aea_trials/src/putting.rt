@@ -159,7 +159,8 @@ fn as_many_nodes_as_there_may_be_and_a_byte_more(rt: HostRuntime) -> Result<(), 
         "{\"alpha\":1,\"block\":16,\"nodes\":0,\"objects\":0,\"p\":0,\"s\":1,\"sites\":1}\n"
     );
 
-    let left = run_put(alloc, &mut disk, "a", &bytes[..1_048_576])?;
+    let bytes = vec![in alloc; 7u8; 1_048_576]?;
+    let left = run_put(alloc, &mut disk, "a", &bytes)?;
     assert_eq!(rt;
         text_of(left.out.bytes())?,
         "stored 65536 1048576 51b12eb838732b786b4d45c660a974ddf3860ae09084fd293fa6e5df46581a6c a\n"
@@ -182,6 +183,19 @@ fn as_many_nodes_as_there_may_be_and_a_byte_more(rt: HostRuntime) -> Result<(), 
     Ok(())
 }
 
+// Makes the file of the ledger these bytes. No disk here has room for 2^40.
+fn fill(disk: &mut SureDisk, bytes: &[u8]) -> Result<(), DiskFault> {
+    if bytes.len() > 1 << 40 {
+        return Err(DiskFault);
+    }
+    disk.write(0, 0, bytes)
+}
+
+// One of sixteen letters.
+fn letter(k: u32) -> u8 {
+    b'a' + (k % 16) as u8
+}
+
 // The record of an empty object with this name of five letters.
 fn empty_record(name: [u8; 5]) -> [u8; 61] {
     let mut record = [0; 61];
@@ -196,13 +210,18 @@ fn a_full_catalogue_takes_no_object(rt: HostRuntime) -> Result<(), Fail> {
     let alloc = rt.alloc();
     let mut bytes = Vec::from_slice(alloc, b"\x01AEALEDG1\x01\x01\0\x01\0\0\0\x10")?;
     for k in 0..65_536u32 {
-        let digit = |place: u32| b'a' + (k / place % 16) as u8;
-        let name = [digit(4096), digit(256), digit(16), digit(1), b'z'];
+        let name = [
+            letter(k / 4096),
+            letter(k / 256),
+            letter(k / 16),
+            letter(k),
+            b'z',
+        ];
         bytes.extend_from_slice(&empty_record(name))?;
     }
     bytes.push(0)?;
     let mut disk = SureDisk::new(alloc, 1, 4_200_000, 64)?;
-    disk.write(0, 0, &bytes)?;
+    fill(&mut disk, &bytes)?;
     for (name, line) in [
         ("more", "refused: catalog full\n"),
         ("aaaaz", "refused: name taken\n"),

@@ -19,17 +19,14 @@ const CELL: u64 = 64;
 /// Adds the blocks of an object: its bytes, cut, and the last filled with zeros.
 pub fn add_blocks(datas: &mut Vec<[u8; 16]>, bytes: &[u8]) -> Result<(), AllocError> {
     let mut block = [0; 16];
-    let mut place = 0;
-    for byte in bytes {
-        if place == 16 {
+    for (k, byte) in bytes.iter().enumerate() {
+        block[k % 16] = *byte;
+        if k % 16 == 15 {
             datas.push(block)?;
             block = [0; 16];
-            place = 0;
         }
-        block[place] = *byte;
-        place += 1;
     }
-    if place != 0 {
+    if bytes.len() % 16 != 0 {
         datas.push(block)?;
     }
     Ok(())
@@ -52,7 +49,7 @@ fn payload_of(
 ) -> Result<[u8; 16], AllocError>
     requires { HasBlock lattice.now b }
 {
-    if b.class == Class::Datum {
+    if b.class as u8 == 0 {
         return Ok(datum(datas, b.node));
     }
     let mut sum = [0; 16];

@@ -168,7 +168,8 @@ fn a_lost_site_of_four_is_peeled(rt: HostRuntime) -> Result<(), Fail> {
 #[test]
 fn words_are_parsed(rt: HostRuntime) -> Result<(), Fail> {
     let words = crate::bench::words_of(rt.alloc(), "drill 3 2 5 40")?;
-    let Some(Command::Drill { lattice }) = parse_words(rt.alloc(), words.as_slice())? else {
+    let command = parse_words(rt.alloc(), words.as_slice())?;
+    let Some(Command::Drill { lattice }) = &command else {
         return Err(Fail::new("no drill"));
     };
     assert_eq!(rt;

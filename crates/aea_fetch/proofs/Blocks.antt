@@ -1,7 +1,6 @@
 -- Data blocks in order: of one node more, and of one part more.
-use Rattle.std.proofs.Common.{◌≡◌, ℕ, zero, suc, ◌+◌, ◌-◌, ◌*◌, ◌<◌, ◌≤◌, List, [], ◌∷◌, ◌++◌, length, take, drop, refl, sym, ◌∙◌, ap, subst, arith, Option, Some, None, IsTrue, length-append, append_assoc}
-use Rattle.std.specs.Prelude.{slice_get, nat_lt, nat_le, ◌&&◌, true}
-use Rattle.std.specs.List.{flat_map, sum_by}
+use Rattle.std.proofs.Common.{◌≡◌, ℕ, zero, suc, ◌+◌, ◌-◌, ◌<◌, ◌≤◌, List, [], ◌∷◌, ◌++◌, length, take, drop, refl, sym, ◌∙◌, ap, subst, arith, Option, Some, None, IsTrue, length-append}
+use Rattle.std.specs.Prelude.{slice_get, nat_lt, nat_le, ◌&&◌}
 use Rattle.std.proofs.lemmas.List.{append-nil, take-append-drop}
 use Rattle.std.proofs.lemmas.List.Concat.{flat_map-append}
 use Rattle.aea_lattice.specs.declared.blocks.BlockId.{BlockId}
@@ -9,7 +8,7 @@ use Rattle.aea_lattice.specs.declared.blocks.Class.TheVariants.{Datum}
 use Rattle.aea_lattice.specs.Blocks.{block_of}
 use Rattle.aea_catalog.specs.declared.objects.Extent.{Extent}
 use Rattle.aea_catalog.specs.Catalogs.{Placed, part_at, Objects}
-use Rattle.aea_fetch.specs.Objects.{data_from, data_in, data_of, IsFront}
+use Rattle.aea_fetch.specs.Objects.{data_from, data_in, data_of}
 use Rattle.std.proofs.lemmas.Bool.{and_parts}
 use Rattle.aea_records.specs.Fields.{are_apart}
 use Rattle.std.proofs.lemmas.Bool.Decides.{nat_tests}

@@ -1,21 +1,20 @@
 -- How copies of payloads go on, and what is left where a fault came.
-use Rattle.std.proofs.Common.{◌≡◌, inl, inr, ℕ, zero, suc, ◌+◌, ◌-◌, ◌*◌, ◌≤◌, List, [], ◌∷◌, ◌++◌, length, take, refl, sym, ◌∙◌, ap, subst, arith, append_assoc, length-append, Ok, Err, Some}
-use Rattle.std.specs.Io.KnownBytes.{Appends}
-use Rattle.std.proofs.KnownBytes.{Appends-nil, Appends-trans}
+use Rattle.std.proofs.Common.{◌≡◌, ℕ, zero, suc, ◌+◌, ◌-◌, ◌*◌, List, [], ◌∷◌, ◌++◌, length, take, refl, sym, ◌∙◌, ap, subst, arith, append_assoc, length-append, Ok}
+use Rattle.std.proofs.KnownBytes.{Appends-nil}
 use Rattle.aea_faults.specs.Faults.{Rose}
 use Rattle.aea_io.specs.Streams.{SinkState}
 use Rattle.aea_io.specs.Written.{AppendsPart}
-use Rattle.aea_io.specs.Pages.{Prints, Gathers}
+use Rattle.aea_io.specs.Pages.{Prints}
 use Rattle.aea_io.proofs.Printing.{prints_then, prints_none}
-use Rattle.aea_io.proofs.Puts.{AppendsPart-first, AppendsPart-then}
+use Rattle.aea_io.proofs.Puts.{AppendsPart-then}
 use Rattle.aea_lattice.specs.declared.blocks.BlockId.{BlockId}
 use Rattle.aea_lattice.specs.declared.shape.Shape.{Shape}
 use Rattle.aea_disk.specs.Files.{Files}
 use Rattle.aea_archive.specs.Blocks.{IsIntactBy}
-use Rattle.aea_fetch.specs.Objects.{payload_at, ArePayloads, joined, IsOneOf, IsFront}
+use Rattle.aea_fetch.specs.Objects.{payload_at, ArePayloads, joined, IsOneOf}
 use Rattle.aea_fetch.specs.Gets.{HasCopied, HasBroken, HasSent}
 use Rattle.aea_fetch.specs.declared.fault.GetFault.{GetFault}
-use Rattle.aea_fetch.specs.declared.fault.GetFault.TheVariants.{Damaged, WriteFault, DiskFault}
+use Rattle.aea_fetch.specs.declared.fault.GetFault.TheVariants.{Damaged, WriteFault}
 use Rattle.aea_fetch.proofs.Payloads.{payloads_append, take_joined}
 
 take_nothing : (most : ℕ) → take most (joined []) ≡ []
@@ -110,7 +109,7 @@ module _ (tells : Type 0) (shape : Shape) (digests : List (List ℕ)) (c : Files
 
 module _ (tells : Type 0) (shape : Shape) (digests : List (List ℕ)) (c d : Files) where
   -- payloads of the one are payloads of the other
-  payloads_at : (same : tells → c ≡ d) (bs : List BlockId) (ps : List (List ℕ)) → ArePayloads tells shape digests c bs ps → ArePayloads tells shape digests d bs ps
+  pub payloads_at : (same : tells → c ≡ d) (bs : List BlockId) (ps : List (List ℕ)) → ArePayloads tells shape digests c bs ps → ArePayloads tells shape digests d bs ps
   payloads_at same [] [] are = tt
   payloads_at same [] (p ∷ ps) are = absurd are
   payloads_at same (b ∷ bs) [] are = absurd are

@@ -1,17 +1,15 @@
 -- From what both passes gave to what is answered.
-use Rattle.std.proofs.Common.{◌≡◌, inl, inr, ℕ, zero, suc, ◌+◌, ◌-◌, ◌*◌, ◌<◌, ◌≤◌, List, [], ◌∷◌, ◌++◌, length, take, refl, sym, ◌∙◌, ap, subst, arith, append_assoc, length-append, length-take, Option, Some, None, Ok, Err, Result}
-use Rattle.std.specs.Prelude.{All, option_map, IsErr}
+use Rattle.std.proofs.Common.{◌≡◌, ℕ, suc, ◌+◌, ◌*◌, ◌≤◌, List, [], ◌∷◌, ◌++◌, length, take, refl, sym, ◌∙◌, ap, subst, arith, length-append, length-take, Option, Some, None, Ok, Err}
+use Rattle.std.specs.Prelude.{All, option_map}
 use Rattle.std.specs.List.{sum_by}
 use Rattle.std.specs.Io.KnownBytes.{Appends}
 use Rattle.std.proofs.lemmas.List.{append-nil}
 use Rattle.std.proofs.lemmas.List.Sums.{sum_by-cons}
 use Rattle.std.proofs.lemmas.Bool.{false≢true}
 use Rattle.std.proofs.lemmas.Bool.Decides.{nat_tests}
-use Rattle.aea_faults.specs.Faults.{Rose}
 use Rattle.aea_io.specs.Streams.{SinkState}
-use Rattle.aea_io.specs.Written.{AppendsPart}
 use Rattle.aea_io.specs.Pages.{Prints}
-use Rattle.aea_io.proofs.Printing.{prints_then_nothing, prints_as}
+use Rattle.aea_io.proofs.Printing.{prints_then_nothing}
 use Rattle.aea_lattice.specs.declared.blocks.BlockId.{BlockId}
 use Rattle.aea_lattice.specs.declared.shape.Shape.{Shape}
 use Rattle.aea_catalog.specs.declared.objects.Extent.{Extent}
@@ -21,8 +19,7 @@ use Rattle.aea_disk.specs.Files.{Files}
 use Rattle.aea_records.specs.Format.{nodes_for}
 use Rattle.aea_archive.specs.Blocks.{IsIntactBy}
 use Rattle.aea_fetch.specs.Objects.{data_of, data_in, ArePayloads, joined, IsOneOf, IsFirstDamaged}
-use Rattle.aea_fetch.specs.Gets.{HasCopied, HasBroken, HasSent, HasGot}
-use Rattle.aea_fetch.specs.declared.fault.GetFault.{GetFault}
+use Rattle.aea_fetch.specs.Gets.{HasCopied, HasBroken, HasSent}
 use Rattle.aea_fetch.specs.declared.fault.GetFault.TheVariants.{Damaged, WriteFault}
 use Rattle.aea_fetch.proofs.Blocks.{length-data_from}
 use Rattle.aea_fetch.proofs.Payloads.{length-joined}
@@ -73,7 +70,7 @@ length-data_of [] = refl
 length-data_of (e ∷ parts) = length-append (data_in e) (data_of parts) ∙ ap (λ (n : ℕ). n + length (data_of parts)) (length-data_from e.first e.count) ∙ ap (λ (n : ℕ). e.count + n) (length-data_of parts) ∙ sym (sum_by-cons (λ (x : Extent). x.count) e parts)
 
 -- so many nodes hold the bytes
-nodes_hold : (shape : Shape) (k : ℕ) → k ≤ nodes_for shape k * shape.block
+pub nodes_hold : (shape : Shape) (k : ℕ) → k ≤ nodes_for shape k * shape.block
 nodes_hold shape k = let h = shape.in_profile in grind (arith, nat_tests)
 
 -- its payloads are long enough for it

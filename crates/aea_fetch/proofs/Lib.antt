@@ -1,6 +1,7 @@
 mod Blocks
 mod Payloads
 mod Checks
-mod Copies
+pub mod Copies
 mod Getting
 mod Owns
+mod Puts

@@ -1,5 +1,5 @@
 -- Payloads of survivors that are honest for a data list are the list's blocks.
-use Rattle.std.proofs.Common.{◌≡◌, ℕ, zero, suc, ◌+◌, ◌-◌, ◌<◌, ◌≤◌, List, [], ◌∷◌, ◌++◌, length, take, drop, refl, sym, ◌∙◌, ap, subst, arith, IsTrue, replicate}
+use Rattle.std.proofs.Common.{◌≡◌, ℕ, zero, suc, ◌+◌, ◌-◌, ◌<◌, ◌≤◌, List, [], ◌∷◌, ◌++◌, length, take, drop, refl, sym, ◌∙◌, ap, arith, IsTrue, replicate}
 use Rattle.std.specs.Prelude.{slice_get, unwrap_or, nat_lt, nat_le, ◌&&◌}
 use Rattle.std.proofs.lemmas.Bool.{and_parts}
 use Rattle.std.proofs.lemmas.Bool.Decides.{nat_tests}
@@ -7,8 +7,8 @@ use Rattle.aea_lattice.specs.declared.blocks.BlockId.{BlockId}
 use Rattle.aea_lattice.specs.declared.blocks.Class.TheVariants.{Datum}
 use Rattle.aea_lattice.specs.declared.grid.Lattice.{Lattice}
 use Rattle.aea_lattice.specs.declared.shape.Shape.{Shape}
-use Rattle.aea_lattice.specs.Blocks.{block_of, HasBlock}
-use Rattle.aea_lattice.specs.Data.{IsDataList, datum_at, value_of}
+use Rattle.aea_lattice.specs.Blocks.{block_of}
+use Rattle.aea_lattice.specs.Data.{IsDataList, datum_at}
 use Rattle.aea_catalog.specs.declared.objects.Extent.{Extent}
 use Rattle.aea_disk.specs.Files.{Files}
 use Rattle.aea_records.specs.Fields.{are_apart}

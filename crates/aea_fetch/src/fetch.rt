@@ -1,6 +1,7 @@
 //! An object that is got.
 
 ghost use Rattle.std.specs.Prelude.{◌≡◌, ◌⊎◌, ◌↔◌, ◌≤◌, ℕ, List, length, take, None, Some, All, [], Err, IfOk, OnOk, IsOk, IsErr, IfErr};
+ghost use Rattle.std.specs.List.{Contains};
 ghost use Rattle.std.specs.FinMap.{get};
 ghost use Rattle.std.specs.Io.KnownBytes.{Appends};
 ghost use Rattle.aea_faults.specs.Faults.{Rose};
@@ -10,10 +11,15 @@ ghost use Rattle.aea_lattice.specs.Data.{IsDataList};
 ghost use Rattle.aea_disk.specs.Frames.{OnlyReads};
 ghost use Rattle.aea_shelf.specs.Places.{cell_size};
 ghost use Rattle.aea_catalog.specs.Catalogs.{Placed};
+ghost use Rattle.aea_records.specs.Format.{Record};
+ghost use Rattle.aea_ledger.specs.Recorded.{AreRecordsOf};
+ghost use Rattle.aea_ledger.specs.Values.{HasRecords};
 ghost use Rattle.aea_archive.specs.Blocks.{IsIntactBy};
 ghost use Rattle.aea_archive.specs.Data.{AreSurvivorsHonest};
+ghost use Rattle.aea_archive.specs.Next.{NewObject};
 ghost use Rattle.aea_fetch.specs.Objects.{data_of, object_in, IsOneOf, IsFirstDamaged};
 ghost use Rattle.aea_fetch.specs.Gets.{HasGot, HasSent, HasBroken, IsCopyFault, IsOutside};
+ghost use Rattle.aea_fetch.specs.Puts.{AreOfPuts, datas_of};
 
 use crate::check::check_parts;
 use crate::copy::copy_parts;
@@ -22,6 +28,7 @@ use crate::sheet::{Sheet, finish_on};
 use aea_disk::Disk;
 use aea_io::Sink;
 use aea_ledger::Ledger;
+use aea_records::objects_are_of_records;
 use std::alloc::{AllocError, Global};
 
 // The buffer of a cell.
@@ -81,6 +88,11 @@ pub fn get<D: Disk, O: Sink>(
     ensures own { OnOk result (D.tells → (p : Placed) (datas : List (List ℕ)) → get ledger.now.objects name.now ≡ Some p → IsDataList ledger.now.lattice ledger.now.shape.block datas
         → AreSurvivorsHonest ledger.now.shape ledger.now.lattice ledger.now.digests datas (D.state disk.old).files → Appends (O.state out.old).written (O.state out.new).written (object_in p datas)) }
 
+    // Of objects that were put one after the other, and whose blocks are recorded, it is the one that was put under the name.
+    ensures put { OnOk result (D.tells → (records : List Record) (puts : List NewObject) (o : NewObject) → HasRecords ledger.now records → AreOfPuts records puts
+        → AreRecordsOf ledger.now.shape records (datas_of ledger.now.shape puts) → AreSurvivorsHonest ledger.now.shape ledger.now.lattice ledger.now.digests (datas_of ledger.now.shape puts) (D.state disk.old).files
+        → Contains puts o → o.name ≡ name.now → Appends (O.state out.old).written (O.state out.new).written o.bytes) }
+
     // No object has the name.
     ensures unknown { (result ≡ Err GetFault.UnknownName) ↔ (get ledger.now.objects name.now ≡ None) }
 
@@ -106,6 +118,7 @@ pub fn get<D: Disk, O: Sink>(
     ensures in_room { (p : Placed) (room : ℕ) → get ledger.now.objects name.now ≡ Some p → (O.state out.old).room ≡ Some room → p.object.length ≤ room
         → (result ≡ Err GetFault.WriteFault → ⊥) × ((O.state out.new).faults ≡ (O.state out.old).faults) }
 {
+    objects_are_of_records();
     let Some(object) = ledger.catalog().find(name) else {
         return Err(GetFault::UnknownName);
     };

@@ -1,15 +1,12 @@
-use Rattle.std.proofs.Common.{◌≡◌, ℕ, suc, ◌+◌, ◌-◌, ◌<◌, ◌≤◌, length, take, refl, sym, ◌∙◌, ap, subst, arith, Some, None, Option, List}
+use Rattle.std.proofs.Common.{◌≡◌, ℕ, suc, ◌+◌, length, take, refl, sym, ◌∙◌, ap, subst, arith, Some, None, Option, List}
 use Rattle.std.specs.Prelude.{All, IsErr, option_map, unwrap_or, slice_get}
 use Rattle.std.specs.FinMap.{get}
 use Rattle.std.proofs.lemmas.List.Elements.{All-nil}
 use Rattle.std.proofs.lemmas.Option.{slice_get_within}
 use Rattle.aea_catalog.specs.Catalogs.{Placed, Objects, part_at}
 use Rattle.aea_catalog.specs.declared.objects.Extent.{Extent}
-use Rattle.aea_lattice.specs.declared.blocks.BlockId.{BlockId}
 use Rattle.aea_disk.specs.Files.{Files}
 use Rattle.aea_disk.proofs.Frames.{reads_none, reads_both, reads_as}
-use Rattle.aea_ledger.specs.Lying.{LieWithin}
-use Rattle.aea_ledger.specs.Values.{Opened}
 use Rattle.aea_ledger.proofs.Small.{few_parts}
 use Rattle.aea_archive.specs.Blocks.{IsIntactBy}
 use Rattle.aea_fetch.specs.Objects.{data_of, data_in, IsFirstDamaged}

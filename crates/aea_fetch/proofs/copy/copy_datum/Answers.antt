@@ -1,20 +1,12 @@
-use Rattle.std.proofs.Common.{◌≡◌, ℕ, ◌+◌, ◌-◌, ◌≤◌, List, [], ◌∷◌, ◌++◌, length, take, drop, refl, sym, ◌∙◌, ap, subst, arith, Ok, Err, length-take, length-drop}
-use Rattle.std.specs.Prelude.{IsErr}
-use Rattle.std.proofs.lemmas.List.{append-nil}
+use Rattle.std.proofs.Common.{◌≡◌, ℕ, ◌-◌, ◌≤◌, List, [], ◌∷◌, ◌++◌, length, take, drop, refl, sym, ◌∙◌, ap, subst, arith, Ok, length-take}
 use Rattle.std.proofs.lemmas.Bool.{false≢true}
 use Rattle.aea_lattice.specs.declared.blocks.BlockId.{BlockId}
 use Rattle.aea_lattice.specs.declared.blocks.Class.TheVariants.{Datum}
-use Rattle.aea_lattice.specs.declared.shape.Shape.{Shape}
 use Rattle.aea_lattice.specs.Blocks.{block_of}
-use Rattle.aea_disk.specs.Files.{Files}
 use Rattle.aea_io.specs.Pages.{Prints}
-use Rattle.aea_io.specs.Streams.{SinkState}
 use Rattle.aea_io.proofs.Printing.{prints_as}
 use Rattle.aea_archive.specs.Blocks.{IsIntactBy}
 use Rattle.aea_shelf.specs.Intact.{payload_in}
-use Rattle.aea_fetch.specs.Gets.{HasCopied, HasBroken}
-use Rattle.aea_fetch.specs.Objects.{IsPayload, joined, payload_at}
-use Rattle.aea_fetch.specs.declared.fault.GetFault.{GetFault}
 use Rattle.aea_fetch.specs.declared.fault.GetFault.TheVariants.{Damaged, WriteFault, DiskFault}
 use Rattle.aea_fetch.proofs.Copies.{broken_still}
 use Rattle.aea_fetch.proofs.Payloads.{block_most, payload_of, front_is}

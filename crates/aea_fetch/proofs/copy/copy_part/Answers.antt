@@ -1,15 +1,12 @@
-use Rattle.std.proofs.Common.{◌≡◌, ℕ, suc, ◌+◌, ◌-◌, ◌*◌, ◌<◌, ◌≤◌, List, [], ◌∷◌, ◌++◌, length, refl, sym, ◌∙◌, ap, subst, arith, Err, append_assoc}
-use Rattle.std.specs.Prelude.{IsErr}
+use Rattle.std.proofs.Common.{◌≡◌, ℕ, suc, ◌+◌, ◌-◌, ◌*◌, ◌<◌, List, [], ◌∷◌, ◌++◌, length, sym, ◌∙◌, ap, subst, arith, Err, append_assoc}
 use Rattle.std.proofs.lemmas.Bool.Decides.{nat_tests}
 use Rattle.aea_lattice.specs.declared.blocks.BlockId.{BlockId}
 use Rattle.aea_lattice.specs.declared.blocks.Class.TheVariants.{Datum}
 use Rattle.aea_lattice.specs.declared.shape.Shape.{Shape}
 use Rattle.aea_lattice.specs.Blocks.{block_of}
-use Rattle.aea_disk.specs.Files.{Files}
 use Rattle.aea_disk.proofs.Frames.{reads_none, reads_both, reads_as}
-use Rattle.aea_fetch.specs.Objects.{data_from, data_in}
+use Rattle.aea_fetch.specs.Objects.{data_from}
 use Rattle.aea_fetch.specs.Gets.{HasCopied, HasBroken}
-use Rattle.aea_fetch.specs.declared.fault.GetFault.{GetFault}
 use Rattle.aea_fetch.specs.declared.fault.GetFault.TheVariants.{DiskFault}
 use Rattle.aea_fetch.proofs.Blocks.{data_from-snoc, data_from-split, length-data_from}
 use Rattle.aea_fetch.proofs.Copies.{copied_none, copied_then, broken_front, broken_then, copied_at, broken_at}

@@ -1,16 +1,14 @@
-use Rattle.std.proofs.Common.{◌≡◌, ℕ, suc, ◌+◌, ◌-◌, ◌*◌, ◌<◌, ◌≤◌, List, [], ◌∷◌, ◌++◌, length, take, drop, refl, sym, ◌∙◌, ap, subst, arith, Some, None, Option, Err, append_assoc}
+use Rattle.std.proofs.Common.{◌≡◌, ℕ, suc, ◌+◌, ◌*◌, List, ◌++◌, length, take, drop, sym, ◌∙◌, ap, subst, arith, Some, None, Option, Err, append_assoc}
 use Rattle.std.specs.Prelude.{option_map, unwrap_or, slice_get}
 use Rattle.std.specs.FinMap.{get}
 use Rattle.std.proofs.lemmas.Option.{slice_get_within}
 use Rattle.aea_catalog.specs.Catalogs.{Placed, Objects, part_at}
 use Rattle.aea_catalog.specs.declared.objects.Extent.{Extent}
 use Rattle.aea_lattice.specs.declared.blocks.BlockId.{BlockId}
-use Rattle.aea_disk.specs.Files.{Files}
 use Rattle.aea_disk.proofs.Frames.{reads_none, reads_both, reads_as}
 use Rattle.aea_ledger.proofs.Small.{few_parts}
 use Rattle.aea_fetch.specs.Objects.{data_of, data_in}
 use Rattle.aea_fetch.specs.Gets.{HasCopied, HasBroken}
-use Rattle.aea_fetch.specs.declared.fault.GetFault.{GetFault}
 use Rattle.aea_fetch.specs.declared.fault.GetFault.TheVariants.{DiskFault}
 use Rattle.aea_fetch.proofs.Blocks.{part_there, no_part, same_placed, part_inside, take_past, parts-snoc, length-parts}
 use Rattle.aea_fetch.proofs.Checks.{parts_around}

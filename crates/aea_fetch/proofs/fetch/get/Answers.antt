@@ -1,21 +1,20 @@
-use Rattle.std.proofs.Common.{◌≡◌, ◌⊎◌, inl, inr, ℕ, ◌≤◌, List, [], length, take, refl, sym, ◌∙◌, ap, subst, arith, Some, None, Option, Ok, Err}
-use Rattle.std.specs.Prelude.{All, option_map, IsErr, IfErr}
+use Rattle.std.proofs.Common.{◌≡◌, inl, inr, ℕ, List, [], take, sym, ◌∙◌, ap, subst, arith, Some, None, Err}
+use Rattle.std.specs.Prelude.{option_map, IsErr}
 use Rattle.std.specs.FinMap.{get}
 use Rattle.aea_catalog.specs.Catalogs.{Placed, Objects}
 use Rattle.aea_lattice.specs.declared.blocks.BlockId.{BlockId}
-use Rattle.aea_disk.specs.Files.{Files}
-use Rattle.aea_disk.specs.Frames.{OnlyReads}
 use Rattle.aea_disk.proofs.Frames.{reads_none, reads_both, reads_as}
-use Rattle.aea_archive.specs.Blocks.{IsIntactBy}
-use Rattle.aea_fetch.specs.Objects.{data_of, IsFirstDamaged, ArePayloads, joined}
-use Rattle.aea_fetch.specs.Gets.{IsFound, HasSent, HasGot, HasBroken, IsCopyFault}
-use Rattle.aea_fetch.specs.declared.fault.GetFault.{GetFault}
-use Rattle.aea_fetch.specs.declared.fault.GetFault.TheVariants.{Damaged, WriteFault, DiskFault, UnknownName, NoMemory}
+use Rattle.aea_fetch.specs.Objects.{data_of, joined}
+use Rattle.aea_fetch.specs.Gets.{IsFound, HasSent, HasGot, HasBroken}
+use Rattle.aea_fetch.specs.declared.fault.GetFault.TheVariants.{Damaged, DiskFault}
 use Rattle.std.specs.Io.KnownBytes.{Appends}
 use Rattle.aea_fetch.proofs.Blocks.{same_placed}
 use Rattle.aea_fetch.proofs.Owns.{own_parts_are}
 use Rattle.aea_fetch.proofs.Copies.{broken_at, sent_at}
 use Rattle.aea_fetch.proofs.Getting.{none_first, none_of, one_first, placed_of, long_enough, most_bytes}
+use Rattle.aea_fetch.specs.Puts.{datas_of}
+use Rattle.aea_records.specs.Catalogued.{objects_of}
+use Rattle.aea_fetch.proofs.Puts.{put_is_found, data_of_records}
 use Rattle.aea_fetch.proofs.fetch.get.Goals as goal
 
 pub returns-in_default-clause-reads : goal.returns-in_default-clause-reads
@@ -67,6 +66,18 @@ returns-in-Ok-send_object-clause-own g c told p datas is is_data honest =
     let mine = subst (λ (q : Placed). HasGot g.D.Disk.tells v.shape v.digests (g.D.Disk.state c.args.disk.now).files q (g.O.Sink.state c.args.out.now) (g.O.Sink.state c.send_object.new.out)) same got.3 in
     let are = own_parts_are g.D.Disk.tells v.shape v.lattice v.digests (g.D.Disk.state c.args.disk.now).files datas told is_data honest 0 p.parts mine.payloads lies.apart mine.are in
     subst (λ (ps : List (List ℕ)). Appends (g.O.Sink.state c.args.out.now).written (g.O.Sink.state c.send_object.new.out).written (take p.object.length (joined ps))) are mine.appended
+
+pub returns-in-Ok-send_object-clause-put : goal.returns-in-Ok-send_object-clause-put
+returns-in-Ok-send_object-clause-put g c told records puts o has of_puts recorded honest among named =
+    let v = c.args.ledger.now in
+    let name = c.args.name.now in
+    let datas = datas_of v.shape puts in
+    let got = returns-in-Ok-send_object-clause-got g c in
+    let is_data = data_of_records v.shape records datas v.lattice has.lattice recorded in
+    let own = returns-in-Ok-send_object-clause-own g c told got.0 datas got.1 is_data honest in
+    let found : get (objects_of records) o.name ≡ Some got.0 = ap (get (objects_of records)) named ∙ ap (λ (m : Objects). get m name) (sym has.objects) ∙ got.1 in
+    subst (λ (bytes : List ℕ). Appends (g.O.Sink.state c.args.out.now).written (g.O.Sink.state c.send_object.new.out).written bytes)
+    (put_is_found v.shape records puts o got.0 c.objects_are_of_records.ensures has.valid of_puts among found) own
 
 pub returns-in-Ok-send_object-clause-damage_refused : goal.returns-in-Ok-send_object-clause-damage_refused
 returns-in-Ok-send_object-clause-damage_refused g c told p b is first =

@@ -1,9 +1,6 @@
-use Rattle.std.proofs.Common.{◌≡◌, List, ℕ, [], ap, subst, sym, refl, Err}
-use Rattle.std.specs.Prelude.{IsErr, Some}
-use Rattle.aea_disk.proofs.Frames.{reads_as}
+use Rattle.std.proofs.Common.{List, ℕ, subst}
 use Rattle.aea_fetch.specs.Objects.{data_of}
 use Rattle.aea_fetch.specs.Gets.{HasCopied, HasBroken}
-use Rattle.aea_fetch.specs.declared.fault.GetFault.TheVariants.{DiskFault}
 use Rattle.aea_fetch.proofs.Getting.{sent_all, sent_broken}
 use Rattle.aea_fetch.proofs.fetch.send_object.Goals as goal
 

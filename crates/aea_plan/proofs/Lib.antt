@@ -1,0 +1,7 @@
+pub mod Lists
+pub mod Numbered
+pub mod Turned
+pub mod Walking
+pub mod Lining
+pub mod Same
+pub mod Printing

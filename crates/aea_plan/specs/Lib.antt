@@ -1,0 +1,5 @@
+pub mod Verdicts
+pub mod Plans
+pub mod Walks
+pub mod Texts
+pub mod Laws

@@ -1,0 +1,111 @@
+//! Plans.
+
+ghost use Rattle.std.specs.Prelude.{◌≡◌, ℕ, Bool, not, List, Option, vec_capacity, IfOk};
+ghost use Rattle.aea_lattice.specs.declared.blocks.BlockId.{BlockId};
+ghost use Rattle.aea_view.specs.Marked.{AreMarks, is_marked};
+ghost use Rattle.aea_peel.specs.Plans.{IsPlan, AreReached};
+ghost use Rattle.aea_gauss.specs.Fates.{AreFates};
+ghost use Rattle.aea_report.specs.Printed.{IsPrinted};
+ghost use Rattle.aea_plan.specs.Plans.{IsPlanOf, IsSound, HasRoom, head_by};
+ghost use Rattle.aea_plan.specs.Verdicts.{AreVerdicts, lines_by};
+
+use crate::counts::{Counts, count_blocks, most_nodes};
+use crate::nodes::NODE_BYTES;
+use crate::verdicts::Verdicts;
+use aea_fates::{determined_stay, sums_are_determined, words_are_open, words_stay};
+use aea_gauss::{FateList, solve};
+use aea_lattice::{blocks_are_inside, reached_are_determined};
+use aea_peel::{StepList, peel_marks};
+use aea_view::Marks;
+use std::alloc::{AllocError, Global};
+
+/// What is done for each block that is not known: the steps that peel what can be peeled, in an order in which they can be
+/// carried out, and the verdict of each block. The other fields say how many blocks are peeled, solved and lost, and by how
+/// many nodes at most one block is lost.
+#[derive(Drop)]
+pub struct Plan {
+    pub steps: StepList,
+    pub verdicts: Verdicts,
+    pub counts: Counts,
+    pub most_nodes: usize,
+}
+
+// What is peeled and what it leaves.
+#[derive(Drop)]
+struct Judged {
+    steps: StepList,
+    verdicts: Verdicts,
+}
+
+// The fates of what is not reached. Where all is, no block is looked at.
+fn fates_of(alloc: Global, reached: &Marks) -> Result<FateList, AllocError>
+    ensures { IfOk result (λ fates. AreFates reached.now.lattice (is_marked reached.now) fates) }
+{
+    blocks_are_inside();
+    let lattice = reached.lattice();
+    if reached.unmarked() == 0 {
+        return Ok(FateList::new(alloc));
+    }
+    solve(alloc, lattice, reached)
+}
+
+// Peels, and solves what peeling leaves.
+fn judge(alloc: Global, known: &Marks) -> Result<Judged, AllocError>
+    ensures lattice { IfOk result (λ j. j.verdicts.damaged.lattice ≡ known.now.lattice) }
+    ensures verdicts { IfOk result (λ j. AreVerdicts j.verdicts) }
+    ensures damaged { IfOk result (λ j. (test : BlockId → Bool) → AreMarks known.now test → AreMarks j.verdicts.damaged (λ b. not (test b))) }
+    ensures steps { IfOk result (λ j. (test : BlockId → Bool) → AreMarks known.now test → IsPlan known.now.lattice test j.steps) }
+    ensures reached { IfOk result (λ j. (test : BlockId → Bool) → AreMarks known.now test → AreReached j.verdicts.reached test) }
+    ensures fates { IfOk result (λ j. AreFates known.now.lattice (is_marked j.verdicts.reached) j.verdicts.fates) }
+{
+    let damaged = known.complement(alloc)?;
+    let peeled = peel_marks(alloc, damaged.complement(alloc)?)?;
+    let reached = peeled.marks;
+    let fates = fates_of(alloc, &reached)?;
+    Ok(Judged {
+        steps: peeled.plan.steps,
+        verdicts: Verdicts {
+            damaged,
+            reached,
+            fates,
+        },
+    })
+}
+
+impl Plan {
+    /// The plan for these known blocks. Peeling takes the memory that `peel_marks` says, and `solve` takes its own where
+    /// peeling leaves a block; beside the steps and the fates a plan keeps two bits a block. An error is want of memory.
+    pub fn new(alloc: Global, known: &Marks) -> Result<Plan, AllocError>
+        ensures lattice { IfOk result (λ plan. plan.verdicts.damaged.lattice ≡ known.now.lattice) }
+        ensures sound { IfOk result IsSound }
+        ensures plan { IfOk result (λ plan. (test : BlockId → Bool) → AreMarks known.now test → IsPlanOf test plan) }
+        ensures printed { IfOk result (λ plan. (test : BlockId → Bool) (seal : Option (List ℕ)) → AreMarks known.now test
+            → IsPrinted known.now.lattice test seal (head_by seal plan) (lines_by plan.verdicts)) }
+    {
+        blocks_are_inside();
+        reached_are_determined();
+        sums_are_determined();
+        words_are_open();
+        words_stay();
+        determined_stay();
+        let judged = judge(alloc, known)?;
+        let counts = count_blocks(&judged.verdicts);
+        let most_nodes = most_nodes(&judged.verdicts.fates);
+        Ok(Plan {
+            steps: judged.steps,
+            verdicts: judged.verdicts,
+            counts,
+            most_nodes,
+        })
+    }
+
+    /// Room for the text of the nodes of one lost block, of 11 bytes a node. An error is want of memory.
+    pub fn text_room(&self, alloc: Global) -> Result<Vec<u8>, AllocError>
+        ensures { IfOk result (λ text. HasRoom self.now (vec_capacity text)) }
+    {
+        match self.most_nodes.checked_mul(NODE_BYTES) {
+            Some(bytes) => Vec::with_capacity(alloc, bytes),
+            None => Err(AllocError),
+        }
+    }
+}

@@ -12,7 +12,8 @@ use Rattle.aea_lattice.specs.Profile.{is_profile, is_shape, greatest_nodes}
 use Rattle.aea_lattice.specs.declared.grid.Lattice.{Lattice}
 use Rattle.aea_lattice.specs.declared.shape.Shape.{Shape}
 use Rattle.aea_cli.specs.declared.command.Command.{Command}
-use Rattle.aea_cli.specs.declared.command.Command.TheVariants.{Drill, Create, Stat, Put, Fence, Upgrade, Scrub}
+use Rattle.aea_cli.specs.declared.command.Command.TheVariants as command
+use Rattle.aea_cli.specs.declared.command.Command.TheVariants.{Drill, Create, Stat, Put, Get, Fence, Upgrade, Scrub}
 use Rattle.aea_cli.specs.Words.{Means, AreNoDrill, AreNoCreate, IsDrilled}
 
 -- the numbers of a lattice fit 32 bits
@@ -198,10 +199,12 @@ kind Fence = 3
 kind Upgrade = 4
 kind Scrub = 5
 kind (Put name) = 6
+kind (Get name) = 7
+kind command.List = 8
 
 -- the kind that the first word names
 kind_by : List (List ℕ) → ℕ
-kind_by [] = 7
+kind_by [] = 9
 kind_by (word ∷ words) =
     if bytes_eq word (codes "drill")
     then 0
@@ -211,7 +214,7 @@ kind_by (word ∷ words) =
     then 2
     else if bytes_eq word (codes "fence")
     then 3
-    else if bytes_eq word (codes "upgrade") then 4 else if bytes_eq word (codes "scrub") then 5 else 6
+    else if bytes_eq word (codes "upgrade") then 4 else if bytes_eq word (codes "scrub") then 5 else if bytes_eq word (codes "put") then 6 else if bytes_eq word (codes "list") then 8 else 7
 
 -- the first word tells the kind
 kind_is : (words : List (List ℕ)) (a : Command) → Means words a → kind_by words ≡ kind a
@@ -220,13 +223,15 @@ kind_is words (Drill l) means = ap kind_by means.0
 kind_is words (Create shape) means = ap kind_by means
 kind_is words Stat means = ap kind_by means
 kind_is words (Put name) means = ap kind_by means
+kind_is words (Get name) means = ap kind_by means
+kind_is words command.List means = ap kind_by means
 kind_is words Fence means = ap kind_by means
 kind_is words Upgrade means = ap kind_by means
 kind_is words Scrub means = ap kind_by means
 
--- the words of a put have one name
-names_equal : (words : List (List ℕ)) (a b : List ℕ) → Means words (Put a) → Means words (Put b) → a ≡ b
-names_equal words a b one two = let same = sym one ∙ two in cc
+-- two words have one second word
+names_equal : (words : List (List ℕ)) (word a b : List ℕ) → words ≡ word ∷ a ∷ [] → words ≡ word ∷ b ∷ [] → a ≡ b
+names_equal words word a b one two = let same = sym one ∙ two in cc
 
 -- words mean one command at most
 pub one_command : (words : List (List ℕ)) (a b : Command) → Means words a → Means words b → a ≡ b
@@ -234,7 +239,9 @@ unfolding kind
 one_command words (Drill a) (Drill b) one two = ap Drill (drills_equal words a b one two)
 one_command words (Create a) (Create b) one two = ap Create (shapes_equal words a b one two)
 one_command words Stat Stat one two = refl
-one_command words (Put a) (Put b) one two = ap Put (names_equal words a b one two)
+one_command words (Put a) (Put b) one two = ap Put (names_equal words (codes "put") a b one two)
+one_command words (Get a) (Get b) one two = ap Get (names_equal words (codes "get") a b one two)
+one_command words command.List command.List one two = refl
 one_command words Fence Fence one two = refl
 one_command words Upgrade Upgrade one two = refl
 one_command words Scrub Scrub one two = refl

@@ -1,9 +1,7 @@
 -- Drills: their lines, their marks, and their outcomes.
-pub mod BlockLines
 pub mod DamageLines
 pub mod LeftMarks
 pub mod Outcomes
 pub mod Refused
 pub mod Running
-pub mod Skipping
 pub mod TextLines

@@ -13,3 +13,5 @@ pub mod Fencing
 pub mod Upgrading
 pub mod Recording
 pub mod Putting
+pub mod Getting
+pub mod Listing

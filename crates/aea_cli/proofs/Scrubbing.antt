@@ -1,7 +1,9 @@
 -- What `scrub` does, by where it ends.
+pub mod BlockLines
 pub mod DamagedLines
 pub mod DamagedMarks
 pub mod Running
+pub mod Skipping
 use Rattle.std.proofs.Common.{◌≡◌, ◌≢◌, ◌⊎◌, inl, inr, [], refl, sym, ◌∙◌, ap, subst, Bool, Result, Ok, Err}
 use Rattle.std.specs.Prelude.{not, IsOk}
 use Rattle.aea_io.specs.Streams.{SinkState}

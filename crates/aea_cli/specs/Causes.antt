@@ -1,7 +1,7 @@
 -- Why commands are refused, in the order of refusals.
 use Rattle.std.specs.Prelude.{◌≡◌, ◌<◌, ◌⊎◌, ℕ, Result, Err}
 use Rattle.aea_cli.specs.declared.refusal.Refusal.{Refusal}
-use Rattle.aea_cli.specs.declared.refusal.Refusal.TheVariants.{InputTooLong, BadBlock, NoArchive, LedgerBad, Occupied, BadName, NameTaken, CatalogFull, HeadDamaged, Full, AlreadyFenced, TooManyFences, AlreadyUpgraded}
+use Rattle.aea_cli.specs.declared.refusal.Refusal.TheVariants.{InputTooLong, BadBlock, NoArchive, LedgerBad, Occupied, BadName, NameTaken, CatalogFull, HeadDamaged, Full, AlreadyFenced, TooManyFences, AlreadyUpgraded, UnknownName, Damaged}
 use Rattle.aea_cli.specs.declared.refusal.Failure.{Failure}
 use Rattle.aea_cli.specs.declared.refusal.Failure.TheVariants as failure
 
@@ -20,6 +20,8 @@ place_of TooManyFences = 9
 place_of AlreadyUpgraded = 10
 place_of InputTooLong = 11
 place_of (BadBlock k) = 12
+place_of UnknownName = 13
+place_of (Damaged block) = 14
 
 -- the cause stands, and none that comes before it
 pub record IsFirst (causes : Refusal → Type 0) (why : Refusal) : Type 0 where

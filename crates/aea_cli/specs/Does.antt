@@ -8,7 +8,8 @@ use Rattle.aea_lattice.specs.declared.shape.Shape.{Shape}
 use Rattle.aea_records.specs.Format.{Record, nodes_of}
 use Rattle.aea_ledger.specs.Stops.{HasOpening, HasLedger}
 use Rattle.aea_cli.specs.declared.command.Command.{Command}
-use Rattle.aea_cli.specs.declared.command.Command.TheVariants.{Drill, Create, Stat, Put, Fence, Upgrade, Scrub}
+use Rattle.aea_cli.specs.declared.command.Command.TheVariants as command
+use Rattle.aea_cli.specs.declared.command.Command.TheVariants.{Drill, Create, Stat, Put, Get, Fence, Upgrade, Scrub}
 use Rattle.aea_cli.specs.declared.refusal.Refusal.{Refusal}
 use Rattle.aea_cli.specs.declared.refusal.Failure.TheVariants as failure
 use Rattle.aea_cli.specs.declared.status.Status.{Status}
@@ -20,6 +21,9 @@ use Rattle.aea_cli.specs.Adding.{FitsRecord}
 use Rattle.aea_cli.specs.Fence.{Fences, FenceCauses, next_fence, fence_line}
 use Rattle.aea_cli.specs.Upgrade.{Upgrades, UpgradeCauses, next_raise, upgraded_line}
 use Rattle.aea_cli.specs.Put.{greatest_sites, Puts, PutCauses, FitsPut, stored_line, object_of}
+use Rattle.aea_catalog.specs.Catalogs.{Placed}
+use Rattle.aea_cli.specs.Get.{GetsNamed, GetCauses, HasObject, FitsBytes}
+use Rattle.aea_cli.specs.Listing.{Lists, IsListOf}
 use Rattle.aea_cli.specs.Causes.{Refuses}
 use Rattle.aea_cli.specs.Failures.{Answer}
 use Rattle.aea_cli.specs.Openings.{OpeningCauses}
@@ -31,7 +35,9 @@ abbrev pub ReadsInput : Command → Type 0
 ReadsInput (Drill l) = Unit {0}
 ReadsInput (Create shape) = ⊥
 ReadsInput Stat = ⊥
+ReadsInput command.List = ⊥
 ReadsInput (Put name) = Unit {0}
+ReadsInput (Get name) = ⊥
 ReadsInput Fence = ⊥
 ReadsInput Upgrade = ⊥
 ReadsInput Scrub = ⊥
@@ -41,7 +47,9 @@ abbrev pub UsesDisk : Command → Type 0
 UsesDisk (Drill l) = ⊥
 UsesDisk (Create shape) = Unit {0}
 UsesDisk Stat = Unit {0}
+UsesDisk command.List = Unit {0}
 UsesDisk (Put name) = Unit {0}
+UsesDisk (Get name) = Unit {0}
 UsesDisk Fence = Unit {0}
 UsesDisk Upgrade = Unit {0}
 UsesDisk Scrub = Unit {0}
@@ -51,7 +59,9 @@ abbrev pub MayChange : Command → ℕ → Type 0
 MayChange (Drill l) file = ⊥
 MayChange (Create shape) file = file ≡ 0
 MayChange Stat file = ⊥
+MayChange command.List file = ⊥
 MayChange (Put name) file = file ≤ greatest_sites
+MayChange (Get name) file = ⊥
 MayChange Fence file = file ≡ 0
 MayChange Upgrade file = file ≡ 0
 MayChange Scrub file = ⊥
@@ -69,7 +79,9 @@ abbrev pub Causes : Command → World → Refusal → Type 0
 Causes (Drill l) w = DamageCauses l (input_of w)
 Causes (Create shape) w = CreateCauses (w.disk.files 0)
 Causes Stat w = OpeningCauses (w.disk.files 0)
+Causes command.List w = OpeningCauses (w.disk.files 0)
 Causes (Put name) w = PutCauses name w.disk.files (input_of w)
+Causes (Get name) w = GetCauses name w.disk.files
 Causes Fence w = FenceCauses (w.disk.files 0)
 Causes Upgrade w = UpgradeCauses (w.disk.files 0)
 Causes Scrub w = OpeningCauses (w.disk.files 0)
@@ -79,7 +91,9 @@ abbrev pub FitsDisk : Command → World → Type 0
 FitsDisk (Drill l) w = Unit {0}
 FitsDisk (Create shape) w = HasRoomTo w.disk 0 18
 FitsDisk Stat w = HasRoom w.disk
+FitsDisk command.List w = HasRoom w.disk
 FitsDisk (Put name) w = FitsPut name w.tells w.input.left w.disk
+FitsDisk (Get name) w = HasRoom w.disk
 FitsDisk Fence w = FitsRecord next_fence w.tells w.disk
 FitsDisk Upgrade w = FitsRecord next_raise w.tells w.disk
 FitsDisk Scrub w = HasRoom w.disk
@@ -89,7 +103,9 @@ abbrev pub FitsOutput : Command → World → Type 0
 FitsOutput (Drill l) w = (text : List ℕ) (status : Status) → IsOutcome l (input_of w) text status → FitsText w.out text
 FitsOutput (Create shape) w = FitsText w.out (created_line shape)
 FitsOutput Stat w = (text : List ℕ) → IsStatOf (w.disk.files 0) text → FitsText w.out text
+FitsOutput command.List w = (text : List ℕ) → IsListOf (w.disk.files 0) text → FitsText w.out text
 FitsOutput (Put name) w = (shape : Shape) (records : List Record) → HasLedger shape records (w.disk.files 0) → FitsText w.out (stored_line shape (object_of name (input_of w)))
+FitsOutput (Get name) w = (shape : Shape) (records : List Record) (p : Placed) → HasObject w.disk.files name shape records p → FitsBytes w.out p.object.length
 FitsOutput Fence w = (shape : Shape) (records : List Record) → HasLedger shape records (w.disk.files 0) → FitsText w.out (fence_line (nodes_of records))
 FitsOutput Upgrade w = FitsText w.out upgraded_line
 FitsOutput Scrub w = (l : Lattice) (intact : BlockId → Bool) → TellsIntact w.disk.files l intact → FitsText w.out (scrub_text l intact)
@@ -99,7 +115,9 @@ abbrev pub Does : Command → World → World → Answer → Type 0
 Does (Drill l) old new answer = Drills l old.input new.input old.out new.out answer
 Does (Create shape) old new answer = Creates shape old.tells old.disk new.disk old.out new.out answer
 Does Stat old new answer = Stats old.tells old.disk new.disk old.out new.out answer
+Does command.List old new answer = Lists old.tells old.disk new.disk old.out new.out answer
 Does (Put name) old new answer = Puts name old.tells old.disk new.disk old.input.left new.input.left old.out new.out answer
+Does (Get name) old new answer = GetsNamed name old.tells old.disk new.disk old.out new.out answer
 Does Fence old new answer = Fences old.tells old.disk new.disk old.out new.out answer
 Does Upgrade old new answer = Upgrades old.tells old.disk new.disk old.out new.out answer
 Does Scrub old new answer = Scrubs old.tells old.disk new.disk old.out new.out answer

@@ -1,27 +1,27 @@
 -- The outcome of a drill: what is refused, what is printed, and the status.
-pub mod Counts
 pub mod Marks
-pub mod Reached
-use Rattle.std.specs.Prelude.{◌≡◌, ◌≢◌, ◌⊎◌, ℕ, ◌+◌, ◌-◌, ◌<◌, ◌≤◌, ◌↔◌, Bool, not, cond, List, ◌++◌, filter, length, count_by, All, slice_get, Some, Err, IsOk, IfOk, IfErr, OnOk, codes, decimal, IsTrue, take}
-use Rattle.std.specs.List.{list_any, flat_map}
+pub mod Reports
+use Rattle.std.specs.Prelude.{◌≡◌, ◌≢◌, ◌⊎◌, ℕ, ◌+◌, ◌-◌, ◌<◌, ◌≤◌, ◌==◌, Bool, not, cond, List, length, All, slice_get, None, Some, Err, IsOk, IfOk, IfErr, OnOk, take}
+use Rattle.std.specs.List.{list_any}
 use Rattle.std.specs.Str.{bytes_eq}
 use Rattle.std.specs.Io.KnownBytes.{IsAtEnd}
 use Rattle.aea_io.specs.Streams.{SourceState, SinkState}
 use Rattle.aea_io.specs.Taken.{TakesAtMost}
 use Rattle.aea_lattice.specs.declared.blocks.BlockId.{BlockId}
 use Rattle.aea_lattice.specs.declared.grid.Lattice.{Lattice}
-use Rattle.aea_lattice.specs.Blocks.{HasBlock, blocks_of}
-use Rattle.aea_lattice.specs.Closure.{IsReached}
+use Rattle.aea_lattice.specs.Blocks.{HasBlock}
 use Rattle.aea_lattice.specs.Texts.{text_of}
+use Rattle.aea_report.specs.declared.head.Head.{Head}
+use Rattle.aea_report.specs.declared.line.Line.{Line}
+use Rattle.aea_report.specs.Format.{report_bytes}
+use Rattle.aea_report.specs.Printed.{IsPrinted}
 use Rattle.aea_cli.specs.declared.refusal.Refusal.{Refusal}
 use Rattle.aea_cli.specs.declared.refusal.Refusal.TheVariants.{InputTooLong, BadBlock}
 use Rattle.aea_cli.specs.declared.refusal.Failure.TheVariants as failure
 use Rattle.aea_cli.specs.declared.status.Status.{Status}
 use Rattle.aea_cli.specs.declared.status.Status.TheVariants.{Done, Damage}
 use Rattle.aea_cli.specs.Failures.{Answer}
-use Rattle.aea_cli.specs.Lines.{lines_of, newline}
-use Rattle.aea_cli.specs.Drill.Marks.{AreMarks}
-use Rattle.aea_cli.specs.Drill.Reached.{AreReached}
+use Rattle.aea_cli.specs.Lines.{lines_of}
 use Rattle.aea_cli.specs.Printed.{PrintsText}
 
 -- the greatest number of bytes of a damage list
@@ -56,51 +56,14 @@ is_listed input b = list_any (λ line. bytes_eq line (text_of b)) (lines_of inpu
 abbrev pub is_left : List ℕ → BlockId → Bool
 is_left input b = not (is_listed input b)
 
--- the blocks that are listed, in number order, each once
-abbrev pub listed_blocks : Lattice → List ℕ → List BlockId
-listed_blocks l input = filter (is_listed input) (blocks_of l)
-
--- a test for the closure of the blocks that are left
-abbrev pub IsClosureTest : Lattice → List ℕ → (BlockId → Bool) → Type 0
-IsClosureTest l input reached = (b : BlockId) → HasBlock l b → IsTrue (reached b) ↔ IsReached l (is_left input) b
-
--- `peeled B` for a block that is peeled, `stuck B` for another
-abbrev pub block_line : Bool → BlockId → List ℕ
-block_line peeled b = cond peeled (codes "peeled ") (codes "stuck ") ++ text_of b ++ newline
-
--- the line of a block, by the test for the closure
-abbrev pub line_of : (BlockId → Bool) → BlockId → List ℕ
-line_of reached b = block_line (reached b) b
-
--- `total D peeled P stuck K`
-abbrev pub total_line : ℕ → ℕ → ℕ → List ℕ
-total_line listed peeled stuck =
-    codes "total " ++ decimal listed ++ (codes " peeled " ++ decimal peeled) ++ (codes " stuck " ++ decimal stuck) ++ newline
-
--- the last line: how many blocks are listed, each once, and how many of them are of each kind
-abbrev pub total_of : (BlockId → Bool) → List BlockId → List ℕ
-total_of reached blocks = total_line (length blocks) (count_by reached blocks) (count_by (λ b. not (reached b)) blocks)
-
--- the whole text: the lines of the listed blocks, and the last line
-abbrev pub printed_text : (BlockId → Bool) → List BlockId → List ℕ
-printed_text reached blocks = flat_map (line_of reached) blocks ++ total_of reached blocks
-
--- the status: damage where a block is stuck
-abbrev pub status_of : (BlockId → Bool) → List BlockId → Status
-status_of reached blocks = cond (list_any (λ b. not (reached b)) blocks) Damage Done
-
--- marks at the blocks that the damage list names, and at those that are reached from the others
-pub record IsPlanned (l : Lattice) (input : List ℕ) (listed reached : List Bool) : Type 0 where
-  pub accepted : IsAccepted l input
-  pub listed_marks : AreMarks l listed (is_listed input)
-  pub reached_marks : AreReached l (is_left input) reached
-
--- “Outcome” of a drill that is not refused: the text on `out`, and the status.
+-- “Outcome” of a drill that is not refused: on `out` the report for the blocks that no line names, without a seal; and the
+-- status, damage where a block is lost.
 pub record IsOutcome (l : Lattice) (input : List ℕ) (printed : List ℕ) (answer : Status) : Type 0 where
-  pub reached : BlockId → Bool
-  pub closure : IsClosureTest l input reached
-  pub text : printed ≡ printed_text reached (listed_blocks l input)
-  pub status : answer ≡ status_of reached (listed_blocks l input)
+  pub head : Head
+  pub lines : List Line
+  pub report : IsPrinted l (is_left input) None head lines
+  pub text : printed ≡ report_bytes head lines
+  pub status : answer ≡ cond (head.lost == 0) Done Damage
 
 -- Of a drill, with the input and `out` before and after it, and its answer:
 pub record Drills (l : Lattice) (old new : SourceState) (before after : SinkState) (answer : Answer) : Type 0 where

@@ -10,6 +10,8 @@ use Rattle.aea_ledger.specs.declared.raise.UpgradeFault.{UpgradeFault}
 use Rattle.aea_ledger.specs.declared.raise.UpgradeFault.TheVariants as upgrade
 use Rattle.aea_append.specs.declared.fault.PutFault.{PutFault}
 use Rattle.aea_append.specs.declared.fault.PutFault.TheVariants as put
+use Rattle.aea_fetch.specs.declared.fault.GetFault.{GetFault}
+use Rattle.aea_fetch.specs.declared.fault.GetFault.TheVariants as get
 use Rattle.aea_cli.specs.declared.refusal.Refusal.TheVariants as refusal
 use Rattle.aea_cli.specs.declared.refusal.Failure.{Failure}
 use Rattle.aea_cli.specs.declared.refusal.Failure.TheVariants as failure
@@ -70,6 +72,14 @@ put_failure (put.Full nodes) = failure.Refused (refusal.Full nodes)
 put_failure put.ReadFault = failure.Input
 put_failure put.DiskFault = failure.Disk
 put_failure put.NoMemory = failure.Memory
+
+-- the failure where no object was got
+abbrev pub get_failure : GetFault → Failure
+get_failure get.UnknownName = failure.Refused refusal.UnknownName
+get_failure (get.Damaged block) = failure.Refused (refusal.Damaged block)
+get_failure get.WriteFault = failure.Output
+get_failure get.DiskFault = failure.Disk
+get_failure get.NoMemory = failure.Memory
 
 -- the failure where no fence was added
 abbrev pub fence_failure : FenceFault → Failure

@@ -16,6 +16,8 @@ pub mod Fence
 pub mod Upgrade
 pub mod Growing
 pub mod Put
+pub mod Get
+pub mod Listing
 pub mod Does
 pub mod Ends
 pub mod Surely

@@ -2,7 +2,7 @@
 use Rattle.std.specs.Prelude.{ℕ, List, ◌++◌, codes, decimal}
 use Rattle.aea_lattice.specs.Texts.{text_of}
 use Rattle.aea_cli.specs.declared.refusal.Refusal.{Refusal}
-use Rattle.aea_cli.specs.declared.refusal.Refusal.TheVariants.{InputTooLong, BadBlock, NoArchive, LedgerBad, Occupied, BadName, NameTaken, CatalogFull, HeadDamaged, Full, AlreadyFenced, TooManyFences, AlreadyUpgraded}
+use Rattle.aea_cli.specs.declared.refusal.Refusal.TheVariants.{InputTooLong, BadBlock, NoArchive, LedgerBad, Occupied, BadName, NameTaken, CatalogFull, HeadDamaged, Full, AlreadyFenced, TooManyFences, AlreadyUpgraded, UnknownName, Damaged}
 use Rattle.aea_cli.specs.Lines.{newline}
 
 -- of a refusal
@@ -20,6 +20,8 @@ refusal_line (Full nodes) = codes "refused: full at " ++ decimal nodes ++ codes 
 refusal_line (AlreadyFenced nodes) = codes "refused: already fenced at " ++ decimal nodes ++ newline
 refusal_line TooManyFences = codes "refused: too many fences" ++ newline
 refusal_line AlreadyUpgraded = codes "refused: already upgraded" ++ newline
+refusal_line UnknownName = codes "refused: unknown name" ++ newline
+refusal_line (Damaged block) = codes "refused: damaged " ++ text_of block ++ newline
 
 -- of words that are no command
 abbrev pub words_line : List ℕ

@@ -1,18 +1,21 @@
 -- “Words”: the command that a list of words means, or none.
-use Rattle.std.specs.Prelude.{◌≡◌, ◌≤◌, ℕ, List, [], ◌∷◌, codes, decimal}
+use Rattle.std.specs.Prelude.{◌≡◌, ◌⊎◌, ◌≤◌, ℕ, List, [], ◌∷◌, codes, decimal}
 use Rattle.aea_lattice.specs.declared.grid.Lattice.{Lattice}
 use Rattle.aea_lattice.specs.declared.shape.Shape.{Shape}
 use Rattle.aea_cli.specs.declared.command.Command.{Command}
-use Rattle.aea_cli.specs.declared.command.Command.TheVariants.{Drill, Create, Stat, Put, Fence, Upgrade, Scrub}
+use Rattle.aea_cli.specs.declared.command.Command.TheVariants as command
+use Rattle.aea_cli.specs.declared.command.Command.TheVariants.{Drill, Create, Stat, Put, Get, Fence, Upgrade, Scrub}
 
--- The words of a command, each number in decimal: `drill A S P N`, `create A S P B M`, `stat`, `put NAME`, `fence`,
--- `upgrade` and `scrub`. Any word may stand for NAME.
+-- The words of a command, each number in decimal: `drill A S P N`, `create A S P B M`, `stat`, `list`, `put NAME`,
+-- `get NAME`, `fence`, `upgrade` and `scrub`. Any word may stand for NAME.
 abbrev pub words_of : Command → List (List ℕ)
 words_of (Drill l) = codes "drill" ∷ decimal l.alpha ∷ decimal l.s ∷ decimal l.p ∷ decimal l.n ∷ []
 words_of (Create shape) =
     codes "create" ∷ decimal shape.alpha ∷ decimal shape.s ∷ decimal shape.p ∷ decimal shape.block ∷ decimal shape.sites ∷ []
 words_of Stat = codes "stat" ∷ []
+words_of command.List = codes "list" ∷ []
 words_of (Put name) = codes "put" ∷ name ∷ []
+words_of (Get name) = codes "get" ∷ name ∷ []
 words_of Fence = codes "fence" ∷ []
 words_of Upgrade = codes "upgrade" ∷ []
 words_of Scrub = codes "scrub" ∷ []
@@ -31,7 +34,9 @@ abbrev pub Means : List (List ℕ) → Command → Type 0
 Means words (Drill l) = (words ≡ words_of (Drill l)) × IsDrilled l
 Means words (Create shape) = words ≡ words_of (Create shape)
 Means words Stat = words ≡ words_of Stat
+Means words command.List = words ≡ words_of command.List
 Means words (Put name) = words ≡ words_of (Put name)
+Means words (Get name) = words ≡ words_of (Get name)
 Means words Fence = words ≡ words_of Fence
 Means words Upgrade = words ≡ words_of Upgrade
 Means words Scrub = words ≡ words_of Scrub
@@ -44,17 +49,19 @@ AreNoDrill words = (l : Lattice) → Means words (Drill l) → ⊥
 abbrev pub AreNoCreate : List (List ℕ) → Type 0
 AreNoCreate words = (shape : Shape) → Means words (Create shape) → ⊥
 
--- the words mean no storing of an object
-abbrev pub AreNoPut : List (List ℕ) → Type 0
-AreNoPut words = (name : List ℕ) → Means words (Put name) → ⊥
+-- the words mean the storing or the getting of an object, under some name
+abbrev pub NameObject : List (List ℕ) → Type 0
+NameObject words = ((name : List ℕ) × Means words (Put name)) ⊎ ((name : List ℕ) × Means words (Get name))
 
--- the words mean the storing of an object, under some name
-abbrev pub IsSomePut : List (List ℕ) → Type 0
-IsSomePut words = (name : List ℕ) × Means words (Put name)
+-- the words mean neither
+pub record NameNoObject (words : List (List ℕ)) : Type 0 where
+  pub put : (name : List ℕ) → Means words (Put name) → ⊥
+  pub get : (name : List ℕ) → Means words (Get name) → ⊥
 
 -- the words mean no command of one word
 pub record AreNoPlain (words : List (List ℕ)) : Type 0 where
   pub stat : Means words Stat → ⊥
+  pub list : Means words command.List → ⊥
   pub fence : Means words Fence → ⊥
   pub upgrade : Means words Upgrade → ⊥
   pub scrub : Means words Scrub → ⊥

@@ -1,12 +1,11 @@
 //! The words of the command line.
 
 ghost use Rattle.std.specs.Prelude.{map, string_bytes, IfSome, IfNone, IfOk, OnErr};
-ghost use Rattle.aea_cli.specs.Words.{Means, AreNoPlain, AreNoCommand, IsSomePut};
+ghost use Rattle.aea_cli.specs.Words.{Means, AreNoPlain, AreNoCommand, NameObject, NameNoObject};
 
 use crate::create::parse_create;
 use crate::drill::parse_drill;
-use crate::put::parse_put;
-use crate::words::is_word;
+use crate::words::{is_word, kept, word_behind};
 use aea_catalog::NameText;
 use aea_lattice::{Lattice, Shape};
 use std::alloc::{AllocError, Global};
@@ -20,8 +19,12 @@ pub enum Command {
     Create { shape: Shape },
     /// Prints what stands in the archive.
     Stat,
+    /// Prints the objects of the archive.
+    List,
     /// Stores the input as an object under the name.
     Put { name: NameText },
+    /// Writes the object under the name.
+    Get { name: NameText },
     /// Adds a fence behind the last node of the archive.
     Fence,
     /// Raises the archive's limit on nodes.
@@ -38,6 +41,9 @@ fn plain_command(words: &[String]) -> Option<Command>
     if is_word(words, "stat") {
         return Some(Command::Stat);
     }
+    if is_word(words, "list") {
+        return Some(Command::List);
+    }
     if is_word(words, "fence") {
         return Some(Command::Fence);
     }
@@ -50,11 +56,28 @@ fn plain_command(words: &[String]) -> Option<Command>
     None
 }
 
+// The command of two words, of which the second is a name, if the words are one. It takes memory for the name alone.
+fn named_command(alloc: Global, words: &[String]) -> Result<Option<Command>, AllocError>
+    ensures found { IfOk result (λ answer. IfSome answer (Means (map string_bytes words.now))) }
+    ensures none { IfOk result (λ answer. IfNone answer (NameNoObject (map string_bytes words.now))) }
+    ensures memory { OnErr result (NameObject (map string_bytes words.now)) }
+{
+    if let Some(word) = word_behind(words, "put") {
+        let name = kept(alloc, word.as_bytes())?;
+        return Ok(Some(Command::Put { name }));
+    }
+    if let Some(word) = word_behind(words, "get") {
+        let name = kept(alloc, word.as_bytes())?;
+        return Ok(Some(Command::Get { name }));
+    }
+    Ok(None)
+}
+
 // The command of the words, if they are one.
 fn command_of(alloc: Global, words: &[String]) -> Result<Option<Command>, AllocError>
     ensures found { IfOk result (λ answer. IfSome answer (Means (map string_bytes words.now))) }
     ensures none { IfOk result (λ answer. IfNone answer (AreNoCommand (map string_bytes words.now))) }
-    ensures memory { OnErr result (IsSomePut (map string_bytes words.now)) }
+    ensures memory { OnErr result (NameObject (map string_bytes words.now)) }
 {
     if let Some(lattice) = parse_drill(words) {
         return Ok(Some(Command::Drill { lattice }));
@@ -62,19 +85,19 @@ fn command_of(alloc: Global, words: &[String]) -> Result<Option<Command>, AllocE
     if let Some(shape) = parse_create(words) {
         return Ok(Some(Command::Create { shape }));
     }
-    if let Some(name) = parse_put(alloc, words)? {
-        return Ok(Some(Command::Put { name }));
+    if let Some(command) = named_command(alloc, words)? {
+        return Ok(Some(command));
     }
     Ok(plain_command(words))
 }
 
 /// The command that the words mean, None where they mean none: `drill A S P N` with the numbers of a lattice,
-/// `create A S P B M` with those of the shape of an archive, `stat`, `put NAME`, `fence`, `upgrade` and `scrub`, each
+/// `create A S P B M` with those of the shape of an archive, `stat`, `list`, `put NAME`, `get NAME`, `fence`, `upgrade` and `scrub`, each
 /// number in decimal without sign and leading zeros. It takes memory for a name alone.
 pub fn parse_words(alloc: Global, words: &[String]) -> Result<Option<Command>, AllocError>
     ensures found { IfOk result (λ answer. IfSome answer (Means (map string_bytes words.now))) }
     ensures none { IfOk result (λ answer. IfNone answer (AreNoCommand (map string_bytes words.now))) }
-    ensures memory { OnErr result (IsSomePut (map string_bytes words.now)) }
+    ensures memory { OnErr result (NameObject (map string_bytes words.now)) }
 {
     command_of(alloc, words)
 }

@@ -6,6 +6,8 @@ mod command;
 mod create;
 mod drill;
 mod fence;
+mod get;
+mod list;
 mod numbers;
 mod program;
 mod put;

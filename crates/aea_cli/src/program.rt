@@ -15,6 +15,8 @@ use crate::command::{Command, parse_words};
 use crate::create::create;
 use crate::drill::drill;
 use crate::fence::fence;
+use crate::get::get_object;
+use crate::list::list;
 use crate::put::put_input;
 use crate::refusal::Failure;
 use crate::report::report;
@@ -24,6 +26,7 @@ use crate::status::Status;
 use crate::upgrade::upgrade;
 use aea_disk::Disk;
 use aea_io::{Sink, Source};
+use aea_records::ledgers_have_one_reading;
 use std::alloc::Global;
 
 // Carries out the command.
@@ -44,11 +47,14 @@ fn carry_out<D: Disk, S: Source, O: Sink>(
     ensures input { (ReadsInput command.now → ⊥) → (input.new ≡ input.old) × (result ≢ Err Failure.Input) }
     ensures disk { (UsesDisk command.now → ⊥) → (disk.new ≡ disk.old) × (result ≢ Err Failure.Disk) }
 {
+    ledgers_have_one_reading();
     match command {
         Command::Drill { lattice } => drill(alloc, lattice, input, out),
         Command::Create { shape } => create(alloc, shape, disk, out),
         Command::Stat => stat(alloc, disk, out),
+        Command::List => list(alloc, disk, out),
         Command::Put { name } => put_input(alloc, name.bytes(), disk, input, out),
+        Command::Get { name } => get_object(alloc, name.bytes(), disk, out),
         Command::Fence => fence(alloc, disk, out),
         Command::Upgrade => upgrade(alloc, disk, out),
         Command::Scrub => scrub(alloc, disk, out),

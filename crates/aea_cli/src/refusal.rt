@@ -3,6 +3,7 @@
 ghost use Rattle.std.specs.Prelude.{◌≡◌};
 
 use aea_append::PutFault;
+use aea_fetch::GetFault;
 use aea_io::WriteFault;
 use aea_lattice::BlockId;
 use aea_ledger::{CreateFault, FenceFault, OpenFault, UpgradeFault};
@@ -37,6 +38,10 @@ pub enum Refusal {
     TooManyFences,
     /// The limit on nodes was raised before.
     AlreadyUpgraded,
+    /// No object has the name.
+    UnknownName,
+    /// A data block of the object is damaged: the first one.
+    Damaged { block: BlockId },
 }
 
 /// Why a command did not end well.
@@ -115,6 +120,26 @@ impl From<PutFault> for Failure {
             PutFault::ReadFault => Failure::Input,
             PutFault::DiskFault => Failure::Disk,
             PutFault::NoMemory => Failure::Memory,
+        }
+    }
+}
+
+impl From<GetFault> for Failure {
+    ghost use Rattle.aea_cli.specs.Failures.{get_failure};
+
+    ghost from_gives = { λ fault failure. failure ≡ get_failure fault };
+
+    fn from(fault: GetFault) -> Failure {
+        match fault {
+            GetFault::UnknownName => Failure::Refused {
+                why: Refusal::UnknownName,
+            },
+            GetFault::Damaged { block } => Failure::Refused {
+                why: Refusal::Damaged { block },
+            },
+            GetFault::WriteFault => Failure::Output,
+            GetFault::DiskFault => Failure::Disk,
+            GetFault::NoMemory => Failure::Memory,
         }
     }
 }

@@ -1,8 +1,8 @@
 //! The line on `err` where a command did not end well.
 
-ghost use Rattle.std.specs.Prelude.{◌≡◌, ◌≤◌, [], OnOk};
-ghost use Rattle.aea_lattice.specs.Texts.{letter_of};
-ghost use Rattle.aea_cli.specs.declared.refusal.Refusal.{Refusal};
+ghost use Rattle.std.specs.Prelude.{◌≡◌, ◌≤◌, [], ◌++◌, OnOk};
+ghost use Rattle.aea_lattice.specs.Texts.{letter_of, text_of};
+ghost use Rattle.aea_cli.specs.Lines.{newline};
 ghost use Rattle.aea_cli.specs.Refusals.{refusal_line};
 ghost use Rattle.aea_cli.specs.Failures.{failure_line, failure_status};
 ghost use Rattle.aea_io.specs.Written.{IsFlushed};
@@ -26,15 +26,16 @@ fn class_letter(class: Class) -> u8
     }
 }
 
-// Prints `refused: head damaged B`.
-fn print_damaged_head<E: Sink>(
+// Prints a line that ends with the text of a block.
+fn print_with_block<E: Sink>(
     err: &mut E,
     page: &mut Page,
+    front: &[u8],
     block: BlockId,
 ) -> Result<(), WriteFault>
-    ensures { Prints (E.state err.old) page.old (E.state err.new) page.new result (refusal_line (Refusal.HeadDamaged block)) }
+    ensures { Prints (E.state err.old) page.old (E.state err.new) page.new result (front.now ++ (text_of block ++ newline)) }
 {
-    print(err, page, b"refused: head damaged ")?;
+    print(err, page, front)?;
     print(err, page, &[class_letter(block.class)])?;
     print_number(err, page, b"", u64::from(block.node))?;
     print(err, page, b"\n")
@@ -59,7 +60,9 @@ fn print_refusal<E: Sink>(err: &mut E, page: &mut Page, why: Refusal) -> Result<
         Refusal::BadName => print(err, page, b"refused: bad name\n"),
         Refusal::NameTaken => print(err, page, b"refused: name taken\n"),
         Refusal::CatalogFull => print(err, page, b"refused: catalog full\n"),
-        Refusal::HeadDamaged { block } => print_damaged_head(err, page, block),
+        Refusal::HeadDamaged { block } => {
+            print_with_block(err, page, b"refused: head damaged ", block)
+        }
         Refusal::Full { nodes } => {
             print_number(err, page, b"refused: full at ", u64::from(nodes))?;
             print(err, page, b" nodes\n")
@@ -70,6 +73,8 @@ fn print_refusal<E: Sink>(err: &mut E, page: &mut Page, why: Refusal) -> Result<
         }
         Refusal::TooManyFences => print(err, page, b"refused: too many fences\n"),
         Refusal::AlreadyUpgraded => print(err, page, b"refused: already upgraded\n"),
+        Refusal::UnknownName => print(err, page, b"refused: unknown name\n"),
+        Refusal::Damaged { block } => print_with_block(err, page, b"refused: damaged ", block),
     }
 }
 

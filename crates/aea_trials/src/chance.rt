@@ -4,6 +4,7 @@ ghost use Rattle.std.specs.Prelude.{◌≡◌};
 ghost use Rattle.aea_lattice.specs.Closure.{is_among};
 
 use crate::bench::{add_line, run_line, text_of};
+use crate::reports::plain_report;
 use aea_cli::Status;
 use aea_lattice::{BlockId, Lattice};
 use aea_peel::{Plan, peel};
@@ -121,28 +122,6 @@ fn damage_list(alloc: Global, lost: &[BlockId]) -> Result<String, AllocError> {
     Ok(list)
 }
 
-// What a drill is to print, where the closure has these blocks.
-fn printed_outcome(
-    alloc: Global,
-    lost: &[BlockId],
-    reached: &[BlockId],
-) -> Result<String, AllocError> {
-    let mut text = String::new(alloc);
-    for b in lost {
-        let word = if reached.contains(b) {
-            "peeled "
-        } else {
-            "stuck "
-        };
-        add_line(&mut text, word, *b)?;
-    }
-    let listed = lost.len();
-    let peeled = lost.iter().filter(|b| reached.contains(*b)).count();
-    let stuck = lost.iter().filter(|b| !reached.contains(*b)).count();
-    writeln!(text, "total {listed} peeled {peeled} stuck {stuck}")?;
-    Ok(text)
-}
-
 // Whether the plan and the blocks that are left are exactly the closure.
 fn is_plan_of(steps: &[BlockId], left: &[BlockId], reached: &[BlockId]) -> bool {
     let count = steps.iter().chain(left.iter()).count();
@@ -153,7 +132,7 @@ fn is_plan_of(steps: &[BlockId], left: &[BlockId], reached: &[BlockId]) -> bool 
 }
 
 #[test]
-fn plans_and_drills_agree_with_the_plain_closure(rt: HostRuntime) -> Result<(), Fail> {
+fn plans_and_drills_agree_with_the_plain_programs(rt: HostRuntime) -> Result<(), Fail> {
     let mut seed = 0;
     for (alpha, s, p, n) in SHAPES {
         let lattice = Lattice::new(alpha, s, p, n).ok_or("no lattice")?;
@@ -169,7 +148,7 @@ fn plans_and_drills_agree_with_the_plain_closure(rt: HostRuntime) -> Result<(), 
                 "{case}, {percent} of 100, from {seed}"
             );
             let list = damage_list(rt.alloc(), lost.as_slice())?;
-            let want = printed_outcome(rt.alloc(), lost.as_slice(), reached.as_slice())?;
+            let want = plain_report(rt.alloc(), &lattice, lost.as_slice(), reached.as_slice())?;
             let left = run_line(rt.alloc(), case.as_str(), list.as_bytes())?;
             assert_eq!(rt;
                 text_of(left.out.bytes())?,
@@ -177,7 +156,11 @@ fn plans_and_drills_agree_with_the_plain_closure(rt: HostRuntime) -> Result<(), 
                 "{case}, {percent} of 100, from {seed}"
             );
             let is_done = left.status == Status::Done;
-            assert_eq!(rt; is_done, steps.len() == lost.len(), "{case}, from {seed}");
+            assert_eq!(rt;
+                is_done,
+                !want.as_str().contains("\nlost "),
+                "{case}, from {seed}"
+            );
         }
     }
     Ok(())

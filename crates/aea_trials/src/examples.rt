@@ -6,12 +6,16 @@ use aea_lattice::Lattice;
 use std::test::Fail;
 
 // The damage of nineteen blocks of which no equation has just one.
-const NINETEEN: &str =
+pub const NINETEEN: &str =
     "d1\nd3\nd4\nd5\nd6\nd8\nd9\nd10\nd11\nh1\nh3\nh4\nh8\nh9\nr1\nr3\nr5\nr8\nr10\n";
 
-const NINETEEN_STUCK: &str =
-    "stuck d1\nstuck h1\nstuck r1\nstuck d3\nstuck h3\nstuck r3\nstuck d4\nstuck h4\nstuck d5\nstuck r5\n\
-    stuck d6\nstuck d8\nstuck h8\nstuck r8\nstuck d9\nstuck h9\nstuck d10\nstuck r10\nstuck d11\ntotal 19 peeled 0 stuck 19\n";
+// What is printed of them: three are determined, and the others stand in two codewords.
+const TWO_CODEWORDS: &str = "aea-report 1\nlattice 2 2 2 11\nledger none\ncounts 19 0 3 16\n\
+    lost d1 by 1 3 4 6\nlost h1 by 1 3 4 6\nlost r1 by 1 3 4 6\nlost d3 by 1 3 4 6\nsolved h3\n\
+    lost r3 by 1 3 4 6\nlost d4 by 1 3 4 6\nlost h4 by 1 3 4 6\nsolved d5\nsolved r5\n\
+    lost d6 by 1 3 4 6\nlost d8 by 8 9 10 11\nlost h8 by 8 9 10 11\nlost r8 by 8 9 10 11\n\
+    lost d9 by 8 9 10 11\nlost h9 by 8 9 10 11\nlost d10 by 8 9 10 11\nlost r10 by 8 9 10 11\n\
+    lost d11 by 8 9 10 11\n";
 
 // The words, the damage list, the status, and what is printed.
 const OUTCOMES: [(&str, &str, Status, &str); 7] = [
@@ -19,38 +23,40 @@ const OUTCOMES: [(&str, &str, Status, &str); 7] = [
         "drill 1 1 0 3",
         "d1\nh1\n",
         Status::Done,
-        "peeled d1\npeeled h1\ntotal 2 peeled 2 stuck 0\n",
+        "aea-report 1\nlattice 1 1 0 3\nledger none\ncounts 2 2 0 0\npeeled d1\npeeled h1\n",
     ),
-    ("drill 2 2 2 11", NINETEEN, Status::Damage, NINETEEN_STUCK),
+    ("drill 2 2 2 11", NINETEEN, Status::Damage, TWO_CODEWORDS),
     (
         "drill 1 1 0 3",
         "d3\nh3\n",
         Status::Damage,
-        "stuck d3\nstuck h3\ntotal 2 peeled 0 stuck 2\n",
+        "aea-report 1\nlattice 1 1 0 3\nledger none\ncounts 2 0 0 2\nlost d3 by 3\nlost h3 by 3\n",
     ),
     (
         "drill 1 1 0 3",
         "d2\nh2\nd3\n",
         Status::Damage,
-        "stuck d2\nstuck h2\nstuck d3\ntotal 3 peeled 0 stuck 3\n",
+        "aea-report 1\nlattice 1 1 0 3\nledger none\ncounts 3 0 0 3\n\
+        lost d2 by 2 3\nlost h2 by 2 3\nlost d3 by 2 3\n",
     ),
     (
         "drill 3 2 5 0",
         "",
         Status::Done,
-        "total 0 peeled 0 stuck 0\n",
+        "aea-report 1\nlattice 3 2 5 0\nledger none\ncounts 0 0 0 0\n",
     ),
     (
         "drill 2 2 2 11",
         "d1\nd1",
         Status::Done,
-        "peeled d1\ntotal 1 peeled 1 stuck 0\n",
+        "aea-report 1\nlattice 2 2 2 11\nledger none\ncounts 1 1 0 0\npeeled d1\n",
     ),
     (
         "drill 1 1 0 65536",
         "h65536\nd65536\nd65535\nh65536\nd1\n",
         Status::Damage,
-        "peeled d1\npeeled d65535\nstuck d65536\nstuck h65536\ntotal 4 peeled 2 stuck 2\n",
+        "aea-report 1\nlattice 1 1 0 65536\nledger none\ncounts 4 2 0 2\n\
+        peeled d1\npeeled d65535\nlost d65536 by 65536\nlost h65536 by 65536\n",
     ),
 ];
 
@@ -99,6 +105,12 @@ fn words_that_are_no_command_read_nothing(rt: HostRuntime) -> Result<(), Fail> {
         "Put a",
         "puts a",
         "pu a",
+        "get",
+        "get a b",
+        "Get a",
+        "gets a",
+        "list a",
+        "List",
     ] {
         let left = run_line(rt.alloc(), line, b"d1\n")?;
         assert_eq!(rt; left.status, Status::Words, "{line}");
@@ -143,13 +155,13 @@ fn a_lost_site_of_four_is_peeled(rt: HostRuntime) -> Result<(), Fail> {
     let lattice = Lattice::new(3, 2, 5, 40).ok_or("no lattice")?;
     let mut list = String::new(rt.alloc());
     let mut want = String::new(rt.alloc());
+    want.push_str("aea-report 1\nlattice 3 2 5 40\nledger none\ncounts 40 40 0 0\n")?;
     for k in 0..lattice.blocks() {
         if (k % 4 + k / 4) % 4 == 1 {
             add_line(&mut list, "", lattice.block(k))?;
             add_line(&mut want, "peeled ", lattice.block(k))?;
         }
     }
-    want.push_str("total 40 peeled 40 stuck 0\n")?;
     let Left {
         status,
         out,
@@ -158,8 +170,7 @@ fn a_lost_site_of_four_is_peeled(rt: HostRuntime) -> Result<(), Fail> {
     } = run_line(rt.alloc(), "drill 3 2 5 40", list.as_bytes())?;
     assert_eq!(rt; text_of(out.bytes())?, want.as_str());
     assert!(rt;
-        want.as_str()
-            .starts_with("peeled h1\npeeled d2\npeeled l3\npeeled r4\npeeled h5\n")
+        want.as_str().contains("0\npeeled h1\npeeled d2\npeeled l3\npeeled r4\npeeled h5\n")
     );
     assert!(rt; status == Status::Done && err.bytes().is_empty() && unread == 0);
     Ok(())

@@ -1,6 +1,7 @@
 //! Streams that fail.
 
 use crate::bench::{run_line, text_of, words_of};
+use crate::examples::NINETEEN;
 use aea_cli::{Status, run};
 use aea_disk::SureDisk;
 use aea_io::{MemSink, MemSource};
@@ -53,7 +54,8 @@ fn run_failing(alloc: Global, line: &str, list: &[u8], faults: Faults) -> Result
 
 const DRILL: &str = "drill 1 1 0 3";
 
-const TEXT: &str = "peeled d1\npeeled h1\ntotal 2 peeled 2 stuck 0\n";
+const TEXT: &str =
+    "aea-report 1\nlattice 1 1 0 3\nledger none\ncounts 2 2 0 0\npeeled d1\npeeled h1\n";
 
 #[rattlefmt::skip]
 #[test]
@@ -65,7 +67,7 @@ fn faults_give_their_statuses(rt: HostRuntime) -> Result<(), Fail> {
         (DRILL, Faults { read: 2, ..NONE }, Status::Input, "", "fault: input\n"),
         (DRILL, Faults { out_call: 1, ..NONE }, Status::Output, "", "fault: output\n"),
         (DRILL, Faults { out_call: 2, ..NONE }, Status::Output, TEXT, "fault: output\n"),
-        (DRILL, Faults { out_room: 12, ..NONE }, Status::Output, "peeled d1\npe", "fault: output\n"),
+        (DRILL, Faults { out_room: 12, ..NONE }, Status::Output, "aea-report 1", "fault: output\n"),
         (DRILL, Faults { out_room: 0, ..NONE }, Status::Output, "", "fault: output\n"),
         (DRILL, Faults { out_room: 0, err_room: 5, ..NONE }, Status::Output, "", "fault"),
         (DRILL, Faults { read: 1, err_call: 1, ..NONE }, Status::Input, "", ""),
@@ -75,11 +77,52 @@ fn faults_give_their_statuses(rt: HostRuntime) -> Result<(), Fail> {
         ("drill", Faults { err_call: 1, ..NONE }, Status::Words, "", ""),
         ("put", Faults { read: 1, out_call: 1, ..NONE }, Status::Words, "", "words: no such command\n"),
         ("put a", Faults { read: 1, out_call: 1, ..NONE }, Status::Refused, "", "refused: no archive\n"),
+        ("get", Faults { read: 1, out_call: 1, ..NONE }, Status::Words, "", "words: no such command\n"),
+        ("get a", Faults { read: 1, out_call: 1, ..NONE }, Status::Refused, "", "refused: no archive\n"),
+        ("list", Faults { read: 1, out_call: 1, ..NONE }, Status::Refused, "", "refused: no archive\n"),
     ] {
         let left = run_failing(rt.alloc(), line, b"d1\nh1\n", faults)?;
         assert_eq!(rt; left.status, status, "{line} {faults:?}");
         assert_eq!(rt; text_of(left.out.bytes())?, out, "{line} {faults:?}");
         assert_eq!(rt; text_of(left.err.bytes())?, err, "{line} {faults:?}");
+    }
+    Ok(())
+}
+
+#[test]
+fn an_output_that_fails_at_once_has_no_report(rt: HostRuntime) -> Result<(), Fail> {
+    let faults = Faults {
+        out_call: 1,
+        out_room: 999,
+        ..NONE
+    };
+    let left = run_failing(rt.alloc(), "drill 2 2 2 11", NINETEEN.as_bytes(), faults)?;
+    assert_eq!(rt; left.status, Status::Output);
+    assert!(rt; left.out.bytes().is_empty());
+    assert_eq!(rt; text_of(left.err.bytes())?, "fault: output\n");
+    Ok(())
+}
+
+#[test]
+fn an_error_stream_that_fails_at_once_changes_no_status(rt: HostRuntime) -> Result<(), Fail> {
+    for line in [
+        "drill 2 3 2 5",
+        "drill 2 1 4 5",
+        "drill 1 1 0 65537",
+        "drill 1 1 0 03",
+        "drill",
+        "",
+    ] {
+        let faults = Faults {
+            err_call: 1,
+            ..NONE
+        };
+        let left = run_failing(rt.alloc(), line, b"d1\n", faults)?;
+        assert_eq!(rt; left.status, Status::Words, "{line}");
+        assert!(rt;
+            left.out.bytes().is_empty() && left.err.bytes().is_empty(),
+            "{line}"
+        );
     }
     Ok(())
 }

@@ -4,8 +4,6 @@
 #![tactic(auto)]
 
 #[cfg(test)]
-mod adding;
-#[cfg(test)]
 mod archive;
 #[cfg(test)]
 mod bench;
@@ -16,12 +14,6 @@ mod examples;
 #[cfg(test)]
 mod faults;
 #[cfg(test)]
-mod putting;
-#[cfg(test)]
-mod scrubbing;
+mod reports;
 #[cfg(test)]
 mod sizes;
-#[cfg(test)]
-mod stopped;
-#[cfg(test)]
-mod woven;

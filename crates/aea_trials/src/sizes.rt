@@ -23,7 +23,7 @@ fn one_byte_too_many_is_refused(rt: HostRuntime) -> Result<(), Fail> {
     let left = run_line(rt.alloc(), "drill 1 1 0 10", list.as_bytes())?;
     assert_eq!(rt;
         text_of(left.out.bytes())?,
-        "peeled d1\npeeled d10\ntotal 2 peeled 2 stuck 0\n"
+        "aea-report 1\nlattice 1 1 0 10\nledger none\ncounts 2 2 0 0\npeeled d1\npeeled d10\n"
     );
     assert_eq!(rt; left.status, Status::Done);
     assert!(rt; left.err.bytes().is_empty() && left.unread == 0);
@@ -49,13 +49,13 @@ fn a_lost_site_of_the_greatest_drill_is_peeled(rt: HostRuntime) -> Result<(), Fa
     let lattice = Lattice::new(3, 2, 5, 65_536).ok_or("no lattice")?;
     let mut list = String::new(rt.alloc());
     let mut want = String::new(rt.alloc());
+    want.push_str("aea-report 1\nlattice 3 2 5 65536\nledger none\ncounts 65536 65536 0 0\n")?;
     for k in 0..lattice.blocks() {
         if (k % 4 + k / 4) % 4 == 1 {
             add_line(&mut list, "", lattice.block(k))?;
             add_line(&mut want, "peeled ", lattice.block(k))?;
         }
     }
-    want.push_str("total 65536 peeled 65536 stuck 0\n")?;
     let left = run_line(rt.alloc(), "drill 3 2 5 65536", list.as_bytes())?;
     assert!(rt; left.out.bytes() == want.as_bytes());
     assert_eq!(rt; left.status, Status::Done);

@@ -1,34 +1,31 @@
--- What the printed text says of a planned damage list.
-use Rattle.std.proofs.Common.{◌≡◌, ℕ, List, get_or, refl, sym, Bool, true, false}
-use Rattle.aea_lattice.specs.declared.blocks.BlockId.{BlockId}
+-- The report of a drill's plan is its outcome, and no other text is.
+use Rattle.std.proofs.Common.{◌≡◌, ℕ, List, None, refl, sym, ◌∙◌, ap}
 use Rattle.aea_lattice.specs.declared.grid.Lattice.{Lattice}
-use Rattle.aea_lattice.specs.Blocks.{number_of}
+use Rattle.aea_plan.specs.declared.plan.Plan.{Plan}
+use Rattle.aea_plan.specs.Laws.{PrintedAreOne}
+use Rattle.aea_plan.specs.Plans.{head_by}
+use Rattle.aea_plan.specs.Verdicts.{lines_by}
+use Rattle.aea_report.specs.declared.head.Head.{Head}
+use Rattle.aea_report.specs.declared.line.Line.{Line}
+use Rattle.aea_report.specs.Format.{report_bytes}
 use Rattle.aea_cli.specs.declared.status.Status.{Status}
-use Rattle.aea_cli.specs.Drill.Marks.{AreMarks}
-use Rattle.aea_cli.specs.Drill.Reached.{AreReached}
-use Rattle.aea_cli.specs.Drill.{IsPlanned, IsOutcome, IsClosureTest, is_left, listed_blocks, printed_text, status_of}
+use Rattle.aea_cli.specs.Drill.{IsOutcome, is_left}
+use Rattle.aea_cli.specs.Drill.Reports.{IsPlanned, text_by, status_by}
 
--- the test that marks give
-abbrev pub mark_test : Lattice → List Bool → BlockId → Bool
-mark_test l marks b = get_or marks (number_of l b) false
+-- the report of the plan of a damage list is its outcome
+pub planned_outcome : (l : Lattice) (input : List ℕ) (plan : Plan) (status : Status) → IsPlanned l input plan → status ≡ status_by plan → IsOutcome l input (text_by plan) status
+planned_outcome l input plan status planned is = record {
+  head = head_by None plan;
+  lines = lines_by plan.verdicts;
+  report = planned.reports;
+  text = refl;
+  status = is;
+}
 
--- marks agree with their own test
-pub marks_themselves : (l : Lattice) (marks : List Bool) → AreMarks l marks (mark_test l marks)
-marks_themselves l marks b inside = refl
-
--- two truth values that follow from each other are the same
-pub iff_same : (a b : Bool) → (a ≡ true → b ≡ true) → (b ≡ true → a ≡ true) → a ≡ b
-iff_same true b to from = sym (to refl)
-iff_same false true to from = from refl
-iff_same false false to from = refl
-
--- the marks of what is reached agree with every test for the closure
-pub reached_by_test : (l : Lattice) (input : List ℕ) (marks : List Bool) (test : BlockId → Bool) → AreReached l (is_left input) marks → IsClosureTest l input test → AreMarks l marks test
-reached_by_test l input marks test are closure b inside =
-    iff_same (mark_test l marks b) (test b) (λ m. (closure b inside).1 ((are b inside).0 m)) (λ t. (are b inside).1 ((closure b inside).0 t))
-
--- the outcome of a planned list, by its marks
-pub planned_outcome : (l : Lattice) (input : List ℕ) (listed reached : List Bool) (status : Status) → IsPlanned l input listed reached → status ≡ status_of (mark_test l reached) (listed_blocks l input)
-    → IsOutcome l input (printed_text (mark_test l reached) (listed_blocks l input)) status
-planned_outcome l input listed reached status planned is =
-    record { reached = mark_test l reached; closure = planned.reached_marks; text = refl; status = is }
+-- each text that is an outcome is that report
+pub one_text : PrintedAreOne → (l : Lattice) (input : List ℕ) (plan : Plan) (text : List ℕ) (status : Status) → IsPlanned l input plan → IsOutcome l input text status → text ≡ text_by plan
+one_text one l input plan text status planned outcome =
+    let same = one l (is_left input) None outcome.head (head_by None plan) outcome.lines (lines_by plan.verdicts) outcome.report planned.reports in
+    outcome.text
+    ∙ ap (λ (h : Head). report_bytes h outcome.lines) same.0
+    ∙ ap (λ (lines : List Line). report_bytes (head_by None plan) lines) same.1

@@ -11,8 +11,8 @@ use Rattle.aea_lattice.specs.Blocks.{HasBlock, number_of, blocks_of}
 use Rattle.aea_view.specs.Marked.{Marked, IsNextMarked}
 use Rattle.aea_cli.specs.Drill.Marks.{AreMarks}
 use Rattle.aea_cli.specs.Scrub.{damaged_line}
-use Rattle.aea_cli.proofs.Drilling.BlockLines.{filter-more, take-more}
-use Rattle.aea_cli.proofs.Drilling.Skipping.{is_next, up_to}
+use Rattle.aea_cli.proofs.Scrubbing.BlockLines.{filter-more, take-more}
+use Rattle.aea_cli.proofs.Scrubbing.Skipping.{is_next, up_to}
 
 -- The block of number k is the next marked one: what it is, and where it stands.
 pub record IsNextBlock (l : Lattice) (m : Marked) (from k : ℕ) (b : BlockId) : Type 0 where

@@ -1,5 +1,5 @@
 -- Marks of the damaged blocks, and the tests that tell the intact ones.
-use Rattle.std.proofs.Common.{◌≡◌, ℕ, ◌<◌, List, map, length, get_or, sym, ◌∙◌, ap, subst, Bool, false, arith}
+use Rattle.std.proofs.Common.{◌≡◌, ℕ, ◌<◌, List, map, length, get_or, refl, sym, ◌∙◌, ap, subst, Bool, true, false, arith}
 use Rattle.std.specs.Prelude.{◌↔◌, IsTrue, not}
 use Rattle.std.proofs.lemmas.List.{get_or-map, length-map}
 use Rattle.aea_lattice.specs.declared.blocks.BlockId.{BlockId}
@@ -19,7 +19,12 @@ use Rattle.aea_cli.specs.Drill.Marks.{AreMarks}
 use Rattle.aea_cli.specs.Scrub.{TellsIntact}
 use Rattle.aea_cli.proofs.Commands.{lattice_equal}
 use Rattle.aea_cli.proofs.Drilling.LeftMarks.{twice}
-use Rattle.aea_cli.proofs.Drilling.Outcomes.{iff_same}
+
+-- two truth values that follow from each other are the same
+iff_same : (a b : Bool) → (a ≡ true → b ≡ true) → (b ≡ true → a ≡ true) → a ≡ b
+iff_same true b to from = sym (to refl)
+iff_same false true to from = from refl
+iff_same false false to from = refl
 
 -- a block of the opened archive is marked exactly where it is damaged in these files
 abbrev pub AreDamaged : Opened → Files → Marked → Type 0

@@ -1,19 +1,19 @@
 //! A drill: the plan of the repair of a damage list.
 
-ghost use Rattle.std.specs.Prelude.{◌≡◌, ◌≢◌, ◌+◌, ◌<◌, ◌≤◌, ◌⊎◌, ℕ, List, [], length, unwrap_or, IsSome, IfOk, IfErr, OnOk, Some};
+ghost use Rattle.std.specs.Prelude.{◌≡◌, ◌≢◌, ◌+◌, ◌<◌, ◌≤◌, ◌⊎◌, ℕ, List, [], length, unwrap_or, vec_capacity, IsSome, IfOk, IfErr, OnOk, Some};
 ghost use Rattle.std.specs.Io.KnownBytes.{IsAtEnd};
 ghost use Rattle.aea_faults.specs.Faults.{Rose};
 ghost use Rattle.aea_io.specs.Taken.{TakesAtMost};
 ghost use Rattle.aea_io.specs.Written.{IsFlushed};
+ghost use Rattle.aea_plan.specs.Plans.{IsSound, HasRoom};
 ghost use Rattle.aea_cli.specs.declared.refusal.Refusal.{Refusal};
 ghost use Rattle.aea_cli.specs.Causes.{IsFirst, Refuses};
 ghost use Rattle.aea_cli.specs.Failures.{IsWell};
-ghost use Rattle.aea_cli.specs.Drill.{greatest_input, DamageCauses, IsPlanned, Drills};
+ghost use Rattle.aea_cli.specs.Drill.{greatest_input, DamageCauses, Drills};
+ghost use Rattle.aea_cli.specs.Drill.Reports.{IsPlanned};
 
-mod counts;
 mod damage;
 mod lines;
-mod outcome;
 mod plan;
 mod words;
 
@@ -21,23 +21,14 @@ use crate::refusal::{Failure, Refusal};
 use crate::status::Status;
 use aea_io::{Sink, Source, WholeFault, read_whole};
 use aea_lattice::Lattice;
-use aea_view::Marks;
+use aea_plan::printed_are_one;
 use damage::listed_marks;
-use outcome::print_outcome;
-use plan::reached_marks;
+use plan::{Planned, plan_without, print_outcome};
 use std::alloc::Global;
 pub use words::parse_drill;
 
 // The greatest number of bytes of a damage list.
 const GREATEST_INPUT: usize = 4_194_304;
-
-// A damage list and its plan, by the marks of the blocks that are listed, and of those that are reached from the
-// others.
-#[derive(Drop)]
-struct Planned {
-    listed: Marks,
-    reached: Marks,
-}
 
 // The damage list, read whole. At most one byte past the greatest list is taken.
 fn read_list<S: Source>(alloc: Global, input: &mut S) -> Result<Vec<u8>, Failure>
@@ -65,27 +56,27 @@ fn read_list<S: Source>(alloc: Global, input: &mut S) -> Result<Vec<u8>, Failure
     }
 }
 
-// The marks of a list that is read.
-fn plan_marks(alloc: Global, lattice: &Lattice, list: &[u8]) -> Result<Planned, Failure>
+// The plan of a list that is read.
+fn plan_list(alloc: Global, lattice: &Lattice, list: &[u8]) -> Result<Planned, Failure>
     requires { length list.now ≤ greatest_input }
-    ensures listed_lattice { IfOk result (λ p. p.listed.lattice ≡ lattice.now) }
-    ensures reached_lattice { IfOk result (λ p. p.reached.lattice ≡ lattice.now) }
-    ensures planned { IfOk result (λ p. IsPlanned lattice.now list.now p.listed.marks p.reached.marks) }
+    ensures sound { IfOk result (λ p. IsSound p.plan) }
+    ensures room { IfOk result (λ p. HasRoom p.plan (vec_capacity p.text)) }
+    ensures planned { IfOk result (λ p. IsPlanned lattice.now list.now p.plan) }
     ensures refused { (why : Refusal) → result ≡ Err (Failure.Refused why) → IsFirst (DamageCauses lattice.now list.now) why }
     ensures faults { IfErr result (λ f. (f ≡ Failure.Memory) ⊎ ((why : Refusal) × (f ≡ Failure.Refused why))) }
 {
     let listed = listed_marks(alloc, lattice, list)?;
-    let Ok(reached) = reached_marks(alloc, lattice, &listed) else {
-        return Err(Failure::Memory);
-    };
-    Ok(Planned { listed, reached })
+    match plan_without(alloc, lattice, &listed) {
+        Ok(planned) => Ok(planned),
+        Err(_) => Err(Failure::Memory),
+    }
 }
 
 // Reads the damage list, and plans its repair.
 fn prepare<S: Source>(alloc: Global, lattice: &Lattice, input: &mut S) -> Result<Planned, Failure>
-    ensures listed_lattice { IfOk result (λ p. p.listed.lattice ≡ lattice.now) }
-    ensures reached_lattice { IfOk result (λ p. p.reached.lattice ≡ lattice.now) }
-    ensures planned { IfOk result (λ p. (bytes : List ℕ) → (S.state input.old).left ≡ Some bytes → IsPlanned lattice.now bytes p.listed.marks p.reached.marks) }
+    ensures sound { IfOk result (λ p. IsSound p.plan) }
+    ensures room { IfOk result (λ p. HasRoom p.plan (vec_capacity p.text)) }
+    ensures planned { IfOk result (λ p. (bytes : List ℕ) → (S.state input.old).left ≡ Some bytes → IsPlanned lattice.now bytes p.plan) }
     ensures end { OnOk result (IsAtEnd (S.state input.new).left) }
     ensures refused { (why : Refusal) → result ≡ Err (Failure.Refused why) → (bytes : List ℕ) → (S.state input.old).left ≡ Some bytes → IsFirst (DamageCauses lattice.now bytes) why }
     ensures faults { IfErr result (λ f. (f ≡ Failure.Input) ⊎ ((f ≡ Failure.Memory) ⊎ ((why : Refusal) × (f ≡ Failure.Refused why)))) }
@@ -94,11 +85,11 @@ fn prepare<S: Source>(alloc: Global, lattice: &Lattice, input: &mut S) -> Result
     ensures kept { (S.state input.old).faults ≤ (S.state input.new).faults }
 {
     let list = read_list(alloc, input)?;
-    let planned = plan_marks(alloc, lattice, list.as_slice())?;
+    let planned = plan_list(alloc, lattice, list.as_slice())?;
     Ok(planned)
 }
 
-/// Reads the damage list, plans its repair, and prints the outcome.
+/// Reads the damage list, plans its repair, and prints the report.
 pub fn drill<S: Source, O: Sink>(
     alloc: Global,
     lattice: &Lattice,
@@ -118,8 +109,9 @@ pub fn drill<S: Source, O: Sink>(
     ensures out_kept { (O.state out.old).faults ≤ (O.state out.new).faults }
     ensures out_cause { result ≡ Err Failure.Output → Rose (O.state out.old).faults (O.state out.new).faults }
 {
-    let planned = prepare(alloc, lattice, input)?;
-    match print_outcome(out, lattice, &planned.listed, &planned.reached) {
+    printed_are_one();
+    let mut planned = prepare(alloc, lattice, input)?;
+    match print_outcome(out, &mut planned) {
         Ok(status) => Ok(status),
         Err(_) => Err(Failure::Output),
     }

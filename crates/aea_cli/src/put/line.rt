@@ -33,8 +33,8 @@ fn print_counts<O: Sink>(
     print(out, page, b" ")
 }
 
-// Prints `DIGEST NAME` and the end of the line.
-fn print_named<O: Sink>(
+/// Prints `DIGEST NAME` and the end of the line.
+pub(crate) fn print_named<O: Sink>(
     out: &mut O,
     page: &mut Page,
     digest: &[u8; 32],

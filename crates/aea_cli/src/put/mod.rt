@@ -7,7 +7,6 @@ ghost use Rattle.aea_cli.specs.Causes.{Refuses};
 ghost use Rattle.aea_cli.specs.Put.{stored_text, PutCauses, IsLineOf, Stores, Puts, KeepsOtherFiles};
 
 mod line;
-mod words;
 
 use crate::archive::open;
 use crate::refusal::Failure;
@@ -17,9 +16,9 @@ use aea_disk::Disk;
 use aea_io::{Sink, Source};
 use aea_lattice::numbers_tell_blocks;
 use aea_records::{ledgers_have_one_reading, new_names_are_free, objects_are_counted};
+pub(crate) use line::print_named;
 use line::put_line;
 use std::alloc::Global;
-pub use words::parse_put;
 
 // Opens the archive, and stores all that the input has under the name.
 fn store<D: Disk, S: Source>(

@@ -1,13 +1,13 @@
 use Rattle.std.proofs.Common.{◌≡◌, [], inl, inr, refl, Ok, Err, ap}
 use Rattle.std.specs.Prelude.{IsSome, unwrap_or}
 use Rattle.aea_cli.specs.declared.refusal.Failure.TheVariants as failure
-use Rattle.aea_cli.specs.Drill.{DamageCauses, is_listed, listed_blocks, printed_text}
-use Rattle.aea_cli.specs.Drill.Marks.{AreMarks}
+use Rattle.aea_cli.specs.Drill.{DamageCauses}
+use Rattle.aea_cli.specs.Drill.Reports.{text_by, status_by}
 use Rattle.aea_cli.proofs.OpeningCases.{err_with}
 use Rattle.aea_cli.proofs.Refusing.{refuses_stopped, refuses_none, refuses_one}
 use Rattle.aea_cli.proofs.Texts.{text_printed, text_broken}
 use Rattle.aea_cli.proofs.Drilling.Refused.{told_is, accepted_not_refused, one_cause}
-use Rattle.aea_cli.proofs.Drilling.Outcomes.{mark_test, marks_themselves, reached_by_test, planned_outcome}
+use Rattle.aea_cli.proofs.Drilling.Outcomes.{planned_outcome, one_text}
 use Rattle.aea_cli.proofs.drill.drill.Goals as goal
 
 pub returns-in_err-planned-clause-refuses : goal.returns-in_err-planned-clause-refuses
@@ -29,24 +29,16 @@ returns-in_err-planned-clause-refuses g c =
 pub returns-in-Ok-clause-drills : goal.returns-in-Ok-clause-drills
 returns-in-Ok-clause-drills g c =
     let l = c.args.lattice.now in
-    let listed = c.in_ok-planned.planned.listed.marks in
-    let reached = c.in_ok-planned.planned.reached.marks in
+    let plan = c.in_ok-planned.planned.plan in
     record {
       planned = λ e bytes told.
           let planned = c.in_ok-planned.ensures.planned bytes told in
-          (planned.accepted, (_, _, planned_outcome l bytes listed reached _ planned refl));
+          (planned.accepted, (text_by plan, status_by plan, planned_outcome l bytes plan (status_by plan) planned refl));
       outcome = λ bytes told.
-          let planned = c.in_ok-planned.ensures.planned bytes told in
-          let by_list : AreMarks l listed (is_listed bytes) = planned.listed_marks in
-          let by_reach : AreMarks l reached (mark_test l reached) = marks_themselves l reached in (
-            printed_text (mark_test l reached) (listed_blocks l bytes),
-            planned_outcome l bytes listed reached c.in-Ok.status planned (c.in-Ok.ensures.status (is_listed bytes) (mark_test l reached) by_list by_reach),
-          );
+          (text_by plan, planned_outcome l bytes plan c.in-Ok.status (c.in_ok-planned.ensures.planned bytes told) c.in-Ok.ensures.status);
       prints = λ bytes text status told outcome.
-          let planned = c.in_ok-planned.ensures.planned bytes told in
-          let by_list : AreMarks l listed (is_listed bytes) = planned.listed_marks in
-          let by_reach : AreMarks l reached outcome.reached = reached_by_test l bytes reached outcome.reached planned.reached_marks outcome.closure in
-          rw outcome.text (text_printed c.in-Ok.status (c.in-Ok.ensures.prints (is_listed bytes) outcome.reached by_list by_reach));
+          rw (one_text c.printed_are_one.ensures l bytes plan text status (c.in_ok-planned.ensures.planned bytes told) outcome)
+          (text_printed c.in-Ok.status c.in-Ok.ensures.prints);
       unused = tt;
       end = c.in_ok-planned.ensures.end;
       most = c.in_ok-planned.ensures.most;
@@ -60,25 +52,20 @@ returns-in-Ok-clause-refuses g c =
     (λ some why first. accepted_not_refused c.args.lattice.now (unwrap_or left []) why (c.in_ok-planned.ensures.planned (unwrap_or left []) (told_is left some)).accepted first.stands)
 
 pub returns-in-Ok-clause-out_kept : goal.returns-in-Ok-clause-out_kept
-returns-in-Ok-clause-out_kept g c =
-    let l = c.args.lattice.now in
-    (c.in-Ok.ensures.prints (mark_test l c.in_ok-planned.planned.listed.marks) (mark_test l c.in_ok-planned.planned.reached.marks) (marks_themselves l c.in_ok-planned.planned.listed.marks) (marks_themselves l c.in_ok-planned.planned.reached.marks)).cause.kept
+returns-in-Ok-clause-out_kept g c = c.in-Ok.ensures.prints.cause.kept
 
 pub returns-clause-drills : goal.returns-clause-drills
 returns-clause-drills g c =
     let l = c.args.lattice.now in
-    let listed = c.in_ok-planned.planned.listed.marks in
-    let reached = c.in_ok-planned.planned.reached.marks in
+    let plan = c.in_ok-planned.planned.plan in
     record {
       planned = λ e bytes told.
           let planned = c.in_ok-planned.ensures.planned bytes told in
-          (planned.accepted, (_, _, planned_outcome l bytes listed reached _ planned refl));
+          (planned.accepted, (text_by plan, status_by plan, planned_outcome l bytes plan (status_by plan) planned refl));
       outcome = tt;
       prints = λ bytes text status told outcome.
-          let planned = c.in_ok-planned.ensures.planned bytes told in
-          let by_list : AreMarks l listed (is_listed bytes) = planned.listed_marks in
-          let by_reach : AreMarks l reached outcome.reached = reached_by_test l bytes reached outcome.reached planned.reached_marks outcome.closure in
-          rw outcome.text (text_broken (c.in-Err.ensures.prints (is_listed bytes) outcome.reached by_list by_reach));
+          rw (one_text c.printed_are_one.ensures l bytes plan text status (c.in_ok-planned.ensures.planned bytes told) outcome)
+          (text_broken c.in-Err.ensures.prints);
       unused = λ differs. absurd (differs refl);
       end = tt;
       most = c.in_ok-planned.ensures.most;
@@ -92,11 +79,7 @@ returns-clause-refuses g c =
     (λ some why first. accepted_not_refused c.args.lattice.now (unwrap_or left []) why (c.in_ok-planned.ensures.planned (unwrap_or left []) (told_is left some)).accepted first.stands)
 
 pub returns-clause-out_kept : goal.returns-clause-out_kept
-returns-clause-out_kept g c =
-    let l = c.args.lattice.now in
-    (c.in-Err.ensures.prints (mark_test l c.in_ok-planned.planned.listed.marks) (mark_test l c.in_ok-planned.planned.reached.marks) (marks_themselves l c.in_ok-planned.planned.listed.marks) (marks_themselves l c.in_ok-planned.planned.reached.marks)).cause.kept
+returns-clause-out_kept g c = c.in-Err.ensures.prints.cause.kept
 
 pub returns-clause-out_cause : goal.returns-clause-out_cause
-returns-clause-out_cause g c same =
-    let l = c.args.lattice.now in
-    (c.in-Err.ensures.prints (mark_test l c.in_ok-planned.planned.listed.marks) (mark_test l c.in_ok-planned.planned.reached.marks) (marks_themselves l c.in_ok-planned.planned.listed.marks) (marks_themselves l c.in_ok-planned.planned.reached.marks)).cause.rose
+returns-clause-out_cause g c same = c.in-Err.ensures.prints.cause.rose

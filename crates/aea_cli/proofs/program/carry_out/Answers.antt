@@ -2,6 +2,8 @@ use Rattle.aea_cli.proofs.Drilling.Running.{drill_runs}
 use Rattle.aea_cli.proofs.Creating.Running.{create_runs}
 use Rattle.aea_cli.proofs.Stating.Running.{stat_runs}
 use Rattle.aea_cli.proofs.Putting.Running.{put_runs}
+use Rattle.aea_cli.proofs.Getting.Running.{get_runs}
+use Rattle.aea_cli.proofs.Listing.{list_runs}
 use Rattle.aea_cli.proofs.Fencing.Running.{fence_runs}
 use Rattle.aea_cli.proofs.Upgrading.Running.{upgrade_runs}
 use Rattle.aea_cli.proofs.Scrubbing.Running.{scrub_runs}
@@ -16,9 +18,16 @@ returns-in-Create-clause-runs g c = rw c.in-Create.is (create_runs _ _ _ _ _ _ _
 pub returns-in-Stat-clause-runs : goal.returns-in-Stat-clause-runs
 returns-in-Stat-clause-runs g c = rw c.in-Stat.is (stat_runs _ _ _ _ _ _ _ c.stat.ensures.stats c.stat.ensures.refuses)
 
+pub returns-in-List-clause-runs : goal.returns-in-List-clause-runs
+returns-in-List-clause-runs g c = rw c.in-List.is (list_runs _ _ _ _ _ _ _ c.list.ensures.lists c.list.ensures.refuses)
+
 pub returns-in-Put-clause-runs : goal.returns-in-Put-clause-runs
 returns-in-Put-clause-runs g c =
     rw (c.in-Put.is, ← c.bytes.ensures) (put_runs _ _ _ _ _ _ _ _ _ c.put_input.ensures.puts c.put_input.ensures.refuses c.put_input.ensures.rest)
+
+pub returns-in-Get-clause-runs : goal.returns-in-Get-clause-runs
+returns-in-Get-clause-runs g c =
+    rw (c.in-Get.is, ← c.bytes-in-Get.ensures) (get_runs c.ledgers_have_one_reading.ensures _ _ _ _ _ _ _ _ c.get_object.ensures.gets c.get_object.ensures.refuses)
 
 pub returns-in-Fence-clause-runs : goal.returns-in-Fence-clause-runs
 returns-in-Fence-clause-runs g c = rw c.in-Fence.is (fence_runs _ _ _ _ _ _ _ c.fence.ensures.fences c.fence.ensures.refuses c.fence.ensures.rest)

@@ -58,3 +58,9 @@ returns-in-TooManyFences g c = rw c.in-TooManyFences.is c.print-in-TooManyFences
 
 pub returns-in-AlreadyUpgraded : goal.returns-in-AlreadyUpgraded
 returns-in-AlreadyUpgraded g c = rw c.in-AlreadyUpgraded.is c.print-in-AlreadyUpgraded.ensures
+
+pub returns-in-UnknownName : goal.returns-in-UnknownName
+returns-in-UnknownName g c = rw c.in-UnknownName.is c.print-in-UnknownName.ensures
+
+pub returns-in-Damaged : goal.returns-in-Damaged
+returns-in-Damaged g c = rw c.in-Damaged.is c.print_with_block-in-Damaged.ensures

@@ -4,7 +4,7 @@ use Rattle.std.specs.List.{flat_map}
 use Rattle.aea_lattice.specs.Blocks.{blocks_count, blocks_of}
 use Rattle.aea_io.proofs.Printing.{prints_then, prints_stopped, prints_failed, prints_as}
 use Rattle.aea_cli.specs.Scrub.{damaged_line}
-use Rattle.aea_cli.proofs.Drilling.Skipping.{all_of}
+use Rattle.aea_cli.proofs.Scrubbing.Skipping.{all_of}
 use Rattle.aea_cli.proofs.Scrubbing.DamagedLines.{IsNextBlock, lines_next, count_next, lines_around}
 use Rattle.aea_cli.proofs.scrub.lines.print_blocks.Goals as goal
 

@@ -3,7 +3,7 @@ use Rattle.std.specs.Prelude.{not, cond, ◌==◌}
 use Rattle.aea_lattice.specs.Blocks.{blocks_of}
 use Rattle.aea_io.proofs.Printing.{prints_then_nothing, prints_failed, prints_as}
 use Rattle.aea_cli.specs.declared.status.Status.TheVariants.{Done, Damage}
-use Rattle.aea_cli.proofs.Drilling.BlockLines.{status-length}
+use Rattle.aea_cli.proofs.Scrubbing.BlockLines.{status-length}
 use Rattle.aea_cli.proofs.scrub.lines.put_damage.Goals as goal
 
 pub returns-in_err-count-clause-prints : goal.returns-in_err-count-clause-prints

@@ -1,0 +1,14 @@
+//! Trials of objects that are got back and listed: worked examples, objects of chance, an object in parts, disks, outputs and
+//! cells that fail or change under way.
+#![tactic(auto)]
+
+#[cfg(test)]
+mod archive;
+#[cfg(test)]
+mod bench;
+#[cfg(test)]
+mod getting;
+#[cfg(test)]
+mod got_back;
+#[cfg(test)]
+mod turning;

@@ -1,6 +1,7 @@
 //! The drill as a plain Rust program with arrays, to measure the proved one against. Nothing here is proved.
 //!
-//! `plain_drill drill A S P N` reads a damage list and prints what `aea drill A S P N` prints.
+//! `plain_drill drill A S P N` reads a damage list and prints what `aea drill A S P N` prints; `plain_drill left A S P N` the
+//! blocks of it that peeling leaves.
 //! `plain_drill make SEED A N PERMILLE` prints a damage list: each block of a lattice with A parities a node and N
 //! nodes stands on it with a chance of PERMILLE in a thousand, by a linear congruential generator.
 
@@ -108,36 +109,130 @@ impl Lattice {
     }
 }
 
-fn drill(lattice: &Lattice) -> io::Result<i32> {
+/// A damage list: for each block whether it is there, or nothing where a line names no block.
+fn read_list(lattice: &Lattice) -> io::Result<Option<Vec<bool>>> {
     let mut list = Vec::new();
     io::stdin().lock().take(4_194_305).read_to_end(&mut list)?;
-    let blocks = lattice.n * lattice.width();
-    let mut there = vec![true; blocks];
+    let mut there = vec![true; lattice.n * lattice.width()];
     let mut rest = &list[..];
     while !rest.is_empty() {
         let end = rest.iter().position(|x| *x == b'\n').unwrap_or(rest.len());
         match lattice.block(&rest[..end]) {
             Some(block) => there[block] = false,
-            None => return Ok(3),
+            None => return Ok(None),
         }
         rest = &rest[(end + 1).min(rest.len())..];
     }
-    let listed = there.clone();
-    lattice.peel(&mut there);
-    let mut out = io::BufWriter::with_capacity(8192, io::stdout().lock());
-    let (mut total, mut peeled) = (0, 0);
-    for block in 0..blocks {
-        if !listed[block] {
-            total += 1;
-            let word = if there[block] { "peeled" } else { "stuck" };
-            peeled += usize::from(there[block]);
-            let (node, class) = (block / lattice.width() + 1, block % lattice.width());
-            writeln!(out, "{word} {}{node}", b"dhrl"[class] as char)?;
+    Ok(Some(there))
+}
+
+/// What becomes of the blocks that are not there: for each, in number order, the nodes by which it is lost, or none where the
+/// others determine it. Rows of bits, one for each equation, are reduced until the first bit of each is in no other.
+fn solve(lattice: &Lattice, there: &[bool]) -> Vec<Option<Vec<usize>>> {
+    let unknown: Vec<usize> = (0..there.len()).filter(|b| !there[*b]).collect();
+    if unknown.is_empty() {
+        return Vec::new();
+    }
+    let words = unknown.len().div_ceil(64);
+    let has = |row: &[u64], k: usize| row[k / 64] >> (k % 64) & 1 == 1;
+    let mut rows: Vec<Vec<u64>> = Vec::new();
+    for node in 1..=lattice.n {
+        for class in 1..=lattice.alpha {
+            let before = lattice.input(node, class);
+            let mut blocks = vec![lattice.number(node, 0), lattice.number(node, class)];
+            if before != 0 {
+                blocks.push(lattice.number(before, class));
+            }
+            let mut row = vec![0u64; words];
+            for k in blocks.iter().filter_map(|b| unknown.binary_search(b).ok()) {
+                row[k / 64] ^= 1 << (k % 64);
+            }
+            if row.iter().any(|word| *word != 0) {
+                rows.push(row);
+            }
         }
     }
-    writeln!(out, "total {total} peeled {peeled} stuck {}", total - peeled)?;
+    let mut leads: Vec<Option<usize>> = vec![None; unknown.len()];
+    let mut used = 0;
+    for (k, lead) in leads.iter_mut().enumerate() {
+        let Some(found) = (used..rows.len()).find(|r| has(&rows[*r], k)) else {
+            continue;
+        };
+        rows.swap(used, found);
+        let pivot = rows[used].clone();
+        for (r, row) in rows.iter_mut().enumerate() {
+            if r != used && has(row, k) {
+                row.iter_mut().zip(&pivot).for_each(|(x, y)| *x ^= y);
+            }
+        }
+        *lead = Some(used);
+        used += 1;
+    }
+    let nodes_of = |end: usize| {
+        let stands = |k: usize| leads[k].map_or(k == end, |r| has(&rows[r], end));
+        let datum = |k: &usize| unknown[*k] % lattice.width() == 0 && stands(*k);
+        (0..unknown.len()).filter(datum).map(|k| unknown[k] / lattice.width() + 1).collect()
+    };
+    (0..unknown.len())
+        .map(|k| match leads[k] {
+            None => Some(nodes_of(k)),
+            Some(r) => (k + 1..unknown.len()).find(|end| has(&rows[r], *end)).map(nodes_of),
+        })
+        .collect()
+}
+
+/// The text of a block.
+fn name(lattice: &Lattice, block: usize) -> String {
+    format!("{}{}", b"dhrl"[block % lattice.width()] as char, block / lattice.width() + 1)
+}
+
+fn drill(lattice: &Lattice) -> io::Result<i32> {
+    let Some(known) = read_list(lattice)? else {
+        return Ok(3);
+    };
+    let mut there = known.clone();
+    lattice.peel(&mut there);
+    let fates = solve(lattice, &there);
+    let damaged = known.iter().filter(|x| !**x).count();
+    let lost = fates.iter().filter(|x| x.is_some()).count();
+    let mut out = io::BufWriter::with_capacity(8192, io::stdout().lock());
+    let Lattice { alpha, s, p, n } = lattice;
+    writeln!(out, "aea-report 1\nlattice {alpha} {s} {p} {n}\nledger none")?;
+    writeln!(out, "counts {damaged} {} {} {lost}", damaged - fates.len(), fates.len() - lost)?;
+    let mut fates = fates.iter();
+    for block in (0..known.len()).filter(|b| !known[*b]) {
+        if there[block] {
+            let (node, class) = (block / lattice.width() + 1, block % lattice.width());
+            writeln!(out, "peeled {}{node}", b"dhrl"[class] as char)?;
+            continue;
+        }
+        match fates.next().unwrap() {
+            None => writeln!(out, "solved {}", name(lattice, block))?,
+            Some(nodes) => {
+                write!(out, "lost {} by", name(lattice, block))?;
+                for node in nodes {
+                    write!(out, " {node}")?;
+                }
+                writeln!(out)?;
+            }
+        }
+    }
     out.flush()?;
-    Ok(i32::from(peeled < total))
+    Ok(i32::from(lost > 0))
+}
+
+/// Prints the listed blocks that single equations do not give.
+fn left(lattice: &Lattice) -> io::Result<i32> {
+    let Some(mut there) = read_list(lattice)? else {
+        return Ok(3);
+    };
+    lattice.peel(&mut there);
+    let mut out = io::BufWriter::new(io::stdout().lock());
+    for block in (0..there.len()).filter(|b| !there[*b]) {
+        writeln!(out, "{}", name(lattice, block))?;
+    }
+    out.flush()?;
+    Ok(0)
 }
 
 fn make(mut x: u64, alpha: usize, n: usize, permille: u64) -> io::Result<i32> {
@@ -157,13 +252,15 @@ fn make(mut x: u64, alpha: usize, n: usize, permille: u64) -> io::Result<i32> {
 fn main() -> io::Result<()> {
     let words: Vec<String> = std::env::args().skip(1).collect();
     let number = |k: usize| words[k].parse::<usize>().unwrap();
+    let lattice = || Lattice {
+        alpha: number(1),
+        s: number(2),
+        p: number(3),
+        n: number(4),
+    };
     let status = match words[0].as_str() {
-        "drill" => drill(&Lattice {
-            alpha: number(1),
-            s: number(2),
-            p: number(3),
-            n: number(4),
-        })?,
+        "drill" => drill(&lattice())?,
+        "left" => left(&lattice())?,
         _ => make(number(1) as u64, number(2), number(3), number(4) as u64)?,
     };
     std::process::exit(status)

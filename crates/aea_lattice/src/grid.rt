@@ -312,7 +312,9 @@ impl Lattice {
         }
     }
 
-    /// The blocks of an equation, which lie in the lattice and are distinct.
+    /// The blocks of an equation, which lie in the lattice and are distinct. Peeling asks it of each equation that it looks at,
+    /// so it is laid into its callers.
+    #[inline(always)]
     pub fn equation(&self, e: EqId) -> Equation
         requires { HasEquation self.now e }
         ensures datum { result.datum ≡ block_of e.node Class.Datum }

@@ -43,10 +43,11 @@ fn fates_of(alloc: Global, reached: &Marks) -> Result<FateList, AllocError>
 {
     blocks_are_inside();
     let lattice = reached.lattice();
-    if reached.unmarked() == 0 {
-        return Ok(FateList::new(alloc));
+    let open = reached.complement(alloc)?;
+    match open.next_marked(0) {
+        None => Ok(FateList::new(alloc)),
+        Some(_) => solve(alloc, lattice, reached),
     }
-    solve(alloc, lattice, reached)
 }
 
 // Peels, and solves what peeling leaves.

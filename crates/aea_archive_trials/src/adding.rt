@@ -1,11 +1,10 @@
 //! Fences and raises of the limit: the commands that add a record to the ledger.
 
-use crate::archive::run_over;
-use crate::bench::text_of;
 use aea_catalog::check_name;
 use aea_cli::Status;
 use aea_disk::{Disk, DiskFault, FailDisk, Loss, MemDisk, SureDisk};
 use aea_ledger::open_ledger;
+use aea_runs::{run_over, text_of};
 use std::alloc::Global;
 use std::test::Fail;
 

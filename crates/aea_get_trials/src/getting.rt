@@ -1,11 +1,10 @@
 //! Objects that are got back and listed.
 
-use crate::archive::run_over;
-use crate::bench::{Left, run_put, run_words, text_of, words_of};
 use crate::turning::TurningDisk;
 use aea_cli::{Status, run};
 use aea_disk::{Disk, FailDisk, SureDisk};
 use aea_io::{MemSink, SureSource};
+use aea_runs::{Left, run_over, run_put, run_words, text_of, words_of};
 use std::alloc::{AllocError, Global};
 use std::test::Fail;
 

@@ -4,13 +4,12 @@ ghost use Rattle.std.specs.Prelude.{◌≡◌, true};
 ghost use Rattle.aea_disk.specs.State.{IsFixed};
 ghost use Rattle.aea_ledger.specs.Values.{IsThisOne};
 
-use crate::archive::run_over;
-use crate::bench::{run_put, run_words, text_of};
 use aea_catalog::{Extent, check_name};
 use aea_cli::Status;
 use aea_disk::{Disk, SureDisk};
 use aea_ledger::{AppendFault, Ledger, open_ledger};
 use aea_records::are_parts;
+use aea_runs::{run_over, run_put, run_words, text_of};
 use sha2::{Digest, Sha256};
 use std::alloc::{AllocError, Global};
 use std::test::Fail;

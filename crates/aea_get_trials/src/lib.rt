@@ -3,10 +3,6 @@
 #![tactic(auto)]
 
 #[cfg(test)]
-mod archive;
-#[cfg(test)]
-mod bench;
-#[cfg(test)]
 mod getting;
 #[cfg(test)]
 mod got_back;

@@ -3,12 +3,13 @@
 ghost use Rattle.std.specs.Prelude.{◌≡◌};
 ghost use Rattle.aea_lattice.specs.Closure.{is_among};
 
-use crate::bench::{add_line, run_line, text_of};
+use crate::lists::add_line;
 use crate::reports::plain_report;
 use aea_cli::Status;
 use aea_lattice::{BlockId, Lattice};
 use aea_peel::{Plan, peel};
 use aea_plain::closure;
+use aea_runs::{run_line, text_of};
 use aea_view::View;
 use std::alloc::{AllocError, Global};
 use std::test::Fail;

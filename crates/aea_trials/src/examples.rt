@@ -1,8 +1,9 @@
 //! Worked examples of whole runs.
 
-use crate::bench::{Left, add_line, run_line, text_of};
+use crate::lists::add_line;
 use aea_cli::{Command, Status, parse_words};
 use aea_lattice::Lattice;
+use aea_runs::{Left, run_line, text_of, words_of};
 use std::test::Fail;
 
 // The damage of nineteen blocks of which no equation has just one.
@@ -72,46 +73,57 @@ fn drills_print_the_outcome(rt: HostRuntime) -> Result<(), Fail> {
     Ok(())
 }
 
+// Lines whose words are no command.
+const NO_COMMANDS: [&str; 44] = [
+    "drill 2 3 2 5",
+    "drill 2 1 4 5",
+    "drill 1 1 0 65537",
+    "drill 1 1 0 1048576",
+    "drill 1 1 0 03",
+    "drill 1 1 0 +3",
+    "drill 1 1 0 4294967299",
+    "drill 257 1 0 3",
+    "drill",
+    "",
+    "Drill 1 1 0 3",
+    "drill 1 1 0",
+    "drill 1 1 0 3 4",
+    "drill 4 2 5 3",
+    "drill 3 2 65 3",
+    "create 3 2 5 64",
+    "create 3 2 5 64 4 4",
+    "create 3 2 5 15 4",
+    "create 3 2 5 65537 4",
+    "create 3 2 5 64 0",
+    "create 3 2 5 64 65",
+    "create 3 2 5 064 4",
+    "create 2 3 2 64 4",
+    "stat x",
+    "Stat",
+    "put",
+    "put a b",
+    "Put a",
+    "puts a",
+    "pu a",
+    "get",
+    "get a b",
+    "Get a",
+    "gets a",
+    "list a",
+    "List",
+    "lists",
+    "scrub a",
+    "Scrub",
+    "scrubs",
+    "fence 1",
+    "fences",
+    "upgrade 1",
+    "Upgrade",
+];
+
 #[test]
 fn words_that_are_no_command_read_nothing(rt: HostRuntime) -> Result<(), Fail> {
-    for line in [
-        "drill 2 3 2 5",
-        "drill 2 1 4 5",
-        "drill 1 1 0 65537",
-        "drill 1 1 0 1048576",
-        "drill 1 1 0 03",
-        "drill 1 1 0 +3",
-        "drill 1 1 0 4294967299",
-        "drill 257 1 0 3",
-        "drill",
-        "",
-        "Drill 1 1 0 3",
-        "drill 1 1 0",
-        "drill 1 1 0 3 4",
-        "drill 4 2 5 3",
-        "drill 3 2 65 3",
-        "create 3 2 5 64",
-        "create 3 2 5 64 4 4",
-        "create 3 2 5 15 4",
-        "create 3 2 5 65537 4",
-        "create 3 2 5 64 0",
-        "create 3 2 5 64 65",
-        "create 3 2 5 064 4",
-        "create 2 3 2 64 4",
-        "stat x",
-        "Stat",
-        "put",
-        "put a b",
-        "Put a",
-        "puts a",
-        "pu a",
-        "get",
-        "get a b",
-        "Get a",
-        "gets a",
-        "list a",
-        "List",
-    ] {
+    for line in NO_COMMANDS {
         let left = run_line(rt.alloc(), line, b"d1\n")?;
         assert_eq!(rt; left.status, Status::Words, "{line}");
         assert_eq!(rt;
@@ -178,7 +190,7 @@ fn a_lost_site_of_four_is_peeled(rt: HostRuntime) -> Result<(), Fail> {
 
 #[test]
 fn words_are_parsed(rt: HostRuntime) -> Result<(), Fail> {
-    let words = crate::bench::words_of(rt.alloc(), "drill 3 2 5 40")?;
+    let words = words_of(rt.alloc(), "drill 3 2 5 40")?;
     let command = parse_words(rt.alloc(), words.as_slice())?;
     let Some(Command::Drill { lattice }) = &command else {
         return Err(Fail::new("no drill"));

@@ -1,10 +1,10 @@
 //! Streams that fail.
 
-use crate::bench::{run_line, text_of, words_of};
 use crate::examples::NINETEEN;
 use aea_cli::{Status, run};
 use aea_disk::SureDisk;
 use aea_io::{MemSink, MemSource};
+use aea_runs::{run_line, text_of, words_of};
 use std::alloc::{AllocError, Global};
 use std::test::Fail;
 

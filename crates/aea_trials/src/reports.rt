@@ -4,7 +4,7 @@
 ghost use Rattle.std.specs.Prelude.{◌≤◌};
 ghost use Rattle.aea_lattice.specs.Blocks.{HasNode, class_number};
 
-use crate::bench::add_line;
+use crate::lists::add_line;
 use aea_lattice::{BlockId, Class, Lattice};
 use aea_plain::previous;
 use std::alloc::{AllocError, Global};

@@ -1,12 +1,11 @@
-//! What the trials share.
+//! Runs of the program over streams and disks in memory, for the trials.
+#![tactic(auto)]
 
 use aea_cli::{Status, run, run_surely};
 use aea_disk::{Disk, SureDisk};
 use aea_io::{SureSink, SureSource};
-use aea_lattice::{BlockId, Class};
 use std::alloc::{AllocError, Global};
-use std::str;
-use std::test::Fail;
+use std::str::{self, Utf8Error};
 
 /// What a run leaves.
 #[derive(Drop)]
@@ -18,7 +17,7 @@ pub struct Left {
     pub unread: usize,
 }
 
-/// The words of a line, parted by spaces.
+/// The words of a line, parted by spaces. An error is want of memory, here and below.
 pub fn words_of(alloc: Global, line: &str) -> Result<Vec<String>, AllocError> {
     let mut words = Vec::new(alloc);
     for word in line.split_whitespace() {
@@ -28,8 +27,8 @@ pub fn words_of(alloc: Global, line: &str) -> Result<Vec<String>, AllocError> {
 }
 
 /// The text of these bytes.
-pub fn text_of(bytes: &[u8]) -> Result<&str, Fail> {
-    Ok(str::from_utf8(bytes)?)
+pub fn text_of(bytes: &[u8]) -> Result<&str, Utf8Error> {
+    str::from_utf8(bytes)
 }
 
 /// Runs the command of a line over a disk without room and streams that do not fail.
@@ -56,29 +55,18 @@ pub fn run_line(alloc: Global, line: &str, list: &[u8]) -> Result<Left, AllocErr
     })
 }
 
-/// Runs the command of these words over this disk and input, with so much room on `out`.
-pub fn run_words<D: Disk>(
+// Runs the command of these words over this disk and input, with so many bytes of room on `out` and 64 on `err`.
+fn run_with<D: Disk>(
     alloc: Global,
-    texts: &[&str],
+    words: &[String],
     disk: &mut D,
-    list: &[u8],
+    bytes: &[u8],
     room: usize,
 ) -> Result<Left, AllocError> {
-    let mut words = Vec::new(alloc);
-    for text in texts {
-        words.push(String::from_str(alloc, text)?)?;
-    }
-    let mut input = SureSource::new(list);
+    let mut input = SureSource::new(bytes);
     let mut out = SureSink::new(alloc, room)?;
     let mut err = SureSink::new(alloc, 64)?;
-    let status = run(
-        alloc,
-        words.as_slice(),
-        disk,
-        &mut input,
-        &mut out,
-        &mut err,
-    );
+    let status = run(alloc, words, disk, &mut input, &mut out, &mut err);
     let unread = input.rest.len();
     Ok(Left {
         status,
@@ -86,6 +74,32 @@ pub fn run_words<D: Disk>(
         err,
         unread,
     })
+}
+
+/// Runs the command of a line over this disk, with so many bytes of room on `out` and an input that no such command reads.
+pub fn run_over<D: Disk>(
+    alloc: Global,
+    line: &str,
+    disk: &mut D,
+    room: usize,
+) -> Result<Left, AllocError> {
+    let words = words_of(alloc, line)?;
+    run_with(alloc, words.as_slice(), disk, b"unread", room)
+}
+
+/// Runs the command of these words over this disk and input, with so many bytes of room on `out`.
+pub fn run_words<D: Disk>(
+    alloc: Global,
+    texts: &[&str],
+    disk: &mut D,
+    bytes: &[u8],
+    room: usize,
+) -> Result<Left, AllocError> {
+    let mut words = Vec::new(alloc);
+    for text in texts {
+        words.push(String::from_str(alloc, text)?)?;
+    }
+    run_with(alloc, words.as_slice(), disk, bytes, room)
 }
 
 /// Runs `put` with this name over this disk and input.
@@ -96,21 +110,4 @@ pub fn run_put<D: Disk>(
     bytes: &[u8],
 ) -> Result<Left, AllocError> {
     run_words(alloc, &["put", name], disk, bytes, 400)
-}
-
-// The letter of a class.
-fn letter(class: Class) -> char {
-    match class {
-        Class::Datum => 'd',
-        Class::Horiz => 'h',
-        Class::Right => 'r',
-        Class::Left => 'l',
-    }
-}
-
-/// Adds a line to the text: the word, and the block.
-pub fn add_line(text: &mut String, word: &str, b: BlockId) -> Result<(), AllocError> {
-    let letter = letter(b.class);
-    let node = b.node;
-    writeln!(text, "{word}{letter}{node}")
 }

@@ -2,13 +2,12 @@
 
 ghost use Rattle.std.specs.Prelude.{◌≤◌, ◌^◌};
 
-use crate::archive::run_over;
-use crate::bench::text_of;
 use aea_append::put;
 use aea_cli::Status;
 use aea_disk::{Disk, FailDisk, SureDisk};
 use aea_io::SureSource;
 use aea_ledger::open_ledger;
+use aea_runs::{run_over, text_of};
 use std::alloc::{AllocError, Global};
 use std::test::Fail;
 

@@ -1,9 +1,8 @@
 //! Objects that are put: what is printed, what is refused, and what then stands in the files.
 
-use crate::archive::run_over;
-use crate::bench::{run_put, run_words, text_of};
 use aea_cli::Status;
 use aea_disk::{Disk, DiskFault, SureDisk};
+use aea_runs::{run_over, run_put, run_words, text_of};
 use std::alloc::{AllocError, Global};
 use std::test::Fail;
 

@@ -3,12 +3,12 @@
 ghost use Rattle.std.specs.Prelude.{◌≤◌, ◌^◌};
 ghost use Rattle.aea_lattice.specs.Blocks.{HasBlock};
 
-use crate::bench::{run_put, run_words, text_of};
 use aea_cli::Status;
 use aea_disk::{Disk, SureDisk};
 use aea_lattice::{BlockId, Class, Lattice};
 use aea_ledger::{Ledger, open_ledger};
 use aea_plain::prefix;
+use aea_runs::{run_over, run_put, run_words, text_of};
 use sha2::{Digest, Sha256};
 use std::alloc::{AllocError, Global};
 use std::test::Fail;
@@ -152,7 +152,7 @@ fn three_objects_are_plain_sums(rt: HostRuntime) -> Result<(), Fail> {
     let alloc = rt.alloc();
     for (line, counts) in SHAPES {
         let mut disk = SureDisk::new(alloc, 4, 8192, 4096)?;
-        let _made = crate::archive::run_over(alloc, line, &mut disk, 99)?;
+        let _made = run_over(alloc, line, &mut disk, 99)?;
         let mut datas = Vec::new(alloc);
         for (count, name) in counts.iter().zip(["a", "b", "c"]) {
             let bytes = some_bytes(alloc, *count, 7)?;
@@ -174,7 +174,7 @@ fn strands_begin_anew_behind_a_fence(rt: HostRuntime) -> Result<(), Fail> {
     let alloc = rt.alloc();
     for (line, counts) in SHAPES {
         let mut disk = SureDisk::new(alloc, 4, 8192, 4096)?;
-        let _made = crate::archive::run_over(alloc, line, &mut disk, 99)?;
+        let _made = run_over(alloc, line, &mut disk, 99)?;
         let mut datas = Vec::new(alloc);
         for (count, name) in counts.iter().zip(["a", "b", "c"]) {
             let bytes = some_bytes(alloc, *count, 11)?;

@@ -1,11 +1,10 @@
 //! Puts that are stopped, and disks and streams that fail while an object is put.
 
-use crate::archive::run_over;
-use crate::bench::{Left, run_put, text_of, words_of};
 use crate::woven::{add_blocks, first_unwoven};
 use aea_cli::{Status, run};
 use aea_disk::{Disk, FailDisk, Loss, MemDisk, SureDisk};
 use aea_io::{MemSink, MemSource};
+use aea_runs::{Left, run_over, run_put, text_of, words_of};
 use std::alloc::{AllocError, Global};
 use std::test::Fail;
 

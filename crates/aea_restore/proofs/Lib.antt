@@ -1,0 +1,12 @@
+mod Sums
+mod Parts
+mod Drawing
+mod Writing
+mod Ways
+mod Ends
+mod Adding
+mod Loops
+mod Blocks
+pub mod Planned
+mod Restorable
+pub mod Same

@@ -1,0 +1,56 @@
+use Rattle.std.proofs.Common.{◌≡◌, ◌≢◌, [], ◌∷◌, replicate, Err, sym, ◌∙◌, ap}
+use Rattle.std.proofs.lemmas.List.Elements.{All-head}
+use Rattle.aea_lattice.specs.Equations.{HasEquation}
+use Rattle.aea_view.specs.Marked.{is_marked}
+use Rattle.aea_restore.specs.declared.fault.RestoreFault.TheVariants.{DiskFault}
+use Rattle.aea_restore.proofs.Writing.{blocks_none, blocks_read, read_then_blocks}
+use Rattle.aea_restore.proofs.Blocks.{read_failed, read_then_goes, read_then_torn, added_stays, added_clash}
+use Rattle.aea_restore.proofs.block.restore_step.Goals as goal
+
+pub returns-then-get-clause-writes : goal.returns-then-get-clause-writes
+returns-then-get-clause-writes g c = blocks_none g.D.Disk.tells _ c.args.ledger.now (λ a. a ≢ c.args.step.block) (g.D.Disk.state c.args.disk.now) (λ is. absurd (let e = is in cc))
+
+pub add_equation-requires-clause-equation : goal.add_equation-requires-clause-equation
+add_equation-requires-clause-equation g c = All-head (HasEquation c.args.ledger.now.lattice) c.args.step.by [] c.requires.gives.valid
+
+pub returns-in-Err-clause-torn : goal.returns-in-Err-clause-torn
+returns-in-Err-clause-torn g c is told =
+    read_failed c.args.ledger.now (is_marked c.args.marks.now) c.args.step.block (g.D.Disk.state c.args.disk.now).files (g.D.Disk.state c.add_equation.new.disk).files (sym c.get.ensures ∙ c.if-get.false) (c.add_equation.ensures.reads.contents told)
+
+pub returns-in-Err-clause-clash : goal.returns-in-Err-clause-clash
+returns-in-Err-clause-clash g c d told computed is tells known first all = absurd (c.add_equation.ensures.damaged d told computed (c.in-Err.is ∙ is) tells all.intact)
+
+pub returns-in-Err-clause-writes : goal.returns-in-Err-clause-writes
+returns-in-Err-clause-writes g c =
+    blocks_read c.homes_are_on_its_sites.ensures g.D.Disk.tells (c.add_equation.result ≡ Err DiskFault) _ c.args.ledger.now (λ a. a ≢ c.args.step.block) (g.D.Disk.state c.args.disk.now) (g.D.Disk.state c.add_equation.new.disk) (λ is. c.in-Err.is ∙ is) c.add_equation.ensures.reads
+
+pub returns-clause-way : goal.returns-clause-way
+returns-clause-way g c fine told =
+    read_then_goes c.args.ledger.now (is_marked c.args.marks.now) (is_marked c.write_block.new.marks) (g.D.Disk.state c.args.disk.now).files (g.D.Disk.state c.add_equation.new.disk).files (g.D.Disk.state c.write_block.new.disk).files
+    (c.add_equation.ensures.reads.contents told) (c.write_block.ensures.way fine told)
+
+pub returns-clause-torn : goal.returns-clause-torn
+returns-clause-torn g c is told =
+    read_then_torn c.args.ledger.now (is_marked c.args.marks.now) (is_marked c.write_block.new.marks) c.args.step.block (g.D.Disk.state c.args.disk.now).files (g.D.Disk.state c.add_equation.new.disk).files (g.D.Disk.state c.write_block.new.disk).files
+    (c.add_equation.ensures.reads.contents told) (c.write_block.ensures.torn is told)
+
+pub returns-clause-drawn : goal.returns-clause-drawn
+returns-clause-drawn g c told =
+    let v = c.args.ledger.now in
+    let zeros : c.clear.new.sum ≡ replicate c.args.ledger.now.shape.block 0 = c.clear.ensures ∙ ap (λ n. replicate n 0) c.requires.sum in
+    added_stays v (is_marked c.args.marks.now) (is_marked c.write_block.new.marks) (g.D.Disk.state c.args.disk.now).files (g.D.Disk.state c.add_equation.new.disk).files (g.D.Disk.state c.write_block.new.disk).files
+    c.args.step.block (c.args.step.by ∷ []) c.clear.new.sum c.add_equation.new.sum c.requires.block c.requires.gives zeros (c.add_equation.ensures.reads.contents told)
+    (c.in-Ok.ensures.sum told) (c.write_block.ensures.drawn told)
+
+pub returns-clause-clash : goal.returns-clause-clash
+returns-clause-clash g c d told computed is tells known first all =
+    let v = c.args.ledger.now in
+    let zeros : c.clear.new.sum ≡ replicate c.args.ledger.now.shape.block 0 = c.clear.ensures ∙ ap (λ n. replicate n 0) c.requires.sum in
+    let clash = c.write_block.ensures.clash d told computed is in
+    added_clash v known (is_marked c.args.marks.now) first (g.D.Disk.state c.args.disk.now).files c.args.step.block d (c.args.step.by ∷ []) c.clear.new.sum c.add_equation.new.sum told computed c.requires.block c.requires.gives zeros
+    (c.in-Ok.ensures.sum tells) all clash.0 clash.1.0 clash.1.1
+
+pub returns-clause-writes : goal.returns-clause-writes
+returns-clause-writes g c =
+    read_then_blocks c.homes_are_on_its_sites.ensures g.D.Disk.tells (c.add_equation.result ≡ Err DiskFault) (c.write_block.result ≡ Err DiskFault) c.args.ledger.now (λ a. a ≢ c.args.step.block) (g.D.Disk.state c.args.disk.now) (g.D.Disk.state c.add_equation.new.disk) (g.D.Disk.state c.write_block.new.disk)
+    c.add_equation.ensures.reads c.write_block.ensures.writes

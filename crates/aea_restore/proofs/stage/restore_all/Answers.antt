@@ -1,0 +1,83 @@
+use Rattle.std.proofs.Common.{◌≡◌, Err, sym, ◌∙◌, ap}
+use Rattle.std.specs.Prelude.{IsTrue, ◌||◌}
+use Rattle.std.proofs.lemmas.Bool.{or_left, or_right}
+use Rattle.std.proofs.lemmas.Result.{on_ok_weaker}
+use Rattle.aea_lattice.specs.Closure.{is_among}
+use Rattle.aea_view.specs.Marked.{is_marked}
+use Rattle.aea_peel.specs.Plans.{blocks_given, is_had}
+use Rattle.aea_restore.specs.declared.fault.RestoreFault.TheVariants.{DiskFault}
+use Rattle.aea_restore.specs.Given.{blocks_summed, IsGiven}
+use Rattle.aea_restore.specs.Repairs.{IsLeft}
+use Rattle.aea_restore.proofs.Planned.{fates_sum}
+use Rattle.aea_restore.proofs.Writing.{blocks_then, blocks_less}
+use Rattle.aea_restore.proofs.Loops.{or_assoc, some_more, some_both, goes_both, torn_both, torn_more, stays_both}
+use Rattle.aea_restore.proofs.stage.restore_all.Goals as goal
+
+pub returns-in-Err-clause-some : goal.returns-in-Err-clause-some
+returns-in-Err-clause-some g c =
+    some_more c.args.ledger.now.lattice (λ d. IsTrue (is_among (blocks_given c.args.steps.now) d)) (IsGiven c.args.steps.now c.args.fates.now) c.args.marks.now c.restore_steps.new.marks
+    (λ d is. or_left (is_among (blocks_given c.args.steps.now) d) (is_among (blocks_summed c.args.fates.now) d) is) c.restore_steps.ensures.some
+
+pub returns-in-Err-clause-way : goal.returns-in-Err-clause-way
+returns-in-Err-clause-way g c fine told = c.restore_steps.ensures.way (λ bad. fine (sym c.in-Err.is ∙ bad)) told
+
+pub returns-in-Err-clause-torn : goal.returns-in-Err-clause-torn
+returns-in-Err-clause-torn g c is told =
+    torn_more c.args.ledger.now (λ d. IsTrue (is_among (blocks_given c.args.steps.now) d)) (IsGiven c.args.steps.now c.args.fates.now) (is_marked c.args.marks.now) (is_marked c.restore_steps.new.marks) (g.D.Disk.state c.args.disk.now).files (g.D.Disk.state c.restore_steps.new.disk).files
+    (λ d one. or_left (is_among (blocks_given c.args.steps.now) d) (is_among (blocks_summed c.args.fates.now) d) one) (c.restore_steps.ensures.torn (c.in-Err.is ∙ is) told)
+
+pub returns-in-Err-clause-clash : goal.returns-in-Err-clause-clash
+returns-in-Err-clause-clash g c d told computed is tells known first all =
+    let clash = c.restore_steps.ensures.clash d told computed (c.in-Err.is ∙ is) tells known first all in
+    (or_left (is_among (blocks_given c.args.steps.now) d) (is_among (blocks_summed c.args.fates.now) d) clash.0, clash.1)
+
+pub returns-in-Err-clause-writes : goal.returns-in-Err-clause-writes
+returns-in-Err-clause-writes g c =
+    blocks_less g.D.Disk.tells (c.restore_steps.result ≡ Err DiskFault) _ c.args.ledger.now (IsLeft (λ d. IsTrue (is_among (blocks_given c.args.steps.now) d))) (IsLeft (IsGiven c.args.steps.now c.args.fates.now)) (g.D.Disk.state c.args.disk.now) (g.D.Disk.state c.restore_steps.new.disk)
+    (λ d left is. left (or_left (is_among (blocks_given c.args.steps.now) d) (is_among (blocks_summed c.args.fates.now) d) is)) (λ is. c.in-Err.is ∙ is) c.restore_steps.ensures.writes
+
+pub restore_sums-requires-clause-can : goal.restore_sums-requires-clause-can
+restore_sums-requires-clause-can g c =
+    fates_sum c.args.ledger.now.lattice (is_marked c.args.marks.now) (is_had (is_marked c.args.marks.now) c.args.steps.now) (is_marked c.restore_steps.new.marks) (λ d has is. c.in-Ok.ensures.done d has ∙ is) c.args.fates.now c.requires.plan.sums
+
+pub returns-clause-done : goal.returns-clause-done
+returns-clause-done g c =
+    on_ok_weaker c.restore_sums.result
+    (λ late d has.
+    late d has ∙ ap (λ b. b || is_among (blocks_summed c.args.fates.now) d) (c.in-Ok.ensures.done d has)
+    ∙ or_assoc (is_marked c.args.marks.now d) (is_among (blocks_given c.args.steps.now) d) (is_among (blocks_summed c.args.fates.now) d))
+    c.restore_sums.ensures.done
+
+pub returns-clause-some : goal.returns-clause-some
+returns-clause-some g c =
+    some_both c.args.ledger.now.lattice (λ d. IsTrue (is_among (blocks_given c.args.steps.now) d)) (λ d. IsTrue (is_among (blocks_summed c.args.fates.now) d)) (IsGiven c.args.steps.now c.args.fates.now) c.args.marks.now c.restore_steps.new.marks c.restore_sums.new.marks
+    (λ d is. or_left (is_among (blocks_given c.args.steps.now) d) (is_among (blocks_summed c.args.fates.now) d) is)
+    (λ d is. or_right (is_among (blocks_given c.args.steps.now) d) (is_among (blocks_summed c.args.fates.now) d) is) c.restore_steps.ensures.some c.restore_sums.ensures.some
+
+pub returns-clause-way : goal.returns-clause-way
+returns-clause-way g c fine told =
+    goes_both c.args.ledger.now (is_marked c.args.marks.now) (is_marked c.restore_steps.new.marks) (is_marked c.restore_sums.new.marks) (g.D.Disk.state c.args.disk.now).files (g.D.Disk.state c.restore_steps.new.disk).files (g.D.Disk.state c.restore_sums.new.disk).files
+    (c.restore_steps.ensures.way (λ bad. absurd (let is = c.in-Ok.is in cc)) told) (c.restore_sums.ensures.way fine told)
+
+pub returns-clause-torn : goal.returns-clause-torn
+returns-clause-torn g c is told =
+    torn_both c.args.ledger.now (λ d. IsTrue (is_among (blocks_summed c.args.fates.now) d)) (IsGiven c.args.steps.now c.args.fates.now) (is_marked c.args.marks.now) (is_marked c.restore_steps.new.marks) (is_marked c.restore_sums.new.marks) (g.D.Disk.state c.args.disk.now).files (g.D.Disk.state c.restore_steps.new.disk).files (g.D.Disk.state c.restore_sums.new.disk).files
+    (λ d one. or_right (is_among (blocks_given c.args.steps.now) d) (is_among (blocks_summed c.args.fates.now) d) one)
+    (c.restore_steps.ensures.way (λ bad. absurd (let is = c.in-Ok.is in cc)) told) (c.restore_sums.ensures.torn is told)
+
+pub returns-clause-drawn : goal.returns-clause-drawn
+returns-clause-drawn g c told =
+    stays_both c.args.ledger.now (is_marked c.args.marks.now) (is_marked c.restore_steps.new.marks) (is_marked c.restore_sums.new.marks) (g.D.Disk.state c.args.disk.now).files (g.D.Disk.state c.restore_steps.new.disk).files (g.D.Disk.state c.restore_sums.new.disk).files
+    (c.restore_steps.ensures.drawn told) (c.restore_sums.ensures.drawn told)
+
+pub returns-clause-clash : goal.returns-clause-clash
+returns-clause-clash g c d told computed is tells known first all =
+    let clash = c.restore_sums.ensures.clash d told computed is tells known first (c.restore_steps.ensures.drawn tells known first all) in
+    (or_right (is_among (blocks_given c.args.steps.now) d) (is_among (blocks_summed c.args.fates.now) d) clash.0, clash.1)
+
+pub returns-clause-writes : goal.returns-clause-writes
+returns-clause-writes g c =
+    blocks_then g.D.Disk.tells (c.restore_steps.result ≡ Err DiskFault) (c.restore_sums.result ≡ Err DiskFault) c.args.ledger.now (IsLeft (IsGiven c.args.steps.now c.args.fates.now)) (IsLeft (λ d. IsTrue (is_among (blocks_given c.args.steps.now) d))) (IsLeft (λ d. IsTrue (is_among (blocks_summed c.args.fates.now) d))) (g.D.Disk.state c.args.disk.now) (g.D.Disk.state c.restore_steps.new.disk) (g.D.Disk.state c.restore_sums.new.disk)
+    (λ d left is. left (or_left (is_among (blocks_given c.args.steps.now) d) (is_among (blocks_summed c.args.fates.now) d) is))
+    (λ d left is. left (or_right (is_among (blocks_given c.args.steps.now) d) (is_among (blocks_summed c.args.fates.now) d) is))
+    c.restore_steps.ensures.writes c.restore_sums.ensures.writes

@@ -1,0 +1,46 @@
+use Rattle.std.proofs.Common.{◌≡◌, [], ◌∷◌, Err, refl, sym, ◌∙◌, subst, arith}
+use Rattle.aea_lattice.specs.Equations.{HasEquation}
+use Rattle.aea_view.specs.Marked.{is_marked}
+use Rattle.aea_disk.specs.Files.{Files}
+use Rattle.aea_disk.proofs.Frames.{reads_none, reads_both, reads_as}
+use Rattle.aea_restore.specs.declared.fault.RestoreFault.TheVariants.{DiskFault}
+use Rattle.aea_restore.specs.Drawn.{other_blocks, added_up, AreAllIntact}
+use Rattle.aea_restore.proofs.Adding.{added_next, got_some, item_has}
+use Rattle.aea_restore.proofs.sum.add_equations.Goals as goal
+
+pub loop-k-init : goal.loop-k-init
+loop-k-init g c = record {
+  buffer = c.requires.buffer;
+  size = c.requires.sum;
+  added = λ told all. refl;
+  reads = reads_none g.D.Disk.tells ⊥ (g.D.Disk.state c.args.disk.now) (λ none. none);
+}
+
+pub unreachable-requires : goal.unreachable-requires
+unreachable-requires g c = got_some c.args.equations.now c.loop-k.k (omega (arith, c.loop-k-test.true, c.len-k-end.ensures)) (sym c.get.ensures ∙ c.in_default.is)
+
+pub add_equation-requires-clause-equation : goal.add_equation-requires-clause-equation
+add_equation-requires-clause-equation g c = item_has (HasEquation c.args.ledger.now.lattice) c.args.equations.now c.in-Some.e c.loop-k.k (sym c.get.ensures ∙ c.in-Some.is) c.requires.equations
+
+pub returns-in-Err-clause-reads : goal.returns-in-Err-clause-reads
+returns-in-Err-clause-reads g c =
+    reads_as g.D.Disk.tells (c.add_equation.result ≡ Err DiskFault) _ (g.D.Disk.state c.args.disk.now) (g.D.Disk.state c.add_equation.new.disk) (λ is. c.in-Err.is ∙ is)
+    (reads_both g.D.Disk.tells ⊥ (c.add_equation.result ≡ Err DiskFault) (g.D.Disk.state c.args.disk.now) (g.D.Disk.state c.loop-k.disk) (g.D.Disk.state c.add_equation.new.disk) c.loop-k.invariant.reads c.add_equation.ensures.reads)
+
+pub loop-k-preserved : goal.loop-k-preserved
+loop-k-preserved g c =
+    let v = c.args.ledger.now in
+    let picks = is_marked c.args.marks.now in
+    let old = (g.D.Disk.state c.args.disk.now).files in
+    record {
+      buffer = c.add_equation.auto.read ∙ c.loop-k.invariant.buffer;
+      size = c.add_equation.auto.sum ∙ c.loop-k.invariant.size;
+      added = λ told all.
+          let same = c.loop-k.invariant.reads.contents told in
+          added_next v.shape old v.lattice picks c.args.b c.args.equations.now c.in-Some.e c.loop-k.k c.args.sum.now c.loop-k.sum c.add_equation.new.sum (sym c.get.ensures ∙ c.in-Some.is)
+          (c.loop-k.invariant.added told all)
+          (subst (λ (f : Files). c.add_equation.new.sum ≡ added_up v.shape f c.loop-k.sum (other_blocks v.lattice picks c.args.b (c.in-Some.e ∷ []))) same
+          (c.in-Ok.ensures.sum told (subst (AreAllIntact v picks) (sym same) all)));
+      reads = reads_as g.D.Disk.tells (c.add_equation.result ≡ Err DiskFault) ⊥ (g.D.Disk.state c.args.disk.now) (g.D.Disk.state c.add_equation.new.disk) (λ none. absurd none)
+          (reads_both g.D.Disk.tells ⊥ (c.add_equation.result ≡ Err DiskFault) (g.D.Disk.state c.args.disk.now) (g.D.Disk.state c.loop-k.disk) (g.D.Disk.state c.add_equation.new.disk) c.loop-k.invariant.reads c.add_equation.ensures.reads);
+    }

@@ -1,0 +1,6 @@
+pub mod Plans
+pub mod Given
+pub mod Laws
+pub mod Drawn
+pub mod Repairs
+pub mod UnderWay

@@ -1,0 +1,5 @@
+mod Plans
+mod Survivors
+mod Frames
+mod Ends
+mod Reporting

@@ -1,0 +1,83 @@
+//! What a repair takes before it writes.
+
+ghost use Rattle.std.specs.Prelude.{◌≡◌, ◌↔◌, ℕ, Bool, List, Option, length, vec_capacity, IfOk};
+ghost use Rattle.aea_lattice.specs.declared.blocks.BlockId.{BlockId};
+ghost use Rattle.aea_lattice.specs.declared.shape.Shape.{Shape};
+ghost use Rattle.aea_shelf.specs.Places.{cell_size};
+ghost use Rattle.aea_view.specs.Marked.{AreMarks, is_marked};
+ghost use Rattle.aea_report.specs.Printed.{IsPrinted};
+ghost use Rattle.aea_plan.specs.Plans.{IsSound, HasRoom, head_by};
+ghost use Rattle.aea_plan.specs.Verdicts.{lines_by};
+ghost use Rattle.aea_restore.specs.Given.{IsGiven, CanBeRestored};
+ghost use Rattle.aea_restore.specs.Laws.{IsRestorable};
+
+use aea_ledger::Ledger;
+use aea_plan::Plan;
+use aea_restore::{given_are_restorable, plans_can_be_restored};
+use aea_view::Marks;
+use std::alloc::{AllocError, Global};
+
+/// Buffers for a payload that is computed, a cell that is read, and a cell that is written.
+#[derive(Drop)]
+pub(crate) struct Buffers {
+    pub sum: Vec<u8>,
+    pub read: Vec<u8>,
+    pub write: Vec<u8>,
+}
+
+/// The plan of a repair, with room for the text of the nodes of one lost block, and its buffers.
+#[derive(Drop)]
+pub(crate) struct Prepared {
+    pub plan: Plan,
+    pub text: Vec<u8>,
+    pub buffers: Buffers,
+}
+
+// Buffers of the sizes of the archive.
+fn take_buffers(alloc: Global, ledger: &Ledger) -> Result<Buffers, AllocError>
+    ensures sum { IfOk result (λ b. length b.sum.items ≡ ledger.now.shape.block) }
+    ensures read { IfOk result (λ b. length b.read.items ≡ cell_size ledger.now.shape) }
+    ensures write { IfOk result (λ b. length b.write.items ≡ cell_size ledger.now.shape) }
+{
+    let size = ledger.shape().block() as usize;
+    let sum = vec![in alloc; 0; size]?;
+    let read = vec![in alloc; 0; size + 48]?;
+    let write = vec![in alloc; 0; size + 48]?;
+    Ok(Buffers { sum, read, write })
+}
+
+// The plan where the marked blocks are known.
+fn plan_of(alloc: Global, marks: &Marks) -> Result<Plan, AllocError>
+    ensures lattice { IfOk result (λ p. p.verdicts.damaged.lattice ≡ marks.now.lattice) }
+    ensures sound { IfOk result IsSound }
+    ensures printed { IfOk result (λ p. (test : BlockId → Bool) (seal : Option (List ℕ)) → AreMarks marks.now test → IsPrinted marks.now.lattice test seal (head_by seal p) (lines_by p.verdicts)) }
+    ensures can { IfOk result (λ p. CanBeRestored marks.now.lattice (is_marked marks.now) p.steps p.verdicts.fates) }
+    ensures mends { IfOk result (λ p. (test : BlockId → Bool) → AreMarks marks.now test → (b : BlockId) → IsGiven p.steps p.verdicts.fates b ↔ IsRestorable marks.now.lattice test b) }
+{
+    plans_can_be_restored();
+    given_are_restorable();
+    let plan = Plan::new(alloc, marks)?;
+    Ok(plan)
+}
+
+/// Plans the repair where the marked blocks are known, and takes all memory that is needed from then on.
+pub(crate) fn prepare(alloc: Global, ledger: &Ledger, marks: &Marks) -> Result<Prepared, AllocError>
+    ensures lattice { IfOk result (λ p. p.plan.verdicts.damaged.lattice ≡ marks.now.lattice) }
+    ensures sound { IfOk result (λ p. IsSound p.plan) }
+    ensures room { IfOk result (λ p. HasRoom p.plan (vec_capacity p.text)) }
+    ensures printed { IfOk result (λ p. (test : BlockId → Bool) (seal : Option (List ℕ)) → AreMarks marks.now test → IsPrinted marks.now.lattice test seal (head_by seal p.plan) (lines_by p.plan.verdicts)) }
+    ensures can { IfOk result (λ p. CanBeRestored marks.now.lattice (is_marked marks.now) p.plan.steps p.plan.verdicts.fates) }
+    ensures mends { IfOk result (λ p. (test : BlockId → Bool) → AreMarks marks.now test → (b : BlockId) → IsGiven p.plan.steps p.plan.verdicts.fates b ↔ IsRestorable marks.now.lattice test b) }
+    ensures sum { IfOk result (λ p. length p.buffers.sum.items ≡ ledger.now.shape.block) }
+    ensures read { IfOk result (λ p. length p.buffers.read.items ≡ cell_size ledger.now.shape) }
+    ensures write { IfOk result (λ p. length p.buffers.write.items ≡ cell_size ledger.now.shape) }
+{
+    let plan = plan_of(alloc, marks)?;
+    let text = plan.text_room(alloc)?;
+    let buffers = take_buffers(alloc, ledger)?;
+    Ok(Prepared {
+        plan,
+        text,
+        buffers,
+    })
+}

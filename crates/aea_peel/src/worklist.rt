@@ -110,15 +110,16 @@ fn add_around(
     }
 }
 
-// The equations that force an unmarked block at first, with room for all equations.
+// The equations that force an unmarked block at first, with room for all equations. Those of the first node stand last, and so
+// are taken first.
 fn first_equations(alloc: Global, lattice: &Lattice, marks: &Marks) -> Result<Vec<EqId>, AllocError>
     requires { marks.now.lattice ≡ lattice.now }
     ensures { IfOk result (λ waiting. IsQueue lattice.now marks.now.marks waiting.items) }
 {
     let equations = lattice.n() * u32::from(lattice.alpha());
     let mut waiting = Vec::with_capacity(alloc, equations as usize)?;
-    for node in 1..lattice.n() + 1 {
-        add_node(lattice, marks, &mut waiting, node)?;
+    for k in 0..lattice.n() {
+        add_node(lattice, marks, &mut waiting, lattice.n() - k)?;
     }
     Ok(waiting)
 }
@@ -154,7 +155,7 @@ fn take_step(
 
 /// What follows from marked blocks: the plan that gives, by single equations, every block that follows so from them,
 /// and the marks of all of these, which are those of the closure. The order of the steps is free but for what each
-/// needs. The time is linear in the number of blocks. Beside the marks about 6 bytes a block are taken while it works,
+/// needs; they go forward where that leaves the choice. The time is linear in the number of blocks. Beside the marks about 6 bytes a block are taken while it works,
 /// and 16 bytes a block that is not marked for the plan.
 pub fn peel_marks(alloc: Global, mut marks: Marks) -> Result<Peeled, AllocError>
     ensures plan { IfOk result (λ p. (known : BlockId → Bool) → AreMarks marks known → IsPlan marks.lattice known p.plan.steps) }

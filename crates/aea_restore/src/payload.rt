@@ -19,10 +19,12 @@ use aea_disk::Disk;
 use aea_envelope::{cells_have_lengths, cells_have_parts, digest_of};
 use aea_lattice::BlockId;
 use aea_ledger::Ledger;
-use aea_shelf::{cells_are_apart, homes_are_in_rows, homes_are_on_its_sites, judge, write_cell};
+use aea_shelf::{
+    Cell, cells_are_apart, homes_are_in_rows, homes_are_on_its_sites, judge, write_cell,
+};
 
 /// Reads the cell of a block into the buffer, and judges its payload by the digest that the ledger keeps, whatever else
-/// stands there.
+/// stands there. An intact cell has this digest, and is hashed once.
 pub(crate) fn read_payload<D: Disk>(
     ledger: &Ledger,
     disk: &mut D,
@@ -40,7 +42,8 @@ pub(crate) fn read_payload<D: Disk>(
     let want = recorded(ledger, b);
     match read_block(disk, ledger, b, read) {
         Err(_) => Err(RestoreFault::DiskFault),
-        Ok(_) => match judge(b, &want, read) {
+        Ok(Cell::Intact) => Ok(()),
+        Ok(Cell::Bad) => match judge(b, &want, read) {
             None => Ok(()),
             Some(computed) => Err(RestoreFault::Clash {
                 block: b,

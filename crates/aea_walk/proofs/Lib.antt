@@ -1,0 +1,6 @@
+pub mod Bits
+pub mod Carried
+pub mod Members
+pub mod Walked
+pub mod Found
+pub mod Touched

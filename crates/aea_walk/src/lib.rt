@@ -1,0 +1,18 @@
+//! Codewords of nodes, walked along the lattice with a bit for each strand, and blocks that have no mark.
+//!
+//! A walk begins at the first of the nodes and ends where none is left and all bits are 0: so it costs the span of the
+//! codeword, and not the lattice. Each fence makes all bits 0.
+//!
+//! `specs/Codewords.antt` and `specs/Missing.antt` say what is found, and `specs/Walks.antt` how far a walk has come.
+#![tactic(auto)]
+
+pub mod codewords;
+pub mod missing;
+mod strands;
+mod walk;
+
+pub use codewords::{first_touched, is_in_codeword};
+pub use missing::least_missing;
+
+#[cfg(test)]
+mod tests;

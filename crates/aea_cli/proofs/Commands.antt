@@ -13,7 +13,7 @@ use Rattle.aea_lattice.specs.declared.grid.Lattice.{Lattice}
 use Rattle.aea_lattice.specs.declared.shape.Shape.{Shape}
 use Rattle.aea_cli.specs.declared.command.Command.{Command}
 use Rattle.aea_cli.specs.declared.command.Command.TheVariants as command
-use Rattle.aea_cli.specs.declared.command.Command.TheVariants.{Drill, Create, Stat, Put, Get, Fence, Upgrade, Scrub}
+use Rattle.aea_cli.specs.declared.command.Command.TheVariants.{Drill, Create, Stat, Put, Get, Fence, Upgrade, Scrub, Repair}
 use Rattle.aea_cli.specs.Words.{Means, AreNoDrill, AreNoCreate, IsDrilled}
 
 -- the numbers of a lattice fit 32 bits
@@ -201,10 +201,11 @@ kind Scrub = 5
 kind (Put name) = 6
 kind (Get name) = 7
 kind command.List = 8
+kind Repair = 9
 
 -- the kind that the first word names
 kind_by : List (List ℕ) → ℕ
-kind_by [] = 9
+kind_by [] = 10
 kind_by (word ∷ words) =
     if bytes_eq word (codes "drill")
     then 0
@@ -214,7 +215,7 @@ kind_by (word ∷ words) =
     then 2
     else if bytes_eq word (codes "fence")
     then 3
-    else if bytes_eq word (codes "upgrade") then 4 else if bytes_eq word (codes "scrub") then 5 else if bytes_eq word (codes "put") then 6 else if bytes_eq word (codes "list") then 8 else 7
+    else if bytes_eq word (codes "upgrade") then 4 else if bytes_eq word (codes "scrub") then 5 else if bytes_eq word (codes "put") then 6 else if bytes_eq word (codes "list") then 8 else if bytes_eq word (codes "repair") then 9 else 7
 
 -- the first word tells the kind
 kind_is : (words : List (List ℕ)) (a : Command) → Means words a → kind_by words ≡ kind a
@@ -228,6 +229,7 @@ kind_is words command.List means = ap kind_by means
 kind_is words Fence means = ap kind_by means
 kind_is words Upgrade means = ap kind_by means
 kind_is words Scrub means = ap kind_by means
+kind_is words Repair means = ap kind_by means
 
 -- two words have one second word
 names_equal : (words : List (List ℕ)) (word a b : List ℕ) → words ≡ word ∷ a ∷ [] → words ≡ word ∷ b ∷ [] → a ≡ b
@@ -245,4 +247,5 @@ one_command words command.List command.List one two = refl
 one_command words Fence Fence one two = refl
 one_command words Upgrade Upgrade one two = refl
 one_command words Scrub Scrub one two = refl
+one_command words Repair Repair one two = refl
 one_command words a b one two = let same : kind a ≡ kind b = sym (kind_is words a one) ∙ kind_is words b two in cc

@@ -1,6 +1,7 @@
 -- Failures by their statuses.
-use Rattle.std.proofs.Common.{◌≡◌, ◌⊎◌, inl, inr, refl, sym, ◌∙◌, ap, Ok, Err}
+use Rattle.std.proofs.Common.{◌≡◌, ◌⊎◌, ℕ, List, inl, inr, refl, sym, ◌∙◌, ap, Ok, Err}
 use Rattle.std.specs.Prelude.{IfOk}
+use Rattle.aea_lattice.specs.declared.blocks.BlockId.{BlockId}
 use Rattle.aea_cli.specs.declared.refusal.Refusal.{Refusal}
 use Rattle.aea_cli.specs.declared.refusal.Failure.{Failure}
 use Rattle.aea_cli.specs.declared.refusal.Failure.TheVariants as failure
@@ -15,6 +16,7 @@ is_words failure.Disk e = let h : status.Disk ≡ status.Words = e in cc
 is_words failure.Input e = let h : status.Input ≡ status.Words = e in cc
 is_words failure.Output e = let h : status.Output ≡ status.Words = e in cc
 is_words failure.Memory e = let h : status.Memory ≡ status.Words = e in cc
+is_words (failure.Clash b told computed) e = let h : status.Clash ≡ status.Words = e in cc
 
 pub is_refused : (f : Failure) → failure_status f ≡ status.Refused → (why : Refusal) × (f ≡ failure.Refused why)
 is_refused failure.Words e = let h : status.Words ≡ status.Refused = e in cc
@@ -23,6 +25,7 @@ is_refused failure.Disk e = let h : status.Disk ≡ status.Refused = e in cc
 is_refused failure.Input e = let h : status.Input ≡ status.Refused = e in cc
 is_refused failure.Output e = let h : status.Output ≡ status.Refused = e in cc
 is_refused failure.Memory e = let h : status.Memory ≡ status.Refused = e in cc
+is_refused (failure.Clash b told computed) e = let h : status.Clash ≡ status.Refused = e in cc
 
 pub is_disk : (f : Failure) → failure_status f ≡ status.Disk → f ≡ failure.Disk
 is_disk failure.Words e = let h : status.Words ≡ status.Disk = e in cc
@@ -31,6 +34,7 @@ is_disk failure.Disk e = refl
 is_disk failure.Input e = let h : status.Input ≡ status.Disk = e in cc
 is_disk failure.Output e = let h : status.Output ≡ status.Disk = e in cc
 is_disk failure.Memory e = let h : status.Memory ≡ status.Disk = e in cc
+is_disk (failure.Clash b told computed) e = let h : status.Clash ≡ status.Disk = e in cc
 
 pub is_input : (f : Failure) → failure_status f ≡ status.Input → f ≡ failure.Input
 is_input failure.Words e = let h : status.Words ≡ status.Input = e in cc
@@ -39,6 +43,7 @@ is_input failure.Disk e = let h : status.Disk ≡ status.Input = e in cc
 is_input failure.Input e = refl
 is_input failure.Output e = let h : status.Output ≡ status.Input = e in cc
 is_input failure.Memory e = let h : status.Memory ≡ status.Input = e in cc
+is_input (failure.Clash b told computed) e = let h : status.Clash ≡ status.Input = e in cc
 
 pub is_output : (f : Failure) → failure_status f ≡ status.Output → f ≡ failure.Output
 is_output failure.Words e = let h : status.Words ≡ status.Output = e in cc
@@ -47,6 +52,7 @@ is_output failure.Disk e = let h : status.Disk ≡ status.Output = e in cc
 is_output failure.Input e = let h : status.Input ≡ status.Output = e in cc
 is_output failure.Output e = refl
 is_output failure.Memory e = let h : status.Memory ≡ status.Output = e in cc
+is_output (failure.Clash b told computed) e = let h : status.Clash ≡ status.Output = e in cc
 
 pub is_memory : (f : Failure) → failure_status f ≡ status.Memory → f ≡ failure.Memory
 is_memory failure.Words e = let h : status.Words ≡ status.Memory = e in cc
@@ -55,6 +61,7 @@ is_memory failure.Disk e = let h : status.Disk ≡ status.Memory = e in cc
 is_memory failure.Input e = let h : status.Input ≡ status.Memory = e in cc
 is_memory failure.Output e = let h : status.Output ≡ status.Memory = e in cc
 is_memory failure.Memory e = refl
+is_memory (failure.Clash b told computed) e = let h : status.Clash ≡ status.Memory = e in cc
 
 -- no failure has a status that says that all went well
 pub never_done : (f : Failure) → failure_status f ≡ status.Done → ⊥
@@ -64,6 +71,7 @@ never_done failure.Disk e = let h : status.Disk ≡ status.Done = e in cc
 never_done failure.Input e = let h : status.Input ≡ status.Done = e in cc
 never_done failure.Output e = let h : status.Output ≡ status.Done = e in cc
 never_done failure.Memory e = let h : status.Memory ≡ status.Done = e in cc
+never_done (failure.Clash b told computed) e = let h : status.Clash ≡ status.Done = e in cc
 
 never_damage : (f : Failure) → failure_status f ≡ status.Damage → ⊥
 never_damage failure.Words e = let h : status.Words ≡ status.Damage = e in cc
@@ -72,6 +80,7 @@ never_damage failure.Disk e = let h : status.Disk ≡ status.Damage = e in cc
 never_damage failure.Input e = let h : status.Input ≡ status.Damage = e in cc
 never_damage failure.Output e = let h : status.Output ≡ status.Damage = e in cc
 never_damage failure.Memory e = let h : status.Memory ≡ status.Damage = e in cc
+never_damage (failure.Clash b told computed) e = let h : status.Clash ≡ status.Damage = e in cc
 
 pub never_well : (f : Failure) (s : Status) → s ≡ failure_status f → IsWell s → ⊥
 never_well f s is (inl e) = never_done f (sym is ∙ e)
@@ -105,11 +114,12 @@ answer_output (Err f) well is = ap Err (is_output f is)
 
 -- which statuses an answer may have
 pub answer_cases : (a : Answer) (s : Status) → s ≡ answer_status a → IfOk a IsWell → (a ≡ Err failure.Words → ⊥) → ((why : Refusal) → a ≡ Err (failure.Refused why) → ⊥) → (a ≡ Err failure.Disk → ⊥) → (a ≡ Err failure.Input → ⊥) → (a ≡ Err failure.Output → ⊥)
-    → IsWell s ⊎ (s ≡ status.Memory)
-answer_cases (Ok t) s is well words refused disk input output = inl (rw is well)
-answer_cases (Err failure.Words) s is well words refused disk input output = absurd (words refl)
-answer_cases (Err (failure.Refused why)) s is well words refused disk input output = absurd (refused why refl)
-answer_cases (Err failure.Disk) s is well words refused disk input output = absurd (disk refl)
-answer_cases (Err failure.Input) s is well words refused disk input output = absurd (input refl)
-answer_cases (Err failure.Output) s is well words refused disk input output = absurd (output refl)
-answer_cases (Err failure.Memory) s is well words refused disk input output = inr is
+    → ((b : BlockId) (told computed : List ℕ) → a ≡ Err (failure.Clash b told computed) → ⊥) → IsWell s ⊎ (s ≡ status.Memory)
+answer_cases (Ok t) s is well words refused disk input output clash = inl (rw is well)
+answer_cases (Err failure.Words) s is well words refused disk input output clash = absurd (words refl)
+answer_cases (Err (failure.Refused why)) s is well words refused disk input output clash = absurd (refused why refl)
+answer_cases (Err failure.Disk) s is well words refused disk input output clash = absurd (disk refl)
+answer_cases (Err failure.Input) s is well words refused disk input output clash = absurd (input refl)
+answer_cases (Err failure.Output) s is well words refused disk input output clash = absurd (output refl)
+answer_cases (Err failure.Memory) s is well words refused disk input output clash = inr is
+answer_cases (Err (failure.Clash b told computed)) s is well words refused disk input output clash = absurd (clash b told computed refl)

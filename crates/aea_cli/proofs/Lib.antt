@@ -15,3 +15,4 @@ pub mod Recording
 pub mod Putting
 pub mod Getting
 pub mod Listing
+pub mod Repairing

@@ -16,7 +16,7 @@ use Rattle.aea_cli.specs.declared.refusal.Failure.TheVariants as failure
 use Rattle.aea_cli.specs.declared.status.Status.TheVariants.{Done}
 use Rattle.aea_cli.specs.Causes.{Refuses}
 use Rattle.aea_cli.specs.Does.{Runs}
-use Rattle.aea_cli.specs.Failures.{Answer, opening_failure}
+use Rattle.aea_cli.specs.Failures.{Answer, opening_failure, NeverClashes}
 use Rattle.aea_cli.specs.Listing.{list_text, Lists, IsListOf}
 use Rattle.aea_cli.specs.Openings.{OpeningCauses, Opens}
 use Rattle.aea_cli.specs.Printed.{FitsText, PrintsText}
@@ -78,14 +78,16 @@ ok_on (Err f) P p = tt
 -- what `list` did and when it is refused give what holds of its run
 pub list_runs : (tells : Type 0) (old new : State) (input : SourceState) (before after : SinkState) (answer : Answer)
     → Lists tells old new before after answer → Refuses tells (OpeningCauses (old.files 0)) answer
+    → NeverClashes answer
     → Runs command.List (world tells old input before) (world tells new input after) answer
-list_runs tells old new input before after answer lists refuses =
+list_runs tells old new input before after answer lists refuses honest =
     let opens = lists.opens in
     record {
       does = lists;
       refuses = refuses_told _ _ _ _ (λ told. told.disk tt) refuses;
       disk_fits = λ room. list_disk answer before after lists.opening (opens.reads.sure room).0 lists.unopened (ok_on lists.opening (IsListing answer) lists.kinds);
       output_fits = λ told fits. list_fits tells (old.files 0) before after answer lists.opening (told.disk tt) opens.this_one opens.kinds lists.unopened lists.prints fits;
+      honest = λ told is. honest;
       stays = where_kept tells _ old old new (passes_none old) opens.reads.time opens.reads.crash opens.reads.contents (where_none tells _ old);
       opens = λ told. opening_more old new _ _ (λ c stays f keep. stays f) (opens.stops told);
     }

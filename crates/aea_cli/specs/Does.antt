@@ -9,7 +9,7 @@ use Rattle.aea_records.specs.Format.{Record, nodes_of}
 use Rattle.aea_ledger.specs.Stops.{HasOpening, HasLedger}
 use Rattle.aea_cli.specs.declared.command.Command.{Command}
 use Rattle.aea_cli.specs.declared.command.Command.TheVariants as command
-use Rattle.aea_cli.specs.declared.command.Command.TheVariants.{Drill, Create, Stat, Put, Get, Fence, Upgrade, Scrub}
+use Rattle.aea_cli.specs.declared.command.Command.TheVariants.{Drill, Create, Stat, Put, Get, Fence, Upgrade, Scrub, Repair}
 use Rattle.aea_cli.specs.declared.refusal.Refusal.{Refusal}
 use Rattle.aea_cli.specs.declared.refusal.Failure.TheVariants as failure
 use Rattle.aea_cli.specs.declared.status.Status.{Status}
@@ -24,8 +24,9 @@ use Rattle.aea_cli.specs.Put.{greatest_sites, Puts, PutCauses, FitsPut, stored_l
 use Rattle.aea_catalog.specs.Catalogs.{Placed}
 use Rattle.aea_cli.specs.Get.{GetsNamed, GetCauses, HasObject, FitsBytes}
 use Rattle.aea_cli.specs.Listing.{Lists, IsListOf}
+use Rattle.aea_cli.specs.Repair.{Repairs, FitsRepair, IsSiteFile, IsRepairText, HasHonestSurvivors}
 use Rattle.aea_cli.specs.Causes.{Refuses}
-use Rattle.aea_cli.specs.Failures.{Answer}
+use Rattle.aea_cli.specs.Failures.{Answer, NeverClashes}
 use Rattle.aea_cli.specs.Openings.{OpeningCauses}
 use Rattle.aea_cli.specs.Printed.{FitsText}
 use Rattle.aea_cli.specs.Worlds.{World}
@@ -41,6 +42,7 @@ ReadsInput (Get name) = ⊥
 ReadsInput Fence = ⊥
 ReadsInput Upgrade = ⊥
 ReadsInput Scrub = ⊥
+ReadsInput Repair = ⊥
 
 -- the command makes calls of the disk
 abbrev pub UsesDisk : Command → Type 0
@@ -53,6 +55,7 @@ UsesDisk (Get name) = Unit {0}
 UsesDisk Fence = Unit {0}
 UsesDisk Upgrade = Unit {0}
 UsesDisk Scrub = Unit {0}
+UsesDisk Repair = Unit {0}
 
 -- the command may change the file
 abbrev pub MayChange : Command → ℕ → Type 0
@@ -65,6 +68,7 @@ MayChange (Get name) file = ⊥
 MayChange Fence file = file ≡ 0
 MayChange Upgrade file = file ≡ 0
 MayChange Scrub file = ⊥
+MayChange Repair file = IsSiteFile file
 
 -- it leaves the file
 abbrev pub Keeps : Command → ℕ → Type 0
@@ -85,6 +89,7 @@ Causes (Get name) w = GetCauses name w.disk.files
 Causes Fence w = FenceCauses (w.disk.files 0)
 Causes Upgrade w = UpgradeCauses (w.disk.files 0)
 Causes Scrub w = OpeningCauses (w.disk.files 0)
+Causes Repair w = OpeningCauses (w.disk.files 0)
 
 -- the disk has room for all that a run of the command writes
 abbrev pub FitsDisk : Command → World → Type 0
@@ -97,6 +102,7 @@ FitsDisk (Get name) w = HasRoom w.disk
 FitsDisk Fence w = FitsRecord next_fence w.tells w.disk
 FitsDisk Upgrade w = FitsRecord next_raise w.tells w.disk
 FitsDisk Scrub w = HasRoom w.disk
+FitsDisk Repair w = FitsRepair w.tells w.disk
 
 -- the output has room for all that a run of the command prints
 abbrev pub FitsOutput : Command → World → Type 0
@@ -109,6 +115,7 @@ FitsOutput (Get name) w = (shape : Shape) (records : List Record) (p : Placed) �
 FitsOutput Fence w = (shape : Shape) (records : List Record) → HasLedger shape records (w.disk.files 0) → FitsText w.out (fence_line (nodes_of records))
 FitsOutput Upgrade w = FitsText w.out upgraded_line
 FitsOutput Scrub w = (l : Lattice) (intact : BlockId → Bool) → TellsIntact w.disk.files l intact → FitsText w.out (scrub_text l intact)
+FitsOutput Repair w = (text : List ℕ) → IsRepairText w.disk.files text → FitsText w.out text
 
 -- what a run of the command did
 abbrev pub Does : Command → World → World → Answer → Type 0
@@ -121,6 +128,13 @@ Does (Get name) old new answer = GetsNamed name old.tells old.disk new.disk old.
 Does Fence old new answer = Fences old.tells old.disk new.disk old.out new.out answer
 Does Upgrade old new answer = Upgrades old.tells old.disk new.disk old.out new.out answer
 Does Scrub old new answer = Scrubs old.tells old.disk new.disk old.out new.out answer
+Does Repair old new answer = Repairs old.tells old.disk new.disk old.out new.out answer
+
+-- where the intact blocks are honest no digests clash: of a repair for some data list that the ledger records, and no other
+-- command compares digests that it computes
+abbrev pub IsHonest : Command → World → Type 0
+IsHonest Repair w = HasHonestSurvivors w.disk.files
+IsHonest command w = Unit {0}
 
 -- what the command uses of the disk and of the input tells its contents
 pub record IsTold (command : Command) (w : World) : Type 0 where
@@ -136,6 +150,8 @@ pub record Runs (command : Command) (old new : World) (answer : Answer) : Type 0
   -- it does not fail where there is room
   pub disk_fits : FitsDisk command old → answer ≢ Err failure.Disk
   pub output_fits : IsTold command old → FitsOutput command old → answer ≢ Err failure.Output
+  -- no digests clash where the intact blocks are honest
+  pub honest : IsTold command old → IsHonest command old → NeverClashes answer
   -- the files that it may not change stay; and from the moment at which its first sync has succeeded every image has each
   -- of them as it read before
   pub stays : KeepsWhere old.tells (Keeps command) old.disk new.disk

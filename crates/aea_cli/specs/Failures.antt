@@ -1,5 +1,6 @@
 -- What stands on `err`, and the status, where a command did not end well; and the failures that the ledger's faults are.
-use Rattle.std.specs.Prelude.{◌≡◌, ◌⊎◌, ℕ, List, Result, Ok, Err}
+use Rattle.std.specs.Prelude.{◌≡◌, ◌≢◌, ◌⊎◌, ℕ, List, Result, Ok, Err}
+use Rattle.aea_lattice.specs.declared.blocks.BlockId.{BlockId}
 use Rattle.aea_ledger.specs.declared.create.CreateFault.{CreateFault}
 use Rattle.aea_ledger.specs.declared.create.CreateFault.TheVariants as create
 use Rattle.aea_ledger.specs.declared.open.OpenFault.{OpenFault}
@@ -12,12 +13,14 @@ use Rattle.aea_append.specs.declared.fault.PutFault.{PutFault}
 use Rattle.aea_append.specs.declared.fault.PutFault.TheVariants as put
 use Rattle.aea_fetch.specs.declared.fault.GetFault.{GetFault}
 use Rattle.aea_fetch.specs.declared.fault.GetFault.TheVariants as get
+use Rattle.aea_repair.specs.declared.fault.RepairFault.{RepairFault}
+use Rattle.aea_repair.specs.declared.fault.RepairFault.TheVariants as repair
 use Rattle.aea_cli.specs.declared.refusal.Refusal.TheVariants as refusal
 use Rattle.aea_cli.specs.declared.refusal.Failure.{Failure}
 use Rattle.aea_cli.specs.declared.refusal.Failure.TheVariants as failure
 use Rattle.aea_cli.specs.declared.status.Status.{Status}
 use Rattle.aea_cli.specs.declared.status.Status.TheVariants as status
-use Rattle.aea_cli.specs.Refusals.{refusal_line, words_line, disk_line, input_line, output_line, memory_line}
+use Rattle.aea_cli.specs.Refusals.{refusal_line, words_line, disk_line, input_line, output_line, memory_line, clash_line}
 
 -- the line of a failure
 abbrev pub failure_line : Failure → List ℕ
@@ -27,6 +30,7 @@ failure_line failure.Disk = disk_line
 failure_line failure.Input = input_line
 failure_line failure.Output = output_line
 failure_line failure.Memory = memory_line
+failure_line (failure.Clash block recorded computed) = clash_line block recorded computed
 
 -- the status of a failure
 abbrev pub failure_status : Failure → Status
@@ -36,6 +40,7 @@ failure_status failure.Disk = status.Disk
 failure_status failure.Input = status.Input
 failure_status failure.Output = status.Output
 failure_status failure.Memory = status.Memory
+failure_status (failure.Clash block recorded computed) = status.Clash
 
 -- what a command answers: a status that says that it did all its work, or why it did not
 abbrev pub Answer : Type 0
@@ -45,6 +50,10 @@ Answer = Result Status Failure
 abbrev pub answer_status : Answer → Status
 answer_status (Ok s) = s
 answer_status (Err f) = failure_status f
+
+-- the answer is no clash of digests
+abbrev pub NeverClashes : {T : Type 0} → Result T Failure → Type 0
+NeverClashes answer = (b : BlockId) (told computed : List ℕ) → answer ≢ Err (failure.Clash b told computed)
 
 -- a status that says that the command did all its work
 abbrev pub IsWell : Status → Type 0
@@ -80,6 +89,13 @@ get_failure (get.Damaged block) = failure.Refused (refusal.Damaged block)
 get_failure get.WriteFault = failure.Output
 get_failure get.DiskFault = failure.Disk
 get_failure get.NoMemory = failure.Memory
+
+-- the failure where the archive was not repaired, or its report not printed
+abbrev pub repair_failure : RepairFault → Failure
+repair_failure (repair.Clash block recorded computed) = failure.Clash block recorded computed
+repair_failure repair.DiskFault = failure.Disk
+repair_failure repair.WriteFault = failure.Output
+repair_failure repair.NoMemory = failure.Memory
 
 -- the failure where no fence was added
 abbrev pub fence_failure : FenceFault → Failure

@@ -18,6 +18,7 @@ pub mod Growing
 pub mod Put
 pub mod Get
 pub mod Listing
+pub mod Repair
 pub mod Does
 pub mod Ends
 pub mod Surely

@@ -170,15 +170,18 @@ pub record IsLineOf (name : List ℕ) (tells : Type 0) (bytes : List ℕ) (left 
   pub line : text ≡ stored_line shape o
   pub is_shape : tells → (other : Shape) (records : List Record) → HasLedger other records bytes → shape ≡ other
 
--- Of calls that change the files of an archive alone, whatever they answer: each other file stays, as it reads and, from the
--- first sync on, in every image; time goes on; and a fault of the disk is answered only where the count rose, which never
--- falls.
-pub record KeepsOtherFiles (tells fault : Type 0) (old new : State) : Type 0 where
-  pub others : KeepsWhere tells (λ file. file ≤ greatest_sites → ⊥) old new
-  pub opens : tells → HasOpening old new (KeepsFiles (λ file. file ≤ greatest_sites → ⊥) old.files)
+-- Of calls that change these files alone, whatever they answer: each other file stays, as it reads and, from the first sync
+-- on, in every image; time goes on; and a fault of the disk is answered only where the count rose, which never falls.
+pub record KeepsAllBut (may : ℕ → Type 0) (tells fault : Type 0) (old new : State) : Type 0 where
+  pub others : KeepsWhere tells (λ file. may file → ⊥) old new
+  pub opens : tells → HasOpening old new (KeepsFiles (λ file. may file → ⊥) old.files)
   pub time : Passes old new
   pub kept : old.faults ≤ new.faults
   pub cause : fault → Rose old.faults new.faults
+
+-- of calls that change the files of an archive alone
+abbrev pub KeepsOtherFiles : Type 0 → Type 0 → State → State → Type 0
+KeepsOtherFiles tells fault old new = KeepsAllBut (λ file. file ≤ greatest_sites) tells fault old new
 
 -- Of a run that stores what the input has under a name, with the disk, the rest of the input, and `out` before and after
 -- it, and its answer:

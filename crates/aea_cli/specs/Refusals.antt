@@ -1,5 +1,7 @@
 -- The lines on `err` where a command did not end well.
 use Rattle.std.specs.Prelude.{ℕ, List, ◌++◌, codes, decimal}
+use Rattle.hex.specs.Hex.{encode_lower}
+use Rattle.aea_lattice.specs.declared.blocks.BlockId.{BlockId}
 use Rattle.aea_lattice.specs.Texts.{text_of}
 use Rattle.aea_cli.specs.declared.refusal.Refusal.{Refusal}
 use Rattle.aea_cli.specs.declared.refusal.Refusal.TheVariants.{InputTooLong, BadBlock, NoArchive, LedgerBad, Occupied, BadName, NameTaken, CatalogFull, HeadDamaged, Full, AlreadyFenced, TooManyFences, AlreadyUpgraded, UnknownName, Damaged}
@@ -42,3 +44,8 @@ output_line = codes "fault: output" ++ newline
 -- of want of memory
 abbrev pub memory_line : List ℕ
 memory_line = codes "fault: memory" ++ newline
+
+-- of a block that has another digest than the one that is recorded of it
+abbrev pub clash_line : BlockId → List ℕ → List ℕ → List ℕ
+clash_line block recorded computed =
+    (codes "clash " ++ text_of block) ++ ((codes " recorded " ++ encode_lower recorded) ++ ((codes " computed " ++ encode_lower computed) ++ newline))

@@ -4,10 +4,10 @@ use Rattle.aea_lattice.specs.declared.grid.Lattice.{Lattice}
 use Rattle.aea_lattice.specs.declared.shape.Shape.{Shape}
 use Rattle.aea_cli.specs.declared.command.Command.{Command}
 use Rattle.aea_cli.specs.declared.command.Command.TheVariants as command
-use Rattle.aea_cli.specs.declared.command.Command.TheVariants.{Drill, Create, Stat, Put, Get, Fence, Upgrade, Scrub}
+use Rattle.aea_cli.specs.declared.command.Command.TheVariants.{Drill, Create, Stat, Put, Get, Fence, Upgrade, Scrub, Repair}
 
 -- The words of a command, each number in decimal: `drill A S P N`, `create A S P B M`, `stat`, `list`, `put NAME`,
--- `get NAME`, `fence`, `upgrade` and `scrub`. Any word may stand for NAME.
+-- `get NAME`, `fence`, `upgrade`, `scrub` and `repair`. Any word may stand for NAME.
 abbrev pub words_of : Command → List (List ℕ)
 words_of (Drill l) = codes "drill" ∷ decimal l.alpha ∷ decimal l.s ∷ decimal l.p ∷ decimal l.n ∷ []
 words_of (Create shape) =
@@ -19,6 +19,7 @@ words_of (Get name) = codes "get" ∷ name ∷ []
 words_of Fence = codes "fence" ∷ []
 words_of Upgrade = codes "upgrade" ∷ []
 words_of Scrub = codes "scrub" ∷ []
+words_of Repair = codes "repair" ∷ []
 
 -- the most nodes of a drill
 abbrev pub drill_limit : ℕ
@@ -40,6 +41,7 @@ Means words (Get name) = words ≡ words_of (Get name)
 Means words Fence = words ≡ words_of Fence
 Means words Upgrade = words ≡ words_of Upgrade
 Means words Scrub = words ≡ words_of Scrub
+Means words Repair = words ≡ words_of Repair
 
 -- the words mean no drill
 abbrev pub AreNoDrill : List (List ℕ) → Type 0
@@ -65,6 +67,7 @@ pub record AreNoPlain (words : List (List ℕ)) : Type 0 where
   pub fence : Means words Fence → ⊥
   pub upgrade : Means words Upgrade → ⊥
   pub scrub : Means words Scrub → ⊥
+  pub repair : Means words Repair → ⊥
 
 -- the words mean no command
 abbrev pub AreNoCommand : List (List ℕ) → Type 0

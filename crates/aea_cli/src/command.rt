@@ -31,6 +31,8 @@ pub enum Command {
     Upgrade,
     /// Prints the damaged blocks of the archive.
     Scrub,
+    /// Restores the damaged blocks of the archive that the others determine, and prints the loss report.
+    Repair,
 }
 
 // The command of one word alone, if the words are one.
@@ -52,6 +54,9 @@ fn plain_command(words: &[String]) -> Option<Command>
     }
     if is_word(words, "scrub") {
         return Some(Command::Scrub);
+    }
+    if is_word(words, "repair") {
+        return Some(Command::Repair);
     }
     None
 }
@@ -92,8 +97,8 @@ fn command_of(alloc: Global, words: &[String]) -> Result<Option<Command>, AllocE
 }
 
 /// The command that the words mean, None where they mean none: `drill A S P N` with the numbers of a lattice,
-/// `create A S P B M` with those of the shape of an archive, `stat`, `list`, `put NAME`, `get NAME`, `fence`, `upgrade` and `scrub`, each
-/// number in decimal without sign and leading zeros. It takes memory for a name alone.
+/// `create A S P B M` with those of the shape of an archive, `stat`, `list`, `put NAME`, `get NAME`, `fence`, `upgrade`,
+/// `scrub` and `repair`, each number in decimal without sign and leading zeros. It takes memory for a name alone.
 pub fn parse_words(alloc: Global, words: &[String]) -> Result<Option<Command>, AllocError>
     ensures found { IfOk result (λ answer. IfSome answer (Means (map string_bytes words.now))) }
     ensures none { IfOk result (λ answer. IfNone answer (AreNoCommand (map string_bytes words.now))) }

@@ -12,6 +12,7 @@ mod numbers;
 mod program;
 mod put;
 mod refusal;
+mod repair;
 mod report;
 mod scrub;
 mod stat;

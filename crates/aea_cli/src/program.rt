@@ -19,6 +19,7 @@ use crate::get::get_object;
 use crate::list::list;
 use crate::put::put_input;
 use crate::refusal::Failure;
+use crate::repair::repair_archive;
 use crate::report::report;
 use crate::scrub::scrub;
 use crate::stat::stat;
@@ -58,6 +59,7 @@ fn carry_out<D: Disk, S: Source, O: Sink>(
         Command::Fence => fence(alloc, disk, out),
         Command::Upgrade => upgrade(alloc, disk, out),
         Command::Scrub => scrub(alloc, disk, out),
+        Command::Repair => repair_archive(alloc, disk, out),
     }
 }
 

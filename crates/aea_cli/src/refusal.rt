@@ -7,6 +7,7 @@ use aea_fetch::GetFault;
 use aea_io::WriteFault;
 use aea_lattice::BlockId;
 use aea_ledger::{CreateFault, FenceFault, OpenFault, UpgradeFault};
+use aea_repair::RepairFault;
 use std::alloc::AllocError;
 
 /// Why a command is refused.
@@ -50,7 +51,9 @@ pub enum Failure {
     /// The words are no command.
     Words,
     /// The command is refused.
-    Refused { why: Refusal },
+    Refused {
+        why: Refusal,
+    },
     /// The disk failed.
     Disk,
     /// The input failed.
@@ -59,6 +62,12 @@ pub enum Failure {
     Output,
     /// Memory was wanting.
     Memory,
+    /// A block was not restored: what was computed, or read again, has another digest than the ledger keeps of the block.
+    Clash {
+        block: BlockId,
+        recorded: [u8; 32],
+        computed: [u8; 32],
+    },
 }
 
 impl From<CreateFault> for Failure {
@@ -140,6 +149,29 @@ impl From<GetFault> for Failure {
             GetFault::WriteFault => Failure::Output,
             GetFault::DiskFault => Failure::Disk,
             GetFault::NoMemory => Failure::Memory,
+        }
+    }
+}
+
+impl From<RepairFault> for Failure {
+    ghost use Rattle.aea_cli.specs.Failures.{repair_failure};
+
+    ghost from_gives = { λ fault failure. failure ≡ repair_failure fault };
+
+    fn from(fault: RepairFault) -> Failure {
+        match fault {
+            RepairFault::Clash {
+                block,
+                recorded,
+                computed,
+            } => Failure::Clash {
+                block,
+                recorded,
+                computed,
+            },
+            RepairFault::DiskFault => Failure::Disk,
+            RepairFault::WriteFault => Failure::Output,
+            RepairFault::NoMemory => Failure::Memory,
         }
     }
 }

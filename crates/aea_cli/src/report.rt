@@ -3,12 +3,14 @@
 ghost use Rattle.std.specs.Prelude.{◌≡◌, ◌≤◌, [], ◌++◌, OnOk};
 ghost use Rattle.aea_lattice.specs.Texts.{letter_of, text_of};
 ghost use Rattle.aea_cli.specs.Lines.{newline};
-ghost use Rattle.aea_cli.specs.Refusals.{refusal_line};
+ghost use Rattle.hex.specs.Hex.{encode_lower};
+ghost use Rattle.aea_cli.specs.Refusals.{refusal_line, clash_line};
 ghost use Rattle.aea_cli.specs.Failures.{failure_line, failure_status};
 ghost use Rattle.aea_io.specs.Written.{IsFlushed};
 ghost use Rattle.aea_io.specs.Pages.{Prints};
 ghost use Rattle.aea_cli.specs.Printed.{PutsLine};
 
+use crate::put::digits_of;
 use crate::refusal::{Failure, Refusal};
 use crate::status::Status;
 use aea_io::{Page, Sink, WriteFault, finish, print, print_number};
@@ -26,6 +28,20 @@ fn class_letter(class: Class) -> u8
     }
 }
 
+// Prints words and the text of a block behind them.
+fn print_block<E: Sink>(
+    err: &mut E,
+    page: &mut Page,
+    front: &[u8],
+    block: BlockId,
+) -> Result<(), WriteFault>
+    ensures { Prints (E.state err.old) page.old (E.state err.new) page.new result (front.now ++ text_of block) }
+{
+    print(err, page, front)?;
+    print(err, page, &[class_letter(block.class)])?;
+    print_number(err, page, b"", u64::from(block.node))
+}
+
 // Prints a line that ends with the text of a block.
 fn print_with_block<E: Sink>(
     err: &mut E,
@@ -33,11 +49,38 @@ fn print_with_block<E: Sink>(
     front: &[u8],
     block: BlockId,
 ) -> Result<(), WriteFault>
-    ensures { Prints (E.state err.old) page.old (E.state err.new) page.new result (front.now ++ (text_of block ++ newline)) }
+    ensures { Prints (E.state err.old) page.old (E.state err.new) page.new result ((front.now ++ text_of block) ++ newline) }
+{
+    print_block(err, page, front, block)?;
+    print(err, page, b"\n")
+}
+
+// Prints words and the digits of a digest behind them.
+fn print_digest<E: Sink>(
+    err: &mut E,
+    page: &mut Page,
+    front: &[u8],
+    digest: &[u8; 32],
+) -> Result<(), WriteFault>
+    ensures { Prints (E.state err.old) page.old (E.state err.new) page.new result (front.now ++ encode_lower digest.now) }
 {
     print(err, page, front)?;
-    print(err, page, &[class_letter(block.class)])?;
-    print_number(err, page, b"", u64::from(block.node))?;
+    print(err, page, &digits_of(digest))
+}
+
+// Prints the line of a clash.
+fn print_clash<E: Sink>(
+    err: &mut E,
+    page: &mut Page,
+    block: BlockId,
+    recorded: &[u8; 32],
+    computed: &[u8; 32],
+) -> Result<(), WriteFault>
+    ensures { Prints (E.state err.old) page.old (E.state err.new) page.new result (clash_line block recorded.now computed.now) }
+{
+    print_block(err, page, b"clash ", block)?;
+    print_digest(err, page, b" recorded ", recorded)?;
+    print_digest(err, page, b" computed ", computed)?;
     print(err, page, b"\n")
 }
 
@@ -89,6 +132,11 @@ fn print_failure<E: Sink>(err: &mut E, page: &mut Page, failure: Failure) -> Res
         Failure::Input => print(err, page, b"fault: input\n"),
         Failure::Output => print(err, page, b"fault: output\n"),
         Failure::Memory => print(err, page, b"fault: memory\n"),
+        Failure::Clash {
+            block,
+            recorded,
+            computed,
+        } => print_clash(err, page, block, &recorded, &computed),
     }
 }
 
@@ -117,5 +165,6 @@ pub fn report<E: Sink>(err: &mut E, failure: Failure) -> Status
         Failure::Input => Status::Input,
         Failure::Output => Status::Output,
         Failure::Memory => Status::Memory,
+        Failure::Clash { .. } => Status::Clash,
     }
 }

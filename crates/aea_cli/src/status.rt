@@ -1,6 +1,6 @@
 //! The statuses of the program.
 
-ghost use Rattle.std.specs.Prelude.{◌≡◌};
+ghost use Rattle.std.specs.Prelude.{◌≡◌, ◌==◌, cond};
 ghost use Rattle.aea_cli.specs.Codes.{code_of};
 
 /// How the program ended.
@@ -27,6 +27,17 @@ pub enum Status {
 }
 
 impl Status {
+    // The status where so many blocks are damaged or lost.
+    pub(crate) fn by_damage(count: u32) -> Status
+        ensures { result ≡ cond (count == 0) Status.Done Status.Damage }
+    {
+        if count == 0 {
+            Status::Done
+        } else {
+            Status::Damage
+        }
+    }
+
     /// The exit code, 0 to 8.
     pub fn code(self) -> u8
         ensures { result ≡ code_of self }

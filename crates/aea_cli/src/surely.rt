@@ -5,7 +5,7 @@ ghost use Rattle.aea_io.specs.Sure.{sure_sink_state};
 ghost use Rattle.aea_cli.specs.declared.command.Command.{Command};
 ghost use Rattle.aea_cli.specs.declared.refusal.Refusal.{Refusal};
 ghost use Rattle.aea_cli.specs.Causes.{IsFirst};
-ghost use Rattle.aea_cli.specs.Does.{Causes, FitsDisk, FitsOutput};
+ghost use Rattle.aea_cli.specs.Does.{Causes, FitsDisk, FitsOutput, IsHonest};
 ghost use Rattle.aea_cli.specs.Ends.{Ends};
 ghost use Rattle.aea_cli.specs.Failures.{IsWell};
 ghost use Rattle.aea_cli.specs.Surely.{sure_world};
@@ -47,11 +47,12 @@ pub fn run_surely(
     ensures output { (command : Command) → Means (map string_bytes words.now) command
         → FitsOutput command (sure_world disk.old input.old.rest.now out.old) → result ≢ Status.Output }
 
-    // Where there is room, and nothing stands against it, all is done.
+    // Where there is room, and nothing stands against it, all is done, where the intact blocks of what is repaired are honest.
     ensures complete { (command : Command) → Means (map string_bytes words.now) command
         → ((why : Refusal) → IsFirst (Causes command (sure_world disk.old input.old.rest.now out.old)) why → ⊥)
         → FitsDisk command (sure_world disk.old input.old.rest.now out.old)
         → FitsOutput command (sure_world disk.old input.old.rest.now out.old)
+        → IsHonest command (sure_world disk.old input.old.rest.now out.old)
         → IsWell result ⊎ (result ≡ Status.Memory) }
 {
     run(alloc, words, disk, input, out, err)

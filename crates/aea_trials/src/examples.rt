@@ -74,7 +74,7 @@ fn drills_print_the_outcome(rt: HostRuntime) -> Result<(), Fail> {
 }
 
 // Lines whose words are no command.
-const NO_COMMANDS: [&str; 44] = [
+const NO_COMMANDS: [&str; 47] = [
     "drill 2 3 2 5",
     "drill 2 1 4 5",
     "drill 1 1 0 65537",
@@ -119,6 +119,9 @@ const NO_COMMANDS: [&str; 44] = [
     "fences",
     "upgrade 1",
     "Upgrade",
+    "repair a",
+    "Repair",
+    "repairs",
 ];
 
 #[test]

@@ -80,6 +80,7 @@ fn faults_give_their_statuses(rt: HostRuntime) -> Result<(), Fail> {
         ("get", Faults { read: 1, out_call: 1, ..NONE }, Status::Words, "", "words: no such command\n"),
         ("get a", Faults { read: 1, out_call: 1, ..NONE }, Status::Refused, "", "refused: no archive\n"),
         ("list", Faults { read: 1, out_call: 1, ..NONE }, Status::Refused, "", "refused: no archive\n"),
+        ("repair", Faults { read: 1, out_call: 1, ..NONE }, Status::Refused, "", "refused: no archive\n"),
     ] {
         let left = run_failing(rt.alloc(), line, b"d1\nh1\n", faults)?;
         assert_eq!(rt; left.status, status, "{line} {faults:?}");

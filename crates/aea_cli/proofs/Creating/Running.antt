@@ -8,7 +8,7 @@ use Rattle.aea_disk.specs.State.{State, HasRoomTo}
 use Rattle.aea_disk.proofs.Frames.{writes_where}
 use Rattle.aea_cli.specs.declared.command.Command.TheVariants.{Create}
 use Rattle.aea_cli.specs.declared.refusal.Failure.TheVariants as failure
-use Rattle.aea_cli.specs.Failures.{Answer}
+use Rattle.aea_cli.specs.Failures.{Answer, NeverClashes}
 use Rattle.aea_cli.specs.Causes.{Refuses}
 use Rattle.aea_cli.specs.Create.{CreateCauses, Creates}
 use Rattle.aea_cli.specs.Does.{Runs}
@@ -19,12 +19,14 @@ use Rattle.aea_cli.proofs.Refusing.{refuses_told}
 -- what `create` did, when it is refused, and that it changes the ledger's file alone give what holds of its run
 pub create_runs : (shape : Shape) (tells : Type 0) (old new : State) (input : SourceState) (before after : SinkState) (answer : Answer)
     → Creates shape tells old new before after answer → Refuses tells (CreateCauses (old.files 0)) answer → OnlyWrites tells (HasRoomTo old 0 18) (answer ≡ Err failure.Disk) (ChangesOnly 0) old new
+    → NeverClashes answer
     → Runs (Create shape) (world tells old input before) (world tells new input after) answer
-create_runs shape tells old new input before after answer creates refuses writes = record {
+create_runs shape tells old new input before after answer creates refuses writes honest = record {
   does = creates;
   refuses = refuses_told _ _ _ _ (λ told. told.disk tt) refuses;
   disk_fits = λ room. (creates.in_room room).0;
   output_fits = λ told fits. (creates.prints.in_room fits.room fits.told fits.enough).0;
+  honest = λ told is. honest;
   stays = writes_where tells _ _ _ _ old new (λ c d keeps f keep. keeps f keep) writes;
   opens = λ told. opening_more old new _ _ (λ c makes. makes.others) (creates.stops told);
 }

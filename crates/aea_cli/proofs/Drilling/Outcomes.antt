@@ -1,5 +1,5 @@
 -- The report of a drill's plan is its outcome, and no other text is.
-use Rattle.std.proofs.Common.{◌≡◌, ℕ, List, None, refl, sym, ◌∙◌, ap}
+use Rattle.std.proofs.Common.{◌≡◌, ℕ, List, None, refl, ◌∙◌, ap}
 use Rattle.aea_lattice.specs.declared.grid.Lattice.{Lattice}
 use Rattle.aea_plan.specs.declared.plan.Plan.{Plan}
 use Rattle.aea_plan.specs.Laws.{PrintedAreOne}

@@ -7,7 +7,7 @@ use Rattle.aea_disk.specs.State.{State}
 use Rattle.aea_disk.proofs.Moments.{where_none}
 use Rattle.aea_cli.specs.declared.command.Command.TheVariants.{Drill}
 use Rattle.aea_cli.specs.declared.refusal.Failure.TheVariants as failure
-use Rattle.aea_cli.specs.Failures.{Answer}
+use Rattle.aea_cli.specs.Failures.{Answer, NeverClashes}
 use Rattle.aea_cli.specs.Causes.{Refuses}
 use Rattle.aea_cli.specs.Drill.{DamageCauses, Drills}
 use Rattle.aea_cli.specs.Does.{Runs}
@@ -19,8 +19,9 @@ use Rattle.aea_cli.proofs.Drilling.Refused.{told_is}
 -- what `drill` did, when it is refused, and that no fault of the disk is answered give what holds of its run
 pub drill_runs : (l : Lattice) (tells : Type 0) (disk : State) (old new : SourceState) (before after : SinkState) (answer : Answer)
     → Drills l old new before after answer → Refuses (IsSome old.left) (DamageCauses l (unwrap_or old.left [])) answer → answer ≢ Err failure.Disk
+    → NeverClashes answer
     → Runs (Drill l) (world tells disk old before) (world tells disk new after) answer
-drill_runs l tells disk old new before after answer drills refuses never = record {
+drill_runs l tells disk old new before after answer drills refuses never honest = record {
   does = drills;
   refuses = refuses_told _ _ _ _ (λ told. told.input tt) refuses;
   disk_fits = λ fits. never;
@@ -29,6 +30,7 @@ drill_runs l tells disk old new before after answer drills refuses never = recor
       let outcome = (drills.planned (inr e) (unwrap_or old.left []) is).1 in
       let room = fits outcome.0 outcome.1 outcome.2 in
       ((drills.prints (unwrap_or old.left []) outcome.0 outcome.1 is outcome.2).in_room room.room room.told room.enough).0 e;
+  honest = λ told is. honest;
   stays = where_none tells _ disk;
   opens = λ told. inl (images_same disk);
 }

@@ -11,7 +11,7 @@ use Rattle.aea_cli.specs.declared.refusal.Failure.TheVariants as failure
 use Rattle.aea_cli.specs.Adding.{Adds, KeepsTheRest}
 use Rattle.aea_cli.specs.Causes.{Refuses}
 use Rattle.aea_cli.specs.Does.{Runs}
-use Rattle.aea_cli.specs.Failures.{Answer}
+use Rattle.aea_cli.specs.Failures.{Answer, NeverClashes}
 use Rattle.aea_cli.specs.Fence.{fence_line, next_fence, FenceCauses, Fences}
 use Rattle.aea_cli.specs.Printed.{PrintsText}
 use Rattle.aea_cli.specs.Worlds.{world}
@@ -44,8 +44,9 @@ fences_added tells old new before after nodes answer printing small counted adds
 -- what `fence` did, when it is refused, and that it keeps each other file give what holds of its run
 pub fence_runs : (tells : Type 0) (old new : State) (input : SourceState) (before after : SinkState) (answer : Answer)
     → Fences tells old new before after answer → Refuses tells (FenceCauses (old.files 0)) answer → KeepsTheRest tells (answer ≡ Err failure.Disk) old new
+    → NeverClashes answer
     → Runs Fence (world tells old input before) (world tells new input after) answer
-fence_runs tells old new input before after answer fences refuses rest = record {
+fence_runs tells old new input before after answer fences refuses rest honest = record {
   does = fences;
   refuses = refuses_told _ _ _ _ (λ told. told.disk tt) refuses;
   disk_fits = λ fits. (fences.adds.in_room fits).0;
@@ -53,6 +54,7 @@ fence_runs tells old new input before after answer fences refuses rest = record 
       let stands = fences.adds.stands (inr e) (told.disk tt) in
       let room = fits stands.0.shape stands.0.records stands.0.before in
       ((fences.prints (told.disk tt) stands.0.shape stands.0.records stands.0.before).in_room room.room room.told room.enough).0 e;
+  honest = λ told is. honest;
   stays = rest_stays tells _ old new rest;
   opens = adds_opens next_fence tells old new answer fences.adds;
 }

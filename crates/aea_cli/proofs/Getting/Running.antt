@@ -18,7 +18,7 @@ use Rattle.aea_cli.specs.declared.refusal.Failure.{Failure}
 use Rattle.aea_cli.specs.declared.refusal.Failure.TheVariants as failure
 use Rattle.aea_cli.specs.Causes.{Refuses}
 use Rattle.aea_cli.specs.Does.{Runs}
-use Rattle.aea_cli.specs.Failures.{Answer, opening_failure}
+use Rattle.aea_cli.specs.Failures.{Answer, opening_failure, NeverClashes}
 use Rattle.aea_cli.specs.Get.{Gets, GetCauses, Fetches, HasObject, FitsBytes}
 use Rattle.aea_cli.specs.Worlds.{world}
 use Rattle.aea_cli.proofs.Getting.Causing.{object_here}
@@ -56,14 +56,16 @@ get_fits name tells c before after answer (Err f) reading told one kinds unopene
 -- what `get` did and when it is refused give what holds of its run
 pub get_runs : HasOneReading → (name : List ℕ) (tells : Type 0) (old new : State) (input : SourceState) (before after : SinkState) (answer : Answer)
     → Gets name tells old new before after answer → Refuses tells (GetCauses name old.files) answer
+    → NeverClashes answer
     → Runs (Get name) (world tells old input before) (world tells new input after) answer
-get_runs reading name tells old new input before after answer gets refuses =
+get_runs reading name tells old new input before after answer gets refuses honest =
     let opens = gets.opens in
     record {
       does = inr gets;
       refuses = refuses_told _ _ _ _ (λ told. told.disk tt) refuses;
       disk_fits = λ room. (gets.reads.sure room).0;
       output_fits = λ told fits. get_fits name tells old.files before after answer gets.opening reading (told.disk tt) opens.this_one opens.kinds gets.unopened gets.fetches fits;
+      honest = λ told is. honest;
       stays = where_kept tells _ old old new (passes_none old) opens.reads.time opens.reads.crash opens.reads.contents (where_none tells _ old);
       opens = λ told. opening_more old new _ _ (λ c stays f keep. stays f) (opens.stops told);
     }
@@ -75,6 +77,7 @@ unnamed_runs name tells s input out = record {
   refuses = refuses_stopped _ _ (Err failure.Memory) (inr (inr refl));
   disk_fits = λ room e. let h : (let answer : Answer = Err failure.Memory in answer ≡ Err failure.Disk) = e in cc;
   output_fits = λ told fits e. let h : (let answer : Answer = Err failure.Memory in answer ≡ Err failure.Output) = e in cc;
+  honest = λ told is b recorded computed e. let h : (let answer : Answer = Err failure.Memory in answer ≡ Err (failure.Clash b recorded computed)) = e in cc;
   stays = where_none tells _ s;
   opens = λ told. inl (images_same s);
 }

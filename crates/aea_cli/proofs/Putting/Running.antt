@@ -6,7 +6,7 @@ use Rattle.aea_cli.specs.declared.command.Command.TheVariants.{Put}
 use Rattle.aea_cli.specs.Put.{greatest_sites, stored_line, object_of, PutCauses, IsStored, MayBeStored, Stores, IsLineOf, KeepsOtherFiles, Puts}
 use Rattle.aea_cli.proofs.Adding.{Agrees, agrees_failed}
 use Rattle.aea_cli.proofs.Adding.Running.{agrees_printed}
-use Rattle.aea_cli.specs.Failures.{Answer}
+use Rattle.aea_cli.specs.Failures.{Answer, NeverClashes}
 use Rattle.std.proofs.KnownBytes.{Consumes-nil}
 use Rattle.std.specs.Io.KnownBytes.{Consumes, IsAtEnd}
 use Rattle.aea_cli.specs.declared.refusal.Failure.{Failure}
@@ -132,8 +132,9 @@ whole_input (Some xs) (Some ys) bytes some taken end = taken ∙ ap (λ (l : Lis
 pub put_runs : (name : List ℕ) (tells : Type 0) (old new : State) (input input_after : SourceState) (before after : SinkState) (answer : Answer)
     → Puts name tells old new input.left input_after.left before after answer → Refuses (tells × IsSome input.left) (PutCauses name old.files (unwrap_or input.left [])) answer
     → KeepsOtherFiles tells (answer ≡ Err failure.Disk) old new
+    → NeverClashes answer
     → Runs (Put name) (world tells old input before) (world tells new input_after after) answer
-put_runs name tells old new input input_after before after answer puts refuses rest = record {
+put_runs name tells old new input input_after before after answer puts refuses rest honest = record {
   does = puts;
   refuses = refuses_told _ _ _ _ (λ told. (told.disk tt, told.input tt)) refuses;
   disk_fits = λ fits. (puts.stores.in_room fits).0;
@@ -149,6 +150,7 @@ put_runs name tells old new input input_after before after answer puts refuses r
       ∙ ap (λ (n : List ℕ). stored_line ledger.shape (object_of n line.o.bytes)) line.whole.name_is
       ∙ sym (ap (λ (b : List ℕ). stored_line ledger.shape (object_of name b)) given) in
       (puts.prints.in_room room.room room.told (subst (λ (l : List ℕ). length l ≤ room.room) (sym same_line) room.enough)).0 e;
+  honest = λ told is. honest;
   stays = rest.others;
   opens = rest.opens;
 }
@@ -181,3 +183,4 @@ unparsed_runs name tells s input out =
       kept = omega arith;
       cause = λ is. let h : (let answer : Answer = Err failure.Memory in answer ≡ Err failure.Disk) = is in cc;
     })
+    (λ b recorded computed e. let h : (let answer : Answer = Err failure.Memory in answer ≡ Err (failure.Clash b recorded computed)) = e in cc)

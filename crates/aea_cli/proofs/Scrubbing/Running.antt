@@ -14,7 +14,7 @@ use Rattle.aea_cli.specs.declared.refusal.Failure.{Failure}
 use Rattle.aea_cli.specs.declared.refusal.Failure.TheVariants as failure
 use Rattle.aea_cli.specs.Causes.{Refuses}
 use Rattle.aea_cli.specs.Does.{Runs}
-use Rattle.aea_cli.specs.Failures.{Answer, opening_failure}
+use Rattle.aea_cli.specs.Failures.{Answer, opening_failure, NeverClashes}
 use Rattle.aea_cli.specs.Openings.{OpeningCauses}
 use Rattle.aea_cli.specs.Printed.{FitsText}
 use Rattle.aea_cli.specs.Scrub.{Scrubs, TellsIntact, PrintsDamage, scrub_text}
@@ -48,12 +48,14 @@ scrub_fits tells c answer before after (Err f) told kinds unopened some fits = u
 -- what `scrub` did and when it is refused give what holds of its run
 pub scrub_runs : (tells : Type 0) (old new : State) (input : SourceState) (before after : SinkState) (answer : Answer)
     → Scrubs tells old new before after answer → Refuses tells (OpeningCauses (old.files 0)) answer
+    → NeverClashes answer
     → Runs Scrub (world tells old input before) (world tells new input after) answer
-scrub_runs tells old new input before after answer scrubs refuses = record {
+scrub_runs tells old new input before after answer scrubs refuses honest = record {
   does = scrubs;
   refuses = refuses_told _ _ _ _ (λ told. told.disk tt) refuses;
   disk_fits = λ room. (scrubs.reads.sure room).0;
   output_fits = λ told fits. scrub_fits tells old.files answer before after scrubs.opening (told.disk tt) scrubs.opens.kinds scrubs.unopened scrubs.some fits;
+  honest = λ told is. honest;
   stays = where_kept tells _ old old new (passes_none old) scrubs.reads.time scrubs.reads.crash scrubs.reads.contents (where_none tells _ old);
   opens = λ told. opening_more old new _ _ (λ c stays f keep. stays f) (scrubs.opens.stops told);
 }

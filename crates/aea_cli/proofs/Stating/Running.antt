@@ -11,7 +11,7 @@ use Rattle.aea_ledger.specs.Values.{Opened, HasRecords, IsThisOne}
 use Rattle.aea_cli.specs.declared.command.Command.TheVariants.{Stat}
 use Rattle.aea_cli.specs.declared.refusal.Failure.{Failure}
 use Rattle.aea_cli.specs.declared.refusal.Failure.TheVariants as failure
-use Rattle.aea_cli.specs.Failures.{Answer, opening_failure}
+use Rattle.aea_cli.specs.Failures.{Answer, opening_failure, NeverClashes}
 use Rattle.aea_cli.specs.Causes.{Refuses}
 use Rattle.aea_cli.specs.Openings.{OpeningCauses}
 use Rattle.aea_cli.specs.Printed.{FitsText, PrintsText}
@@ -58,8 +58,9 @@ ok_told tells (Err f) bytes told one = tt
 -- what `stat` did and when it is refused give what holds of its run
 pub stat_runs : (tells : Type 0) (old new : State) (input : SourceState) (before after : SinkState) (answer : Answer)
     → Stats tells old new before after answer → Refuses tells (OpeningCauses (old.files 0)) answer
+    → NeverClashes answer
     → Runs Stat (world tells old input before) (world tells new input after) answer
-stat_runs tells old new input before after answer stats refuses =
+stat_runs tells old new input before after answer stats refuses honest =
     let opens = stats.opens in
     let answered = err_part stats.opening (λ f. (answer ≡ Err f) × (after ≡ before)) (λ f. answer ≡ Err f) (λ f h. h.0) stats.unopened in
     record {
@@ -67,6 +68,7 @@ stat_runs tells old new input before after answer stats refuses =
       refuses = refuses_told _ _ _ _ (λ told. told.disk tt) refuses;
       disk_fits = λ room. no_disk answer stats.opening (opens.reads.sure room).0 answered stats.kinds;
       output_fits = λ told fits. no_output answer stats.opening (old.files 0) before after (ok_told tells stats.opening (old.files 0) (told.disk tt) opens.this_one) opens.kinds answered stats.prints fits;
+      honest = λ told is. honest;
       stays = where_kept tells _ old old new (passes_none old) opens.reads.time opens.reads.crash opens.reads.contents (where_none tells _ old);
       opens = λ told. opening_more old new _ _ (λ c stays f keep. stays f) (opens.stops told);
     }

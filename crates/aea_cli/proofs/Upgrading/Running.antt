@@ -8,7 +8,7 @@ use Rattle.aea_cli.specs.declared.refusal.Failure.TheVariants as failure
 use Rattle.aea_cli.specs.Adding.{Adds, KeepsTheRest}
 use Rattle.aea_cli.specs.Causes.{Refuses}
 use Rattle.aea_cli.specs.Does.{Runs}
-use Rattle.aea_cli.specs.Failures.{Answer}
+use Rattle.aea_cli.specs.Failures.{Answer, NeverClashes}
 use Rattle.aea_cli.specs.Printed.{PrintsText}
 use Rattle.aea_cli.specs.Upgrade.{next_raise, upgraded_line, UpgradeCauses, Upgrades}
 use Rattle.aea_cli.specs.Worlds.{world}
@@ -38,12 +38,14 @@ upgrades_added tells old new before after value answer printing adds prints = re
 -- what `upgrade` did, when it is refused, and that it keeps each other file give what holds of its run
 pub upgrade_runs : (tells : Type 0) (old new : State) (input : SourceState) (before after : SinkState) (answer : Answer)
     → Upgrades tells old new before after answer → Refuses tells (UpgradeCauses (old.files 0)) answer → KeepsTheRest tells (answer ≡ Err failure.Disk) old new
+    → NeverClashes answer
     → Runs Upgrade (world tells old input before) (world tells new input after) answer
-upgrade_runs tells old new input before after answer upgrades refuses rest = record {
+upgrade_runs tells old new input before after answer upgrades refuses rest honest = record {
   does = upgrades;
   refuses = refuses_told _ _ _ _ (λ told. told.disk tt) refuses;
   disk_fits = λ fits. (upgrades.adds.in_room fits).0;
   output_fits = λ told fits. (upgrades.prints.in_room fits.room fits.told fits.enough).0;
+  honest = λ told is. honest;
   stays = rest_stays tells _ old new rest;
   opens = adds_opens next_raise tells old new answer upgrades.adds;
 }

@@ -8,6 +8,7 @@ ghost use Rattle.aea_disk.specs.Frames.{OnlyWrites};
 ghost use Rattle.aea_disk.specs.State.{HasRoomTo};
 ghost use Rattle.aea_cli.specs.Causes.{Refuses};
 ghost use Rattle.aea_cli.specs.Create.{created_line, CreateCauses, Creates};
+ghost use Rattle.aea_cli.specs.Failures.{NeverClashes};
 
 mod words;
 
@@ -42,6 +43,7 @@ pub fn create<D: Disk, O: Sink>(
     ensures creates { Creates shape.now D.tells (D.state disk.old) (D.state disk.new) (O.state out.old) (O.state out.new) result }
     ensures refuses { Refuses D.tells (CreateCauses ((D.state disk.old).files 0)) result }
     ensures words { result ≢ Err Failure.Words }
+    ensures clash { NeverClashes result }
     ensures input { result ≢ Err Failure.Input }
     ensures flushed { OnOk result (IsFlushed (O.state out.new)) }
 

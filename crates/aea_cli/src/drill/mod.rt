@@ -8,7 +8,7 @@ ghost use Rattle.aea_io.specs.Written.{IsFlushed};
 ghost use Rattle.aea_plan.specs.Plans.{IsSound, HasRoom};
 ghost use Rattle.aea_cli.specs.declared.refusal.Refusal.{Refusal};
 ghost use Rattle.aea_cli.specs.Causes.{IsFirst, Refuses};
-ghost use Rattle.aea_cli.specs.Failures.{IsWell};
+ghost use Rattle.aea_cli.specs.Failures.{IsWell, NeverClashes};
 ghost use Rattle.aea_cli.specs.Drill.{greatest_input, DamageCauses, Drills};
 ghost use Rattle.aea_cli.specs.Drill.Reports.{IsPlanned};
 
@@ -100,6 +100,7 @@ pub fn drill<S: Source, O: Sink>(
     ensures refuses { Refuses (IsSome (S.state input.old).left) (DamageCauses lattice.now (unwrap_or (S.state input.old).left [])) result }
     ensures kinds { IfOk result IsWell }
     ensures words { result ≢ Err Failure.Words }
+    ensures clash { NeverClashes result }
     ensures disk { result ≢ Err Failure.Disk }
     ensures flushed { OnOk result (IsFlushed (O.state out.new)) }
 

@@ -9,6 +9,7 @@ ghost use Rattle.aea_records.specs.Format.{Record, nodes_of, raised_limit};
 ghost use Rattle.aea_ledger.specs.Stops.{HasLedger};
 ghost use Rattle.aea_cli.specs.Adding.{Adds, KeepsTheRest};
 ghost use Rattle.aea_cli.specs.Causes.{Refuses};
+ghost use Rattle.aea_cli.specs.Failures.{NeverClashes};
 ghost use Rattle.aea_cli.specs.Fence.{fence_line, next_fence, FenceCauses, Fences};
 
 use crate::archive::open;
@@ -30,6 +31,7 @@ fn add_fence<D: Disk>(alloc: Global, disk: &mut D) -> Result<u32, Failure>
     ensures small { IfOk result (λ n. n ≤ raised_limit) }
     ensures nodes { IfOk result (λ n. D.tells → (shape : Shape) (records : List Record) → HasLedger shape records ((D.state disk.old).files 0) → n ≡ nodes_of records) }
     ensures words { result ≢ Err Failure.Words }
+    ensures clash { NeverClashes result }
     ensures input { result ≢ Err Failure.Input }
     ensures output { result ≢ Err Failure.Output }
     ensures rest { KeepsTheRest D.tells (result ≡ Err Failure.Disk) (D.state disk.old) (D.state disk.new) }
@@ -69,6 +71,7 @@ pub fn fence<D: Disk, O: Sink>(alloc: Global, disk: &mut D, out: &mut O) -> Resu
     ensures fences { Fences D.tells (D.state disk.old) (D.state disk.new) (O.state out.old) (O.state out.new) result }
     ensures refuses { Refuses D.tells (FenceCauses ((D.state disk.old).files 0)) result }
     ensures words { result ≢ Err Failure.Words }
+    ensures clash { NeverClashes result }
     ensures input { result ≢ Err Failure.Input }
     ensures flushed { OnOk result (IsFlushed (O.state out.new)) }
 

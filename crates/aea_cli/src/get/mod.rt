@@ -5,6 +5,7 @@ ghost use Rattle.aea_faults.specs.Faults.{Rose};
 ghost use Rattle.aea_io.specs.Written.{IsFlushed};
 ghost use Rattle.aea_disk.specs.Frames.{OnlyReads};
 ghost use Rattle.aea_cli.specs.Causes.{Refuses};
+ghost use Rattle.aea_cli.specs.Failures.{NeverClashes};
 ghost use Rattle.aea_cli.specs.Get.{Gets, GetCauses};
 
 use crate::archive::open;
@@ -28,6 +29,7 @@ pub fn get_object<D: Disk, O: Sink>(
     ensures gets { Gets name.now D.tells (D.state disk.old) (D.state disk.new) (O.state out.old) (O.state out.new) result }
     ensures refuses { Refuses D.tells (GetCauses name.now (D.state disk.old).files) result }
     ensures words { result ≢ Err Failure.Words }
+    ensures clash { NeverClashes result }
     ensures input { result ≢ Err Failure.Input }
     ensures done { IfOk result (λ status. status ≡ Status.Done) }
     ensures flushed { OnOk result (IsFlushed (O.state out.new)) }

@@ -6,6 +6,7 @@ ghost use Rattle.aea_io.specs.Pages.{Prints};
 ghost use Rattle.aea_io.specs.Written.{IsFlushed};
 ghost use Rattle.aea_disk.specs.Frames.{OnlyReads};
 ghost use Rattle.aea_cli.specs.Causes.{Refuses};
+ghost use Rattle.aea_cli.specs.Failures.{NeverClashes};
 ghost use Rattle.aea_cli.specs.Listing.{object_line, list_text, Lists};
 ghost use Rattle.aea_cli.specs.Openings.{OpeningCauses};
 
@@ -65,6 +66,7 @@ pub fn list<D: Disk, O: Sink>(alloc: Global, disk: &mut D, out: &mut O) -> Resul
     ensures lists { Lists D.tells (D.state disk.old) (D.state disk.new) (O.state out.old) (O.state out.new) result }
     ensures refuses { Refuses D.tells (OpeningCauses ((D.state disk.old).files 0)) result }
     ensures words { result ≢ Err Failure.Words }
+    ensures clash { NeverClashes result }
     ensures input { result ≢ Err Failure.Input }
     ensures done { IfOk result (λ status. status ≡ Status.Done) }
     ensures flushed { OnOk result (IsFlushed (O.state out.new)) }

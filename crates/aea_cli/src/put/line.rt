@@ -9,8 +9,8 @@ ghost use Rattle.aea_cli.specs.Put.{stored_text};
 use aea_append::StoredObject;
 use aea_io::{Page, Sink, WriteFault, finish, print, print_number};
 
-// The digits of a digest.
-fn digits_of(digest: &[u8; 32]) -> [u8; 64]
+/// The digits of a digest.
+pub(crate) fn digits_of(digest: &[u8; 32]) -> [u8; 64]
     ensures { result ≡ encode_lower digest.now }
 {
     let mut digits = [0; 64];

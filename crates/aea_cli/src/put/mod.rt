@@ -4,6 +4,7 @@ ghost use Rattle.std.specs.Prelude.{◌≡◌, ◌≢◌, ◌≤◌, IfOk, IsSom
 ghost use Rattle.aea_faults.specs.Faults.{Rose};
 ghost use Rattle.aea_io.specs.Written.{IsFlushed};
 ghost use Rattle.aea_cli.specs.Causes.{Refuses};
+ghost use Rattle.aea_cli.specs.Failures.{NeverClashes};
 ghost use Rattle.aea_cli.specs.Put.{stored_text, PutCauses, IsLineOf, Stores, Puts, KeepsOtherFiles};
 
 mod line;
@@ -16,8 +17,8 @@ use aea_disk::Disk;
 use aea_io::{Sink, Source};
 use aea_lattice::numbers_tell_blocks;
 use aea_records::{ledgers_have_one_reading, new_names_are_free, objects_are_counted};
-pub(crate) use line::print_named;
 use line::put_line;
+pub(crate) use line::{digits_of, print_named};
 use std::alloc::Global;
 
 // Opens the archive, and stores all that the input has under the name.
@@ -31,6 +32,7 @@ fn store<D: Disk, S: Source>(
     ensures line { IfOk result (λ stored. IsLineOf name.now D.tells ((D.state disk.old).files 0) (S.state input.old).left (S.state input.new).left (stored_text stored.nodes stored.length stored.digest name.now)) }
     ensures refuses { Refuses (D.tells × IsSome (S.state input.old).left) (PutCauses name.now (D.state disk.old).files (unwrap_or (S.state input.old).left [])) result }
     ensures words { result ≢ Err Failure.Words }
+    ensures clash { NeverClashes result }
     ensures output { result ≢ Err Failure.Output }
     ensures rest { KeepsOtherFiles D.tells (result ≡ Err Failure.Disk) (D.state disk.old) (D.state disk.new) }
     ensures input_kept { (S.state input.old).faults ≤ (S.state input.new).faults }
@@ -57,6 +59,7 @@ pub fn put_input<D: Disk, S: Source, O: Sink>(
     ensures puts { Puts name.now D.tells (D.state disk.old) (D.state disk.new) (S.state input.old).left (S.state input.new).left (O.state out.old) (O.state out.new) result }
     ensures refuses { Refuses (D.tells × IsSome (S.state input.old).left) (PutCauses name.now (D.state disk.old).files (unwrap_or (S.state input.old).left [])) result }
     ensures words { result ≢ Err Failure.Words }
+    ensures clash { NeverClashes result }
     ensures flushed { OnOk result (IsFlushed (O.state out.new)) }
 
     // The disk and the streams in any case.

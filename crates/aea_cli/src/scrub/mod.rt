@@ -9,7 +9,7 @@ ghost use Rattle.aea_view.specs.Marked.{is_marked};
 ghost use Rattle.aea_disk.specs.Frames.{OnlyReads};
 ghost use Rattle.aea_archive.specs.Blocks.{IsIntactBy};
 ghost use Rattle.aea_cli.specs.Causes.{Refuses};
-ghost use Rattle.aea_cli.specs.Failures.{IsWell};
+ghost use Rattle.aea_cli.specs.Failures.{IsWell, NeverClashes};
 ghost use Rattle.aea_cli.specs.Openings.{OpeningCauses};
 ghost use Rattle.aea_cli.specs.Scrub.{Scrubs};
 
@@ -50,6 +50,7 @@ pub fn scrub<D: Disk, O: Sink>(alloc: Global, disk: &mut D, out: &mut O) -> Resu
     ensures scrubs { Scrubs D.tells (D.state disk.old) (D.state disk.new) (O.state out.old) (O.state out.new) result }
     ensures refuses { Refuses D.tells (OpeningCauses ((D.state disk.old).files 0)) result }
     ensures words { result ≢ Err Failure.Words }
+    ensures clash { NeverClashes result }
     ensures input { result ≢ Err Failure.Input }
     ensures kinds { IfOk result IsWell }
     ensures flushed { OnOk result (IsFlushed (O.state out.new)) }

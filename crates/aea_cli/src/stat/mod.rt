@@ -8,6 +8,7 @@ ghost use Rattle.aea_faults.specs.Faults.{Rose};
 ghost use Rattle.aea_io.specs.Written.{IsFlushed};
 ghost use Rattle.aea_disk.specs.Frames.{OnlyReads};
 ghost use Rattle.aea_cli.specs.Causes.{Refuses};
+ghost use Rattle.aea_cli.specs.Failures.{NeverClashes};
 ghost use Rattle.aea_cli.specs.Openings.{OpeningCauses};
 ghost use Rattle.aea_cli.specs.Stat.{stat_text, stat_line, Stats};
 
@@ -75,6 +76,7 @@ pub fn stat<D: Disk, O: Sink>(alloc: Global, disk: &mut D, out: &mut O) -> Resul
     ensures stats { Stats D.tells (D.state disk.old) (D.state disk.new) (O.state out.old) (O.state out.new) result }
     ensures refuses { Refuses D.tells (OpeningCauses ((D.state disk.old).files 0)) result }
     ensures words { result ≢ Err Failure.Words }
+    ensures clash { NeverClashes result }
     ensures input { result ≢ Err Failure.Input }
     ensures done { IfOk result (λ status. status ≡ Status.Done) }
     ensures flushed { OnOk result (IsFlushed (O.state out.new)) }

@@ -5,6 +5,7 @@ ghost use Rattle.aea_faults.specs.Faults.{Rose};
 ghost use Rattle.aea_io.specs.Written.{IsFlushed};
 ghost use Rattle.aea_cli.specs.Adding.{Adds, KeepsTheRest};
 ghost use Rattle.aea_cli.specs.Causes.{Refuses};
+ghost use Rattle.aea_cli.specs.Failures.{NeverClashes};
 ghost use Rattle.aea_cli.specs.Upgrade.{next_raise, UpgradeCauses, Upgrades};
 
 use crate::archive::open;
@@ -20,6 +21,7 @@ fn add_raise<D: Disk>(alloc: Global, disk: &mut D) -> Result<(), Failure>
     ensures adds { Adds next_raise D.tells (D.state disk.old) (D.state disk.new) result }
     ensures refuses { Refuses D.tells (UpgradeCauses ((D.state disk.old).files 0)) result }
     ensures words { result ≢ Err Failure.Words }
+    ensures clash { NeverClashes result }
     ensures input { result ≢ Err Failure.Input }
     ensures output { result ≢ Err Failure.Output }
     ensures rest { KeepsTheRest D.tells (result ≡ Err Failure.Disk) (D.state disk.old) (D.state disk.new) }
@@ -40,6 +42,7 @@ pub fn upgrade<D: Disk, O: Sink>(
     ensures upgrades { Upgrades D.tells (D.state disk.old) (D.state disk.new) (O.state out.old) (O.state out.new) result }
     ensures refuses { Refuses D.tells (UpgradeCauses ((D.state disk.old).files 0)) result }
     ensures words { result ≢ Err Failure.Words }
+    ensures clash { NeverClashes result }
     ensures input { result ≢ Err Failure.Input }
     ensures flushed { OnOk result (IsFlushed (O.state out.new)) }
 

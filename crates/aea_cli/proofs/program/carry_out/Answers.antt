@@ -7,33 +7,38 @@ use Rattle.aea_cli.proofs.Listing.{list_runs}
 use Rattle.aea_cli.proofs.Fencing.Running.{fence_runs}
 use Rattle.aea_cli.proofs.Upgrading.Running.{upgrade_runs}
 use Rattle.aea_cli.proofs.Scrubbing.Running.{scrub_runs}
+use Rattle.aea_cli.proofs.Repairing.Running.{repair_runs}
 use Rattle.aea_cli.proofs.program.carry_out.Goals as goal
 
 pub returns-in-Drill-clause-runs : goal.returns-in-Drill-clause-runs
-returns-in-Drill-clause-runs g c = rw c.in-Drill.is (drill_runs _ _ _ _ _ _ _ _ c.drill.ensures.drills c.drill.ensures.refuses c.drill.ensures.disk)
+returns-in-Drill-clause-runs g c = rw c.in-Drill.is (drill_runs _ _ _ _ _ _ _ _ c.drill.ensures.drills c.drill.ensures.refuses c.drill.ensures.disk c.drill.ensures.clash)
 
 pub returns-in-Create-clause-runs : goal.returns-in-Create-clause-runs
-returns-in-Create-clause-runs g c = rw c.in-Create.is (create_runs _ _ _ _ _ _ _ _ c.create.ensures.creates c.create.ensures.refuses c.create.ensures.writes)
+returns-in-Create-clause-runs g c = rw c.in-Create.is (create_runs _ _ _ _ _ _ _ _ c.create.ensures.creates c.create.ensures.refuses c.create.ensures.writes c.create.ensures.clash)
 
 pub returns-in-Stat-clause-runs : goal.returns-in-Stat-clause-runs
-returns-in-Stat-clause-runs g c = rw c.in-Stat.is (stat_runs _ _ _ _ _ _ _ c.stat.ensures.stats c.stat.ensures.refuses)
+returns-in-Stat-clause-runs g c = rw c.in-Stat.is (stat_runs _ _ _ _ _ _ _ c.stat.ensures.stats c.stat.ensures.refuses c.stat.ensures.clash)
 
 pub returns-in-List-clause-runs : goal.returns-in-List-clause-runs
-returns-in-List-clause-runs g c = rw c.in-List.is (list_runs _ _ _ _ _ _ _ c.list.ensures.lists c.list.ensures.refuses)
+returns-in-List-clause-runs g c = rw c.in-List.is (list_runs _ _ _ _ _ _ _ c.list.ensures.lists c.list.ensures.refuses c.list.ensures.clash)
 
 pub returns-in-Put-clause-runs : goal.returns-in-Put-clause-runs
 returns-in-Put-clause-runs g c =
-    rw (c.in-Put.is, ← c.bytes.ensures) (put_runs _ _ _ _ _ _ _ _ _ c.put_input.ensures.puts c.put_input.ensures.refuses c.put_input.ensures.rest)
+    rw (c.in-Put.is, ← c.bytes.ensures) (put_runs _ _ _ _ _ _ _ _ _ c.put_input.ensures.puts c.put_input.ensures.refuses c.put_input.ensures.rest c.put_input.ensures.clash)
 
 pub returns-in-Get-clause-runs : goal.returns-in-Get-clause-runs
 returns-in-Get-clause-runs g c =
-    rw (c.in-Get.is, ← c.bytes-in-Get.ensures) (get_runs c.ledgers_have_one_reading.ensures _ _ _ _ _ _ _ _ c.get_object.ensures.gets c.get_object.ensures.refuses)
+    rw (c.in-Get.is, ← c.bytes-in-Get.ensures) (get_runs c.ledgers_have_one_reading.ensures _ _ _ _ _ _ _ _ c.get_object.ensures.gets c.get_object.ensures.refuses c.get_object.ensures.clash)
 
 pub returns-in-Fence-clause-runs : goal.returns-in-Fence-clause-runs
-returns-in-Fence-clause-runs g c = rw c.in-Fence.is (fence_runs _ _ _ _ _ _ _ c.fence.ensures.fences c.fence.ensures.refuses c.fence.ensures.rest)
+returns-in-Fence-clause-runs g c = rw c.in-Fence.is (fence_runs _ _ _ _ _ _ _ c.fence.ensures.fences c.fence.ensures.refuses c.fence.ensures.rest c.fence.ensures.clash)
 
 pub returns-in-Upgrade-clause-runs : goal.returns-in-Upgrade-clause-runs
-returns-in-Upgrade-clause-runs g c = rw c.in-Upgrade.is (upgrade_runs _ _ _ _ _ _ _ c.upgrade.ensures.upgrades c.upgrade.ensures.refuses c.upgrade.ensures.rest)
+returns-in-Upgrade-clause-runs g c = rw c.in-Upgrade.is (upgrade_runs _ _ _ _ _ _ _ c.upgrade.ensures.upgrades c.upgrade.ensures.refuses c.upgrade.ensures.rest c.upgrade.ensures.clash)
 
 pub returns-in-Scrub-clause-runs : goal.returns-in-Scrub-clause-runs
-returns-in-Scrub-clause-runs g c = rw c.in-Scrub.is (scrub_runs _ _ _ _ _ _ _ c.scrub.ensures.scrubs c.scrub.ensures.refuses)
+returns-in-Scrub-clause-runs g c = rw c.in-Scrub.is (scrub_runs _ _ _ _ _ _ _ c.scrub.ensures.scrubs c.scrub.ensures.refuses c.scrub.ensures.clash)
+
+pub returns-in-Repair-clause-runs : goal.returns-in-Repair-clause-runs
+returns-in-Repair-clause-runs g c =
+    rw c.in-Repair.is (repair_runs c.ledgers_have_one_reading.ensures _ _ _ _ _ _ _ c.repair_archive.ensures.repairs c.repair_archive.ensures.refuses c.repair_archive.ensures.rest)

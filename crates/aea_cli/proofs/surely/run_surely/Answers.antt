@@ -33,7 +33,7 @@ returns-clause-output c command means fits is =
     (ends.runs command means).output_fits (record { disk = λ uses. tt; input = λ reads. refl }) fits (answer_output ends.answer ends.well (sym ends.is ∙ is))
 
 pub returns-clause-complete : goal.returns-clause-complete
-returns-clause-complete c command means none disk output =
+returns-clause-complete c command means none disk output honest =
     let ends = c.run.ensures.ends in
     let runs = ends.runs command means in
     let told : IsTold command (sure_world c.args.disk.now c.args.input.now.rest.now c.args.out.now) = record { disk = λ uses. tt; input = λ reads. refl } in
@@ -43,3 +43,4 @@ returns-clause-complete c command means none disk output =
     (runs.disk_fits disk)
     (λ e. let rose = c.run.ensures.input_cause (ends.is ∙ ap answer_status e) in omega (arith, rose))
     (runs.output_fits told output)
+    (runs.honest told honest)

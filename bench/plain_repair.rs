@@ -1,0 +1,310 @@
+//! A plain program that does over files what `aea repair` does in an archive of which single equations bring everything back,
+//! with a SHA-256 of its own.
+//!
+//! `plain_repair FOLDER` reads the ledger in the folder, with the shape of the archive and the digests of its blocks, and hashes
+//! it. It reads the cell of each block and compares the SHA-256 of head and payload with the ledger's digest. Then it goes
+//! through the blocks that are not intact, in number order, as often as it takes: each is rebuilt by its first equation whose
+//! other blocks are there, the parity of its own node before the next one on the strand. The cells of these are read and
+//! hashed once more, their payloads are added up by XOR, the sum is hashed and compared with the ledger's digest, and its cell
+//! is written to its home. At the end the files that were written are made sure, and then the folders of those that were
+//! missing. It prints the lines of the loss report. It knows one segment of a lattice alone, and no fence; and its status is 1
+//! where a block is left that no single equation brings back.
+
+mod plain_sha256;
+
+use plain_sha256::Sha256;
+use std::fs::{File, OpenOptions, create_dir_all, read};
+use std::io::{BufWriter, Error, ErrorKind, Result, Write, stdout};
+use std::os::unix::fs::FileExt;
+use std::process::exit;
+
+/// The letters of the classes in the texts of blocks.
+const LETTERS: [char; 4] = ['d', 'h', 'r', 'l'];
+
+type Digest = [u8; 32];
+
+fn digest(bytes: &[u8]) -> Digest {
+    let mut hash = Sha256::new();
+    hash.update(bytes);
+    hash.finish()
+}
+
+fn wrong(what: &str) -> Error {
+    Error::new(ErrorKind::InvalidData, what)
+}
+
+/// The shape of an archive, the digests of its blocks in number order, and its seal.
+struct Ledger {
+    alpha: usize,
+    s: usize,
+    p: usize,
+    sites: usize,
+    block: usize,
+    digests: Vec<u8>,
+    seal: Digest,
+}
+
+impl Ledger {
+    fn open(path: &str) -> Result<Ledger> {
+        let bytes = read(path)?;
+        let number = |at: usize, count: usize| bytes[at..at + count].iter().fold(0, |sum, byte| sum << 8 | *byte as usize);
+        if bytes.len() < 18 || !bytes.starts_with(b"\x01AEALEDG1") {
+            return Err(wrong("no archive"));
+        }
+        let mut digests = Vec::new();
+        let mut gate = 17;
+        while bytes[gate] == 1 {
+            let end = gate + 6 + number(gate + 2, 4);
+            match bytes[gate + 1] {
+                // an object whose nodes are all new: its digests stand behind its name and 48 bytes more
+                1 => digests.extend_from_slice(&bytes[gate + 56 + number(gate + 6, 2)..end]),
+                // a raise of the limit
+                4 => (),
+                _ => return Err(wrong("a record that the plain program does not know")),
+            }
+            gate = end;
+        }
+        Ok(Ledger {
+            alpha: bytes[9] as usize,
+            s: bytes[10] as usize,
+            p: bytes[11] as usize,
+            sites: bytes[12] as usize,
+            block: number(13, 4),
+            digests,
+            seal: digest(&bytes[..gate]),
+        })
+    }
+
+    fn blocks(&self) -> usize {
+        self.digests.len() / 32
+    }
+
+    fn classes(&self) -> usize {
+        1 + self.alpha
+    }
+
+    fn nodes(&self) -> usize {
+        self.blocks() / self.classes()
+    }
+
+    /// How far the node before on a strand is, by docs/FORMATS.md; the strand begins where that is no node.
+    fn back(&self, node: usize, class: usize) -> usize {
+        let (s, p, row) = (self.s, self.p, (node - 1) % self.s);
+        match class {
+            1 => s,
+            2 if row == 0 => s * p + 1 - s * s,
+            2 => s + 1,
+            _ if row + 1 == s => s * p - (s - 1) * (s - 1),
+            _ => s - 1,
+        }
+    }
+
+    /// How far the next node on a strand is.
+    fn ahead(&self, node: usize, class: usize) -> usize {
+        let (s, p, row) = (self.s, self.p, (node - 1) % self.s);
+        match class {
+            1 => s,
+            2 if row + 1 == s => s * p + 1 - s * s,
+            2 => s + 1,
+            _ if row == 0 => s * p - (s - 1) * (s - 1),
+            _ => s - 1,
+        }
+    }
+
+    /// The numbers of the blocks of the equation of a node's parity: datum, parity, and the parity before it, where there is one.
+    fn equation(&self, node: usize, class: usize) -> ([usize; 3], usize) {
+        let datum = (node - 1) * self.classes();
+        let back = self.back(node, class);
+        if node > back {
+            ([datum, datum + class, datum - back * self.classes() + class], 3)
+        } else {
+            ([datum, datum + class, 0], 2)
+        }
+    }
+}
+
+struct Archive {
+    ledger: Ledger,
+    folder: String,
+    files: Vec<Option<File>>,
+    made: Vec<bool>,
+    written: Vec<bool>,
+    read: Vec<u8>,
+    write: Vec<u8>,
+}
+
+impl Archive {
+    fn open(folder: &str) -> Result<Archive> {
+        let ledger = Ledger::open(&format!("{folder}/ledger.aea"))?;
+        let mut files = Vec::new();
+        for site in 1..=ledger.sites {
+            files.push(match OpenOptions::new().read(true).write(true).open(format!("{folder}/site-{site:02}/blocks.aea")) {
+                Ok(file) => Some(file),
+                Err(error) if error.kind() == ErrorKind::NotFound => None,
+                Err(error) => return Err(error),
+            });
+        }
+        let (size, sites) = (ledger.block + 48, ledger.sites);
+        Ok(Archive {
+            ledger,
+            folder: folder.to_string(),
+            files,
+            made: vec![false; sites],
+            written: vec![false; sites],
+            read: vec![0; size],
+            write: vec![0; size],
+        })
+    }
+
+    /// The file of a block's home, counted from 0, and the place in it.
+    fn home(&self, number: usize) -> (usize, u64) {
+        let (row, column) = (number / self.ledger.sites, number % self.ledger.sites);
+        ((column + row) % self.ledger.sites, (row * (self.ledger.block + 48)) as u64)
+    }
+
+    fn head(&self, number: usize) -> [u8; 16] {
+        let mut head = [0; 16];
+        head[..4].copy_from_slice(b"AEB1");
+        head[4] = (number % self.ledger.classes()) as u8;
+        head[8..].copy_from_slice(&((number / self.ledger.classes() + 1) as u64).to_be_bytes());
+        head
+    }
+
+    fn recorded(&self, number: usize) -> &[u8] {
+        &self.ledger.digests[32 * number..32 * number + 32]
+    }
+
+    /// Reads the cell of a block, and whether it is intact.
+    fn read(&mut self, number: usize) -> Result<bool> {
+        let (site, place) = self.home(number);
+        let Some(file) = &self.files[site] else {
+            return Ok(false);
+        };
+        match file.read_exact_at(&mut self.read, place) {
+            Ok(()) => (),
+            Err(error) if error.kind() == ErrorKind::UnexpectedEof => return Ok(false),
+            Err(error) => return Err(error),
+        }
+        let (body, behind) = self.read.split_at(16 + self.ledger.block);
+        Ok(body[..16] == self.head(number) && behind == self.recorded(number) && digest(body) == behind)
+    }
+
+    /// Computes a block from others, and writes its cell.
+    fn rebuild(&mut self, number: usize, others: &[usize]) -> Result<()> {
+        let block = self.ledger.block;
+        let head = self.head(number);
+        self.write[..16].copy_from_slice(&head);
+        self.write[16..16 + block].fill(0);
+        for other in others {
+            if !self.read(*other)? {
+                return Err(wrong("a block has changed"));
+            }
+            for (byte, more) in self.write[16..16 + block].iter_mut().zip(&self.read[16..16 + block]) {
+                *byte ^= more;
+            }
+        }
+        let told = digest(&self.write[..16 + block]);
+        if told != self.recorded(number) {
+            return Err(wrong("a sum has another digest"));
+        }
+        self.write[16 + block..].copy_from_slice(&told);
+        let (site, place) = self.home(number);
+        if self.files[site].is_none() {
+            let folder = format!("{}/site-{:02}", self.folder, site + 1);
+            create_dir_all(&folder)?;
+            let path = format!("{folder}/blocks.aea");
+            self.files[site] = Some(OpenOptions::new().read(true).write(true).create_new(true).open(path)?);
+            self.made[site] = true;
+        }
+        self.written[site] = true;
+        self.files[site].as_ref().unwrap().write_all_at(&self.write, place)
+    }
+
+    /// The first equation of a block whose other blocks are there.
+    fn others(&self, number: usize, is_there: &[bool]) -> Option<([usize; 3], usize)> {
+        let ledger = &self.ledger;
+        let (node, class) = (number / ledger.classes() + 1, number % ledger.classes());
+        let first = if class == 0 { 1 } else { class };
+        let last = if class == 0 { ledger.alpha } else { class };
+        let own = (first..=last).map(|c| (node, c));
+        let next = if class == 0 { ledger.nodes() + 1 } else { node + ledger.ahead(node, class) };
+        for (node, class) in own.chain((next <= ledger.nodes()).then_some((next, class))) {
+            let (blocks, count) = ledger.equation(node, class);
+            let mut others = [0; 3];
+            let mut found = 0;
+            for block in blocks[..count].iter().filter(|block| **block != number) {
+                if is_there[*block] {
+                    others[found] = *block;
+                    found += 1;
+                }
+            }
+            if found + 1 == count {
+                return Some((others, found));
+            }
+        }
+        None
+    }
+
+    fn make_sure(&self) -> Result<()> {
+        for (file, written) in self.files.iter().zip(&self.written) {
+            if let (Some(file), true) = (file, written) {
+                file.sync_all()?;
+            }
+        }
+        for (site, made) in (1..).zip(&self.made) {
+            if *made {
+                File::open(format!("{}/site-{site:02}", self.folder))?.sync_all()?;
+                File::open(&self.folder)?.sync_all()?;
+            }
+        }
+        Ok(())
+    }
+
+    fn print(&self, damaged: &[usize]) -> Result<()> {
+        let ledger = &self.ledger;
+        let mut out = BufWriter::new(stdout().lock());
+        let seal: String = ledger.seal.iter().map(|byte| format!("{byte:02x}")).collect();
+        writeln!(out, "aea-report 1\nlattice {} {} {} {}\nledger {seal}", ledger.alpha, ledger.s, ledger.p, ledger.nodes())?;
+        writeln!(out, "counts {0} {0} 0 0", damaged.len())?;
+        for number in damaged {
+            writeln!(out, "peeled {}{}", LETTERS[number % ledger.classes()], number / ledger.classes() + 1)?;
+        }
+        out.flush()
+    }
+
+    /// Whether all is brought back; the report is printed then.
+    fn repair(&mut self) -> Result<bool> {
+        let mut is_there = Vec::with_capacity(self.ledger.blocks());
+        for number in 0..self.ledger.blocks() {
+            let intact = self.read(number)?;
+            is_there.push(intact);
+        }
+        let damaged: Vec<usize> = (0..is_there.len()).filter(|number| !is_there[*number]).collect();
+        let mut left = damaged.clone();
+        while !left.is_empty() {
+            let before = left.len();
+            let mut still = Vec::new();
+            for number in left {
+                match self.others(number, &is_there) {
+                    Some((others, count)) => {
+                        self.rebuild(number, &others[..count])?;
+                        is_there[number] = true;
+                    }
+                    None => still.push(number),
+                }
+            }
+            if still.len() == before {
+                return Ok(false);
+            }
+            left = still;
+        }
+        self.make_sure()?;
+        self.print(&damaged)?;
+        Ok(true)
+    }
+}
+
+fn main() -> Result<()> {
+    let folder = std::env::args().nth(1).unwrap();
+    exit(!Archive::open(&folder)?.repair()? as i32)
+}

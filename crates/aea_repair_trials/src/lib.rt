@@ -1,0 +1,26 @@
+//! Trials of whole repairs: worked examples, the lines and statuses of what goes wrong, repairs that fail or are stopped under
+//! way, and damage by chance against a plain repair of the files.
+#![tactic(auto)]
+
+#[cfg(test)]
+mod archives;
+#[cfg(test)]
+mod chance;
+#[cfg(test)]
+mod clashes;
+#[cfg(test)]
+mod examples;
+#[cfg(test)]
+mod lattices;
+#[cfg(test)]
+mod lines;
+#[cfg(test)]
+mod objects;
+#[cfg(test)]
+mod plain;
+#[cfg(test)]
+mod statuses;
+#[cfg(test)]
+mod stopped;
+#[cfg(test)]
+mod turning;

@@ -1,0 +1,13 @@
+pub mod Options
+pub mod Cuts
+pub mod Numbers
+pub mod Pieces
+pub mod Steps
+pub mod Places
+pub mod HeadLines
+pub mod NextLines
+pub mod Following
+pub mod Seals
+pub mod Nodes
+pub mod BlockLines
+pub mod ReadAnswers

@@ -1,0 +1,5 @@
+pub mod Words
+pub mod Heads
+pub mod Pieces
+pub mod Places
+pub mod Readings

@@ -1,0 +1,60 @@
+-- What checking a report may answer. The blocks that are intact are given by a test.
+use Rattle.std.specs.Prelude.{◌≡◌, ◌↔◌, ◌⊎◌, ℕ, Bool, List, Contains, Result, Ok, Err, IsOk}
+use Rattle.aea_lattice.specs.declared.blocks.BlockId.{BlockId}
+use Rattle.aea_lattice.specs.Blocks.{HasBlock}
+use Rattle.aea_disk.specs.Files.{Files}
+use Rattle.aea_ledger.specs.Values.{Opened}
+use Rattle.aea_archive.specs.Blocks.{TellsSurvivors}
+use Rattle.aea_report.specs.declared.head.Head.{Head}
+use Rattle.aea_report.specs.declared.line.Line.{Line}
+use Rattle.aea_report.specs.declared.line.Line.TheVariants.{Lost}
+use Rattle.aea_report.specs.Grammar.{IsReport}
+use Rattle.aea_report.specs.Faults.{IsBadLine, IsLongLine}
+use Rattle.aea_report.specs.Fits.{Fits}
+use Rattle.aea_reader.specs.declared.fault.ReportFault.{ReportFault}
+use Rattle.aea_reader.specs.declared.fault.ReportFault.TheVariants as reading
+use Rattle.aea_verify.specs.declared.verdict.Verdict.{Verdict}
+use Rattle.aea_verify.specs.declared.verdict.Verdict.TheVariants.{Accepted}
+use Rattle.aea_verify.specs.declared.verdict.VerifyFault.{VerifyFault}
+use Rattle.aea_verify.specs.declared.verdict.VerifyFault.TheVariants.{BadLine, LineTooLong, ReadFault, DiskFault, NoMemory}
+use Rattle.aea_verify.specs.Rules.{verdict_of}
+use Rattle.aea_verify.specs.Shown.{IsOpenTo}
+
+-- the fault of a check whose reading of the report has this one
+abbrev pub fault_of : ReportFault → VerifyFault
+fault_of (reading.BadLine k) = BadLine k
+fault_of (reading.LineTooLong k) = LineTooLong k
+fault_of reading.ReadFault = ReadFault
+fault_of reading.NoMemory = NoMemory
+
+-- The input is a report, and this is the verdict on it where these files stand on the disk.
+pub record IsJudged (v : Opened) (c : Files) (input : List ℕ) (verdict : Verdict) : Type 0 where
+  pub head : Head
+  pub lines : List Line
+  pub report : IsReport input head lines
+  pub verdict_is : (intact : BlockId → Bool) → TellsSurvivors v.shape v.lattice.n v.digests c intact → verdict ≡ verdict_of v.lattice v.seal intact head lines
+
+-- Each answer has its cause in the input and the files. Faults of the source and the disk, and want of memory, have none.
+abbrev pub Answers : Opened → Files → List ℕ → Result Verdict VerifyFault → Type 0
+Answers v c input (Ok verdict) = IsJudged v c input verdict
+Answers v c input (Err (BadLine k)) = IsBadLine input k
+Answers v c input (Err (LineTooLong k)) = IsLongLine input k
+Answers v c input (Err ReadFault) = Unit {0}
+Answers v c input (Err DiskFault) = Unit {0}
+Answers v c input (Err NoMemory) = Unit {0}
+
+-- the answer is a fault of the source or the disk, or that memory is wanting
+abbrev pub IsFree : Result Verdict VerifyFault → Type 0
+IsFree result = (result ≡ Err ReadFault) ⊎ ((result ≡ Err DiskFault) ⊎ (result ≡ Err NoMemory))
+
+-- Each kind of input has its answer, but for those.
+pub record IsAnswered (v : Opened) (c : Files) (input : List ℕ) (result : Result Verdict VerifyFault) : Type 0 where
+  pub report : (h : Head) (lines : List Line) → IsReport input h lines → IsOk result ⊎ IsFree result
+  pub bad : (k : ℕ) → IsBadLine input k → (result ≡ Err (BadLine k)) ⊎ IsFree result
+  pub long : (k : ℕ) → IsLongLine input k → (result ≡ Err (LineTooLong k)) ⊎ IsFree result
+  -- a report is accepted exactly where it fits
+  pub fits : (intact : BlockId → Bool) (h : Head) (lines : List Line) → TellsSurvivors v.shape v.lattice.n v.digests c intact → IsReport input h lines
+      → IsOk result → (result ≡ Ok Accepted) ↔ Fits v.lattice v.seal intact h lines
+  -- what a yes shows: no lost block can be told from the intact ones
+  pub shows : (intact : BlockId → Bool) (h : Head) (lines : List Line) (b : BlockId) (nodes : List ℕ) → TellsSurvivors v.shape v.lattice.n v.digests c intact → IsReport input h lines
+      → result ≡ Ok Accepted → Contains lines (Lost b nodes) → HasBlock v.lattice b × IsOpenTo v.lattice v.shape.block intact b

@@ -209,12 +209,47 @@ fn plain_line(alloc: Global, alpha: u64, n: u64, line: &[u8]) -> Result<Option<u
     }
 }
 
+// What the lines so far say: α, the number of nodes, and the least number that the block of the next line may have.
+#[derive(Clone, Copy)]
+struct SoFar {
+    alpha: u64,
+    n: u64,
+    least: u64,
+}
+
+// Whether line k may stand behind those before it.
+fn is_well(alloc: Global, k: u32, line: &[u8], so_far: &mut SoFar) -> Result<bool, AllocError> {
+    match k {
+        1 => Ok(line == b"aea-report 1".as_slice()),
+        2 => match plain_shape(alloc, line)? {
+            Some((alpha, n)) => {
+                so_far.alpha = alpha;
+                so_far.n = n;
+                Ok(true)
+            }
+            None => Ok(false),
+        },
+        3 => Ok(is_plain_seal(line)),
+        4 => is_plain_count(alloc, line),
+        _ => match plain_line(alloc, so_far.alpha, so_far.n, line)? {
+            Some(number) if so_far.least <= number => {
+                so_far.least = number.saturating_add(1);
+                Ok(true)
+            }
+            _ => Ok(false),
+        },
+    }
+}
+
 // What there is to say of these bytes, which have no line that is too long.
 fn plain_outcome(alloc: Global, bytes: &[u8]) -> Result<Found, AllocError> {
     let mut rest = bytes;
     let mut read = 0;
-    let mut shape = (0, 0);
-    let mut least = 0;
+    let mut so_far = SoFar {
+        alpha: 0,
+        n: 0,
+        least: 0,
+    };
     let mut k: u32 = 1;
     // no line is shorter than its newline
     for _ in 0..bytes.len() {
@@ -222,26 +257,7 @@ fn plain_outcome(alloc: Global, bytes: &[u8]) -> Result<Found, AllocError> {
             break;
         };
         let line = rest.get(..end).unwrap_or(&[]);
-        let well = match k {
-            1 => line == b"aea-report 1".as_slice(),
-            2 => match plain_shape(alloc, line)? {
-                Some(found) => {
-                    shape = found;
-                    true
-                }
-                None => false,
-            },
-            3 => is_plain_seal(line),
-            4 => is_plain_count(alloc, line)?,
-            _ => match plain_line(alloc, shape.0, shape.1, line)? {
-                Some(number) if least <= number => {
-                    least = number.saturating_add(1);
-                    true
-                }
-                _ => false,
-            },
-        };
-        if !well {
+        if !is_well(alloc, k, line, &mut so_far)? {
             break;
         }
         rest = rest.get(end.saturating_add(1)..).unwrap_or(&[]);

@@ -1,0 +1,5 @@
+pub mod Marking
+pub mod Around
+pub mod Flooding
+pub mod Fated
+pub mod Scanned

@@ -1,0 +1,18 @@
+use Rattle.std.proofs.Common.{sym, subst, ◌∙◌}
+use Rattle.aea_lattice.specs.declared.grid.Lattice.{Lattice}
+use Rattle.aea_lattice.specs.Blocks.{HasBlock}
+use Rattle.aea_explain.proofs.Flooding.{finds_one}
+use Rattle.aea_explain.proofs.flood.find.Goals as goal
+
+pub returns-in_ok-push-clause-finds : goal.returns-in_ok-push-clause-finds
+returns-in_ok-push-clause-finds c =
+    finds_one c.args.known.now c.args.part.now c.set.new.self c.args.waiting.now.items c.push.new.self.items c.args.b c.requires.same c.set.ensures.whole
+    (record {
+      block = subst (λ (l : Lattice). HasBlock l c.args.b) (sym c.requires.same) c.requires.block;
+      whole = c.set.ensures.whole;
+      same = c.set.ensures.lattice;
+      marks = c.set.ensures.marks;
+    })
+    (sym c.get.ensures ∙ c.if-not-get.true)
+    (sym c.get-then-not-get.ensures ∙ c.if-not-get-2.true)
+    c.in_ok-push.ensures.items

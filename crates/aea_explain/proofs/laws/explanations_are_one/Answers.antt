@@ -1,0 +1,5 @@
+use Rattle.aea_explain.proofs.Scanned.{explanations-one}
+use Rattle.aea_explain.proofs.laws.explanations_are_one.Goals as goal
+
+pub returns : goal.returns
+returns c = explanations-one c.lists_are_one.ensures c.words_stay.ensures

@@ -1,0 +1,16 @@
+use Rattle.std.proofs.Common.{◌*◌, ◌∙◌, ap}
+use Rattle.aea_place.specs.Homes.{home_of}
+use Rattle.aea_rehearse.proofs.Homes.{file_by_number, place_by_number, written_by_number}
+use Rattle.aea_rehearse.proofs.altering.write_home.Goals as goal
+
+pub returns-clause-written : goal.returns-clause-written
+returns-clause-written g c =
+    let shape = c.args.ledger.now.shape in
+    let l = c.lattice-lattice.result in
+    let b = c.args.b in
+    let spot = c.home-spot.result in
+    let same = c.home-spot.ensures.home ∙ ap (home_of 10) (c.from.ensures ∙ c.number.ensures.value) in
+    written_by_number shape b spot.site (spot.cell * 560) c.args.cell.now (g.D.Disk.state c.args.disk.now).files (g.D.Disk.state c.write.new.self).files
+    (file_by_number shape l b spot c.requires.shape c.lattice-lattice.ensures.of_shape.alpha same)
+    (place_by_number shape l b spot c.requires.shape c.lattice-lattice.ensures.of_shape.alpha same)
+    (c.in-Ok.ensures.written c.requires.tells)

@@ -1,0 +1,11 @@
+use Rattle.std.proofs.Common.{le_trans}
+use Rattle.aea_rehearse.proofs.rehearsing.rehearse.Goals as goal
+
+pub rehearse_on-requires-clause-room : goal.rehearse_on-requires-clause-room
+rehearse_on-requires-clause-room c = record {
+  cells = record {
+    sites = λ f n first last small. le_trans small (c.requires.site_rooms f first last);
+    count = c.requires.count;
+  };
+  ledger = λ n small. le_trans small c.requires.ledger_room;
+}

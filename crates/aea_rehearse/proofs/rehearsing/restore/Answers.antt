@@ -1,0 +1,60 @@
+use Rattle.std.proofs.Common.{ℕ, List, sym, ◌∙◌, subst}
+use Rattle.aea_disk.specs.Files.{Files}
+use Rattle.aea_report.specs.Grammar.{IsReport}
+use Rattle.aea_rehearse.specs.Altered.{IsMended}
+use Rattle.aea_rehearse.proofs.Homes.{room_after}
+use Rattle.aea_rehearse.proofs.Ending.{ready_later}
+use Rattle.aea_rehearse.proofs.rehearsing.restore.Goals as goal
+
+pub mend-requires-clause-ready : goal.mend-requires-clause-ready
+mend-requires-clause-ready g c =
+    ready_later g.D.Disk.tells c.in_ok-ledger.ledger (g.D.Disk.state c.args.disk.now) (g.D.Disk.state c.open.new.disk) c.args.report.now.room c.requires.tells c.open.ensures.reads
+    (c.requires.ready c.in_ok-ledger.ledger c.in_ok-ledger.ensures.this)
+
+pub check-requires-clause-room : goal.check-requires-clause-room
+check-requires-clause-room g c =
+    room_after (g.D.Disk.state c.open.new.disk) (g.D.Disk.state c.mend.new.disk) c.mend.ensures.time
+    (room_after (g.D.Disk.state c.args.disk.now) (g.D.Disk.state c.open.new.disk) c.open.ensures.reads.time c.requires.room)
+
+pub check-requires-clause-fits : goal.check-requires-clause-fits
+check-requires-clause-fits g c =
+    let m = c.in_ok-outcome.ensures.mended in
+    record {
+      head = m.head;
+      lines = m.lines;
+      report = subst (λ (xs : List ℕ). IsReport xs m.head m.lines) (sym c.bytes.ensures) m.report;
+      fits = m.fits;
+    }
+
+pub returns-clause-restored : goal.returns-clause-restored
+returns-clause-restored g c =
+    let v = c.in_ok-ledger.ledger in
+    let o = c.in_ok-outcome.outcome in
+    let bytes = c.mend.new.report.bytes.items in
+    let mid = (g.D.Disk.state c.open.new.disk).files in
+    let new = (g.D.Disk.state c.check.new.disk).files in
+    record {
+      opened = v;
+      this = c.in_ok-ledger.ensures.this;
+      bytes = bytes;
+      mended = subst (λ (f : Files). IsMended v bytes f new o) (c.open.ensures.reads.contents c.requires.tells)
+          (subst (λ (f : Files). IsMended v bytes mid f o) (sym (c.check.ensures.reads.contents c.requires.tells)) c.in_ok-outcome.ensures.mended);
+    }
+
+pub returns-in_err-ledger-clause-steady : goal.returns-in_err-ledger-clause-steady
+returns-in_err-ledger-clause-steady g c = (c.open.ensures.reads.sure c.requires.room).1
+
+pub returns-in_err-outcome-clause-steady : goal.returns-in_err-outcome-clause-steady
+returns-in_err-outcome-clause-steady g c = c.mend.ensures.steady ∙ (c.open.ensures.reads.sure c.requires.room).1
+
+pub returns-in_err-check-clause-steady : goal.returns-in_err-check-clause-steady
+returns-in_err-check-clause-steady g c =
+    (c.check.ensures.reads.sure (room_after (g.D.Disk.state c.open.new.disk) (g.D.Disk.state c.mend.new.disk) c.mend.ensures.time
+    (room_after (g.D.Disk.state c.args.disk.now) (g.D.Disk.state c.open.new.disk) c.open.ensures.reads.time c.requires.room))).1
+    ∙ c.mend.ensures.steady ∙ (c.open.ensures.reads.sure c.requires.room).1
+
+pub returns-clause-steady : goal.returns-clause-steady
+returns-clause-steady g c =
+    (c.check.ensures.reads.sure (room_after (g.D.Disk.state c.open.new.disk) (g.D.Disk.state c.mend.new.disk) c.mend.ensures.time
+    (room_after (g.D.Disk.state c.args.disk.now) (g.D.Disk.state c.open.new.disk) c.open.ensures.reads.time c.requires.room))).1
+    ∙ c.mend.ensures.steady ∙ (c.open.ensures.reads.sure c.requires.room).1

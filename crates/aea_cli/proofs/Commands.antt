@@ -13,7 +13,7 @@ use Rattle.aea_lattice.specs.declared.grid.Lattice.{Lattice}
 use Rattle.aea_lattice.specs.declared.shape.Shape.{Shape}
 use Rattle.aea_cli.specs.declared.command.Command.{Command}
 use Rattle.aea_cli.specs.declared.command.Command.TheVariants as command
-use Rattle.aea_cli.specs.declared.command.Command.TheVariants.{Drill, Create, Stat, Put, Get, Fence, Upgrade, Scrub, Repair}
+use Rattle.aea_cli.specs.declared.command.Command.TheVariants.{Drill, Create, Stat, Put, Get, Fence, Upgrade, Scrub, Repair, Explain, Verify}
 use Rattle.aea_cli.specs.Words.{Means, AreNoDrill, AreNoCreate, IsDrilled}
 
 -- the numbers of a lattice fit 32 bits
@@ -202,10 +202,12 @@ kind (Put name) = 6
 kind (Get name) = 7
 kind command.List = 8
 kind Repair = 9
+kind (Explain word) = 10
+kind Verify = 11
 
 -- the kind that the first word names
 kind_by : List (List ℕ) → ℕ
-kind_by [] = 10
+kind_by [] = 12
 kind_by (word ∷ words) =
     if bytes_eq word (codes "drill")
     then 0
@@ -215,7 +217,7 @@ kind_by (word ∷ words) =
     then 2
     else if bytes_eq word (codes "fence")
     then 3
-    else if bytes_eq word (codes "upgrade") then 4 else if bytes_eq word (codes "scrub") then 5 else if bytes_eq word (codes "put") then 6 else if bytes_eq word (codes "list") then 8 else if bytes_eq word (codes "repair") then 9 else 7
+    else if bytes_eq word (codes "upgrade") then 4 else if bytes_eq word (codes "scrub") then 5 else if bytes_eq word (codes "put") then 6 else if bytes_eq word (codes "list") then 8 else if bytes_eq word (codes "repair") then 9 else if bytes_eq word (codes "explain") then 10 else if bytes_eq word (codes "verify") then 11 else 7
 
 -- the first word tells the kind
 kind_is : (words : List (List ℕ)) (a : Command) → Means words a → kind_by words ≡ kind a
@@ -230,6 +232,8 @@ kind_is words Fence means = ap kind_by means
 kind_is words Upgrade means = ap kind_by means
 kind_is words Scrub means = ap kind_by means
 kind_is words Repair means = ap kind_by means
+kind_is words (Explain word) means = ap kind_by means
+kind_is words Verify means = ap kind_by means
 
 -- two words have one second word
 names_equal : (words : List (List ℕ)) (word a b : List ℕ) → words ≡ word ∷ a ∷ [] → words ≡ word ∷ b ∷ [] → a ≡ b
@@ -248,4 +252,6 @@ one_command words Fence Fence one two = refl
 one_command words Upgrade Upgrade one two = refl
 one_command words Scrub Scrub one two = refl
 one_command words Repair Repair one two = refl
+one_command words (Explain a) (Explain b) one two = ap Explain (names_equal words (codes "explain") a b one two)
+one_command words Verify Verify one two = refl
 one_command words a b one two = let same : kind a ≡ kind b = sym (kind_is words a one) ∙ kind_is words b two in cc

@@ -16,3 +16,6 @@ pub mod Putting
 pub mod Getting
 pub mod Listing
 pub mod Repairing
+pub mod Listed
+pub mod Explaining
+pub mod Verifying

@@ -1,11 +1,11 @@
 -- Why commands are refused, in the order of refusals.
 use Rattle.std.specs.Prelude.{◌≡◌, ◌<◌, ◌⊎◌, ℕ, Result, Err}
 use Rattle.aea_cli.specs.declared.refusal.Refusal.{Refusal}
-use Rattle.aea_cli.specs.declared.refusal.Refusal.TheVariants.{InputTooLong, BadBlock, NoArchive, LedgerBad, Occupied, BadName, NameTaken, CatalogFull, HeadDamaged, Full, AlreadyFenced, TooManyFences, AlreadyUpgraded, UnknownName, Damaged}
+use Rattle.aea_cli.specs.declared.refusal.Refusal.TheVariants.{InputTooLong, BadBlock, NoArchive, LedgerBad, Occupied, BadName, NameTaken, CatalogFull, HeadDamaged, Full, AlreadyFenced, TooManyFences, AlreadyUpgraded, UnknownName, Damaged, NoSuchBlock, BadLine, LineTooLong}
 use Rattle.aea_cli.specs.declared.refusal.Failure.{Failure}
 use Rattle.aea_cli.specs.declared.refusal.Failure.TheVariants as failure
 
--- the place of a refusal in the order of refusals
+-- The place of a refusal in the order of refusals. A report has a bad line or one that is too long, and only one of these.
 abbrev pub place_of : Refusal → ℕ
 place_of NoArchive = 0
 place_of (LedgerBad at) = 1
@@ -22,6 +22,9 @@ place_of InputTooLong = 11
 place_of (BadBlock k) = 12
 place_of UnknownName = 13
 place_of (Damaged block) = 14
+place_of NoSuchBlock = 15
+place_of (BadLine k) = 16
+place_of (LineTooLong k) = 16
 
 -- the cause stands, and none that comes before it
 pub record IsFirst (causes : Refusal → Type 0) (why : Refusal) : Type 0 where

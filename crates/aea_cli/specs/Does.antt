@@ -9,7 +9,7 @@ use Rattle.aea_records.specs.Format.{Record, nodes_of}
 use Rattle.aea_ledger.specs.Stops.{HasOpening, HasLedger}
 use Rattle.aea_cli.specs.declared.command.Command.{Command}
 use Rattle.aea_cli.specs.declared.command.Command.TheVariants as command
-use Rattle.aea_cli.specs.declared.command.Command.TheVariants.{Drill, Create, Stat, Put, Get, Fence, Upgrade, Scrub, Repair}
+use Rattle.aea_cli.specs.declared.command.Command.TheVariants.{Drill, Create, Stat, Put, Get, Fence, Upgrade, Scrub, Repair, Explain, Verify}
 use Rattle.aea_cli.specs.declared.refusal.Refusal.{Refusal}
 use Rattle.aea_cli.specs.declared.refusal.Failure.TheVariants as failure
 use Rattle.aea_cli.specs.declared.status.Status.{Status}
@@ -25,6 +25,8 @@ use Rattle.aea_catalog.specs.Catalogs.{Placed}
 use Rattle.aea_cli.specs.Get.{GetsNamed, GetCauses, HasObject, FitsBytes}
 use Rattle.aea_cli.specs.Listing.{Lists, IsListOf}
 use Rattle.aea_cli.specs.Repair.{Repairs, FitsRepair, IsSiteFile, IsRepairText, HasHonestSurvivors}
+use Rattle.aea_cli.specs.Explain.{ExplainsOrNot, ExplainCauses, IsExplanationText}
+use Rattle.aea_cli.specs.Verify.{Verifies, VerifyCauses, IsVerdictText}
 use Rattle.aea_cli.specs.Causes.{Refuses}
 use Rattle.aea_cli.specs.Failures.{Answer, NeverClashes}
 use Rattle.aea_cli.specs.Openings.{OpeningCauses}
@@ -43,6 +45,8 @@ ReadsInput Fence = ⊥
 ReadsInput Upgrade = ⊥
 ReadsInput Scrub = ⊥
 ReadsInput Repair = ⊥
+ReadsInput (Explain word) = ⊥
+ReadsInput Verify = Unit {0}
 
 -- the command makes calls of the disk
 abbrev pub UsesDisk : Command → Type 0
@@ -56,6 +60,8 @@ UsesDisk Fence = Unit {0}
 UsesDisk Upgrade = Unit {0}
 UsesDisk Scrub = Unit {0}
 UsesDisk Repair = Unit {0}
+UsesDisk (Explain word) = Unit {0}
+UsesDisk Verify = Unit {0}
 
 -- the command may change the file
 abbrev pub MayChange : Command → ℕ → Type 0
@@ -69,6 +75,8 @@ MayChange Fence file = file ≡ 0
 MayChange Upgrade file = file ≡ 0
 MayChange Scrub file = ⊥
 MayChange Repair file = IsSiteFile file
+MayChange (Explain word) file = ⊥
+MayChange Verify file = ⊥
 
 -- it leaves the file
 abbrev pub Keeps : Command → ℕ → Type 0
@@ -90,6 +98,8 @@ Causes Fence w = FenceCauses (w.disk.files 0)
 Causes Upgrade w = UpgradeCauses (w.disk.files 0)
 Causes Scrub w = OpeningCauses (w.disk.files 0)
 Causes Repair w = OpeningCauses (w.disk.files 0)
+Causes (Explain word) w = ExplainCauses word (w.disk.files 0)
+Causes Verify w = VerifyCauses (w.disk.files 0) (input_of w)
 
 -- the disk has room for all that a run of the command writes
 abbrev pub FitsDisk : Command → World → Type 0
@@ -103,6 +113,8 @@ FitsDisk Fence w = FitsRecord next_fence w.tells w.disk
 FitsDisk Upgrade w = FitsRecord next_raise w.tells w.disk
 FitsDisk Scrub w = HasRoom w.disk
 FitsDisk Repair w = FitsRepair w.tells w.disk
+FitsDisk (Explain word) w = HasRoom w.disk
+FitsDisk Verify w = HasRoom w.disk
 
 -- the output has room for all that a run of the command prints
 abbrev pub FitsOutput : Command → World → Type 0
@@ -116,6 +128,8 @@ FitsOutput Fence w = (shape : Shape) (records : List Record) → HasLedger shape
 FitsOutput Upgrade w = FitsText w.out upgraded_line
 FitsOutput Scrub w = (l : Lattice) (intact : BlockId → Bool) → TellsIntact w.disk.files l intact → FitsText w.out (scrub_text l intact)
 FitsOutput Repair w = (text : List ℕ) → IsRepairText w.disk.files text → FitsText w.out text
+FitsOutput (Explain word) w = (text : List ℕ) → IsExplanationText w.disk.files word text → FitsText w.out text
+FitsOutput Verify w = (text : List ℕ) → IsVerdictText w.disk.files (input_of w) text → FitsText w.out text
 
 -- what a run of the command did
 abbrev pub Does : Command → World → World → Answer → Type 0
@@ -129,6 +143,8 @@ Does Fence old new answer = Fences old.tells old.disk new.disk old.out new.out a
 Does Upgrade old new answer = Upgrades old.tells old.disk new.disk old.out new.out answer
 Does Scrub old new answer = Scrubs old.tells old.disk new.disk old.out new.out answer
 Does Repair old new answer = Repairs old.tells old.disk new.disk old.out new.out answer
+Does (Explain word) old new answer = ExplainsOrNot word old.tells old.disk new.disk old.out new.out answer
+Does Verify old new answer = Verifies old.tells old.disk new.disk old.input new.input old.out new.out answer
 
 -- where the intact blocks are honest no digests clash: of a repair for some data list that the ledger records, and no other
 -- command compares digests that it computes

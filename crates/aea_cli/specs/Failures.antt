@@ -13,8 +13,12 @@ use Rattle.aea_append.specs.declared.fault.PutFault.{PutFault}
 use Rattle.aea_append.specs.declared.fault.PutFault.TheVariants as put
 use Rattle.aea_fetch.specs.declared.fault.GetFault.{GetFault}
 use Rattle.aea_fetch.specs.declared.fault.GetFault.TheVariants as get
+use Rattle.aea_explain.specs.declared.explaining.ExplainFault.{ExplainFault}
+use Rattle.aea_explain.specs.declared.explaining.ExplainFault.TheVariants as explain
 use Rattle.aea_repair.specs.declared.fault.RepairFault.{RepairFault}
 use Rattle.aea_repair.specs.declared.fault.RepairFault.TheVariants as repair
+use Rattle.aea_verify.specs.declared.verdict.VerifyFault.{VerifyFault}
+use Rattle.aea_verify.specs.declared.verdict.VerifyFault.TheVariants as verify
 use Rattle.aea_cli.specs.declared.refusal.Refusal.TheVariants as refusal
 use Rattle.aea_cli.specs.declared.refusal.Failure.{Failure}
 use Rattle.aea_cli.specs.declared.refusal.Failure.TheVariants as failure
@@ -96,6 +100,19 @@ repair_failure (repair.Clash block recorded computed) = failure.Clash block reco
 repair_failure repair.DiskFault = failure.Disk
 repair_failure repair.WriteFault = failure.Output
 repair_failure repair.NoMemory = failure.Memory
+
+-- the failure where no block was explained
+abbrev pub explain_failure : ExplainFault → Failure
+explain_failure explain.DiskFault = failure.Disk
+explain_failure explain.NoMemory = failure.Memory
+
+-- the failure where no report was judged
+abbrev pub verify_failure : VerifyFault → Failure
+verify_failure (verify.BadLine k) = failure.Refused (refusal.BadLine k)
+verify_failure (verify.LineTooLong k) = failure.Refused (refusal.LineTooLong k)
+verify_failure verify.ReadFault = failure.Input
+verify_failure verify.DiskFault = failure.Disk
+verify_failure verify.NoMemory = failure.Memory
 
 -- the failure where no fence was added
 abbrev pub fence_failure : FenceFault → Failure

@@ -19,6 +19,8 @@ pub mod Put
 pub mod Get
 pub mod Listing
 pub mod Repair
+pub mod Explain
+pub mod Verify
 pub mod Does
 pub mod Ends
 pub mod Surely

@@ -4,7 +4,7 @@ use Rattle.hex.specs.Hex.{encode_lower}
 use Rattle.aea_lattice.specs.declared.blocks.BlockId.{BlockId}
 use Rattle.aea_lattice.specs.Texts.{text_of}
 use Rattle.aea_cli.specs.declared.refusal.Refusal.{Refusal}
-use Rattle.aea_cli.specs.declared.refusal.Refusal.TheVariants.{InputTooLong, BadBlock, NoArchive, LedgerBad, Occupied, BadName, NameTaken, CatalogFull, HeadDamaged, Full, AlreadyFenced, TooManyFences, AlreadyUpgraded, UnknownName, Damaged}
+use Rattle.aea_cli.specs.declared.refusal.Refusal.TheVariants.{InputTooLong, BadBlock, NoArchive, LedgerBad, Occupied, BadName, NameTaken, CatalogFull, HeadDamaged, Full, AlreadyFenced, TooManyFences, AlreadyUpgraded, UnknownName, Damaged, NoSuchBlock, BadLine, LineTooLong}
 use Rattle.aea_cli.specs.Lines.{newline}
 
 -- of a refusal
@@ -24,6 +24,9 @@ refusal_line TooManyFences = codes "refused: too many fences" ++ newline
 refusal_line AlreadyUpgraded = codes "refused: already upgraded" ++ newline
 refusal_line UnknownName = codes "refused: unknown name" ++ newline
 refusal_line (Damaged block) = codes "refused: damaged " ++ text_of block ++ newline
+refusal_line NoSuchBlock = codes "refused: bad block" ++ newline
+refusal_line (BadLine k) = codes "refused: bad line " ++ decimal k ++ newline
+refusal_line (LineTooLong k) = codes "refused: line too long " ++ decimal k ++ newline
 
 -- of words that are no command
 abbrev pub words_line : List ℕ

@@ -4,10 +4,11 @@ use Rattle.aea_lattice.specs.declared.grid.Lattice.{Lattice}
 use Rattle.aea_lattice.specs.declared.shape.Shape.{Shape}
 use Rattle.aea_cli.specs.declared.command.Command.{Command}
 use Rattle.aea_cli.specs.declared.command.Command.TheVariants as command
-use Rattle.aea_cli.specs.declared.command.Command.TheVariants.{Drill, Create, Stat, Put, Get, Fence, Upgrade, Scrub, Repair}
+use Rattle.aea_cli.specs.declared.command.Command.TheVariants.{Drill, Create, Stat, Put, Get, Fence, Upgrade, Scrub, Repair, Explain, Verify}
 
 -- The words of a command, each number in decimal: `drill A S P N`, `create A S P B M`, `stat`, `list`, `put NAME`,
--- `get NAME`, `fence`, `upgrade`, `scrub` and `repair`. Any word may stand for NAME.
+-- `get NAME`, `fence`, `upgrade`, `scrub`, `repair`, `explain BLOCK` and `verify`. Any word may stand for NAME, and for
+-- BLOCK.
 abbrev pub words_of : Command → List (List ℕ)
 words_of (Drill l) = codes "drill" ∷ decimal l.alpha ∷ decimal l.s ∷ decimal l.p ∷ decimal l.n ∷ []
 words_of (Create shape) =
@@ -20,6 +21,8 @@ words_of Fence = codes "fence" ∷ []
 words_of Upgrade = codes "upgrade" ∷ []
 words_of Scrub = codes "scrub" ∷ []
 words_of Repair = codes "repair" ∷ []
+words_of (Explain word) = codes "explain" ∷ word ∷ []
+words_of Verify = codes "verify" ∷ []
 
 -- the most nodes of a drill
 abbrev pub drill_limit : ℕ
@@ -42,6 +45,8 @@ Means words Fence = words ≡ words_of Fence
 Means words Upgrade = words ≡ words_of Upgrade
 Means words Scrub = words ≡ words_of Scrub
 Means words Repair = words ≡ words_of Repair
+Means words (Explain word) = words ≡ words_of (Explain word)
+Means words Verify = words ≡ words_of Verify
 
 -- the words mean no drill
 abbrev pub AreNoDrill : List (List ℕ) → Type 0
@@ -51,14 +56,16 @@ AreNoDrill words = (l : Lattice) → Means words (Drill l) → ⊥
 abbrev pub AreNoCreate : List (List ℕ) → Type 0
 AreNoCreate words = (shape : Shape) → Means words (Create shape) → ⊥
 
--- the words mean the storing or the getting of an object, under some name
-abbrev pub NameObject : List (List ℕ) → Type 0
-NameObject words = ((name : List ℕ) × Means words (Put name)) ⊎ ((name : List ℕ) × Means words (Get name))
+-- the words mean the storing or the getting of an object, under some name, or the explaining of a block, by some text
+abbrev pub HaveName : List (List ℕ) → Type 0
+HaveName words =
+    ((name : List ℕ) × Means words (Put name)) ⊎ (((name : List ℕ) × Means words (Get name)) ⊎ ((word : List ℕ) × Means words (Explain word)))
 
--- the words mean neither
-pub record NameNoObject (words : List (List ℕ)) : Type 0 where
+-- the words mean none of these
+pub record HaveNoName (words : List (List ℕ)) : Type 0 where
   pub put : (name : List ℕ) → Means words (Put name) → ⊥
   pub get : (name : List ℕ) → Means words (Get name) → ⊥
+  pub explain : (word : List ℕ) → Means words (Explain word) → ⊥
 
 -- the words mean no command of one word
 pub record AreNoPlain (words : List (List ℕ)) : Type 0 where
@@ -68,6 +75,7 @@ pub record AreNoPlain (words : List (List ℕ)) : Type 0 where
   pub upgrade : Means words Upgrade → ⊥
   pub scrub : Means words Scrub → ⊥
   pub repair : Means words Repair → ⊥
+  pub verify : Means words Verify → ⊥
 
 -- the words mean no command
 abbrev pub AreNoCommand : List (List ℕ) → Type 0

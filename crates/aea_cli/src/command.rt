@@ -1,7 +1,7 @@
 //! The words of the command line.
 
 ghost use Rattle.std.specs.Prelude.{map, string_bytes, IfSome, IfNone, IfOk, OnErr};
-ghost use Rattle.aea_cli.specs.Words.{Means, AreNoPlain, AreNoCommand, NameObject, NameNoObject};
+ghost use Rattle.aea_cli.specs.Words.{Means, AreNoPlain, AreNoCommand, HaveName, HaveNoName};
 
 use crate::create::parse_create;
 use crate::drill::parse_drill;
@@ -33,6 +33,10 @@ pub enum Command {
     Scrub,
     /// Restores the damaged blocks of the archive that the others determine, and prints the loss report.
     Repair,
+    /// Prints how the other intact blocks determine the block with this text, or why they do not.
+    Explain { block: NameText },
+    /// Judges the input, a loss report, against the archive as it is.
+    Verify,
 }
 
 // The command of one word alone, if the words are one.
@@ -58,14 +62,17 @@ fn plain_command(words: &[String]) -> Option<Command>
     if is_word(words, "repair") {
         return Some(Command::Repair);
     }
+    if is_word(words, "verify") {
+        return Some(Command::Verify);
+    }
     None
 }
 
-// The command of two words, of which the second is a name, if the words are one. It takes memory for the name alone.
+// The command of two words, of which any may be the second, if the words are one. It takes memory for that word alone.
 fn named_command(alloc: Global, words: &[String]) -> Result<Option<Command>, AllocError>
     ensures found { IfOk result (λ answer. IfSome answer (Means (map string_bytes words.now))) }
-    ensures none { IfOk result (λ answer. IfNone answer (NameNoObject (map string_bytes words.now))) }
-    ensures memory { OnErr result (NameObject (map string_bytes words.now)) }
+    ensures none { IfOk result (λ answer. IfNone answer (HaveNoName (map string_bytes words.now))) }
+    ensures memory { OnErr result (HaveName (map string_bytes words.now)) }
 {
     if let Some(word) = word_behind(words, "put") {
         let name = kept(alloc, word.as_bytes())?;
@@ -75,6 +82,10 @@ fn named_command(alloc: Global, words: &[String]) -> Result<Option<Command>, All
         let name = kept(alloc, word.as_bytes())?;
         return Ok(Some(Command::Get { name }));
     }
+    if let Some(word) = word_behind(words, "explain") {
+        let block = kept(alloc, word.as_bytes())?;
+        return Ok(Some(Command::Explain { block }));
+    }
     Ok(None)
 }
 
@@ -82,7 +93,7 @@ fn named_command(alloc: Global, words: &[String]) -> Result<Option<Command>, All
 fn command_of(alloc: Global, words: &[String]) -> Result<Option<Command>, AllocError>
     ensures found { IfOk result (λ answer. IfSome answer (Means (map string_bytes words.now))) }
     ensures none { IfOk result (λ answer. IfNone answer (AreNoCommand (map string_bytes words.now))) }
-    ensures memory { OnErr result (NameObject (map string_bytes words.now)) }
+    ensures memory { OnErr result (HaveName (map string_bytes words.now)) }
 {
     if let Some(lattice) = parse_drill(words) {
         return Ok(Some(Command::Drill { lattice }));
@@ -98,11 +109,12 @@ fn command_of(alloc: Global, words: &[String]) -> Result<Option<Command>, AllocE
 
 /// The command that the words mean, None where they mean none: `drill A S P N` with the numbers of a lattice,
 /// `create A S P B M` with those of the shape of an archive, `stat`, `list`, `put NAME`, `get NAME`, `fence`, `upgrade`,
-/// `scrub` and `repair`, each number in decimal without sign and leading zeros. It takes memory for a name alone.
+/// `scrub`, `repair`, `explain BLOCK` and `verify`, each number in decimal without sign and leading zeros. It takes memory
+/// for a name or the text of a block alone.
 pub fn parse_words(alloc: Global, words: &[String]) -> Result<Option<Command>, AllocError>
     ensures found { IfOk result (λ answer. IfSome answer (Means (map string_bytes words.now))) }
     ensures none { IfOk result (λ answer. IfNone answer (AreNoCommand (map string_bytes words.now))) }
-    ensures memory { OnErr result (NameObject (map string_bytes words.now)) }
+    ensures memory { OnErr result (HaveName (map string_bytes words.now)) }
 {
     command_of(alloc, words)
 }

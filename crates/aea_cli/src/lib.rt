@@ -5,6 +5,7 @@ mod archive;
 mod command;
 mod create;
 mod drill;
+mod explain;
 mod fence;
 mod get;
 mod list;
@@ -19,6 +20,7 @@ mod stat;
 mod status;
 mod surely;
 mod upgrade;
+mod verify;
 mod words;
 
 pub use command::{Command, parse_words};

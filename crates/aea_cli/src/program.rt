@@ -14,6 +14,7 @@ ghost use Rattle.aea_cli.specs.Worlds.{world};
 use crate::command::{Command, parse_words};
 use crate::create::create;
 use crate::drill::drill;
+use crate::explain::explain_word;
 use crate::fence::fence;
 use crate::get::get_object;
 use crate::list::list;
@@ -25,6 +26,7 @@ use crate::scrub::scrub;
 use crate::stat::stat;
 use crate::status::Status;
 use crate::upgrade::upgrade;
+use crate::verify::verify_report;
 use aea_disk::Disk;
 use aea_io::{Sink, Source};
 use aea_records::ledgers_have_one_reading;
@@ -60,6 +62,8 @@ fn carry_out<D: Disk, S: Source, O: Sink>(
         Command::Upgrade => upgrade(alloc, disk, out),
         Command::Scrub => scrub(alloc, disk, out),
         Command::Repair => repair_archive(alloc, disk, out),
+        Command::Explain { block } => explain_word(alloc, block.bytes(), disk, out),
+        Command::Verify => verify_report(alloc, disk, input, out),
     }
 }
 

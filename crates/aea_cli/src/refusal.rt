@@ -3,11 +3,13 @@
 ghost use Rattle.std.specs.Prelude.{◌≡◌};
 
 use aea_append::PutFault;
+use aea_explain::ExplainFault;
 use aea_fetch::GetFault;
 use aea_io::WriteFault;
 use aea_lattice::BlockId;
 use aea_ledger::{CreateFault, FenceFault, OpenFault, UpgradeFault};
 use aea_repair::RepairFault;
+use aea_verify::VerifyFault;
 use std::alloc::AllocError;
 
 /// Why a command is refused.
@@ -43,6 +45,12 @@ pub enum Refusal {
     UnknownName,
     /// A data block of the object is damaged: the first one.
     Damaged { block: BlockId },
+    /// The word is not the text of a block of the archive.
+    NoSuchBlock,
+    /// This line of the report, counted from 1, breaks the grammar.
+    BadLine { line: u32 },
+    /// This line of the report, counted from 1, has more than 16,777,216 bytes.
+    LineTooLong { line: u32 },
 }
 
 /// Why a command did not end well.
@@ -172,6 +180,39 @@ impl From<RepairFault> for Failure {
             RepairFault::DiskFault => Failure::Disk,
             RepairFault::WriteFault => Failure::Output,
             RepairFault::NoMemory => Failure::Memory,
+        }
+    }
+}
+
+impl From<ExplainFault> for Failure {
+    ghost use Rattle.aea_cli.specs.Failures.{explain_failure};
+
+    ghost from_gives = { λ fault failure. failure ≡ explain_failure fault };
+
+    fn from(fault: ExplainFault) -> Failure {
+        match fault {
+            ExplainFault::DiskFault => Failure::Disk,
+            ExplainFault::NoMemory => Failure::Memory,
+        }
+    }
+}
+
+impl From<VerifyFault> for Failure {
+    ghost use Rattle.aea_cli.specs.Failures.{verify_failure};
+
+    ghost from_gives = { λ fault failure. failure ≡ verify_failure fault };
+
+    fn from(fault: VerifyFault) -> Failure {
+        match fault {
+            VerifyFault::BadLine { line } => Failure::Refused {
+                why: Refusal::BadLine { line },
+            },
+            VerifyFault::LineTooLong { line } => Failure::Refused {
+                why: Refusal::LineTooLong { line },
+            },
+            VerifyFault::ReadFault => Failure::Input,
+            VerifyFault::DiskFault => Failure::Disk,
+            VerifyFault::NoMemory => Failure::Memory,
         }
     }
 }

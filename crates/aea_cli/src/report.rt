@@ -29,7 +29,7 @@ fn class_letter(class: Class) -> u8
 }
 
 // Prints words and the text of a block behind them.
-fn print_block<E: Sink>(
+pub(crate) fn print_block<E: Sink>(
     err: &mut E,
     page: &mut Page,
     front: &[u8],
@@ -43,7 +43,7 @@ fn print_block<E: Sink>(
 }
 
 // Prints a line that ends with the text of a block.
-fn print_with_block<E: Sink>(
+pub(crate) fn print_with_block<E: Sink>(
     err: &mut E,
     page: &mut Page,
     front: &[u8],
@@ -118,6 +118,15 @@ fn print_refusal<E: Sink>(err: &mut E, page: &mut Page, why: Refusal) -> Result<
         Refusal::AlreadyUpgraded => print(err, page, b"refused: already upgraded\n"),
         Refusal::UnknownName => print(err, page, b"refused: unknown name\n"),
         Refusal::Damaged { block } => print_with_block(err, page, b"refused: damaged ", block),
+        Refusal::NoSuchBlock => print(err, page, b"refused: bad block\n"),
+        Refusal::BadLine { line } => {
+            print_number(err, page, b"refused: bad line ", u64::from(line))?;
+            print(err, page, b"\n")
+        }
+        Refusal::LineTooLong { line } => {
+            print_number(err, page, b"refused: line too long ", u64::from(line))?;
+            print(err, page, b"\n")
+        }
     }
 }
 

@@ -74,7 +74,7 @@ fn drills_print_the_outcome(rt: HostRuntime) -> Result<(), Fail> {
 }
 
 // Lines whose words are no command.
-const NO_COMMANDS: [&str; 47] = [
+const NO_COMMANDS: [&str; 53] = [
     "drill 2 3 2 5",
     "drill 2 1 4 5",
     "drill 1 1 0 65537",
@@ -122,6 +122,12 @@ const NO_COMMANDS: [&str; 47] = [
     "repair a",
     "Repair",
     "repairs",
+    "verify a",
+    "Verify",
+    "explain",
+    "explain d1 d2",
+    "Explain d1",
+    "explains d1",
 ];
 
 #[test]

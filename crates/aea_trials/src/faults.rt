@@ -81,6 +81,9 @@ fn faults_give_their_statuses(rt: HostRuntime) -> Result<(), Fail> {
         ("get a", Faults { read: 1, out_call: 1, ..NONE }, Status::Refused, "", "refused: no archive\n"),
         ("list", Faults { read: 1, out_call: 1, ..NONE }, Status::Refused, "", "refused: no archive\n"),
         ("repair", Faults { read: 1, out_call: 1, ..NONE }, Status::Refused, "", "refused: no archive\n"),
+        ("verify", Faults { read: 1, out_call: 1, ..NONE }, Status::Refused, "", "refused: no archive\n"),
+        ("explain", Faults { read: 1, out_call: 1, ..NONE }, Status::Words, "", "words: no such command\n"),
+        ("explain d1", Faults { read: 1, out_call: 1, ..NONE }, Status::Refused, "", "refused: no archive\n"),
     ] {
         let left = run_failing(rt.alloc(), line, b"d1\nh1\n", faults)?;
         assert_eq!(rt; left.status, status, "{line} {faults:?}");

@@ -15,7 +15,7 @@ use aea_view::Marks;
 use std::alloc::Global;
 
 // The block of the lattice whose text the line is, if there is one.
-fn named_block(lattice: &Lattice, line: &[u8]) -> Option<BlockId>
+pub(crate) fn named_block(lattice: &Lattice, line: &[u8]) -> Option<BlockId>
     ensures block { IfSome result (HasBlock lattice.now) }
     ensures text { IfSome result (λ b. line.now ≡ text_of b) }
     ensures none { IfNone result (NamesBlock lattice.now line.now → ⊥) }

@@ -23,6 +23,7 @@ use aea_io::{Sink, Source, WholeFault, read_whole};
 use aea_lattice::Lattice;
 use aea_plan::printed_are_one;
 use damage::listed_marks;
+pub(crate) use damage::named_block;
 use plan::{Planned, plan_without, print_outcome};
 use std::alloc::Global;
 pub use words::parse_drill;

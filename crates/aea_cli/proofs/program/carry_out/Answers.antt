@@ -8,6 +8,8 @@ use Rattle.aea_cli.proofs.Fencing.Running.{fence_runs}
 use Rattle.aea_cli.proofs.Upgrading.Running.{upgrade_runs}
 use Rattle.aea_cli.proofs.Scrubbing.Running.{scrub_runs}
 use Rattle.aea_cli.proofs.Repairing.Running.{repair_runs}
+use Rattle.aea_cli.proofs.Explaining.Running.{explain_runs}
+use Rattle.aea_cli.proofs.Verifying.Running.{verify_runs}
 use Rattle.aea_cli.proofs.program.carry_out.Goals as goal
 
 pub returns-in-Drill-clause-runs : goal.returns-in-Drill-clause-runs
@@ -42,3 +44,11 @@ returns-in-Scrub-clause-runs g c = rw c.in-Scrub.is (scrub_runs _ _ _ _ _ _ _ c.
 pub returns-in-Repair-clause-runs : goal.returns-in-Repair-clause-runs
 returns-in-Repair-clause-runs g c =
     rw c.in-Repair.is (repair_runs c.ledgers_have_one_reading.ensures _ _ _ _ _ _ _ c.repair_archive.ensures.repairs c.repair_archive.ensures.refuses c.repair_archive.ensures.rest)
+
+pub returns-in-Explain-clause-runs : goal.returns-in-Explain-clause-runs
+returns-in-Explain-clause-runs g c =
+    rw (c.in-Explain.is, ← c.bytes-in-Explain.ensures) (explain_runs c.ledgers_have_one_reading.ensures _ _ _ _ _ _ _ _ c.explain_word.ensures.explains c.explain_word.ensures.refuses c.explain_word.ensures.clash)
+
+pub returns-in-Verify-clause-runs : goal.returns-in-Verify-clause-runs
+returns-in-Verify-clause-runs g c =
+    rw c.in-Verify.is (verify_runs c.ledgers_have_one_reading.ensures _ _ _ _ _ _ _ _ c.verify_report.ensures.verifies c.verify_report.ensures.refuses c.verify_report.ensures.clash)

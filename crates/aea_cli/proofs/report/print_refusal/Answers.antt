@@ -64,3 +64,22 @@ returns-in-UnknownName g c = rw c.in-UnknownName.is c.print-in-UnknownName.ensur
 
 pub returns-in-Damaged : goal.returns-in-Damaged
 returns-in-Damaged g c = rw c.in-Damaged.is c.print_with_block-in-Damaged.ensures
+
+pub returns-in-NoSuchBlock : goal.returns-in-NoSuchBlock
+returns-in-NoSuchBlock g c = rw c.in-NoSuchBlock.is c.print-in-NoSuchBlock.ensures
+
+pub returns-in_err-print_number-in-BadLine : goal.returns-in_err-print_number-in-BadLine
+returns-in_err-print_number-in-BadLine g c =
+    rw c.in-BadLine.is (prints_stopped newline c.from_residual-in_err-print_number-in-BadLine.ensures.0 (rw c.from-in-BadLine.ensures at c.in_err-print_number-in-BadLine.ensures))
+
+pub returns-in_ok-print_number-in-BadLine : goal.returns-in_ok-print_number-in-BadLine
+returns-in_ok-print_number-in-BadLine g c =
+    rw c.in-BadLine.is (prints_then (rw c.from-in-BadLine.ensures at c.in_ok-print_number-in-BadLine.ensures) c.print-in-BadLine.ensures)
+
+pub returns-in_err-print_number-in-LineTooLong : goal.returns-in_err-print_number-in-LineTooLong
+returns-in_err-print_number-in-LineTooLong g c =
+    rw c.in-LineTooLong.is (prints_stopped newline c.from_residual-in_err-print_number-in-LineTooLong.ensures.0 (rw c.from-in-LineTooLong.ensures at c.in_err-print_number-in-LineTooLong.ensures))
+
+pub returns-in_ok-print_number-in-LineTooLong : goal.returns-in_ok-print_number-in-LineTooLong
+returns-in_ok-print_number-in-LineTooLong g c =
+    rw c.in-LineTooLong.is (prints_then (rw c.from-in-LineTooLong.ensures at c.in_ok-print_number-in-LineTooLong.ensures) c.print-in-LineTooLong.ensures)

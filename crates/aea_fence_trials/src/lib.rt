@@ -1,0 +1,5 @@
+//! Trials of fences and raises of the limit, over disks and outputs that fail or stop.
+#![tactic(auto)]
+
+#[cfg(test)]
+mod adding;

@@ -1,6 +1,7 @@
 -- What is left at each end of a call that puts: before the record, and behind it.
-use Rattle.std.proofs.Common.{◌≡◌, inl, inr, ℕ, List, [], ◌∷◌, ◌++◌, length, take, drop, Option, refl, sym, ap, subst, arith}
+use Rattle.std.proofs.Common.{◌≡◌, inl, inr, ℕ, List, [], ◌∷◌, ◌++◌, length, take, drop, Option, All, refl, sym, ap, subst, arith}
 use Rattle.std.proofs.lemmas.List.{append-nil}
+use Rattle.std.proofs.lemmas.List.Elements.{All-cons}
 use Rattle.aea_lattice.specs.declared.blocks.BlockId.{BlockId}
 use Rattle.aea_lattice.specs.declared.grid.Lattice.{Lattice}
 use Rattle.aea_lattice.specs.declared.shape.Shape.{Shape}
@@ -26,22 +27,23 @@ use Rattle.aea_archive.specs.Data.{RecordsMore}
 use Rattle.aea_archive.specs.Stretches.{Adds}
 use Rattle.aea_archive.proofs.Cells.{changes_both, changes_less, changes_ledger, file_kept}
 use Rattle.aea_archive.proofs.Stretches.{has_ledger, adds_nothing, adds_later}
-use Rattle.aea_append.specs.Causes.{HasPutRoom}
+use Rattle.aea_append.specs.Causes.{HasWantedRoom}
 use Rattle.aea_append.specs.Puts.{MayHaveStored, LeavesLedger}
 use Rattle.aea_append.specs.Weaving.{WritesCells}
+use Rattle.aea_append.proofs.Wanted.{wanted_sites}
 
 -- the blocks of the archive
 abbrev pub old_blocks : Opened → BlockId → Type 0
 old_blocks v = IsBlockIn v.shape v.lattice.n
 
 -- cells that were written are a change of the archive
-pub cells_wider : (tells fault : Type 0) (v : Opened) (name : List ℕ) (left rest : Option (List ℕ)) (old new : State) → WritesCells tells v.shape (limit_when v.raised) (IsBlockIn v.shape v.lattice.n) fault old new
-    → OnlyWrites tells (HasPutRoom v name left rest old) fault (ChangesArchive v.shape (limit_when v.raised) (IsBlockIn v.shape v.lattice.n) (IsBesides v.shape)) old new
-cells_wider tells fault v name left rest old new writes =
-    writes_wider tells (HaveSitesRoom v.shape (limit_when v.raised) old) (HasPutRoom v name left rest old) fault
+pub cells_wider : (tells fault : Type 0) (v : Opened) (name : List ℕ) (want : Option ℕ) (left rest : Option (List ℕ)) (old new : State) → WritesCells tells v.shape (limit_when v.raised) (IsBlockIn v.shape v.lattice.n) fault old new
+    → OnlyWrites tells (HasWantedRoom v name want left rest old) fault (ChangesArchive v.shape (limit_when v.raised) (IsBlockIn v.shape v.lattice.n) (IsBesides v.shape)) old new
+cells_wider tells fault v name want left rest old new writes =
+    writes_wider tells (HaveSitesRoom v.shape (limit_when v.raised) old) (HasWantedRoom v name want left rest old) fault
     (ChangesArchive v.shape (limit_when v.raised) (IsBlockIn v.shape v.lattice.n) (IsNoSite v.shape)) (ChangesArchive v.shape (limit_when v.raised) (IsBlockIn v.shape v.lattice.n) (IsBesides v.shape)) old new
     (λ c d step. changes_less v.shape (limit_when v.raised) (IsBlockIn v.shape v.lattice.n) (IsBlockIn v.shape v.lattice.n) (IsNoSite v.shape) (IsBesides v.shape) c d (λ a kept. kept) (λ f past. inr past) step)
-    (λ room. room.sites) writes
+    (λ room. wanted_sites v name want left rest old room) writes
 
 -- the ledger's file stays
 pub leaves_ledger : (tells fault : Type 0) → tells → (v : Opened) (old new : State) → IsFixed old 0 → WritesCells tells v.shape (limit_when v.raised) (IsBlockIn v.shape v.lattice.n) fault old new → LeavesLedger old new
@@ -57,6 +59,10 @@ none_more shape records datas l payload old = record {
   values = λ b on. absurd (let a = on.after in let m = on.most in omega (arith, a, m));
 }
 
+-- a fact of all of one object
+pub one_of : (P : NewObject → Type 0) (o : NewObject) → P o → All P (o ∷ [])
+one_of P o is = All-cons P o [] is (λ k d inside. absurd (omega (arith, inside)))
+
 -- nothing was stored
 pub stopped_before : HasOneReading → (tells fault : Type 0) → tells → (v : Opened) (Fits : NewObject → Type 0) (old new : State) → IsFixed old 0 → WritesCells tells v.shape (limit_when v.raised) (IsBlockIn v.shape v.lattice.n) fault old new → MayHaveStored v Fits old new
 stopped_before one tells fault told v Fits old new fixed writes =
@@ -66,6 +72,8 @@ stopped_before one tells fault told v Fits old new fixed writes =
       most = inl refl;
       payload = λ b. [];
       homes = λ some. absurd (some refl);
+      lasts_wide = λ some. absurd (some refl);
+      bytes = λ k d inside. absurd (omega (arith, inside));
       added = [];
       lattice = v.lattice;
       next = refl;
@@ -82,17 +90,17 @@ stopped_before one tells fault told v Fits old new fixed writes =
 
 -- cells that are written, and then the ledger's file alone, are a change of the archive that leaves its old blocks
 -- and the files besides it, where the room of a put has that of the ledger's write
-pub both_write : (tells first second : Type 0) (v : Opened) (name : List ℕ) (left rest : Option (List ℕ)) (end : ℕ) (old mid new : State) → WritesCells tells v.shape (limit_when v.raised) (IsBlockIn v.shape v.lattice.n) first old mid
-    → OnlyWrites tells (HasRoomTo mid 0 end) second (ChangesOnly 0) mid new → (HasPutRoom v name left rest old → HasRoomTo old 0 end)
-    → OnlyWrites tells (HasPutRoom v name left rest old) second (ChangesArchive v.shape (limit_when v.raised) (IsBlockIn v.shape v.lattice.n) (IsBesides v.shape)) old new
-both_write tells first second v name left rest end old mid new cells commit room =
-    writes_both tells (HasPutRoom v name left rest old) (HaveSitesRoom v.shape (limit_when v.raised) old) (HasRoomTo mid 0 end) first second
+pub both_write : (tells first second : Type 0) (v : Opened) (name : List ℕ) (want : Option ℕ) (left rest : Option (List ℕ)) (end : ℕ) (old mid new : State) → WritesCells tells v.shape (limit_when v.raised) (IsBlockIn v.shape v.lattice.n) first old mid
+    → OnlyWrites tells (HasRoomTo mid 0 end) second (ChangesOnly 0) mid new → (HasWantedRoom v name want left rest old → HasRoomTo old 0 end)
+    → OnlyWrites tells (HasWantedRoom v name want left rest old) second (ChangesArchive v.shape (limit_when v.raised) (IsBlockIn v.shape v.lattice.n) (IsBesides v.shape)) old new
+both_write tells first second v name want left rest end old mid new cells commit room =
+    writes_both tells (HasWantedRoom v name want left rest old) (HaveSitesRoom v.shape (limit_when v.raised) old) (HasRoomTo mid 0 end) first second
     (ChangesArchive v.shape (limit_when v.raised) (IsBlockIn v.shape v.lattice.n) (IsNoSite v.shape)) (ChangesOnly 0) (ChangesArchive v.shape (limit_when v.raised) (IsBlockIn v.shape v.lattice.n) (IsBesides v.shape)) old mid new
     (λ c d step. changes_less v.shape (limit_when v.raised) (IsBlockIn v.shape v.lattice.n) (IsBlockIn v.shape v.lattice.n) (IsNoSite v.shape) (IsBesides v.shape) c d (λ a kept. kept) (λ f past. inr past) step)
     (λ c d e step only. changes_both v.shape (limit_when v.raised) (IsBlockIn v.shape v.lattice.n) (IsBesides v.shape) c d e
     (changes_less v.shape (limit_when v.raised) (IsBlockIn v.shape v.lattice.n) (IsBlockIn v.shape v.lattice.n) (IsNoSite v.shape) (IsBesides v.shape) c d (λ a kept. kept) (λ f past. inr past) step)
     (changes_ledger v.shape (limit_when v.raised) (IsBlockIn v.shape v.lattice.n) d e only))
-    (λ has. has.sites) (λ has time. time.room 0 end (room has)) cells commit
+    (λ has. wanted_sites v name want left rest old has) (λ has time. time.room 0 end (room has)) cells commit
 
 -- where the disk tells, and nothing was pending on the ledger's file, calls that write cells and then add a record
 -- by a change of that file alone add it over all

@@ -9,3 +9,6 @@ mod Rooms
 mod Storing
 mod Leaving
 mod Entries
+mod Wanted
+mod Frames
+mod Ingesting

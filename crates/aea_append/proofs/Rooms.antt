@@ -44,12 +44,25 @@ room_fits law v k some few =
     let nodes = nodes-within v.shape (limit_when v.raised - v.lattice.n) k few in
     omega (arith, within, nodes)
 
+-- a block has no more bytes than the profile allows
+block_few : (shape : Shape) → shape.block ≤ 65536
+block_few shape = let h = shape.in_profile in grind (arith, nat_tests)
+
 -- and is within what a lattice can have
 pub room_within : (v : Opened) → room_left v ≤ (greatest_nodes - v.lattice.n) * v.shape.block
 room_within v =
     let most = limit_most v.raised in
     let less : limit_when v.raised - v.lattice.n ≤ greatest_nodes - v.lattice.n = omega (arith, most) in
     mul-le-mul_right v.shape.block less
+
+-- and is no great number
+pub room_few : (v : Opened) → room_left v ≤ 68719476736
+room_few v =
+    let most = limit_most v.raised in
+    let less : limit_when v.raised - v.lattice.n ≤ 1048576 = omega (arith, most) in
+    let bytes : (limit_when v.raised - v.lattice.n) * v.shape.block ≤ 1048576 * v.shape.block = mul-le-mul_right v.shape.block less in
+    let wide = block_few v.shape in
+    omega (arith, bytes, wide)
 
 -- ---- what getters of a ledger answered, as its value has it
 
@@ -62,7 +75,7 @@ limit_is v limit n from block from2 l shape a b c d e f g =
 
 -- cells that were written within the rows of every count of nodes that holds the old ones and the bytes left were
 -- written within the limit of the ledger, whose shape and lattice these are
-pub all_writes : RecordsAreFew → (tells fault other : Type 0) (v : Opened) (shape : Shape) (l : Lattice) (limit : ℕ) (old new : State) → HasSomeRecords v → shape ≡ v.shape → l ≡ v.lattice → limit ≡ room_left v → (other → fault)
+pub all_writes : RecordsAreFew → (tells fault other : Type 0) (v : Opened) (shape : Shape) (l : Lattice) (limit : ℕ) (old new : State) → HasSomeRecords v → shape ≡ v.shape → l ≡ v.lattice → limit ≤ room_left v → (other → fault)
     → ((nodes : ℕ) → l.n + nodes_for shape limit ≤ nodes → WritesCells tells shape nodes (IsBlockIn shape l.n) fault old new)
     → WritesCells tells v.shape (limit_when v.raised) (IsBlockIn v.shape v.lattice.n) other old new
 all_writes law tells fault other v shape l limit old new some same grid is so writes =

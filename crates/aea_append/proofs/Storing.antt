@@ -32,7 +32,7 @@ use Rattle.aea_archive.specs.Stretches.{HasAdded}
 use Rattle.aea_archive.proofs.Honest.{stands}
 use Rattle.aea_archive.proofs.Values.{last_inside}
 use Rattle.aea_archive.proofs.Records.{lattice_equal}
-use Rattle.aea_append.specs.Taking.{TakesAll}
+use Rattle.aea_append.specs.Taking.{TakesObject}
 
 -- the last of records may follow those before it
 pub next-last : (shape : Shape) (earlier records : List Record) (r : Record) → MayFollow shape earlier (records ++ r ∷ []) → IsNext shape (earlier ++ records) r
@@ -43,7 +43,7 @@ next-last shape earlier (q ∷ records) r follow =
 -- ---- the next record, where the lattice that was woven is the longer one
 
 module _ (tells : Type 0) (v : Opened) (name : List ℕ) (k count : ℕ) (digest : List ℕ) (left rest : Option (List ℕ)) (digests : List (List ℕ)) (first files : Files) (counted : count ≡ nodes_for v.shape k)
-    (t : TakesAll tells v.shape v.lattice v.digests k digest left rest digests first files) where
+    (t : TakesObject tells v.shape v.lattice v.digests k digest left rest digests first files) where
   pub grown_by : IsGrown v.lattice (v.lattice.n + count) t.heads.lattice
   grown_by = record { shape = t.woven.grown.shape; nodes = (let n = t.nodes in omega (arith, n, counted)); fences = t.woven.grown.fences }
 
@@ -108,7 +108,7 @@ module _ (tells : Type 0) (v : Opened) (name : List ℕ) (k count : ℕ) (digest
 -- ---- and the opened ledger has taken it
 
 module _ (tells : Type 0) (v w : Opened) (name : List ℕ) (k count : ℕ) (digest : List ℕ) (left rest : Option (List ℕ)) (digests : List (List ℕ)) (first files : Files) (counted : count ≡ nodes_for v.shape k)
-    (t : TakesAll tells v.shape v.lattice v.digests k digest left rest digests first files) (same : w.shape ≡ v.shape) (records : List Record) (has : HasRecords v records)
+    (t : TakesObject tells v.shape v.lattice v.digests k digest left rest digests first files) (same : w.shape ≡ v.shape) (records : List Record) (has : HasRecords v records)
     (new : HasRecords w (records ++ Object (next_stored v name k digest count digests) ∷ [])) where
   abbrev stored : Stored
   stored = next_stored v name k digest count digests

@@ -1,12 +1,13 @@
 -- Bytes of a source that are taken in pieces.
 use Rattle.std.proofs.Common.{◌≡◌, ℕ, zero, suc, ◌+◌, ◌-◌, ◌*◌, ◌/◌, ◌^◌, ◌<◌, ◌≤◌, List, [], ◌∷◌, ◌++◌, length, take, replicate, Option, refl, sym, ◌∙◌, ap, subst, arith, length-append, append_assoc}
-use Rattle.std.specs.Io.KnownBytes.{Consumes, IsAtEnd}
+use Rattle.std.specs.Io.KnownBytes.{Consumes}
 use Rattle.std.proofs.KnownBytes.{Consumes-nil, Consumes-trans}
 use Rattle.std.proofs.lemmas.List.{append-nil}
 use Rattle.std.proofs.lemmas.List.Elements.{All-append}
 use Rattle.sha2.specs.declared.Sha256.{Sha256}
 use Rattle.sha2.specs.Hashers.{Holds256}
 use Rattle.sha2.specs.Sha256.{sha256}
+use Rattle.aea_io.specs.Taken.{TakesAtMost}
 use Rattle.aea_lattice.specs.declared.grid.Lattice.{Lattice}
 use Rattle.aea_lattice.specs.declared.shape.Shape.{Shape}
 use Rattle.aea_lattice.specs.Growth.{IsGrown}
@@ -16,7 +17,7 @@ use Rattle.aea_records.specs.Format.{nodes_for}
 use Rattle.aea_ledger.specs.Values.{Opened}
 use Rattle.aea_archive.specs.Next.{cut_blocks, object_blocks}
 use Rattle.aea_append.specs.Weaving.{HasWoven}
-use Rattle.aea_append.specs.Taking.{Takes, TakesAll}
+use Rattle.aea_append.specs.Taking.{Takes, TakesObject, Counts}
 use Rattle.aea_append.proofs.Cuts.{cut-push, some_bytes, nodes_none, nodes_one, nodes-push, nodes-whole, no_blocks, one_block}
 
 -- a lattice with as many nodes
@@ -92,11 +93,11 @@ takes_both tells shape n k left mid rest h i g v u w digests some more old betwe
     }
 
 -- all that a source had, woven behind the nodes of an archive
-pub takes_all : (tells : Type 0) (v : Opened) (shape : Shape) → shape ≡ v.shape → (k : ℕ) (left mid rest : Option (List ℕ)) (h g : Sha256) (heads w : Woven) (digests more : List (List ℕ)) (first files after : Files) (digest : List ℕ)
+pub takes_object : (tells : Type 0) (v : Opened) (shape : Shape) → shape ≡ v.shape → (k : ℕ) (left mid rest : Option (List ℕ)) (h g : Sha256) (heads w : Woven) (digests more : List (List ℕ)) (first files after : Files) (digest : List ℕ)
     → Takes tells shape k left mid h g heads w digests more files after → HasWoven tells v.shape v.lattice v.digests first files heads [] [] → digests ≡ [] → Holds256 h []
-    → ((m : List ℕ) → Holds256 g m → digest ≡ sha256 m) → heads.lattice ≡ v.lattice → Consumes mid rest [] → IsAtEnd rest
-    → TakesAll tells v.shape v.lattice v.digests k digest left rest more first after
-takes_all tells v shape same k left mid rest h g heads w digests more first files after digest took has none holds hashed lattice stop end =
+    → ((m : List ℕ) → Holds256 g m → digest ≡ sha256 m) → heads.lattice ≡ v.lattice → Consumes mid rest []
+    → TakesObject tells v.shape v.lattice v.digests k digest left rest more first after
+takes_object tells v shape same k left mid rest h g heads w digests more first files after digest took has none holds hashed lattice stop =
     let t : Takes tells v.shape k left mid h g heads w digests more files after = subst (λ (s : Shape). Takes tells s k left mid h g heads w digests more files after) same took in
     let start : HasWoven tells v.shape v.lattice v.digests first files heads [] digests = subst (λ (d : List (List ℕ)). HasWoven tells v.shape v.lattice v.digests first files heads [] d) (sym none) has in
     let n : heads.lattice.n ≡ v.lattice.n = ap (λ (l : Lattice). l.n) lattice in
@@ -105,10 +106,32 @@ takes_all tells v shape same k left mid rest h g heads w digests more first file
       bytes = t.bytes;
       are = t.are;
       taken = subst (Consumes left rest) (append-nil t.bytes) (Consumes-trans left mid rest t.bytes [] t.taken stop);
-      end = end;
       long = t.long;
       digest_is = hashed t.bytes (t.holds [] holds);
       heads = w;
       nodes = nodes ∙ ap (λ (x : ℕ). x + nodes_for v.shape k) n;
       woven = t.woven v.lattice v.digests first [] start;
     }
+
+-- ---- bytes that are counted
+
+-- none was taken
+pub counts_none : (left : Option (List ℕ)) (at n : ℕ) → Counts left left at at n
+counts_none left at n = record { bytes = []; taken = Consumes-nil left; counted = omega arith; most = omega arith }
+
+-- a greater bound
+pub counts_more : (left rest : Option (List ℕ)) (at to m n : ℕ) → Counts left rest at to m → m ≤ n → Counts left rest at to n
+counts_more left rest at to m n counts more = record { bytes = counts.bytes; taken = counts.taken; counted = counts.counted; most = omega (arith, counts.most, more) }
+
+-- bytes that were taken one after the other
+pub counts_then : (left mid rest : Option (List ℕ)) (at between to m n : ℕ) → Counts left mid at between m → Counts mid rest between to n → Counts left rest at to (m + n)
+counts_then left mid rest at between to m n first second = record {
+  bytes = first.bytes ++ second.bytes;
+  taken = Consumes-trans left mid rest first.bytes second.bytes first.taken second.taken;
+  counted = omega (arith, first.counted, second.counted, length-append first.bytes second.bytes);
+  most = omega (arith, first.most, second.most, length-append first.bytes second.bytes);
+}
+
+-- at most as many were taken
+pub counts_most : (left rest : Option (List ℕ)) (at to n : ℕ) → Counts left rest at to n → TakesAtMost left rest n
+counts_most left rest at to n counts = (counts.bytes, counts.taken, counts.most)

@@ -1,5 +1,5 @@
 -- The causes of what `put` answers, in the order in which they are met.
-use Rattle.std.specs.Prelude.{◌≡◌, ◌≢◌, ◌⊎◌, ◌≤◌, ℕ, ◌+◌, ◌*◌, List, length, Option, None, Result, Err}
+use Rattle.std.specs.Prelude.{◌≡◌, ◌≢◌, ◌⊎◌, ◌≤◌, ℕ, ◌+◌, ◌*◌, List, length, Option, None, Some, Result, Err}
 use Rattle.std.specs.FinMap.{get, len}
 use Rattle.std.specs.Io.KnownBytes.{Consumes}
 use Rattle.aea_lattice.specs.declared.blocks.BlockId.{BlockId}
@@ -47,3 +47,19 @@ HasLedgerRoom v name left rest s =
 pub record HasPutRoom (v : Opened) (name : List ℕ) (left rest : Option (List ℕ)) (s : State) : Type 0 where
   pub sites : HaveSitesRoom v.shape (limit_when v.raised) s
   pub ledger : HasLedgerRoom v name left rest s
+
+-- the ledger has room for the record of an object of so many bytes, if its nodes fit
+abbrev pub HasRecordRoom : Opened → List ℕ → ℕ → State → Type 0
+HasRecordRoom v name size s =
+    v.lattice.n + nodes_for v.shape size ≤ limit_when v.raised
+    → HasRoomTo s 0 (next_end v.end (length name) (nodes_for v.shape size * (1 + v.shape.alpha)) + 1)
+
+-- the disk has room for all that may be written for an object of so many bytes
+pub record HasCutRoom (v : Opened) (name : List ℕ) (size : ℕ) (s : State) : Type 0 where
+  pub sites : HaveSitesRoom v.shape (limit_when v.raised) s
+  pub ledger : HasRecordRoom v name size s
+
+-- the disk has room for all that may be written for what is wanted of a source
+abbrev pub HasWantedRoom : Opened → List ℕ → Option ℕ → Option (List ℕ) → Option (List ℕ) → State → Type 0
+HasWantedRoom v name None left rest s = HasPutRoom v name left rest s
+HasWantedRoom v name (Some want) left rest s = HasCutRoom v name want s

@@ -3,3 +3,4 @@ pub mod Taking
 pub mod Loading
 pub mod Puts
 pub mod Causes
+pub mod Frames

@@ -1,5 +1,5 @@
 -- What is left where an object was stored, and what may be left where the disk failed.
-use Rattle.std.specs.Prelude.{◌≡◌, ◌≢◌, ◌⊎◌, ◌≤◌, ℕ, ◌+◌, max, List, [], ◌∷◌, ◌++◌, length, Option, true}
+use Rattle.std.specs.Prelude.{◌≡◌, ◌≢◌, ◌⊎◌, ◌≤◌, ℕ, ◌+◌, max, List, [], ◌∷◌, ◌++◌, length, Option, None, Some, true, All}
 use Rattle.std.specs.List.{flat_map, sum_by}
 use Rattle.std.specs.Io.KnownBytes.{Consumes, IsAtEnd}
 use Rattle.sha2.specs.Sha256.{sha256}
@@ -11,11 +11,23 @@ use Rattle.aea_records.specs.Grammar.{AreRecords}
 use Rattle.aea_ledger.specs.Values.{Opened, HasRecords, IsThisOne}
 use Rattle.aea_ledger.specs.Next.{AreItsRecords}
 use Rattle.aea_ledger.specs.Recorded.{AreRecordsOf}
-use Rattle.aea_archive.specs.Lasts.{AreLastsRecorded, AreLastsAtHome, AreLastsHonest}
+use Rattle.aea_lattice.specs.declared.shape.Shape.{Shape}
+use Rattle.aea_records.specs.TableLaws.{AreBytes}
+use Rattle.aea_archive.specs.Blocks.{IsBlockOn}
+use Rattle.aea_archive.specs.Cells.{AreAtHome}
+use Rattle.aea_archive.specs.Lasts.{IsLastParity, AreLastsRecorded, AreLastsAtHome, AreLastsHonest}
 use Rattle.aea_archive.specs.Next.{NewObject, object_blocks, IsNextStored, AreNextRecords}
 use Rattle.aea_archive.specs.Stretches.{Adds, HasAdded}
 use Rattle.aea_archive.specs.Data.{AreSurvivorsHonest, IsDamagePlain, RecordsMore}
 use Rattle.aea_append.specs.declared.store.StoredObject.{StoredObject}
+
+-- the payloads of the last parities are of a block's size
+abbrev pub AreLastsWide : Shape → Lattice → (BlockId → List ℕ) → Type 0
+AreLastsWide shape l payload = (b : BlockId) → IsLastParity l b → length (payload b) ≡ shape.block
+
+-- and so are those of the blocks of these nodes
+abbrev pub AreBlocksWide : Shape → ℕ → ℕ → (BlockId → List ℕ) → Type 0
+AreBlocksWide shape before last payload = (b : BlockId) → IsBlockOn shape before last b → length (payload b) ≡ shape.block
 
 -- The object was stored: with which payloads of its blocks, and by which record.
 pub record HasStored (tells : Type 0) (v w : Opened) (o : NewObject) (old new : State) (stored : StoredObject) : Type 0 where
@@ -27,6 +39,9 @@ pub record HasStored (tells : Type 0) (v w : Opened) (o : NewObject) (old new : 
   pub payload : BlockId → List ℕ
   pub lasts : AreLastsRecorded v.shape v.lattice v.digests payload
   pub homes : tells → AreLastsAtHome v.shape v.lattice payload old.files
+  pub lasts_wide : AreLastsWide v.shape v.lattice payload
+  pub wide : AreBlocksWide v.shape v.lattice.n w.lattice.n payload
+  pub bytes : AreBytes o.bytes
   pub r : Stored
   pub next : IsNextStored v.shape v.lattice w.lattice payload o.name o.bytes r
   -- the opened ledger has the record behind those that it had
@@ -37,6 +52,8 @@ pub record HasStored (tells : Type 0) (v w : Opened) (o : NewObject) (old new : 
   -- the disk: what each image of each moment has, and what stands
   pub adds : tells → (records : List Record) → AreItsRecords v records (old.files 0) → Adds v.shape records (Object r ∷ []) payload old new
   pub added : tells → (records : List Record) → AreItsRecords v records (old.files 0) → HasAdded v.shape records (Object r ∷ []) new
+  -- the cells of the new blocks, as the disk reads
+  pub cells : tells → AreAtHome v.shape v.lattice.n w.lattice.n payload new.files
   -- each data list that was recorded, and for which the last parities are honest, is recorded with the object's blocks
   pub records_more : tells → (records : List Record) (datas : List (List ℕ)) → HasRecords v records
       → AreRecordsOf v.shape records datas → AreLastsHonest v.shape v.lattice v.digests datas old.files
@@ -53,6 +70,21 @@ pub record IsWhole (name : List ℕ) (left rest : Option (List ℕ)) (o : NewObj
   pub taken : Consumes left rest o.bytes
   pub end : IsAtEnd rest
 
+-- The object is the one under this name with so many bytes that the source began with.
+pub record IsCut (name : List ℕ) (want : ℕ) (left rest : Option (List ℕ)) (o : NewObject) : Type 0 where
+  pub name_is : o.name ≡ name
+  pub taken : Consumes left rest o.bytes
+  pub long : length o.bytes ≡ want
+
+-- the object is the one under this name with what was wanted: a number of bytes, or all that the source had
+abbrev pub IsWanted : Option ℕ → List ℕ → Option (List ℕ) → Option (List ℕ) → NewObject → Type 0
+IsWanted None name left rest o = IsWhole name left rest o
+IsWanted (Some want) name left rest o = IsCut name want left rest o
+
+-- what was wanted of the source was stored under the name
+abbrev pub HasKept : Type 0 → Opened → Opened → List ℕ → Option ℕ → Option (List ℕ) → Option (List ℕ) → State → State → StoredObject → Type 0
+HasKept tells v w name want left rest old new stored = (o : NewObject) × IsWanted want name left rest o × HasStored tells v w o old new stored
+
 -- all that the source had was stored under the name
 abbrev pub HasPut : Type 0 → Opened → Opened → List ℕ → Option (List ℕ) → Option (List ℕ) → State → State → StoredObject → Type 0
 HasPut tells v w name left rest old new stored = (o : NewObject) × IsWhole name left rest o × HasStored tells v w o old new stored
@@ -63,6 +95,8 @@ pub record MayHaveStored (v : Opened) (Fits : NewObject → Type 0) (old new : S
   pub most : (objects ≡ []) ⊎ ((o : NewObject) × Fits o × (objects ≡ o ∷ []))
   pub payload : BlockId → List ℕ
   pub homes : objects ≢ [] → AreLastsAtHome v.shape v.lattice payload old.files
+  pub lasts_wide : objects ≢ [] → AreLastsWide v.shape v.lattice payload
+  pub bytes : All (λ o. AreBytes o.bytes) objects
   pub added : List Record
   pub lattice : Lattice
   pub next : AreNextRecords v.shape v.lattice lattice payload objects added

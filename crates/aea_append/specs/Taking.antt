@@ -1,5 +1,5 @@
 -- Bytes that are taken of a source, and woven.
-use Rattle.std.specs.Prelude.{◌≡◌, ℕ, ◌+◌, ◌-◌, ◌*◌, ◌<◌, ◌≤◌, List, ◌++◌, length, Option}
+use Rattle.std.specs.Prelude.{◌≡◌, ⊤, ℕ, ◌+◌, ◌-◌, ◌*◌, ◌<◌, ◌≤◌, List, ◌++◌, length, min, Option, None, Some}
 use Rattle.std.specs.Io.KnownBytes.{Consumes, IsAtEnd}
 use Rattle.sha2.specs.declared.Sha256.{Sha256}
 use Rattle.sha2.specs.Hashers.{Holds256}
@@ -35,13 +35,12 @@ pub record TakesPiece (tells : Type 0) (shape : Shape) (want k : ℕ) (left rest
   pub most : k ≤ want
   pub end : k < want → IsAtEnd rest
 
--- All that the source had was taken and woven behind the nodes of a lattice: so many bytes, with this digest, and these
+-- Bytes of the source were taken and woven behind the nodes of a lattice: so many bytes, with this digest, and these
 -- digests of the new blocks.
-pub record TakesAll (tells : Type 0) (shape : Shape) (l : Lattice) (recorded : List (List ℕ)) (k : ℕ) (digest : List ℕ) (left rest : Option (List ℕ)) (digests : List (List ℕ)) (first files : Files) : Type 0 where
+pub record TakesObject (tells : Type 0) (shape : Shape) (l : Lattice) (recorded : List (List ℕ)) (k : ℕ) (digest : List ℕ) (left rest : Option (List ℕ)) (digests : List (List ℕ)) (first files : Files) : Type 0 where
   pub bytes : List ℕ
   pub are : AreBytes bytes
   pub taken : Consumes left rest bytes
-  pub end : IsAtEnd rest
   pub long : length bytes ≡ k
   pub digest_is : digest ≡ sha256 bytes
   pub heads : Woven
@@ -55,3 +54,39 @@ room_left v = (limit_when v.raised - v.lattice.n) * v.shape.block
 -- more bytes were taken than the nodes that are left can hold, by one
 abbrev pub HasPassedRoom : Opened → Option (List ℕ) → Option (List ℕ) → Type 0
 HasPassedRoom v left rest = (bytes : List ℕ) × Consumes left rest bytes × (length bytes ≡ room_left v + 1)
+
+-- At most n bytes of the source were taken, and the number that counts them grew by as many.
+pub record Counts (left rest : Option (List ℕ)) (before after n : ℕ) : Type 0 where
+  pub bytes : List ℕ
+  pub taken : Consumes left rest bytes
+  pub counted : after ≡ before + length bytes
+  pub most : length bytes ≤ n
+
+-- How many bytes are wanted: a number of them, or all that there are, within the room.
+abbrev pub limit_of : Option ℕ → ℕ → ℕ
+limit_of None room = room
+limit_of (Some want) room = want
+
+-- How many bytes are taken at most: of a number that is wanted none where the room is less; of all one more than the room.
+abbrev pub most_of : Option ℕ → ℕ → ℕ
+most_of None room = room + 1
+most_of (Some want) room = min want room
+
+-- how many of these bytes are wanted: a number of them, or all
+abbrev pub long_of : Option ℕ → List ℕ → ℕ
+long_of None bytes = length bytes
+long_of (Some want) bytes = want
+
+-- what is wanted is there
+abbrev pub IsThere : Option ℕ → List ℕ → Type 0
+IsThere None bytes = ⊤
+IsThere (Some want) bytes = want ≤ length bytes
+
+-- More is wanted than the nodes that are left can hold: that number, or all, and a byte more than they can hold was taken.
+abbrev pub IsOver : Opened → Option ℕ → Option (List ℕ) → Option (List ℕ) → Type 0
+IsOver v None left rest = HasPassedRoom v left rest
+IsOver v (Some want) left rest = room_left v < want
+
+-- fewer bytes than the number that was wanted were taken, since the source ended
+abbrev pub HasEnded : Option ℕ → Option (List ℕ) → Option (List ℕ) → Type 0
+HasEnded want left rest = (n : ℕ) × (want ≡ Some n) × IsAtEnd rest × ((bytes : List ℕ) × Consumes left rest bytes × (length bytes < n))

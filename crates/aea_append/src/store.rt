@@ -1,6 +1,6 @@
 //! An object that is put.
 
-ghost use Rattle.std.specs.Prelude.{◌≡◌, ◌≢◌, ◌⊎◌, ◌↔◌, ◌+◌, ◌*◌, ◌≤◌, ◌<◌, true, false, ℕ, List, length, max, None, Some, IfOk, OnOk, IsOk, IsErr};
+ghost use Rattle.std.specs.Prelude.{◌≡◌, ◌≢◌, ◌⊎◌, ◌↔◌, ◌+◌, ◌*◌, ◌^◌, ◌≤◌, ◌<◌, true, false, ℕ, List, length, max, None, Some, IfOk, IfSome, OnOk, IsOk, IsErr};
 ghost use Rattle.std.specs.FinMap.{len};
 ghost use Rattle.aea_faults.specs.Faults.{Rose};
 ghost use Rattle.aea_io.specs.Taken.{TakesAtMost};
@@ -14,9 +14,9 @@ ghost use Rattle.aea_ledger.specs.Values.{HasSomeRecords, IsThisOne};
 ghost use Rattle.aea_archive.specs.Blocks.{IsBlockIn};
 ghost use Rattle.aea_archive.specs.Cells.{IsBesides, ChangesArchive};
 ghost use Rattle.aea_archive.specs.Lasts.{IsLastParity, IsDamagedLast, IsFirstDamagedLast, AreLastsIntact};
-ghost use Rattle.aea_append.specs.Taking.{HasPassedRoom, room_left};
-ghost use Rattle.aea_append.specs.Puts.{IsWhole, HasPut, MayHaveStored, LeavesLedger};
-ghost use Rattle.aea_append.specs.Causes.{IsTaken, MayEnter, IsEarly, IsHeadRefused, HasPutRoom, next_end};
+ghost use Rattle.aea_append.specs.Taking.{HasPassedRoom, Counts, IsOver, IsThere, HasEnded, room_left, most_of, long_of};
+ghost use Rattle.aea_append.specs.Puts.{IsWhole, IsWanted, HasKept, HasPut, MayHaveStored, LeavesLedger};
+ghost use Rattle.aea_append.specs.Causes.{IsTaken, MayEnter, IsEarly, IsHeadRefused, HasPutRoom, HasWantedRoom, next_end};
 
 use crate::commit::commit_object;
 use crate::fault::PutFault;
@@ -41,8 +41,8 @@ pub struct StoredObject {
 // The most objects of a ledger.
 const MAX_OBJECTS: usize = 65_536;
 
-// Whether an object may be put under the name.
-fn may_enter(ledger: &Ledger, name: &[u8]) -> Result<(), PutFault>
+/// Whether an object may be put under the name.
+pub(crate) fn may_enter(ledger: &Ledger, name: &[u8]) -> Result<(), PutFault>
     ensures bad_name { (result ≡ Err PutFault.BadName) ↔ (¬ IsName name.now) }
     ensures taken { (result ≡ Err PutFault.NameTaken) ↔ (IsName name.now × IsTaken ledger.now name.now) }
     ensures many { (result ≡ Err PutFault.CatalogFull) ↔ (IsName name.now × (¬ IsTaken ledger.now name.now) × (len ledger.now.objects ≡ greatest_objects)) }
@@ -64,60 +64,84 @@ fn may_enter(ledger: &Ledger, name: &[u8]) -> Result<(), PutFault>
     Ok(())
 }
 
-// Stores all that the source has under a name that may enter.
-fn put_checked<D: Disk, S: Source>(
+// Whether fewer bytes were taken than the number that was wanted.
+fn is_short(want: Option<u64>, length: u64) -> bool
+    ensures yes { result ≡ true → (n : ℕ) × (want ≡ Some n) × (length < n) }
+    ensures no { result ≡ false → (n : ℕ) → want ≡ Some n → n ≤ length }
+{
+    match want {
+        Some(wanted) => length < wanted,
+        None => false,
+    }
+}
+
+/// Stores what is wanted of the source under a name that may enter: a number of bytes, or all that it has. Answers None
+/// where it ends before that number. `at` grows by the bytes that were taken, whatever the answer.
+pub(crate) fn put_wanted<D: Disk, S: Source>(
     alloc: Global,
     ledger: &mut Ledger,
     disk: &mut D,
     name: &[u8],
     source: &mut S,
-) -> Result<StoredObject, PutFault>
+    want: Option<u64>,
+    at: &mut u64,
+) -> Result<Option<StoredObject>, PutFault>
     requires enters { MayEnter ledger.old name.now }
     requires opened { HasSomeRecords ledger.old }
     requires live { ledger.old.live ≡ true }
     requires this { D.tells → IsThisOne ledger.old ((D.state disk.old).files 0) }
     requires fixed { D.tells → IsFixed (D.state disk.old) 0 }
+    requires count { at.old ≤ 2 ^ 63 + 265 }
 
     // Stored.
-    ensures stored { IfOk result (HasPut D.tells ledger.old ledger.new name.now (S.state source.old).left (S.state source.new).left (D.state disk.old) (D.state disk.new)) }
+    ensures stored { IfOk result (λ kept. IfSome kept (HasKept D.tells ledger.old ledger.new name.now want (S.state source.old).left (S.state source.new).left (D.state disk.old) (D.state disk.new))) }
+    ensures exact { IfOk result (λ kept. IfSome kept (λ stored. at.new ≡ at.old + stored.length)) }
 
     ensures late { IsEarly result → ⊥ }
+
+    // The source ended before the number of bytes that was wanted.
+    ensures ended { result ≡ Ok None → HasEnded want (S.state source.old).left (S.state source.new).left }
+    ensures whole { want ≡ None → result ≡ Ok None → ⊥ }
+    ensures ended_intact { result ≡ Ok None → D.tells → AreLastsIntact ledger.old.shape ledger.old.lattice ledger.old.digests (D.state disk.old).files }
 
     // A last parity that is damaged.
     ensures head { (b : BlockId) → result ≡ Err (PutFault.HeadDamaged b) → IsLastParity ledger.old.lattice b × (D.tells → IsFirstDamagedLast ledger.old.shape ledger.old.lattice ledger.old.digests (D.state disk.old).files b) }
     ensures head_leaves { (b : BlockId) → result ≡ Err (PutFault.HeadDamaged b) → (source.new ≡ source.old) × OnlyReads D.tells ⊥ (D.state disk.old) (D.state disk.new) }
+    ensures head_counts { (b : BlockId) → result ≡ Err (PutFault.HeadDamaged b) → at.new ≡ at.old }
     ensures head_refused { D.tells → (a : BlockId) → IsDamagedLast ledger.old.shape ledger.old.lattice ledger.old.digests (D.state disk.old).files a → IsHeadRefused result }
 
     // More bytes than there are nodes for.
-    ensures full { (nodes : ℕ) → result ≡ Err (PutFault.Full nodes) → (nodes ≡ ledger.old.lattice.n) × (HasPassedRoom ledger.old (S.state source.old).left (S.state source.new).left × (D.tells → AreLastsIntact ledger.old.shape ledger.old.lattice ledger.old.digests (D.state disk.old).files)) }
-    ensures full_refused { (bytes : List ℕ) → (S.state source.old).left ≡ Some bytes → limit_when ledger.old.raised < ledger.old.lattice.n + nodes_for ledger.old.shape (length bytes)
+    ensures full { (nodes : ℕ) → result ≡ Err (PutFault.Full nodes) → (nodes ≡ ledger.old.lattice.n) × (IsOver ledger.old want (S.state source.old).left (S.state source.new).left × (D.tells → AreLastsIntact ledger.old.shape ledger.old.lattice ledger.old.digests (D.state disk.old).files)) }
+    ensures full_leaves { (nodes n : ℕ) → result ≡ Err (PutFault.Full nodes) → want ≡ Some n → (source.new ≡ source.old) × (at.new ≡ at.old) }
+    ensures full_refused { (bytes : List ℕ) → (S.state source.old).left ≡ Some bytes → want ≡ None → limit_when ledger.old.raised < ledger.old.lattice.n + nodes_for ledger.old.shape (length bytes)
         → (result ≡ Err (PutFault.Full ledger.old.lattice.n)) ⊎ ((result ≡ Err PutFault.ReadFault) ⊎ IsHeadRefused result) }
+    ensures over_refused { (n : ℕ) → want ≡ Some n → room_left ledger.old < n → (result ≡ Err (PutFault.Full ledger.old.lattice.n)) ⊎ IsHeadRefused result }
 
     // Where nothing stands against it and no count of faults rises, it is stored, but for want of memory.
-    ensures complete { D.tells → (bytes : List ℕ) → (S.state source.old).left ≡ Some bytes → MayEnter ledger.old name.now
+    ensures complete { D.tells → (bytes : List ℕ) → (S.state source.old).left ≡ Some bytes → IsThere want bytes
         → AreLastsIntact ledger.old.shape ledger.old.lattice ledger.old.digests (D.state disk.old).files
-        → ledger.old.lattice.n + nodes_for ledger.old.shape (length bytes) ≤ limit_when ledger.old.raised
+        → ledger.old.lattice.n + nodes_for ledger.old.shape (long_of want bytes) ≤ limit_when ledger.old.raised
         → (Rose (D.state disk.old).faults (D.state disk.new).faults → ⊥) → (Rose (S.state source.old).faults (S.state source.new).faults → ⊥)
-        → IsOk result ⊎ (result ≡ Err PutFault.NoMemory) }
+        → ((stored : StoredObject) × (result ≡ Ok (Some stored))) ⊎ (result ≡ Err PutFault.NoMemory) }
 
     // What stands after each other answer.
-    ensures refused { IsErr result → result ≢ Err PutFault.DiskFault → ledger.new ≡ ledger.old }
-    ensures refused_leaves { IsErr result → result ≢ Err PutFault.DiskFault → D.tells → LeavesLedger (D.state disk.old) (D.state disk.new) }
+    ensures refused { result ≢ Err PutFault.DiskFault → ((stored : StoredObject) → result ≢ Ok (Some stored)) → ledger.new ≡ ledger.old }
+    ensures refused_leaves { result ≢ Err PutFault.DiskFault → ((stored : StoredObject) → result ≢ Ok (Some stored)) → D.tells → LeavesLedger (D.state disk.old) (D.state disk.new) }
     ensures dead { result ≡ Err PutFault.DiskFault → ledger.new ≡ record ledger.old { live = false } }
-    ensures stopped { result ≡ Err PutFault.DiskFault → D.tells → MayHaveStored ledger.old (IsWhole name.now (S.state source.old).left (S.state source.new).left) (D.state disk.old) (D.state disk.new) }
+    ensures stopped { result ≡ Err PutFault.DiskFault → D.tells → MayHaveStored ledger.old (IsWanted want name.now (S.state source.old).left (S.state source.new).left) (D.state disk.old) (D.state disk.new) }
 
     // The blocks that the archive had and the other files stay, no site grows past the rows that the archive can have, and
     // when the disk is at fault.
-    ensures writes { OnlyWrites D.tells (HasPutRoom ledger.old name.now (S.state source.old).left (S.state source.new).left (D.state disk.old)) (result ≡ Err PutFault.DiskFault) (ChangesArchive ledger.old.shape (limit_when ledger.old.raised) (IsBlockIn ledger.old.shape ledger.old.lattice.n) (IsBesides ledger.old.shape)) (D.state disk.old) (D.state disk.new) }
+    ensures writes { OnlyWrites D.tells (HasWantedRoom ledger.old name.now want (S.state source.old).left (S.state source.new).left (D.state disk.old)) (result ≡ Err PutFault.DiskFault) (ChangesArchive ledger.old.shape (limit_when ledger.old.raised) (IsBlockIn ledger.old.shape ledger.old.lattice.n) (IsBesides ledger.old.shape)) (D.state disk.old) (D.state disk.new) }
     ensures padded { result ≢ Err PutFault.DiskFault → D.tells → KeepsPadded ledger.old.shape (IsBlockIn ledger.old.shape ledger.old.lattice.n) (D.state disk.old).files (D.state disk.new).files }
 
-    // At most one byte past what fits is read, and when the source is at fault.
-    ensures reads { TakesAtMost (S.state source.old).left (S.state source.new).left (room_left ledger.old + 1) }
+    // How many bytes are taken, and when the source is at fault.
+    ensures counted { Counts (S.state source.old).left (S.state source.new).left at.old at.new (most_of want (room_left ledger.old)) }
     ensures source_kept { (S.state source.old).faults ≤ (S.state source.new).faults }
     ensures read_cause { result ≡ Err PutFault.ReadFault → Rose (S.state source.old).faults (S.state source.new).faults }
 
     // No write goes past the gate that ends the new ledger.
-    ensures ledger { IfOk result (λ stored. D.tells → length ((D.state disk.new).files 0) ≤ max (length ((D.state disk.old).files 0)) (next_end ledger.old.end (length name.now) (stored.nodes * (1 + ledger.old.shape.alpha)) + 1)) }
+    ensures ledger { IfOk result (λ kept. IfSome kept (λ stored. D.tells → length ((D.state disk.new).files 0) ≤ max (length ((D.state disk.old).files 0)) (next_end ledger.old.end (length name.now) (stored.nodes * (1 + ledger.old.shape.alpha)) + 1))) }
 {
     ledgers_have_one_reading();
     next_records_more();
@@ -126,7 +150,7 @@ fn put_checked<D: Disk, S: Source>(
     digests_are_counted();
     cells_have_lengths();
     cells_have_parts();
-    let taken = match weave_object(alloc, disk, ledger, source) {
+    let taken = match weave_object(alloc, disk, ledger, source, want, at) {
         Ok(taken) => taken,
         Err(PutFault::DiskFault) => {
             ledger.retire();
@@ -144,6 +168,9 @@ fn put_checked<D: Disk, S: Source>(
         digest,
         digests,
     } = taken;
+    if is_short(want, length) {
+        return Ok(None);
+    }
     match commit_object(
         ledger,
         disk,
@@ -153,11 +180,11 @@ fn put_checked<D: Disk, S: Source>(
         nodes,
         digests.as_slice(),
     ) {
-        Ok(()) => Ok(StoredObject {
+        Ok(()) => Ok(Some(StoredObject {
             nodes,
             length,
             digest,
-        }),
+        })),
         Err(AppendFault::DiskFault) => Err(PutFault::DiskFault),
         Err(AppendFault::NoMemory) => Err(PutFault::NoMemory),
         Err(AppendFault::CatalogFull) => unreachable!(),
@@ -228,7 +255,12 @@ pub fn put<D: Disk, S: Source>(
         Ok(()) => (),
         Err(fault) => return Err(fault),
     }
-    put_checked(alloc, ledger, disk, name, source)
+    let mut count = 0;
+    match put_wanted(alloc, ledger, disk, name, source, None, &mut count) {
+        Ok(Some(stored)) => Ok(stored),
+        Ok(None) => unreachable!(),
+        Err(fault) => Err(fault),
+    }
 }
 
 #[cfg(test)]

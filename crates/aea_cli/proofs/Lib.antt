@@ -12,10 +12,13 @@ pub mod Adding
 pub mod Fencing
 pub mod Upgrading
 pub mod Recording
+pub mod Growing
 pub mod Putting
+pub mod Ingesting
 pub mod Getting
 pub mod Listing
 pub mod Repairing
 pub mod Listed
 pub mod Explaining
 pub mod Verifying
+pub mod Rehearsing

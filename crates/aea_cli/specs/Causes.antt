@@ -1,11 +1,12 @@
 -- Why commands are refused, in the order of refusals.
 use Rattle.std.specs.Prelude.{◌≡◌, ◌<◌, ◌⊎◌, ℕ, Result, Err}
 use Rattle.aea_cli.specs.declared.refusal.Refusal.{Refusal}
-use Rattle.aea_cli.specs.declared.refusal.Refusal.TheVariants.{InputTooLong, BadBlock, NoArchive, LedgerBad, Occupied, BadName, NameTaken, CatalogFull, HeadDamaged, Full, AlreadyFenced, TooManyFences, AlreadyUpgraded, UnknownName, Damaged, NoSuchBlock, BadLine, LineTooLong}
+use Rattle.aea_cli.specs.declared.refusal.Refusal.TheVariants.{InputTooLong, BadBlock, NoArchive, LedgerBad, Occupied, BadName, NameTaken, CatalogFull, HeadDamaged, Full, BadStream, AlreadyFenced, TooManyFences, AlreadyUpgraded, UnknownName, Damaged, NoSuchBlock, BadLine, LineTooLong}
 use Rattle.aea_cli.specs.declared.refusal.Failure.{Failure}
 use Rattle.aea_cli.specs.declared.refusal.Failure.TheVariants as failure
 
--- The place of a refusal in the order of refusals. A report has a bad line or one that is too long, and only one of these.
+-- The place of a refusal in the order of refusals. A report has a bad line or one that is too long, and only one of these;
+-- and the first frame that is not stored is too long for the nodes that are left, or the input ends inside it.
 abbrev pub place_of : Refusal → ℕ
 place_of NoArchive = 0
 place_of (LedgerBad at) = 1
@@ -15,6 +16,7 @@ place_of NameTaken = 4
 place_of CatalogFull = 5
 place_of (HeadDamaged block) = 6
 place_of (Full nodes) = 7
+place_of (BadStream at) = 7
 place_of (AlreadyFenced nodes) = 8
 place_of TooManyFences = 9
 place_of AlreadyUpgraded = 10

@@ -1,5 +1,5 @@
 -- The table of the commands: what each touches, why it is refused, and what a run of it does.
-use Rattle.std.specs.Prelude.{◌≡◌, ◌≢◌, ◌≤◌, ℕ, Bool, List, [], Err, IsSome, unwrap_or}
+use Rattle.std.specs.Prelude.{◌≡◌, ◌≢◌, ◌≤◌, ℕ, Bool, List, [], ◌++◌, length, Err, IsSome, unwrap_or}
 use Rattle.aea_disk.specs.Files.{KeepsFiles}
 use Rattle.aea_disk.specs.State.{KeepsWhere, HasRoom, HasRoomTo}
 use Rattle.aea_lattice.specs.declared.blocks.BlockId.{BlockId}
@@ -9,7 +9,7 @@ use Rattle.aea_records.specs.Format.{Record, nodes_of}
 use Rattle.aea_ledger.specs.Stops.{HasOpening, HasLedger}
 use Rattle.aea_cli.specs.declared.command.Command.{Command}
 use Rattle.aea_cli.specs.declared.command.Command.TheVariants as command
-use Rattle.aea_cli.specs.declared.command.Command.TheVariants.{Drill, Create, Stat, Put, Get, Fence, Upgrade, Scrub, Repair, Explain, Verify}
+use Rattle.aea_cli.specs.declared.command.Command.TheVariants.{Drill, Create, Stat, Put, Ingest, Get, Fence, Upgrade, Scrub, Repair, Explain, Verify, Rehearse}
 use Rattle.aea_cli.specs.declared.refusal.Refusal.{Refusal}
 use Rattle.aea_cli.specs.declared.refusal.Failure.TheVariants as failure
 use Rattle.aea_cli.specs.declared.status.Status.{Status}
@@ -21,12 +21,16 @@ use Rattle.aea_cli.specs.Adding.{FitsRecord}
 use Rattle.aea_cli.specs.Fence.{Fences, FenceCauses, next_fence, fence_line}
 use Rattle.aea_cli.specs.Upgrade.{Upgrades, UpgradeCauses, next_raise, upgraded_line}
 use Rattle.aea_cli.specs.Put.{greatest_sites, Puts, PutCauses, FitsPut, stored_line, object_of}
+use Rattle.aea_cli.specs.Ingest.{Ingests, IngestCauses, FitsIngest, frames_of, stored_lines, end_line}
+use Rattle.aea_archive.specs.Next.{NewObject}
 use Rattle.aea_catalog.specs.Catalogs.{Placed}
 use Rattle.aea_cli.specs.Get.{GetsNamed, GetCauses, HasObject, FitsBytes}
 use Rattle.aea_cli.specs.Listing.{Lists, IsListOf}
 use Rattle.aea_cli.specs.Repair.{Repairs, FitsRepair, IsSiteFile, IsRepairText, HasHonestSurvivors}
 use Rattle.aea_cli.specs.Explain.{ExplainsOrNot, ExplainCauses, IsExplanationText}
 use Rattle.aea_cli.specs.Verify.{Verifies, VerifyCauses, IsVerdictText}
+use Rattle.aea_rehearse.specs.declared.rehearsal.Rehearsal.{Rehearsal}
+use Rattle.aea_cli.specs.Rehearse.{Rehearses, IsRehearsalOf, rehearsal_line}
 use Rattle.aea_cli.specs.Causes.{Refuses}
 use Rattle.aea_cli.specs.Failures.{Answer, NeverClashes}
 use Rattle.aea_cli.specs.Openings.{OpeningCauses}
@@ -40,6 +44,7 @@ ReadsInput (Create shape) = ⊥
 ReadsInput Stat = ⊥
 ReadsInput command.List = ⊥
 ReadsInput (Put name) = Unit {0}
+ReadsInput Ingest = Unit {0}
 ReadsInput (Get name) = ⊥
 ReadsInput Fence = ⊥
 ReadsInput Upgrade = ⊥
@@ -47,6 +52,7 @@ ReadsInput Scrub = ⊥
 ReadsInput Repair = ⊥
 ReadsInput (Explain word) = ⊥
 ReadsInput Verify = Unit {0}
+ReadsInput (Rehearse number nodes permille) = ⊥
 
 -- the command makes calls of the disk
 abbrev pub UsesDisk : Command → Type 0
@@ -55,6 +61,7 @@ UsesDisk (Create shape) = Unit {0}
 UsesDisk Stat = Unit {0}
 UsesDisk command.List = Unit {0}
 UsesDisk (Put name) = Unit {0}
+UsesDisk Ingest = Unit {0}
 UsesDisk (Get name) = Unit {0}
 UsesDisk Fence = Unit {0}
 UsesDisk Upgrade = Unit {0}
@@ -62,6 +69,7 @@ UsesDisk Scrub = Unit {0}
 UsesDisk Repair = Unit {0}
 UsesDisk (Explain word) = Unit {0}
 UsesDisk Verify = Unit {0}
+UsesDisk (Rehearse number nodes permille) = ⊥
 
 -- the command may change the file
 abbrev pub MayChange : Command → ℕ → Type 0
@@ -70,6 +78,7 @@ MayChange (Create shape) file = file ≡ 0
 MayChange Stat file = ⊥
 MayChange command.List file = ⊥
 MayChange (Put name) file = file ≤ greatest_sites
+MayChange Ingest file = file ≤ greatest_sites
 MayChange (Get name) file = ⊥
 MayChange Fence file = file ≡ 0
 MayChange Upgrade file = file ≡ 0
@@ -77,6 +86,7 @@ MayChange Scrub file = ⊥
 MayChange Repair file = IsSiteFile file
 MayChange (Explain word) file = ⊥
 MayChange Verify file = ⊥
+MayChange (Rehearse number nodes permille) file = ⊥
 
 -- it leaves the file
 abbrev pub Keeps : Command → ℕ → Type 0
@@ -86,6 +96,10 @@ Keeps command file = MayChange command file → ⊥
 abbrev pub input_of : World → List ℕ
 input_of w = unwrap_or w.input.left []
 
+-- no refusal has a cause
+abbrev pub NeverRefused : Refusal → Type 0
+NeverRefused why = ⊥
+
 -- why a run of the command in this world is refused
 abbrev pub Causes : Command → World → Refusal → Type 0
 Causes (Drill l) w = DamageCauses l (input_of w)
@@ -93,6 +107,7 @@ Causes (Create shape) w = CreateCauses (w.disk.files 0)
 Causes Stat w = OpeningCauses (w.disk.files 0)
 Causes command.List w = OpeningCauses (w.disk.files 0)
 Causes (Put name) w = PutCauses name w.disk.files (input_of w)
+Causes Ingest w = IngestCauses w.disk.files (input_of w)
 Causes (Get name) w = GetCauses name w.disk.files
 Causes Fence w = FenceCauses (w.disk.files 0)
 Causes Upgrade w = UpgradeCauses (w.disk.files 0)
@@ -100,6 +115,7 @@ Causes Scrub w = OpeningCauses (w.disk.files 0)
 Causes Repair w = OpeningCauses (w.disk.files 0)
 Causes (Explain word) w = ExplainCauses word (w.disk.files 0)
 Causes Verify w = VerifyCauses (w.disk.files 0) (input_of w)
+Causes (Rehearse number nodes permille) w = NeverRefused
 
 -- the disk has room for all that a run of the command writes
 abbrev pub FitsDisk : Command → World → Type 0
@@ -108,6 +124,7 @@ FitsDisk (Create shape) w = HasRoomTo w.disk 0 18
 FitsDisk Stat w = HasRoom w.disk
 FitsDisk command.List w = HasRoom w.disk
 FitsDisk (Put name) w = FitsPut name w.tells w.input.left w.disk
+FitsDisk Ingest w = FitsIngest w.tells w.input.left w.disk
 FitsDisk (Get name) w = HasRoom w.disk
 FitsDisk Fence w = FitsRecord next_fence w.tells w.disk
 FitsDisk Upgrade w = FitsRecord next_raise w.tells w.disk
@@ -115,6 +132,7 @@ FitsDisk Scrub w = HasRoom w.disk
 FitsDisk Repair w = FitsRepair w.tells w.disk
 FitsDisk (Explain word) w = HasRoom w.disk
 FitsDisk Verify w = HasRoom w.disk
+FitsDisk (Rehearse number nodes permille) w = Unit {0}
 
 -- the output has room for all that a run of the command prints
 abbrev pub FitsOutput : Command → World → Type 0
@@ -123,6 +141,7 @@ FitsOutput (Create shape) w = FitsText w.out (created_line shape)
 FitsOutput Stat w = (text : List ℕ) → IsStatOf (w.disk.files 0) text → FitsText w.out text
 FitsOutput command.List w = (text : List ℕ) → IsListOf (w.disk.files 0) text → FitsText w.out text
 FitsOutput (Put name) w = (shape : Shape) (records : List Record) → HasLedger shape records (w.disk.files 0) → FitsText w.out (stored_line shape (object_of name (input_of w)))
+FitsOutput Ingest w = (shape : Shape) (records : List Record) (objects : List NewObject) (rest : List ℕ) → HasLedger shape records (w.disk.files 0) → input_of w ≡ frames_of objects ++ rest → FitsText w.out (stored_lines shape objects ++ end_line (length objects))
 FitsOutput (Get name) w = (shape : Shape) (records : List Record) (p : Placed) → HasObject w.disk.files name shape records p → FitsBytes w.out p.object.length
 FitsOutput Fence w = (shape : Shape) (records : List Record) → HasLedger shape records (w.disk.files 0) → FitsText w.out (fence_line (nodes_of records))
 FitsOutput Upgrade w = FitsText w.out upgraded_line
@@ -130,6 +149,7 @@ FitsOutput Scrub w = (l : Lattice) (intact : BlockId → Bool) → TellsIntact w
 FitsOutput Repair w = (text : List ℕ) → IsRepairText w.disk.files text → FitsText w.out text
 FitsOutput (Explain word) w = (text : List ℕ) → IsExplanationText w.disk.files word text → FitsText w.out text
 FitsOutput Verify w = (text : List ℕ) → IsVerdictText w.disk.files (input_of w) text → FitsText w.out text
+FitsOutput (Rehearse number nodes permille) w = (r : Rehearsal) → IsRehearsalOf number nodes permille r → FitsText w.out (rehearsal_line nodes r)
 
 -- what a run of the command did
 abbrev pub Does : Command → World → World → Answer → Type 0
@@ -138,6 +158,7 @@ Does (Create shape) old new answer = Creates shape old.tells old.disk new.disk o
 Does Stat old new answer = Stats old.tells old.disk new.disk old.out new.out answer
 Does command.List old new answer = Lists old.tells old.disk new.disk old.out new.out answer
 Does (Put name) old new answer = Puts name old.tells old.disk new.disk old.input.left new.input.left old.out new.out answer
+Does Ingest old new answer = Ingests old.tells old.disk new.disk old.input.left new.input.left old.out new.out answer
 Does (Get name) old new answer = GetsNamed name old.tells old.disk new.disk old.out new.out answer
 Does Fence old new answer = Fences old.tells old.disk new.disk old.out new.out answer
 Does Upgrade old new answer = Upgrades old.tells old.disk new.disk old.out new.out answer
@@ -145,12 +166,18 @@ Does Scrub old new answer = Scrubs old.tells old.disk new.disk old.out new.out a
 Does Repair old new answer = Repairs old.tells old.disk new.disk old.out new.out answer
 Does (Explain word) old new answer = ExplainsOrNot word old.tells old.disk new.disk old.out new.out answer
 Does Verify old new answer = Verifies old.tells old.disk new.disk old.input new.input old.out new.out answer
+Does (Rehearse number nodes permille) old new answer = Rehearses number nodes permille old.out new.out answer
 
 -- where the intact blocks are honest no digests clash: of a repair for some data list that the ledger records, and no other
 -- command compares digests that it computes
 abbrev pub IsHonest : Command → World → Type 0
 IsHonest Repair w = HasHonestSurvivors w.disk.files
 IsHonest command w = Unit {0}
+
+-- a run of the command prints before it has met all that may stand against it: where the output fails first, it ends by that
+abbrev pub PrintsEarly : Command → Type 0
+PrintsEarly Ingest = Unit {0}
+PrintsEarly command = ⊥
 
 -- what the command uses of the disk and of the input tells its contents
 pub record IsTold (command : Command) (w : World) : Type 0 where
@@ -162,7 +189,7 @@ pub record Runs (command : Command) (old new : World) (answer : Answer) : Type 0
   -- what it did
   pub does : Does command old new answer
   -- when it is refused
-  pub refuses : Refuses (IsTold command old) (Causes command old) answer
+  pub refuses : (PrintsEarly command → answer ≢ Err failure.Output) → Refuses (IsTold command old) (Causes command old) answer
   -- it does not fail where there is room
   pub disk_fits : FitsDisk command old → answer ≢ Err failure.Disk
   pub output_fits : IsTold command old → FitsOutput command old → answer ≢ Err failure.Output

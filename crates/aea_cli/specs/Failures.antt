@@ -11,6 +11,8 @@ use Rattle.aea_ledger.specs.declared.raise.UpgradeFault.{UpgradeFault}
 use Rattle.aea_ledger.specs.declared.raise.UpgradeFault.TheVariants as upgrade
 use Rattle.aea_append.specs.declared.fault.PutFault.{PutFault}
 use Rattle.aea_append.specs.declared.fault.PutFault.TheVariants as put
+use Rattle.aea_append.specs.declared.ingest.IngestFault.{IngestFault}
+use Rattle.aea_append.specs.declared.ingest.IngestFault.TheVariants as ingest
 use Rattle.aea_fetch.specs.declared.fault.GetFault.{GetFault}
 use Rattle.aea_fetch.specs.declared.fault.GetFault.TheVariants as get
 use Rattle.aea_explain.specs.declared.explaining.ExplainFault.{ExplainFault}
@@ -85,6 +87,18 @@ put_failure (put.Full nodes) = failure.Refused (refusal.Full nodes)
 put_failure put.ReadFault = failure.Input
 put_failure put.DiskFault = failure.Disk
 put_failure put.NoMemory = failure.Memory
+
+-- the failure where no frame was stored
+abbrev pub ingest_failure : IngestFault → Failure
+ingest_failure ingest.BadName = failure.Refused refusal.BadName
+ingest_failure ingest.NameTaken = failure.Refused refusal.NameTaken
+ingest_failure ingest.CatalogFull = failure.Refused refusal.CatalogFull
+ingest_failure (ingest.HeadDamaged block) = failure.Refused (refusal.HeadDamaged block)
+ingest_failure (ingest.Full nodes) = failure.Refused (refusal.Full nodes)
+ingest_failure (ingest.BadStream at) = failure.Refused (refusal.BadStream at)
+ingest_failure ingest.ReadFault = failure.Input
+ingest_failure ingest.DiskFault = failure.Disk
+ingest_failure ingest.NoMemory = failure.Memory
 
 -- the failure where no object was got
 abbrev pub get_failure : GetFault → Failure

@@ -1,5 +1,5 @@
 -- What a command leaves that stores objects: behind its opening the archive grows by the records of these objects.
-use Rattle.std.specs.Prelude.{◌≢◌, ◌⊎◌, ◌≤◌, ℕ, List, [], ◌++◌}
+use Rattle.std.specs.Prelude.{◌≢◌, ◌⊎◌, ◌≤◌, ℕ, List, [], ◌++◌, All}
 use Rattle.std.specs.List.{flat_map}
 use Rattle.aea_lattice.specs.declared.blocks.BlockId.{BlockId}
 use Rattle.aea_lattice.specs.declared.grid.Lattice.{Lattice}
@@ -8,13 +8,15 @@ use Rattle.aea_disk.specs.Files.{Files}
 use Rattle.aea_disk.specs.State.{State, During, KeepsImages, IsSynced}
 use Rattle.aea_records.specs.Format.{Record, nodes_of, fences_of, digests_of, limit_of}
 use Rattle.aea_records.specs.Grammar.{AreRecords}
+use Rattle.aea_records.specs.TableLaws.{AreBytes}
 use Rattle.aea_ledger.specs.Recorded.{IsLatticeOf, AreRecordsOf}
 use Rattle.aea_archive.specs.Blocks.{IsBlockIn}
-use Rattle.aea_archive.specs.Cells.{IsBesides, ChangesArchive}
+use Rattle.aea_archive.specs.Cells.{IsBesides, ChangesArchive, AreAtHome}
 use Rattle.aea_archive.specs.Data.{AreSurvivorsHonest, IsDamagePlain, RecordsMore}
-use Rattle.aea_archive.specs.Lasts.{AreLastsAtHome, AreLastsHonest}
+use Rattle.aea_archive.specs.Lasts.{AreLastsRecorded, AreLastsAtHome, AreLastsHonest}
 use Rattle.aea_archive.specs.Next.{NewObject, object_blocks, AreNextRecords}
 use Rattle.aea_archive.specs.Stretches.{Adds, HasAdded}
+use Rattle.aea_append.specs.Puts.{AreLastsWide, AreBlocksWide}
 
 -- Of a run that begins with a sync: the disk as it stands at a moment of it at which this has succeeded.
 abbrev pub opened_at : State → State → ℕ → State
@@ -51,6 +53,8 @@ pub record Grows (shape : Shape) (records : List Record) (objects : List NewObje
   pub longer : Lattice
   pub payload : BlockId → List ℕ
   pub homes : objects ≢ [] → AreLastsAtHome shape lattice payload old.files
+  pub lasts_wide : objects ≢ [] → AreLastsWide shape lattice payload
+  pub bytes : All (λ o. AreBytes o.bytes) objects
   pub added : List Record
   pub next : AreNextRecords shape lattice longer payload objects added
   -- every image of every moment has the first of the new records, what all have stays, and of what some has the blocks
@@ -70,6 +74,11 @@ pub record Grows (shape : Shape) (records : List Record) (objects : List NewObje
 pub record HasGrown (shape : Shape) (records : List Record) (objects : List NewObject) (old new : State) : Type 0 where
   pub grows : Grows shape records objects old new
   pub all : HasAdded shape records grows.added new
+  -- the payloads of the last parities, as they stood, are those of the recorded digests; and those of the new blocks stand
+  -- in their cells, as the disk reads
+  pub lasts : objects ≢ [] → AreLastsRecorded shape grows.lattice (digests_of records) grows.payload
+  pub wide : AreBlocksWide shape grows.lattice.n grows.longer.n grows.payload
+  pub cells : AreAtHome shape grows.lattice.n grows.longer.n grows.payload new.files
   pub honest : (datas : List (List ℕ)) → AreRecordsOf shape records datas
       → AreSurvivorsHonest shape grows.lattice (digests_of records) datas old.files → IsDamagePlain shape grows.lattice (digests_of records) old.files
       → AreSurvivorsHonest shape grows.longer (digests_of (records ++ grows.added)) (datas ++ blocks_of_objects shape objects) new.files

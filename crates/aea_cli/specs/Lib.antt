@@ -16,11 +16,13 @@ pub mod Fence
 pub mod Upgrade
 pub mod Growing
 pub mod Put
+pub mod Ingest
 pub mod Get
 pub mod Listing
 pub mod Repair
 pub mod Explain
 pub mod Verify
+pub mod Rehearse
 pub mod Does
 pub mod Ends
 pub mod Surely

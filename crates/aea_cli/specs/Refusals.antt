@@ -4,7 +4,7 @@ use Rattle.hex.specs.Hex.{encode_lower}
 use Rattle.aea_lattice.specs.declared.blocks.BlockId.{BlockId}
 use Rattle.aea_lattice.specs.Texts.{text_of}
 use Rattle.aea_cli.specs.declared.refusal.Refusal.{Refusal}
-use Rattle.aea_cli.specs.declared.refusal.Refusal.TheVariants.{InputTooLong, BadBlock, NoArchive, LedgerBad, Occupied, BadName, NameTaken, CatalogFull, HeadDamaged, Full, AlreadyFenced, TooManyFences, AlreadyUpgraded, UnknownName, Damaged, NoSuchBlock, BadLine, LineTooLong}
+use Rattle.aea_cli.specs.declared.refusal.Refusal.TheVariants.{InputTooLong, BadBlock, NoArchive, LedgerBad, Occupied, BadName, NameTaken, CatalogFull, HeadDamaged, Full, BadStream, AlreadyFenced, TooManyFences, AlreadyUpgraded, UnknownName, Damaged, NoSuchBlock, BadLine, LineTooLong}
 use Rattle.aea_cli.specs.Lines.{newline}
 
 -- of a refusal
@@ -19,6 +19,7 @@ refusal_line NameTaken = codes "refused: name taken" ++ newline
 refusal_line CatalogFull = codes "refused: catalog full" ++ newline
 refusal_line (HeadDamaged block) = codes "refused: head damaged " ++ text_of block ++ newline
 refusal_line (Full nodes) = codes "refused: full at " ++ decimal nodes ++ codes " nodes\n"
+refusal_line (BadStream at) = codes "refused: bad stream at " ++ decimal at ++ newline
 refusal_line (AlreadyFenced nodes) = codes "refused: already fenced at " ++ decimal nodes ++ newline
 refusal_line TooManyFences = codes "refused: too many fences" ++ newline
 refusal_line AlreadyUpgraded = codes "refused: already upgraded" ++ newline

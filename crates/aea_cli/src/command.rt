@@ -5,6 +5,7 @@ ghost use Rattle.aea_cli.specs.Words.{Means, AreNoPlain, AreNoCommand, HaveName,
 
 use crate::create::parse_create;
 use crate::drill::parse_drill;
+use crate::rehearse::parse_rehearse;
 use crate::words::{is_word, kept, word_behind};
 use aea_catalog::NameText;
 use aea_lattice::{Lattice, Shape};
@@ -14,17 +15,27 @@ use std::alloc::{AllocError, Global};
 #[derive(Drop)]
 pub enum Command {
     /// Plans the repair of a damage list, over no archive.
-    Drill { lattice: Lattice },
+    Drill {
+        lattice: Lattice,
+    },
     /// Makes an archive.
-    Create { shape: Shape },
+    Create {
+        shape: Shape,
+    },
     /// Prints what stands in the archive.
     Stat,
     /// Prints the objects of the archive.
     List,
     /// Stores the input as an object under the name.
-    Put { name: NameText },
+    Put {
+        name: NameText,
+    },
+    /// Stores the input, a stream of frames, as objects under the names in it.
+    Ingest,
     /// Writes the object under the name.
-    Get { name: NameText },
+    Get {
+        name: NameText,
+    },
     /// Adds a fence behind the last node of the archive.
     Fence,
     /// Raises the archive's limit on nodes.
@@ -34,9 +45,18 @@ pub enum Command {
     /// Restores the damaged blocks of the archive that the others determine, and prints the loss report.
     Repair,
     /// Prints how the other intact blocks determine the block with this text, or why they do not.
-    Explain { block: NameText },
+    Explain {
+        block: NameText,
+    },
     /// Judges the input, a loss report, against the archive as it is.
     Verify,
+    /// Makes an archive in memory from a number, damages so many blocks in a thousand, repairs it, and prints how many of each
+    /// fate there were.
+    Rehearse {
+        number: u64,
+        nodes: u32,
+        permille: u32,
+    },
 }
 
 // The command of one word alone, if the words are one.
@@ -49,6 +69,9 @@ fn plain_command(words: &[String]) -> Option<Command>
     }
     if is_word(words, "list") {
         return Some(Command::List);
+    }
+    if is_word(words, "ingest") {
+        return Some(Command::Ingest);
     }
     if is_word(words, "fence") {
         return Some(Command::Fence);
@@ -101,6 +124,9 @@ fn command_of(alloc: Global, words: &[String]) -> Result<Option<Command>, AllocE
     if let Some(shape) = parse_create(words) {
         return Ok(Some(Command::Create { shape }));
     }
+    if let Some(command) = parse_rehearse(words) {
+        return Ok(Some(command));
+    }
     if let Some(command) = named_command(alloc, words)? {
         return Ok(Some(command));
     }
@@ -108,9 +134,9 @@ fn command_of(alloc: Global, words: &[String]) -> Result<Option<Command>, AllocE
 }
 
 /// The command that the words mean, None where they mean none: `drill A S P N` with the numbers of a lattice,
-/// `create A S P B M` with those of the shape of an archive, `stat`, `list`, `put NAME`, `get NAME`, `fence`, `upgrade`,
-/// `scrub`, `repair`, `explain BLOCK` and `verify`, each number in decimal without sign and leading zeros. It takes memory
-/// for a name or the text of a block alone.
+/// `create A S P B M` with those of the shape of an archive, `stat`, `list`, `put NAME`, `ingest`, `get NAME`, `fence`, `upgrade`,
+/// `scrub`, `repair`, `explain BLOCK`, `verify`, and `rehearse NUMBER NODES PERMILLE` with at most 2,000 nodes and 1,000 in a
+/// thousand, each number in decimal without sign and leading zeros. It takes memory for a name or the text of a block alone.
 pub fn parse_words(alloc: Global, words: &[String]) -> Result<Option<Command>, AllocError>
     ensures found { IfOk result (λ answer. IfSome answer (Means (map string_bytes words.now))) }
     ensures none { IfOk result (λ answer. IfNone answer (AreNoCommand (map string_bytes words.now))) }

@@ -8,7 +8,7 @@ ghost use Rattle.aea_cli.specs.declared.command.Command.{Command};
 ghost use Rattle.aea_cli.specs.Does.{ReadsInput, UsesDisk, Runs};
 ghost use Rattle.aea_cli.specs.Ends.{IsSound, Ends};
 ghost use Rattle.aea_cli.specs.Failures.{IsWell};
-ghost use Rattle.aea_cli.specs.Words.{AreNoCommand, Means};
+ghost use Rattle.aea_cli.specs.Words.{AreNoCommand, IsSane, Means};
 ghost use Rattle.aea_cli.specs.Worlds.{world};
 
 use crate::command::{Command, parse_words};
@@ -17,9 +17,11 @@ use crate::drill::drill;
 use crate::explain::explain_word;
 use crate::fence::fence;
 use crate::get::get_object;
+use crate::ingest::ingest;
 use crate::list::list;
 use crate::put::put_input;
 use crate::refusal::Failure;
+use crate::rehearse::rehearse_line;
 use crate::repair::repair_archive;
 use crate::report::report;
 use crate::scrub::scrub;
@@ -40,6 +42,7 @@ fn carry_out<D: Disk, S: Source, O: Sink>(
     input: &mut S,
     out: &mut O,
 ) -> Result<Status, Failure>
+    requires { IsSane command.now }
     ensures runs { Runs command.now
         (world D.tells (D.state disk.old) (S.state input.old) (O.state out.old))
         (world D.tells (D.state disk.new) (S.state input.new) (O.state out.new)) result }
@@ -57,6 +60,7 @@ fn carry_out<D: Disk, S: Source, O: Sink>(
         Command::Stat => stat(alloc, disk, out),
         Command::List => list(alloc, disk, out),
         Command::Put { name } => put_input(alloc, name.bytes(), disk, input, out),
+        Command::Ingest => ingest(alloc, disk, input, out),
         Command::Get { name } => get_object(alloc, name.bytes(), disk, out),
         Command::Fence => fence(alloc, disk, out),
         Command::Upgrade => upgrade(alloc, disk, out),
@@ -64,6 +68,11 @@ fn carry_out<D: Disk, S: Source, O: Sink>(
         Command::Repair => repair_archive(alloc, disk, out),
         Command::Explain { block } => explain_word(alloc, block.bytes(), disk, out),
         Command::Verify => verify_report(alloc, disk, input, out),
+        Command::Rehearse {
+            number,
+            nodes,
+            permille,
+        } => rehearse_line(alloc, *number, *nodes, *permille, out),
     }
 }
 

@@ -2,12 +2,13 @@
 
 ghost use Rattle.std.specs.Prelude.{◌≡◌};
 
-use aea_append::PutFault;
+use aea_append::{IngestFault, PutFault};
 use aea_explain::ExplainFault;
 use aea_fetch::GetFault;
 use aea_io::WriteFault;
 use aea_lattice::BlockId;
 use aea_ledger::{CreateFault, FenceFault, OpenFault, UpgradeFault};
+use aea_rehearse::NoMemory;
 use aea_repair::RepairFault;
 use aea_verify::VerifyFault;
 use std::alloc::AllocError;
@@ -35,6 +36,8 @@ pub enum Refusal {
     HeadDamaged { block: BlockId },
     /// The object takes more nodes than are left. The number of nodes that are there.
     Full { nodes: u32 },
+    /// The input ends inside a frame, after so many bytes.
+    BadStream { at: u64 },
     /// There is no node behind the last fence of the archive. The number of nodes.
     AlreadyFenced { nodes: u32 },
     /// The archive has 16 fences, the most that there may be.
@@ -137,6 +140,38 @@ impl From<PutFault> for Failure {
             PutFault::ReadFault => Failure::Input,
             PutFault::DiskFault => Failure::Disk,
             PutFault::NoMemory => Failure::Memory,
+        }
+    }
+}
+
+impl From<IngestFault> for Failure {
+    ghost use Rattle.aea_cli.specs.Failures.{ingest_failure};
+
+    ghost from_gives = { λ fault failure. failure ≡ ingest_failure fault };
+
+    fn from(fault: IngestFault) -> Failure {
+        match fault {
+            IngestFault::BadName => Failure::Refused {
+                why: Refusal::BadName,
+            },
+            IngestFault::NameTaken => Failure::Refused {
+                why: Refusal::NameTaken,
+            },
+            IngestFault::CatalogFull => Failure::Refused {
+                why: Refusal::CatalogFull,
+            },
+            IngestFault::HeadDamaged { block } => Failure::Refused {
+                why: Refusal::HeadDamaged { block },
+            },
+            IngestFault::Full { nodes } => Failure::Refused {
+                why: Refusal::Full { nodes },
+            },
+            IngestFault::BadStream { at } => Failure::Refused {
+                why: Refusal::BadStream { at },
+            },
+            IngestFault::ReadFault => Failure::Input,
+            IngestFault::DiskFault => Failure::Disk,
+            IngestFault::NoMemory => Failure::Memory,
         }
     }
 }
@@ -257,6 +292,16 @@ impl From<WriteFault> for Failure {
 
     fn from(_fault: WriteFault) -> Failure {
         Failure::Output
+    }
+}
+
+impl From<NoMemory> for Failure {
+    ghost use Rattle.aea_cli.specs.declared.refusal.Failure.TheVariants.{Memory};
+
+    ghost from_gives = { λ _ failure. failure ≡ Memory };
+
+    fn from(_fault: NoMemory) -> Failure {
+        Failure::Memory
     }
 }
 

@@ -110,6 +110,10 @@ fn print_refusal<E: Sink>(err: &mut E, page: &mut Page, why: Refusal) -> Result<
             print_number(err, page, b"refused: full at ", u64::from(nodes))?;
             print(err, page, b" nodes\n")
         }
+        Refusal::BadStream { at } => {
+            print_number(err, page, b"refused: bad stream at ", at)?;
+            print(err, page, b"\n")
+        }
         Refusal::AlreadyFenced { nodes } => {
             print_number(err, page, b"refused: already fenced at ", u64::from(nodes))?;
             print(err, page, b"\n")

@@ -5,7 +5,7 @@ ghost use Rattle.aea_io.specs.Sure.{sure_sink_state};
 ghost use Rattle.aea_cli.specs.declared.command.Command.{Command};
 ghost use Rattle.aea_cli.specs.declared.refusal.Refusal.{Refusal};
 ghost use Rattle.aea_cli.specs.Causes.{IsFirst};
-ghost use Rattle.aea_cli.specs.Does.{Causes, FitsDisk, FitsOutput, IsHonest};
+ghost use Rattle.aea_cli.specs.Does.{Causes, PrintsEarly, FitsDisk, FitsOutput, IsHonest};
 ghost use Rattle.aea_cli.specs.Ends.{Ends};
 ghost use Rattle.aea_cli.specs.Failures.{IsWell};
 ghost use Rattle.aea_cli.specs.Surely.{sure_world};
@@ -38,6 +38,7 @@ pub fn run_surely(
     ensures refusal { (command : Command) (why : Refusal) → Means (map string_bytes words.now) command
         → IsFirst (Causes command (sure_world disk.old input.old.rest.now out.old)) why
         → FitsDisk command (sure_world disk.old input.old.rest.now out.old)
+        → (PrintsEarly command → FitsOutput command (sure_world disk.old input.old.rest.now out.old))
         → (result ≡ Status.Refused) ⊎ (result ≡ Status.Memory) }
 
     // Nothing fails but for want of room.

@@ -230,6 +230,18 @@ fn a_full_catalogue_takes_no_object(rt: HostRuntime) -> Result<(), Fail> {
         assert_eq!(rt; text_of(left.err.bytes())?, line);
         assert_eq!(rt; (left.status, left.unread), (Status::Refused, 1));
     }
+    // of a stream of frames none is stored, though its object has no byte
+    for (frame, line) in [
+        (
+            b"\0\x04more\0\0\0\0\0\0\0\0".as_slice(),
+            "refused: catalog full\n",
+        ),
+        (b"\0\x05aaaaz\0\0\0\0\0\0\0\0", "refused: name taken\n"),
+    ] {
+        let left = run_words(alloc, &["ingest"], &mut disk, frame, 99)?;
+        assert_eq!(rt; text_of(left.err.bytes())?, line);
+        assert_eq!(rt; (left.status, left.unread), (Status::Refused, 0));
+    }
     Ok(())
 }
 
@@ -298,7 +310,7 @@ fn a_bad_ledger_takes_no_object(rt: HostRuntime) -> Result<(), Fail> {
             assert!(rt; left.out.bytes().is_empty() && left.unread == 1, "{end} {place}");
             assert!(rt; snapshot(alloc, &mut disk)? == before, "{end} {place}");
         }
-        for other in ["get a", "get z", "list", "stat", "scrub", "fence", "upgrade"] {
+        for other in ["get a", "get z", "list", "stat", "scrub", "fence", "upgrade", "ingest"] {
             let left = run_over(alloc, other, &mut disk, 99)?;
             assert_eq!(rt; left.status, Status::Refused, "{other} {end} {place}");
             assert_eq!(rt; text_of(left.err.bytes())?, line, "{other} {end} {place}");

@@ -74,7 +74,7 @@ fn drills_print_the_outcome(rt: HostRuntime) -> Result<(), Fail> {
 }
 
 // Lines whose words are no command.
-const NO_COMMANDS: [&str; 53] = [
+const NO_COMMANDS: [&str; 73] = [
     "drill 2 3 2 5",
     "drill 2 1 4 5",
     "drill 1 1 0 65537",
@@ -128,6 +128,26 @@ const NO_COMMANDS: [&str; 53] = [
     "explain d1 d2",
     "Explain d1",
     "explains d1",
+    "ingest a",
+    "Ingest",
+    "ingests",
+    "rehearse",
+    "rehearse 7",
+    "rehearse 7 3",
+    "rehearse 7 3 0 0",
+    "rehearse 07 3 0",
+    "rehearse 7 03 0",
+    "rehearse 7 3 00",
+    "rehearse +7 3 0",
+    "rehearse -7 3 0",
+    "rehearse 7 0 0",
+    "rehearse 7 2001 0",
+    "rehearse 7 4294967299 0",
+    "rehearse 7 3 1001",
+    "rehearse 7 3 4294967296",
+    "rehearse 18446744073709551616 3 0",
+    "Rehearse 7 3 0",
+    "rehearses 7 3 0",
 ];
 
 #[test]

@@ -57,6 +57,10 @@ const DRILL: &str = "drill 1 1 0 3";
 const TEXT: &str =
     "aea-report 1\nlattice 1 1 0 3\nledger none\ncounts 2 2 0 0\npeeled d1\npeeled h1\n";
 
+const REHEARSE: &str = "rehearse 7 1 1000";
+
+const LOST: &str = "nodes 1 blocks 4 damaged 4 peeled 0 solved 0 lost 4 accepted\n";
+
 #[rattlefmt::skip]
 #[test]
 fn faults_give_their_statuses(rt: HostRuntime) -> Result<(), Fail> {
@@ -84,6 +88,12 @@ fn faults_give_their_statuses(rt: HostRuntime) -> Result<(), Fail> {
         ("verify", Faults { read: 1, out_call: 1, ..NONE }, Status::Refused, "", "refused: no archive\n"),
         ("explain", Faults { read: 1, out_call: 1, ..NONE }, Status::Words, "", "words: no such command\n"),
         ("explain d1", Faults { read: 1, out_call: 1, ..NONE }, Status::Refused, "", "refused: no archive\n"),
+        ("ingest", Faults { read: 1, out_call: 1, ..NONE }, Status::Refused, "", "refused: no archive\n"),
+        ("rehearse 7 0 0", Faults { read: 1, out_call: 1, ..NONE }, Status::Words, "", "words: no such command\n"),
+        (REHEARSE, Faults { read: 1, ..NONE }, Status::Damage, LOST, ""),
+        (REHEARSE, Faults { out_call: 1, ..NONE }, Status::Output, "", "fault: output\n"),
+        (REHEARSE, Faults { out_call: 2, ..NONE }, Status::Output, LOST, "fault: output\n"),
+        (REHEARSE, Faults { out_room: 7, ..NONE }, Status::Output, "nodes 1", "fault: output\n"),
     ] {
         let left = run_failing(rt.alloc(), line, b"d1\nh1\n", faults)?;
         assert_eq!(rt; left.status, status, "{line} {faults:?}");

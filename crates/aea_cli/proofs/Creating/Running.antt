@@ -23,7 +23,7 @@ pub create_runs : (shape : Shape) (tells : Type 0) (old new : State) (input : So
     → Runs (Create shape) (world tells old input before) (world tells new input after) answer
 create_runs shape tells old new input before after answer creates refuses writes honest = record {
   does = creates;
-  refuses = refuses_told _ _ _ _ (λ told. told.disk tt) refuses;
+  refuses = λ early. refuses_told _ _ _ _ (λ told. told.disk tt) refuses;
   disk_fits = λ room. (creates.in_room room).0;
   output_fits = λ told fits. (creates.prints.in_room fits.room fits.told fits.enough).0;
   honest = λ told is. honest;

@@ -23,7 +23,7 @@ pub drill_runs : (l : Lattice) (tells : Type 0) (disk : State) (old new : Source
     → Runs (Drill l) (world tells disk old before) (world tells disk new after) answer
 drill_runs l tells disk old new before after answer drills refuses never honest = record {
   does = drills;
-  refuses = refuses_told _ _ _ _ (λ told. told.input tt) refuses;
+  refuses = λ early. refuses_told _ _ _ _ (λ told. told.input tt) refuses;
   disk_fits = λ fits. never;
   output_fits = λ told fits e.
       let is = told_is old.left (told.input tt) in

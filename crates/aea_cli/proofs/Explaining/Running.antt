@@ -61,7 +61,7 @@ explain_runs reading word tells old new input before after answer explains refus
     let opens = explains.opens in
     record {
       does = inr explains;
-      refuses = refuses_told _ _ _ _ (λ told. told.disk tt) refuses;
+      refuses = λ early. refuses_told _ _ _ _ (λ told. told.disk tt) refuses;
       disk_fits = λ room. (explains.reads.sure room).0;
       output_fits = λ told fits. explain_fits reading word tells old.files before after answer explains.opening (told.disk tt) opens.this_one opens.kinds explains.unopened explains.explains fits;
       honest = λ told is. honest;
@@ -73,7 +73,7 @@ explain_runs reading word tells old new input before after answer explains refus
 pub unworded_runs : (word : List ℕ) (tells : Type 0) (s : State) (input : SourceState) (out : SinkState) → Runs (Explain word) (world tells s input out) (world tells s input out) (Err failure.Memory)
 unworded_runs word tells s input out = record {
   does = inl (record { is = refl; images = images_same s; files = refl; disk = refl; out = refl });
-  refuses = refuses_stopped _ _ (Err failure.Memory) (inr (inr refl));
+  refuses = λ early. refuses_stopped _ _ (Err failure.Memory) (inr (inr refl));
   disk_fits = λ room e. let h : (let answer : Answer = Err failure.Memory in answer ≡ Err failure.Disk) = e in cc;
   output_fits = λ told fits e. let h : (let answer : Answer = Err failure.Memory in answer ≡ Err failure.Output) = e in cc;
   honest = λ told is b recorded computed e. let h : (let answer : Answer = Err failure.Memory in answer ≡ Err (failure.Clash b recorded computed)) = e in cc;

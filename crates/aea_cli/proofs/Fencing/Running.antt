@@ -48,7 +48,7 @@ pub fence_runs : (tells : Type 0) (old new : State) (input : SourceState) (befor
     → Runs Fence (world tells old input before) (world tells new input after) answer
 fence_runs tells old new input before after answer fences refuses rest honest = record {
   does = fences;
-  refuses = refuses_told _ _ _ _ (λ told. told.disk tt) refuses;
+  refuses = λ early. refuses_told _ _ _ _ (λ told. told.disk tt) refuses;
   disk_fits = λ fits. (fences.adds.in_room fits).0;
   output_fits = λ told fits e.
       let stands = fences.adds.stands (inr e) (told.disk tt) in

@@ -1,6 +1,7 @@
 -- A stretch behind the opening, as a part of the whole run.
 use Rattle.std.proofs.Common.{◌≡◌, ℕ, List, [], ◌++◌, sym, ◌∙◌, ap, subst, arith, Ok, inr, refl, ◌∷◌}
 use Rattle.std.proofs.lemmas.List.{append-nil}
+use Rattle.std.proofs.lemmas.List.Elements.{All-cons}
 use Rattle.aea_lattice.specs.declared.blocks.BlockId.{BlockId}
 use Rattle.aea_lattice.specs.declared.grid.Lattice.{Lattice}
 use Rattle.aea_lattice.specs.declared.shape.Shape.{Shape}
@@ -27,7 +28,8 @@ use Rattle.aea_cli.specs.Openings.{Opens}
 use Rattle.aea_cli.proofs.Adding.{its_records}
 use Rattle.aea_cli.proofs.OpeningCases.{opened_then}
 use Rattle.aea_cli.proofs.Stating.{opened_never}
-use Rattle.aea_archive.specs.Lasts.{AreLastsAtHome, AreLastsHonest}
+use Rattle.aea_records.specs.TableLaws.{AreBytes}
+use Rattle.aea_archive.specs.Lasts.{AreLastsRecorded, AreLastsAtHome, AreLastsHonest}
 use Rattle.aea_append.specs.declared.store.StoredObject.{StoredObject}
 use Rattle.aea_cli.specs.declared.refusal.Failure.TheVariants as failure
 
@@ -119,6 +121,8 @@ module _ (tells : Type 0) (v : Opened) (old mid new : State) (opens : Opens tell
           longer = v.lattice;
           payload = λ b. [];
           homes = λ some. absurd (some refl);
+          lasts_wide = λ some. absurd (some refl);
+          bytes = λ k d inside. absurd (omega (arith, inside));
           added = [];
           next = refl;
           adds = adds_at v.shape one.records [] (λ b. []) old mid new
@@ -138,6 +142,8 @@ module _ (tells : Type 0) (v : Opened) (old mid new : State) (opens : Opens tell
       longer = may.lattice;
       payload = may.payload;
       homes = λ some. subst (λ (c : Files). AreLastsAtHome v.shape v.lattice may.payload c) (opens.reads.contents told) (may.homes some);
+      lasts_wide = may.lasts_wide;
+      bytes = may.bytes;
       added = may.added;
       next = may.next;
       adds = adds_at v.shape one.records may.added may.payload old mid new (may.adds one.records (its_records tells old mid v opens told one));
@@ -163,6 +169,8 @@ module _ (tells : Type 0) (v : Opened) (old mid new : State) (opens : Opens tell
             longer = w.lattice;
             payload = has.payload;
             homes = λ some. subst (λ (c : Files). AreLastsAtHome v.shape v.lattice has.payload c) same_files (has.homes told);
+            lasts_wide = λ some. has.lasts_wide;
+            bytes = All-cons (λ q. AreBytes q.bytes) o [] has.bytes (λ k d inside. absurd (omega (arith, inside)));
             added = Object has.r ∷ [];
             next = (w.lattice, has.r, refl, has.next, refl);
             adds = adds_at v.shape one.records (Object has.r ∷ []) has.payload old mid new (has.adds told one.records its);
@@ -174,6 +182,9 @@ module _ (tells : Type 0) (v : Opened) (old mid new : State) (opens : Opens tell
                 (subst (λ (c : Files). AreLastsHonest v.shape v.lattice v.digests datas c) (sym same_files) (subst (λ (ds : List (List ℕ)). AreLastsHonest v.shape v.lattice ds datas old.files) (sym one.has.digests) honest)));
           };
           all = has.added told one.records its;
+          lasts = λ some. subst (λ (ds : List (List ℕ)). AreLastsRecorded v.shape v.lattice ds has.payload) one.has.digests has.lasts;
+          wide = has.wide;
+          cells = has.cells told;
           honest = λ datas recorded honest plain.
               let early : AreSurvivorsHonest v.shape v.lattice v.digests datas mid.files =
               subst (λ (c : Files). AreSurvivorsHonest v.shape v.lattice v.digests datas c) (sym same_files) (subst (λ (ds : List (List ℕ)). AreSurvivorsHonest v.shape v.lattice ds datas old.files) (sym one.has.digests) honest) in

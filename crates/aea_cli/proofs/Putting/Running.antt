@@ -37,7 +37,7 @@ never_stored {T} f output (inr e) = let h : (let one : Result T Failure = Err f 
 
 -- ---- the archive was not opened
 
-unopened_not_output : (tells : Type 0) (old new : State) (f : Failure) → Opens tells old new (Err f) → f ≢ failure.Output
+pub unopened_not_output : (tells : Type 0) (old new : State) (f : Failure) → Opens tells old new (Err f) → f ≢ failure.Output
 unopened_not_output tells old new f opens e = let kind = opens.kinds in opening_not_output kind.0 (sym kind.1 ∙ e)
 
 module _ {T : Type 0} (name : List ℕ) (tells : Type 0) (old new : State) (left : Option (List ℕ)) (f : Failure) (opens : Opens tells old new (Err f)) where
@@ -136,7 +136,7 @@ pub put_runs : (name : List ℕ) (tells : Type 0) (old new : State) (input input
     → Runs (Put name) (world tells old input before) (world tells new input_after after) answer
 put_runs name tells old new input input_after before after answer puts refuses rest honest = record {
   does = puts;
-  refuses = refuses_told _ _ _ _ (λ told. (told.disk tt, told.input tt)) refuses;
+  refuses = λ early. refuses_told _ _ _ _ (λ told. (told.disk tt, told.input tt)) refuses;
   disk_fits = λ fits. (puts.stores.in_room fits).0;
   output_fits = λ told fits e.
       let line = puts.line (inr e) in

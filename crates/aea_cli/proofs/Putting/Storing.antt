@@ -99,7 +99,7 @@ fault_inside : (f g : PutFault) → (let one : Result StoredObject PutFault = Er
 fault_inside f g e = cc
 
 -- an archive has not more than the most sites
-sites_most : (shape : Shape) → shape.sites ≤ greatest_sites
+pub sites_most : (shape : Shape) → shape.sites ≤ greatest_sites
 sites_most shape = let h = shape.in_profile in grind (arith, nat_tests)
 
 not_early : (n : ℕ) → IsEarly (Full n) → ⊥

@@ -52,7 +52,7 @@ pub scrub_runs : (tells : Type 0) (old new : State) (input : SourceState) (befor
     → Runs Scrub (world tells old input before) (world tells new input after) answer
 scrub_runs tells old new input before after answer scrubs refuses honest = record {
   does = scrubs;
-  refuses = refuses_told _ _ _ _ (λ told. told.disk tt) refuses;
+  refuses = λ early. refuses_told _ _ _ _ (λ told. told.disk tt) refuses;
   disk_fits = λ room. (scrubs.reads.sure room).0;
   output_fits = λ told fits. scrub_fits tells old.files answer before after scrubs.opening (told.disk tt) scrubs.opens.kinds scrubs.unopened scrubs.some fits;
   honest = λ told is. honest;

@@ -65,7 +65,7 @@ stat_runs tells old new input before after answer stats refuses honest =
     let answered = err_part stats.opening (λ f. (answer ≡ Err f) × (after ≡ before)) (λ f. answer ≡ Err f) (λ f h. h.0) stats.unopened in
     record {
       does = stats;
-      refuses = refuses_told _ _ _ _ (λ told. told.disk tt) refuses;
+      refuses = λ early. refuses_told _ _ _ _ (λ told. told.disk tt) refuses;
       disk_fits = λ room. no_disk answer stats.opening (opens.reads.sure room).0 answered stats.kinds;
       output_fits = λ told fits. no_output answer stats.opening (old.files 0) before after (ok_told tells stats.opening (old.files 0) (told.disk tt) opens.this_one) opens.kinds answered stats.prints fits;
       honest = λ told is. honest;

@@ -83,7 +83,7 @@ verify_runs reading tells old new input rest before after answer verifies refuse
     let opens = verifies.opens in
     record {
       does = verifies;
-      refuses = refuses_told _ _ _ _ (λ told. (told.disk tt, told.input tt)) refuses;
+      refuses = λ early. refuses_told _ _ _ _ (λ told. (told.disk tt, told.input tt)) refuses;
       disk_fits = λ room. (verifies.reads.sure room).0;
       output_fits = λ told fits. verify_fits reading tells old.files input rest before after answer verifies.opening (told.disk tt) (told.input tt) opens.this_one opens.kinds verifies.unopened verifies.judges fits;
       honest = λ told is. honest;

@@ -17,8 +17,7 @@ use aea_disk::Disk;
 use aea_io::{Sink, Source};
 use aea_lattice::numbers_tell_blocks;
 use aea_records::{ledgers_have_one_reading, new_names_are_free, objects_are_counted};
-use line::put_line;
-pub(crate) use line::{digits_of, print_named};
+pub(crate) use line::{digits_of, print_named, put_line};
 use std::alloc::Global;
 
 // Opens the archive, and stores all that the input has under the name.

@@ -1,12 +1,14 @@
-use Rattle.std.proofs.Common.{◌≡◌, ⊎_elim, inr, Err, sym, ◌∙◌, ap}
+use Rattle.std.proofs.Common.{◌≡◌, ⊎_elim, inl, inr, Err, sym, ◌∙◌, ap}
 use Rattle.aea_disk.proofs.Frames.{reads_writes, reads_then_writes, writes_as}
 use Rattle.aea_shelf.proofs.Runs.{padded_kept, padded_both}
 use Rattle.aea_records.specs.Format.{limit_when}
 use Rattle.aea_archive.specs.Blocks.{IsBlockIn}
 use Rattle.aea_archive.specs.Cells.{IsNoSite, ChangesArchive, HaveSitesRoom}
 use Rattle.aea_archive.proofs.Cells.{changes_none, room_some, room_later}
-use Rattle.aea_append.specs.declared.fault.PutFault.TheVariants.{DiskFault, HeadDamaged}
+use Rattle.aea_append.specs.declared.fault.PutFault.TheVariants.{DiskFault, HeadDamaged, Full}
 use Rattle.aea_append.proofs.Faults.{fault_is, fault_as}
+use Rattle.aea_append.specs.Taking.{most_of, room_left}
+use Rattle.aea_append.proofs.Takings.{counts_none}
 use Rattle.aea_append.proofs.Writes.{cells_none}
 use Rattle.aea_append.proofs.object.weave_object.Goals as goal
 
@@ -87,3 +89,25 @@ returns-clause-padded g c fine told =
     let new = g.D.Disk.state c.take_object.new.disk in
     padded_both v.shape (IsBlockIn v.shape v.lattice.n) old.files mid.files new.files (padded_kept v.shape (IsBlockIn v.shape v.lattice.n) old.files mid.files (c.ready_heads.ensures.reads.contents told))
     (c.take_object.ensures.padded (λ bad. fine (fault_as c.in-Err-take_object.fault DiskFault (sym c.in-Err-take_object.is ∙ bad))) told)
+
+pub returns-in-Err-clause-counted : goal.returns-in-Err-clause-counted
+returns-in-Err-clause-counted g c = counts_none (g.S.Source.state c.args.source.now).left c.args.at.now (most_of c.args.want (room_left c.args.ledger.now))
+
+pub returns-in-Err-HeadDamaged-clause-counted : goal.returns-in-Err-HeadDamaged-clause-counted
+returns-in-Err-HeadDamaged-clause-counted g c = counts_none (g.S.Source.state c.args.source.now).left c.args.at.now (most_of c.args.want (room_left c.args.ledger.now))
+
+pub returns-in-Err-DiskFault-clause-counted : goal.returns-in-Err-DiskFault-clause-counted
+returns-in-Err-DiskFault-clause-counted g c = counts_none (g.S.Source.state c.args.source.now).left c.args.at.now (most_of c.args.want (room_left c.args.ledger.now))
+
+pub returns-in-Err-NoMemory-clause-counted : goal.returns-in-Err-NoMemory-clause-counted
+returns-in-Err-NoMemory-clause-counted g c = counts_none (g.S.Source.state c.args.source.now).left c.args.at.now (most_of c.args.want (room_left c.args.ledger.now))
+
+pub returns-in-Ok-take_object-clause-over : goal.returns-in-Ok-take_object-clause-over
+returns-in-Ok-take_object-clause-over g c n is past = absurd (let e = c.take_object.ensures.over n is past in let f = c.in-Ok-take_object.is in cc)
+
+pub returns-clause-over : goal.returns-clause-over
+returns-clause-over g c n is past = inl (sym c.in-Err-take_object.is ∙ c.take_object.ensures.over n is past)
+
+pub returns-clause-full_leaves : goal.returns-clause-full_leaves
+returns-clause-full_leaves g c nodes n is some =
+    c.take_object.ensures.full_leaves nodes n (c.in-Err-take_object.is ∙ fault_as c.in-Err-take_object.fault (Full nodes) is) some

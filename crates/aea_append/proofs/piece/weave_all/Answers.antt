@@ -1,6 +1,5 @@
 use Rattle.std.proofs.Common.{◌≡◌, ◌≢◌, ℕ, ◌+◌, ◌-◌, ◌*◌, ◌<◌, ◌≤◌, min, Err, sym, ◌∙◌, ap, subst, arith}
 use Rattle.std.proofs.lemmas.Bool.Decides.{nat_tests}
-use Rattle.aea_io.proofs.Takes.{TakesAtMost-none, TakesAtMost-more, TakesAtMost-then}
 use Rattle.aea_shelf.specs.Writes.{KeepsPadded}
 use Rattle.aea_shelf.proofs.Runs.{padded_none, padded_both, padded_less}
 use Rattle.aea_records.specs.Format.{nodes_for}
@@ -10,7 +9,7 @@ use Rattle.aea_append.specs.Weaving.{WritesCells}
 use Rattle.aea_append.specs.Taking.{Takes}
 use Rattle.aea_append.proofs.Cuts.{some_bytes, nodes_one, nodes-past}
 use Rattle.aea_append.proofs.Faults.{fault_as}
-use Rattle.aea_append.proofs.Takings.{takes_none, takes_both}
+use Rattle.aea_append.proofs.Takings.{takes_none, takes_both, counts_none, counts_more, counts_then}
 use Rattle.aea_append.proofs.Writes.{cells_none, cells_then, cells_as}
 use Rattle.aea_append.proofs.piece.weave_all.Given.{Over}
 use Rattle.aea_append.proofs.piece.weave_all.Goals.{In-Err, In-Ok, Then-count-want, Else-count-want}
@@ -27,7 +26,8 @@ loop-done-init g c = record {
   took = takes_none g.D.Disk.tells c.args.shape.now (g.S.Source.state c.args.source.now).left c.args.hasher.now c.args.heads.now c.args.digests.now.items (g.D.Disk.state c.args.disk.now).files;
   writes = λ nodes within. cells_none g.D.Disk.tells ⊥ c.args.shape.now nodes (IsBlockIn c.args.shape.now c.args.heads.now.lattice.n) (g.D.Disk.state c.args.disk.now) (λ none. none);
   padded = λ told. padded_none c.args.shape.now (IsBlockIn c.args.shape.now c.args.heads.now.lattice.n) (g.D.Disk.state c.args.disk.now).files;
-  taken = TakesAtMost-none (g.S.Source.state c.args.source.now).left 0;
+  exact = omega arith;
+  counted = counts_none (g.S.Source.state c.args.source.now).left c.args.at.now 0;
   kept = omega arith;
 }
 
@@ -131,10 +131,10 @@ returns-in-Err-clause-writes g c nodes within =
 pub returns-in-Err-clause-padded : goal.returns-in-Err-clause-padded
 returns-in-Err-clause-padded g c fine told = padded_err g c (λ bad. fine (fault_as c.in-Err.fault DiskFault (sym c.in-Err.is ∙ bad))) told
 
-pub returns-in-Err-clause-taken : goal.returns-in-Err-clause-taken
-returns-in-Err-clause-taken g c =
-    (TakesAtMost-more (g.S.Source.state c.args.source.now).left (g.S.Source.state c.weave_piece.new.source).left (c.loop-done.done + c.min-want.result) c.args.limit
-    (TakesAtMost-then (g.S.Source.state c.args.source.now).left (g.S.Source.state c.loop-done.source).left (g.S.Source.state c.weave_piece.new.source).left c.loop-done.done c.min-want.result c.loop-done.invariant.taken c.weave_piece.ensures.taken)
+pub returns-in-Err-clause-counted : goal.returns-in-Err-clause-counted
+returns-in-Err-clause-counted g c =
+    (counts_more (g.S.Source.state c.args.source.now).left (g.S.Source.state c.weave_piece.new.source).left c.args.at.now c.weave_piece.new.at (c.loop-done.done + c.min-want.result) c.args.limit
+    (counts_then (g.S.Source.state c.args.source.now).left (g.S.Source.state c.loop-done.source).left (g.S.Source.state c.weave_piece.new.source).left c.args.at.now c.loop-done.at c.weave_piece.new.at c.loop-done.done c.min-want.result c.loop-done.invariant.counted c.weave_piece.ensures.counted)
     (let lt : c.loop-done.done < c.args.limit = grind (arith, nat_tests, c.loop-done-test.true) in omega (arith, lt, c.min-want.ensures)))
 
 pub returns-then-count-want-clause-writes : goal.returns-then-count-want-clause-writes
@@ -145,10 +145,10 @@ returns-then-count-want-clause-writes g c nodes within =
 pub returns-then-count-want-clause-padded : goal.returns-then-count-want-clause-padded
 returns-then-count-want-clause-padded g c fine told = padded_then g c (fine_then g c) told
 
-pub returns-then-count-want-clause-taken : goal.returns-then-count-want-clause-taken
-returns-then-count-want-clause-taken g c =
-    (TakesAtMost-more (g.S.Source.state c.args.source.now).left (g.S.Source.state c.weave_piece.new.source).left (c.loop-done.done + c.min-want.result) c.args.limit
-    (TakesAtMost-then (g.S.Source.state c.args.source.now).left (g.S.Source.state c.loop-done.source).left (g.S.Source.state c.weave_piece.new.source).left c.loop-done.done c.min-want.result c.loop-done.invariant.taken c.weave_piece.ensures.taken)
+pub returns-then-count-want-clause-counted : goal.returns-then-count-want-clause-counted
+returns-then-count-want-clause-counted g c =
+    (counts_more (g.S.Source.state c.args.source.now).left (g.S.Source.state c.weave_piece.new.source).left c.args.at.now c.weave_piece.new.at (c.loop-done.done + c.min-want.result) c.args.limit
+    (counts_then (g.S.Source.state c.args.source.now).left (g.S.Source.state c.loop-done.source).left (g.S.Source.state c.weave_piece.new.source).left c.args.at.now c.loop-done.at c.weave_piece.new.at c.loop-done.done c.min-want.result c.loop-done.invariant.counted c.weave_piece.ensures.counted)
     (let lt : c.loop-done.done < c.args.limit = grind (arith, nat_tests, c.loop-done-test.true) in omega (arith, lt, c.min-want.ensures)))
 
 pub returns-then-count-want-clause-took : goal.returns-then-count-want-clause-took
@@ -159,8 +159,8 @@ returns-clause-writes g c nodes within =
     cells_as g.D.Disk.tells ⊥ _ c.args.shape.now nodes (IsBlockIn c.args.shape.now c.args.heads.now.lattice.n) (g.D.Disk.state c.args.disk.now) (g.D.Disk.state c.loop-done.disk)
     (λ is. absurd (let e = is in cc)) (c.loop-done.invariant.writes nodes within)
 
-pub returns-clause-taken : goal.returns-clause-taken
-returns-clause-taken g c = TakesAtMost-more (g.S.Source.state c.args.source.now).left (g.S.Source.state c.loop-done.source).left c.loop-done.done c.args.limit c.loop-done.invariant.taken c.loop-done.invariant.within
+pub returns-clause-counted : goal.returns-clause-counted
+returns-clause-counted g c = counts_more (g.S.Source.state c.args.source.now).left (g.S.Source.state c.loop-done.source).left c.args.at.now c.loop-done.at c.loop-done.done c.args.limit c.loop-done.invariant.counted c.loop-done.invariant.within
 
 pub loop-done-preserved : goal.loop-done-preserved
 loop-done-preserved g c =
@@ -188,8 +188,9 @@ loop-done-preserved g c =
       writes = λ nodes within. cells_as g.D.Disk.tells (c.weave_piece.result ≡ Err DiskFault) ⊥ c.args.shape.now nodes (IsBlockIn c.args.shape.now c.args.heads.now.lattice.n) (g.D.Disk.state c.args.disk.now) (g.D.Disk.state c.weave_piece.new.disk)
           (λ none. absurd none) (writes_else g c nodes within);
       padded = λ told. padded_else g c (fine_else g c) told;
-      taken = TakesAtMost-more (g.S.Source.state c.args.source.now).left (g.S.Source.state c.weave_piece.new.source).left (c.loop-done.done + c.min-want.result) (c.loop-done.done + c.in-Ok.count)
-          (TakesAtMost-then (g.S.Source.state c.args.source.now).left (g.S.Source.state c.loop-done.source).left (g.S.Source.state c.weave_piece.new.source).left c.loop-done.done c.min-want.result c.loop-done.invariant.taken c.weave_piece.ensures.taken)
+      exact = (let e = c.in-Ok.ensures.exact in omega (arith, e, c.loop-done.invariant.exact));
+      counted = counts_more (g.S.Source.state c.args.source.now).left (g.S.Source.state c.weave_piece.new.source).left c.args.at.now c.weave_piece.new.at (c.loop-done.done + c.min-want.result) (c.loop-done.done + c.in-Ok.count)
+          (counts_then (g.S.Source.state c.args.source.now).left (g.S.Source.state c.loop-done.source).left (g.S.Source.state c.weave_piece.new.source).left c.args.at.now c.loop-done.at c.weave_piece.new.at c.loop-done.done c.min-want.result c.loop-done.invariant.counted c.weave_piece.ensures.counted)
           (omega (arith, all));
       kept = omega (arith, c.loop-done.invariant.kept, c.weave_piece.ensures.source_kept);
     }

@@ -1,11 +1,10 @@
 use Rattle.std.proofs.Common.{◌≡◌, ℕ, ◌+◌, ◌-◌, ◌*◌, ◌<◌, ◌≤◌, length}
-use Rattle.aea_io.specs.Taken.{TakesAtMost}
 use Rattle.aea_shelf.specs.Places.{cell_size}
 use Rattle.aea_shelf.specs.Writes.{KeepsPadded}
 use Rattle.aea_records.specs.Format.{nodes_for}
 use Rattle.aea_archive.specs.Blocks.{IsBlockIn}
 use Rattle.aea_append.specs.Weaving.{WritesCells}
-use Rattle.aea_append.specs.Taking.{Takes}
+use Rattle.aea_append.specs.Taking.{Takes, Counts}
 use Rattle.aea_append.proofs.piece.weave_all.Given as goal
 
 abbrev pub invariant-loop-done : goal.invariant-loop-done
@@ -19,7 +18,8 @@ invariant-loop-done g l = record {
   took : Takes g.D.Disk.tells l.shape l.done (g.S.Source.state l.fn.source).left (g.S.Source.state l.source).left l.fn.hasher l.hasher l.fn.heads l.heads l.fn.digests.items l.digests.items (g.D.Disk.state l.fn.disk).files (g.D.Disk.state l.disk).files;
   writes : (nodes : ℕ) → l.fn.heads.lattice.n + nodes_for l.shape l.limit ≤ nodes → WritesCells g.D.Disk.tells l.shape nodes (IsBlockIn l.shape l.fn.heads.lattice.n) ⊥ (g.D.Disk.state l.fn.disk) (g.D.Disk.state l.disk);
   padded : g.D.Disk.tells → KeepsPadded l.shape (IsBlockIn l.shape l.fn.heads.lattice.n) (g.D.Disk.state l.fn.disk).files (g.D.Disk.state l.disk).files;
-  taken : TakesAtMost (g.S.Source.state l.fn.source).left (g.S.Source.state l.source).left l.done;
+  exact : l.at ≡ l.fn.at + l.done;
+  counted : Counts (g.S.Source.state l.fn.source).left (g.S.Source.state l.source).left l.fn.at l.at l.done;
   kept : (g.S.Source.state l.fn.source).faults ≤ (g.S.Source.state l.source).faults;
 }
 

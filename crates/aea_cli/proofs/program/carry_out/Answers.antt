@@ -2,6 +2,7 @@ use Rattle.aea_cli.proofs.Drilling.Running.{drill_runs}
 use Rattle.aea_cli.proofs.Creating.Running.{create_runs}
 use Rattle.aea_cli.proofs.Stating.Running.{stat_runs}
 use Rattle.aea_cli.proofs.Putting.Running.{put_runs}
+use Rattle.aea_cli.proofs.Ingesting.Running.{ingest_runs}
 use Rattle.aea_cli.proofs.Getting.Running.{get_runs}
 use Rattle.aea_cli.proofs.Listing.{list_runs}
 use Rattle.aea_cli.proofs.Fencing.Running.{fence_runs}
@@ -10,6 +11,7 @@ use Rattle.aea_cli.proofs.Scrubbing.Running.{scrub_runs}
 use Rattle.aea_cli.proofs.Repairing.Running.{repair_runs}
 use Rattle.aea_cli.proofs.Explaining.Running.{explain_runs}
 use Rattle.aea_cli.proofs.Verifying.Running.{verify_runs}
+use Rattle.aea_cli.proofs.Rehearsing.{rehearse_runs}
 use Rattle.aea_cli.proofs.program.carry_out.Goals as goal
 
 pub returns-in-Drill-clause-runs : goal.returns-in-Drill-clause-runs
@@ -52,3 +54,9 @@ returns-in-Explain-clause-runs g c =
 pub returns-in-Verify-clause-runs : goal.returns-in-Verify-clause-runs
 returns-in-Verify-clause-runs g c =
     rw c.in-Verify.is (verify_runs c.ledgers_have_one_reading.ensures _ _ _ _ _ _ _ _ c.verify_report.ensures.verifies c.verify_report.ensures.refuses c.verify_report.ensures.clash)
+
+pub returns-in-Rehearse-clause-runs : goal.returns-in-Rehearse-clause-runs
+returns-in-Rehearse-clause-runs g c = rw c.in-Rehearse.is (rehearse_runs _ _ _ _ _ _ _ _ _ c.rehearse_line.ensures.rehearses c.rehearse_line.ensures.refused c.rehearse_line.ensures.disk c.rehearse_line.ensures.clash)
+
+pub returns-in-Ingest-clause-runs : goal.returns-in-Ingest-clause-runs
+returns-in-Ingest-clause-runs g c = rw c.in-Ingest.is (ingest_runs _ _ _ _ _ _ _ _ c.ingest.ensures.ingests c.ingest.ensures.refuses c.ingest.ensures.rest c.ingest.ensures.clash)

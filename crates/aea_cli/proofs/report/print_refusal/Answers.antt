@@ -45,6 +45,14 @@ pub returns-in_ok-print_number-in-Full : goal.returns-in_ok-print_number-in-Full
 returns-in_ok-print_number-in-Full g c =
     rw c.in-Full.is (prints_then (rw c.from-in-Full.ensures at c.in_ok-print_number-in-Full.ensures) c.print-in-Full.ensures)
 
+pub returns-in_err-print_number-in-BadStream : goal.returns-in_err-print_number-in-BadStream
+returns-in_err-print_number-in-BadStream g c =
+    rw c.in-BadStream.is (prints_stopped newline c.from_residual-in_err-print_number-in-BadStream.ensures.0 c.in_err-print_number-in-BadStream.ensures)
+
+pub returns-in_ok-print_number-in-BadStream : goal.returns-in_ok-print_number-in-BadStream
+returns-in_ok-print_number-in-BadStream g c =
+    rw c.in-BadStream.is (prints_then c.in_ok-print_number-in-BadStream.ensures c.print-in-BadStream.ensures)
+
 pub returns-in_err-print_number-in-AlreadyFenced : goal.returns-in_err-print_number-in-AlreadyFenced
 returns-in_err-print_number-in-AlreadyFenced g c =
     rw c.in-AlreadyFenced.is (prints_stopped newline c.from_residual-in_err-print_number-in-AlreadyFenced.ensures.0 (rw c.from-in-AlreadyFenced.ensures at c.in_err-print_number-in-AlreadyFenced.ensures))

@@ -1,4 +1,4 @@
-use Rattle.std.proofs.Common.{◌≡◌, inl, inr, ℕ, ◌+◌, ◌-◌, ◌*◌, ◌≤◌, Err, [], ◌∷◌, List, length, refl, sym, ◌∙◌, ap, subst, arith}
+use Rattle.std.proofs.Common.{◌≡◌, ⊎_elim, inl, inr, ℕ, ◌+◌, ◌-◌, ◌*◌, ◌≤◌, Err, [], ◌∷◌, List, length, refl, sym, ◌∙◌, ap, subst, arith}
 use Rattle.aea_lattice.specs.declared.grid.Lattice.{Lattice}
 use Rattle.std.specs.List.{sum_by}
 use Rattle.sha2.proofs.Facts256.{length-sha256}
@@ -15,13 +15,17 @@ use Rattle.aea_append.specs.Causes.{next_end}
 use Rattle.aea_disk.specs.State.{HasRoomTo}
 use Rattle.aea_disk.proofs.Moments.{during_then_kept}
 use Rattle.aea_archive.specs.Next.{NewObject}
-use Rattle.aea_append.specs.Taking.{TakesAll}
+use Rattle.aea_append.specs.Taking.{TakesObject}
+use Rattle.aea_append.specs.Puts.{AreBlocksWide}
+use Rattle.aea_records.specs.TableLaws.{AreBytes}
+use Rattle.aea_ledger.specs.Values.{HasRecords}
 use Rattle.aea_append.specs.declared.fault.PutFault.TheVariants.{DiskFault, HeadDamaged, Full}
-use Rattle.aea_append.proofs.Rooms.{fits_room, taken_long, all_long}
+use Rattle.aea_append.proofs.Rooms.{all_long}
+use Rattle.aea_append.proofs.Wanted.{wanted_of, wanted_ledger, over_none, not_both, there_long}
 use Rattle.aea_append.proofs.Starts.{same_head, same_nodes}
-use Rattle.aea_append.proofs.Leaving.{cells_wider, leaves_ledger, stopped_before, both_write, adds_put, its_later, cells_stay, padded_commit}
+use Rattle.aea_append.proofs.Leaving.{one_of, cells_wider, leaves_ledger, stopped_before, both_write, adds_put, its_later, cells_stay, padded_commit}
 use Rattle.aea_append.proofs.Storing.{next_woven, more_where, added_of, woven_to, next_of, more_of, honest_of}
-use Rattle.aea_append.proofs.store.put_checked.Goals as goal
+use Rattle.aea_append.proofs.store.put_wanted.Goals as goal
 
 pub returns-in-Err-DiskFault-clause-writes : goal.returns-in-Err-DiskFault-clause-writes
 returns-in-Err-DiskFault-clause-writes g c =
@@ -30,7 +34,7 @@ returns-in-Err-DiskFault-clause-writes g c =
     let v = c.args.ledger.now in
     let left = (g.S.Source.state c.args.source.now).left in
     let rest = (g.S.Source.state c.weave_object.new.source).left in
-    writes_as g.D.Disk.tells _ (c.weave_object.result ≡ Err DiskFault) _ _ old mid (λ is. c.in-Err-DiskFault.is ∙ ap Err c.in-Err-DiskFault.field-0-is) (cells_wider g.D.Disk.tells (c.weave_object.result ≡ Err DiskFault) v c.args.name.now left rest old mid c.weave_object.ensures.writes)
+    writes_as g.D.Disk.tells _ (c.weave_object.result ≡ Err DiskFault) _ _ old mid (λ is. c.in-Err-DiskFault.is ∙ ap Err c.in-Err-DiskFault.field-0-is) (cells_wider g.D.Disk.tells (c.weave_object.result ≡ Err DiskFault) v c.args.name.now c.args.want left rest old mid c.weave_object.ensures.writes)
 
 pub returns-in-Err-HeadDamaged-clause-writes : goal.returns-in-Err-HeadDamaged-clause-writes
 returns-in-Err-HeadDamaged-clause-writes g c =
@@ -39,7 +43,7 @@ returns-in-Err-HeadDamaged-clause-writes g c =
     let v = c.args.ledger.now in
     let left = (g.S.Source.state c.args.source.now).left in
     let rest = (g.S.Source.state c.weave_object.new.source).left in
-    writes_as g.D.Disk.tells _ (c.weave_object.result ≡ Err DiskFault) _ _ old mid (λ is. absurd (let e = is in cc)) (cells_wider g.D.Disk.tells (c.weave_object.result ≡ Err DiskFault) v c.args.name.now left rest old mid c.weave_object.ensures.writes)
+    writes_as g.D.Disk.tells _ (c.weave_object.result ≡ Err DiskFault) _ _ old mid (λ is. absurd (let e = is in cc)) (cells_wider g.D.Disk.tells (c.weave_object.result ≡ Err DiskFault) v c.args.name.now c.args.want left rest old mid c.weave_object.ensures.writes)
 
 pub returns-in-Err-HeadDamaged-clause-refused_leaves : goal.returns-in-Err-HeadDamaged-clause-refused_leaves
 returns-in-Err-HeadDamaged-clause-refused_leaves g c is fine told =
@@ -57,7 +61,7 @@ returns-in-Err-Full-clause-writes g c =
     let v = c.args.ledger.now in
     let left = (g.S.Source.state c.args.source.now).left in
     let rest = (g.S.Source.state c.weave_object.new.source).left in
-    writes_as g.D.Disk.tells _ (c.weave_object.result ≡ Err DiskFault) _ _ old mid (λ is. absurd (let e = is in cc)) (cells_wider g.D.Disk.tells (c.weave_object.result ≡ Err DiskFault) v c.args.name.now left rest old mid c.weave_object.ensures.writes)
+    writes_as g.D.Disk.tells _ (c.weave_object.result ≡ Err DiskFault) _ _ old mid (λ is. absurd (let e = is in cc)) (cells_wider g.D.Disk.tells (c.weave_object.result ≡ Err DiskFault) v c.args.name.now c.args.want left rest old mid c.weave_object.ensures.writes)
 
 pub returns-in-Err-Full-clause-refused_leaves : goal.returns-in-Err-Full-clause-refused_leaves
 returns-in-Err-Full-clause-refused_leaves g c is fine told =
@@ -75,7 +79,7 @@ returns-in-Err-ReadFault-clause-writes g c =
     let v = c.args.ledger.now in
     let left = (g.S.Source.state c.args.source.now).left in
     let rest = (g.S.Source.state c.weave_object.new.source).left in
-    writes_as g.D.Disk.tells _ (c.weave_object.result ≡ Err DiskFault) _ _ old mid (λ is. absurd (let e = is in cc)) (cells_wider g.D.Disk.tells (c.weave_object.result ≡ Err DiskFault) v c.args.name.now left rest old mid c.weave_object.ensures.writes)
+    writes_as g.D.Disk.tells _ (c.weave_object.result ≡ Err DiskFault) _ _ old mid (λ is. absurd (let e = is in cc)) (cells_wider g.D.Disk.tells (c.weave_object.result ≡ Err DiskFault) v c.args.name.now c.args.want left rest old mid c.weave_object.ensures.writes)
 
 pub returns-in-Err-ReadFault-clause-refused_leaves : goal.returns-in-Err-ReadFault-clause-refused_leaves
 returns-in-Err-ReadFault-clause-refused_leaves g c is fine told =
@@ -93,7 +97,7 @@ returns-in-Err-NoMemory-clause-writes g c =
     let v = c.args.ledger.now in
     let left = (g.S.Source.state c.args.source.now).left in
     let rest = (g.S.Source.state c.weave_object.new.source).left in
-    writes_as g.D.Disk.tells _ (c.weave_object.result ≡ Err DiskFault) _ _ old mid (λ is. absurd (let e = is in cc)) (cells_wider g.D.Disk.tells (c.weave_object.result ≡ Err DiskFault) v c.args.name.now left rest old mid c.weave_object.ensures.writes)
+    writes_as g.D.Disk.tells _ (c.weave_object.result ≡ Err DiskFault) _ _ old mid (λ is. absurd (let e = is in cc)) (cells_wider g.D.Disk.tells (c.weave_object.result ≡ Err DiskFault) v c.args.name.now c.args.want left rest old mid c.weave_object.ensures.writes)
 
 pub returns-in-Err-NoMemory-clause-refused_leaves : goal.returns-in-Err-NoMemory-clause-refused_leaves
 returns-in-Err-NoMemory-clause-refused_leaves g c is fine told =
@@ -115,22 +119,21 @@ returns-in-Err-DiskFault-clause-stopped g c is told =
 
 pub returns-in-Err-HeadDamaged-clause-head : goal.returns-in-Err-HeadDamaged-clause-head
 returns-in-Err-HeadDamaged-clause-head g c b is =
-    c.in-Err-HeadDamaged.ensures.head b (ap Err (c.in-Err-HeadDamaged.field-0-is ∙ ap HeadDamaged (c.in-Err-HeadDamaged.block-is ∙ same_head c.in-Err-HeadDamaged.block b is)))
+    c.in-Err-HeadDamaged.ensures.head b (ap Err (c.in-Err-HeadDamaged.field-0-is ∙ ap HeadDamaged (sym c.in-Err-HeadDamaged.block-is ∙ same_head _ b is)))
 
 pub returns-in-Err-HeadDamaged-clause-complete : goal.returns-in-Err-HeadDamaged-clause-complete
-returns-in-Err-HeadDamaged-clause-complete g c told bytes is may intact fits disk source =
-    let found = c.in-Err-HeadDamaged.ensures.head c.in-Err-HeadDamaged.block (ap Err (c.in-Err-HeadDamaged.field-0-is ∙ ap HeadDamaged c.in-Err-HeadDamaged.block-is)) in
+returns-in-Err-HeadDamaged-clause-complete g c told bytes is there intact fits disk source =
+    let found = c.in-Err-HeadDamaged.ensures.head c.in-Err-HeadDamaged.block (ap Err c.in-Err-HeadDamaged.field-0-is) in
     absurd ((found.1 told).damaged.damaged (intact c.in-Err-HeadDamaged.block found.0))
 
 pub returns-in-Err-Full-clause-full : goal.returns-in-Err-Full-clause-full
 returns-in-Err-Full-clause-full g c nodes is =
-    c.in-Err-Full.ensures.full nodes (ap Err (c.in-Err-Full.field-0-is ∙ ap Full (c.in-Err-Full.nodes-is ∙ same_nodes c.in-Err-Full.nodes nodes is)))
+    c.in-Err-Full.ensures.full nodes (ap Err (c.in-Err-Full.field-0-is ∙ ap Full (sym c.in-Err-Full.nodes-is ∙ same_nodes _ nodes is)))
 
 pub returns-in-Err-Full-clause-complete : goal.returns-in-Err-Full-clause-complete
-returns-in-Err-Full-clause-complete g c told bytes is may intact fits disk source =
-    let passed = (c.in-Err-Full.ensures.full c.in-Err-Full.nodes (ap Err (c.in-Err-Full.field-0-is ∙ ap Full c.in-Err-Full.nodes-is))).1.0 in
-    let long = taken_long (g.S.Source.state c.args.source.now).left bytes passed.0 (g.S.Source.state c.weave_object.new.source).left is passed.1 in
-    absurd (omega (arith, long, passed.2, fits_room c.args.ledger.now (length bytes) fits))
+returns-in-Err-Full-clause-complete g c told bytes is there intact fits disk source =
+    let over = (c.in-Err-Full.ensures.full c.in-Err-Full.nodes (ap Err c.in-Err-Full.field-0-is)).1.0 in
+    absurd (over_none c.args.ledger.now c.args.want (g.S.Source.state c.args.source.now).left (g.S.Source.state c.weave_object.new.source).left bytes is over fits)
 
 pub returns-in-Ok-commit_object-clause-writes : goal.returns-in-Ok-commit_object-clause-writes
 returns-in-Ok-commit_object-clause-writes g c =
@@ -147,8 +150,8 @@ returns-in-Ok-commit_object-clause-writes g c =
     let nodes = c.in-Ok.taken.nodes in
     let digests = c.as_slice.result.now in
     let counted : c.in-Ok.taken.nodes ≡ nodes_for c.args.ledger.now.shape c.in-Ok.taken.length = c.in-Ok.ensures.nodes in
-    let t : TakesAll g.D.Disk.tells c.args.ledger.now.shape c.args.ledger.now.lattice c.args.ledger.now.digests c.in-Ok.taken.length c.in-Ok.taken.digest (g.S.Source.state c.args.source.now).left (g.S.Source.state c.weave_object.new.source).left c.as_slice.result.now (g.D.Disk.state c.args.disk.now).files (g.D.Disk.state c.weave_object.new.disk).files =
-    subst (λ (d : List (List ℕ)). TakesAll tells v.shape v.lattice v.digests k digest left rest d old.files mid.files) (sym c.as_slice.ensures.value) c.in-Ok.ensures.took in
+    let t : TakesObject g.D.Disk.tells c.args.ledger.now.shape c.args.ledger.now.lattice c.args.ledger.now.digests c.in-Ok.taken.length c.in-Ok.taken.digest (g.S.Source.state c.args.source.now).left (g.S.Source.state c.weave_object.new.source).left c.as_slice.result.now (g.D.Disk.state c.args.disk.now).files (g.D.Disk.state c.weave_object.new.disk).files =
+    subst (λ (d : List (List ℕ)). TakesObject tells v.shape v.lattice v.digests k digest left rest d old.files mid.files) (sym c.as_slice.ensures.value) c.in-Ok.ensures.took in
     let stored : Stored = next_stored v name k digest nodes digests in
     let bad = c.weave_object.result ≡ Err DiskFault in
     let last : t.heads.lattice.n ≡ c.args.ledger.now.lattice.n + c.in-Ok.taken.nodes = (let n = t.nodes in omega (arith, n, counted)) in
@@ -158,8 +161,8 @@ returns-in-Ok-commit_object-clause-writes g c =
     let fits : v.lattice.n + nodes_for v.shape (length t.bytes) ≤ limit_when v.raised = (let f = c.in-Ok.ensures.fits in omega (arith, f, counted, ap (nodes_for v.shape) t.long)) in
     let size : next_end v.end (length name) (nodes_for v.shape (length t.bytes) * (1 + v.shape.alpha)) + 1 ≡ v.end + length (entry (Object stored)) + 1 = omega (arith, c.commit_object.ensures.size (ap length t.digest_is ∙ length-sha256 t.bytes), long) in
     writes_as tells _ _ _ _ old new (λ is. absurd (let e = is in cc))
-    (both_write tells bad _ v name left rest (v.end + length (entry (Object stored)) + 1) old mid new c.weave_object.ensures.writes c.commit_object.ensures.writes
-    (λ has. subst (λ (n : ℕ). HasRoomTo old 0 n) size (has.ledger t.bytes t.taken fits)))
+    (both_write tells bad _ v name c.args.want left rest (v.end + length (entry (Object stored)) + 1) old mid new c.weave_object.ensures.writes c.commit_object.ensures.writes
+    (λ has. subst (λ (n : ℕ). HasRoomTo old 0 n) size (wanted_ledger v name c.args.want left rest old has t.bytes t.taken (λ n is. (let cut = c.in-Ok.ensures.cut n is in let all = c.is_short.ensures.no c.if-is_short.false n is in omega (arith, cut.0, all, t.long))) fits)))
 
 pub returns-in-Err-DiskFault-commit_object-clause-writes : goal.returns-in-Err-DiskFault-commit_object-clause-writes
 returns-in-Err-DiskFault-commit_object-clause-writes g c =
@@ -176,8 +179,8 @@ returns-in-Err-DiskFault-commit_object-clause-writes g c =
     let nodes = c.in-Ok.taken.nodes in
     let digests = c.as_slice.result.now in
     let counted : c.in-Ok.taken.nodes ≡ nodes_for c.args.ledger.now.shape c.in-Ok.taken.length = c.in-Ok.ensures.nodes in
-    let t : TakesAll g.D.Disk.tells c.args.ledger.now.shape c.args.ledger.now.lattice c.args.ledger.now.digests c.in-Ok.taken.length c.in-Ok.taken.digest (g.S.Source.state c.args.source.now).left (g.S.Source.state c.weave_object.new.source).left c.as_slice.result.now (g.D.Disk.state c.args.disk.now).files (g.D.Disk.state c.weave_object.new.disk).files =
-    subst (λ (d : List (List ℕ)). TakesAll tells v.shape v.lattice v.digests k digest left rest d old.files mid.files) (sym c.as_slice.ensures.value) c.in-Ok.ensures.took in
+    let t : TakesObject g.D.Disk.tells c.args.ledger.now.shape c.args.ledger.now.lattice c.args.ledger.now.digests c.in-Ok.taken.length c.in-Ok.taken.digest (g.S.Source.state c.args.source.now).left (g.S.Source.state c.weave_object.new.source).left c.as_slice.result.now (g.D.Disk.state c.args.disk.now).files (g.D.Disk.state c.weave_object.new.disk).files =
+    subst (λ (d : List (List ℕ)). TakesObject tells v.shape v.lattice v.digests k digest left rest d old.files mid.files) (sym c.as_slice.ensures.value) c.in-Ok.ensures.took in
     let stored : Stored = next_stored v name k digest nodes digests in
     let bad = c.weave_object.result ≡ Err DiskFault in
     let last : t.heads.lattice.n ≡ c.args.ledger.now.lattice.n + c.in-Ok.taken.nodes = (let n = t.nodes in omega (arith, n, counted)) in
@@ -187,8 +190,8 @@ returns-in-Err-DiskFault-commit_object-clause-writes g c =
     let fits : v.lattice.n + nodes_for v.shape (length t.bytes) ≤ limit_when v.raised = (let f = c.in-Ok.ensures.fits in omega (arith, f, counted, ap (nodes_for v.shape) t.long)) in
     let size : next_end v.end (length name) (nodes_for v.shape (length t.bytes) * (1 + v.shape.alpha)) + 1 ≡ v.end + length (entry (Object stored)) + 1 = omega (arith, c.commit_object.ensures.size (ap length t.digest_is ∙ length-sha256 t.bytes), long) in
     writes_as tells _ _ _ _ old new (λ is. c.in-Err-DiskFault-commit_object.is ∙ ap Err c.in-Err-DiskFault-commit_object.field-0-is)
-    (both_write tells bad _ v name left rest (v.end + length (entry (Object stored)) + 1) old mid new c.weave_object.ensures.writes c.commit_object.ensures.writes
-    (λ has. subst (λ (n : ℕ). HasRoomTo old 0 n) size (has.ledger t.bytes t.taken fits)))
+    (both_write tells bad _ v name c.args.want left rest (v.end + length (entry (Object stored)) + 1) old mid new c.weave_object.ensures.writes c.commit_object.ensures.writes
+    (λ has. subst (λ (n : ℕ). HasRoomTo old 0 n) size (wanted_ledger v name c.args.want left rest old has t.bytes t.taken (λ n is. (let cut = c.in-Ok.ensures.cut n is in let all = c.is_short.ensures.no c.if-is_short.false n is in omega (arith, cut.0, all, t.long))) fits)))
 
 pub returns-in-Err-NoMemory-commit_object-clause-writes : goal.returns-in-Err-NoMemory-commit_object-clause-writes
 returns-in-Err-NoMemory-commit_object-clause-writes g c =
@@ -205,8 +208,8 @@ returns-in-Err-NoMemory-commit_object-clause-writes g c =
     let nodes = c.in-Ok.taken.nodes in
     let digests = c.as_slice.result.now in
     let counted : c.in-Ok.taken.nodes ≡ nodes_for c.args.ledger.now.shape c.in-Ok.taken.length = c.in-Ok.ensures.nodes in
-    let t : TakesAll g.D.Disk.tells c.args.ledger.now.shape c.args.ledger.now.lattice c.args.ledger.now.digests c.in-Ok.taken.length c.in-Ok.taken.digest (g.S.Source.state c.args.source.now).left (g.S.Source.state c.weave_object.new.source).left c.as_slice.result.now (g.D.Disk.state c.args.disk.now).files (g.D.Disk.state c.weave_object.new.disk).files =
-    subst (λ (d : List (List ℕ)). TakesAll tells v.shape v.lattice v.digests k digest left rest d old.files mid.files) (sym c.as_slice.ensures.value) c.in-Ok.ensures.took in
+    let t : TakesObject g.D.Disk.tells c.args.ledger.now.shape c.args.ledger.now.lattice c.args.ledger.now.digests c.in-Ok.taken.length c.in-Ok.taken.digest (g.S.Source.state c.args.source.now).left (g.S.Source.state c.weave_object.new.source).left c.as_slice.result.now (g.D.Disk.state c.args.disk.now).files (g.D.Disk.state c.weave_object.new.disk).files =
+    subst (λ (d : List (List ℕ)). TakesObject tells v.shape v.lattice v.digests k digest left rest d old.files mid.files) (sym c.as_slice.ensures.value) c.in-Ok.ensures.took in
     let stored : Stored = next_stored v name k digest nodes digests in
     let bad = c.weave_object.result ≡ Err DiskFault in
     let last : t.heads.lattice.n ≡ c.args.ledger.now.lattice.n + c.in-Ok.taken.nodes = (let n = t.nodes in omega (arith, n, counted)) in
@@ -216,8 +219,8 @@ returns-in-Err-NoMemory-commit_object-clause-writes g c =
     let fits : v.lattice.n + nodes_for v.shape (length t.bytes) ≤ limit_when v.raised = (let f = c.in-Ok.ensures.fits in omega (arith, f, counted, ap (nodes_for v.shape) t.long)) in
     let size : next_end v.end (length name) (nodes_for v.shape (length t.bytes) * (1 + v.shape.alpha)) + 1 ≡ v.end + length (entry (Object stored)) + 1 = omega (arith, c.commit_object.ensures.size (ap length t.digest_is ∙ length-sha256 t.bytes), long) in
     writes_as tells _ _ _ _ old new (λ is. absurd (let e = is in cc))
-    (both_write tells bad _ v name left rest (v.end + length (entry (Object stored)) + 1) old mid new c.weave_object.ensures.writes c.commit_object.ensures.writes
-    (λ has. subst (λ (n : ℕ). HasRoomTo old 0 n) size (has.ledger t.bytes t.taken fits)))
+    (both_write tells bad _ v name c.args.want left rest (v.end + length (entry (Object stored)) + 1) old mid new c.weave_object.ensures.writes c.commit_object.ensures.writes
+    (λ has. subst (λ (n : ℕ). HasRoomTo old 0 n) size (wanted_ledger v name c.args.want left rest old has t.bytes t.taken (λ n is. (let cut = c.in-Ok.ensures.cut n is in let all = c.is_short.ensures.no c.if-is_short.false n is in omega (arith, cut.0, all, t.long))) fits)))
 
 pub returns-in-Ok-commit_object-clause-padded : goal.returns-in-Ok-commit_object-clause-padded
 returns-in-Ok-commit_object-clause-padded g c fine told =
@@ -234,8 +237,8 @@ returns-in-Ok-commit_object-clause-padded g c fine told =
     let nodes = c.in-Ok.taken.nodes in
     let digests = c.as_slice.result.now in
     let counted : c.in-Ok.taken.nodes ≡ nodes_for c.args.ledger.now.shape c.in-Ok.taken.length = c.in-Ok.ensures.nodes in
-    let t : TakesAll g.D.Disk.tells c.args.ledger.now.shape c.args.ledger.now.lattice c.args.ledger.now.digests c.in-Ok.taken.length c.in-Ok.taken.digest (g.S.Source.state c.args.source.now).left (g.S.Source.state c.weave_object.new.source).left c.as_slice.result.now (g.D.Disk.state c.args.disk.now).files (g.D.Disk.state c.weave_object.new.disk).files =
-    subst (λ (d : List (List ℕ)). TakesAll tells v.shape v.lattice v.digests k digest left rest d old.files mid.files) (sym c.as_slice.ensures.value) c.in-Ok.ensures.took in
+    let t : TakesObject g.D.Disk.tells c.args.ledger.now.shape c.args.ledger.now.lattice c.args.ledger.now.digests c.in-Ok.taken.length c.in-Ok.taken.digest (g.S.Source.state c.args.source.now).left (g.S.Source.state c.weave_object.new.source).left c.as_slice.result.now (g.D.Disk.state c.args.disk.now).files (g.D.Disk.state c.weave_object.new.disk).files =
+    subst (λ (d : List (List ℕ)). TakesObject tells v.shape v.lattice v.digests k digest left rest d old.files mid.files) (sym c.as_slice.ensures.value) c.in-Ok.ensures.took in
     let stored : Stored = next_stored v name k digest nodes digests in
     let bad = c.weave_object.result ≡ Err DiskFault in
     let last : t.heads.lattice.n ≡ c.args.ledger.now.lattice.n + c.in-Ok.taken.nodes = (let n = t.nodes in omega (arith, n, counted)) in
@@ -256,8 +259,8 @@ returns-in-Err-NoMemory-commit_object-clause-padded g c fine told =
     let nodes = c.in-Ok.taken.nodes in
     let digests = c.as_slice.result.now in
     let counted : c.in-Ok.taken.nodes ≡ nodes_for c.args.ledger.now.shape c.in-Ok.taken.length = c.in-Ok.ensures.nodes in
-    let t : TakesAll g.D.Disk.tells c.args.ledger.now.shape c.args.ledger.now.lattice c.args.ledger.now.digests c.in-Ok.taken.length c.in-Ok.taken.digest (g.S.Source.state c.args.source.now).left (g.S.Source.state c.weave_object.new.source).left c.as_slice.result.now (g.D.Disk.state c.args.disk.now).files (g.D.Disk.state c.weave_object.new.disk).files =
-    subst (λ (d : List (List ℕ)). TakesAll tells v.shape v.lattice v.digests k digest left rest d old.files mid.files) (sym c.as_slice.ensures.value) c.in-Ok.ensures.took in
+    let t : TakesObject g.D.Disk.tells c.args.ledger.now.shape c.args.ledger.now.lattice c.args.ledger.now.digests c.in-Ok.taken.length c.in-Ok.taken.digest (g.S.Source.state c.args.source.now).left (g.S.Source.state c.weave_object.new.source).left c.as_slice.result.now (g.D.Disk.state c.args.disk.now).files (g.D.Disk.state c.weave_object.new.disk).files =
+    subst (λ (d : List (List ℕ)). TakesObject tells v.shape v.lattice v.digests k digest left rest d old.files mid.files) (sym c.as_slice.ensures.value) c.in-Ok.ensures.took in
     let stored : Stored = next_stored v name k digest nodes digests in
     let bad = c.weave_object.result ≡ Err DiskFault in
     let last : t.heads.lattice.n ≡ c.args.ledger.now.lattice.n + c.in-Ok.taken.nodes = (let n = t.nodes in omega (arith, n, counted)) in
@@ -272,7 +275,7 @@ pub returns-in-Ok-commit_object-clause-head_refused : goal.returns-in-Ok-commit_
 returns-in-Ok-commit_object-clause-head_refused g c told a damaged = absurd (damaged.damaged (c.in-Ok.ensures.intact told a damaged.last))
 
 pub returns-in-Ok-commit_object-clause-full_refused : goal.returns-in-Ok-commit_object-clause-full_refused
-returns-in-Ok-commit_object-clause-full_refused g c bytes is past =
+returns-in-Ok-commit_object-clause-full_refused g c bytes is all past =
     let old = g.D.Disk.state c.args.disk.now in
     let mid = g.D.Disk.state c.weave_object.new.disk in
     let new = g.D.Disk.state c.commit_object.new.disk in
@@ -286,12 +289,12 @@ returns-in-Ok-commit_object-clause-full_refused g c bytes is past =
     let nodes = c.in-Ok.taken.nodes in
     let digests = c.as_slice.result.now in
     let counted : c.in-Ok.taken.nodes ≡ nodes_for c.args.ledger.now.shape c.in-Ok.taken.length = c.in-Ok.ensures.nodes in
-    let t : TakesAll g.D.Disk.tells c.args.ledger.now.shape c.args.ledger.now.lattice c.args.ledger.now.digests c.in-Ok.taken.length c.in-Ok.taken.digest (g.S.Source.state c.args.source.now).left (g.S.Source.state c.weave_object.new.source).left c.as_slice.result.now (g.D.Disk.state c.args.disk.now).files (g.D.Disk.state c.weave_object.new.disk).files =
-    subst (λ (d : List (List ℕ)). TakesAll tells v.shape v.lattice v.digests k digest left rest d old.files mid.files) (sym c.as_slice.ensures.value) c.in-Ok.ensures.took in
+    let t : TakesObject g.D.Disk.tells c.args.ledger.now.shape c.args.ledger.now.lattice c.args.ledger.now.digests c.in-Ok.taken.length c.in-Ok.taken.digest (g.S.Source.state c.args.source.now).left (g.S.Source.state c.weave_object.new.source).left c.as_slice.result.now (g.D.Disk.state c.args.disk.now).files (g.D.Disk.state c.weave_object.new.disk).files =
+    subst (λ (d : List (List ℕ)). TakesObject tells v.shape v.lattice v.digests k digest left rest d old.files mid.files) (sym c.as_slice.ensures.value) c.in-Ok.ensures.took in
     let stored : Stored = next_stored v name k digest nodes digests in
     let bad = c.weave_object.result ≡ Err DiskFault in
     let last : t.heads.lattice.n ≡ c.args.ledger.now.lattice.n + c.in-Ok.taken.nodes = (let n = t.nodes in omega (arith, n, counted)) in
-    let long = all_long left bytes t.bytes rest is t.taken t.end in
+    let long = all_long left bytes t.bytes rest is t.taken (c.in-Ok.ensures.end all) in
     absurd (let f = c.in-Ok.ensures.fits in omega (arith, f, counted, past, ap (nodes_for v.shape) (sym long ∙ t.long)))
 
 pub returns-in-Ok-commit_object-clause-ledger : goal.returns-in-Ok-commit_object-clause-ledger
@@ -309,8 +312,8 @@ returns-in-Ok-commit_object-clause-ledger g c told =
     let nodes = c.in-Ok.taken.nodes in
     let digests = c.as_slice.result.now in
     let counted : c.in-Ok.taken.nodes ≡ nodes_for c.args.ledger.now.shape c.in-Ok.taken.length = c.in-Ok.ensures.nodes in
-    let t : TakesAll g.D.Disk.tells c.args.ledger.now.shape c.args.ledger.now.lattice c.args.ledger.now.digests c.in-Ok.taken.length c.in-Ok.taken.digest (g.S.Source.state c.args.source.now).left (g.S.Source.state c.weave_object.new.source).left c.as_slice.result.now (g.D.Disk.state c.args.disk.now).files (g.D.Disk.state c.weave_object.new.disk).files =
-    subst (λ (d : List (List ℕ)). TakesAll tells v.shape v.lattice v.digests k digest left rest d old.files mid.files) (sym c.as_slice.ensures.value) c.in-Ok.ensures.took in
+    let t : TakesObject g.D.Disk.tells c.args.ledger.now.shape c.args.ledger.now.lattice c.args.ledger.now.digests c.in-Ok.taken.length c.in-Ok.taken.digest (g.S.Source.state c.args.source.now).left (g.S.Source.state c.weave_object.new.source).left c.as_slice.result.now (g.D.Disk.state c.args.disk.now).files (g.D.Disk.state c.weave_object.new.disk).files =
+    subst (λ (d : List (List ℕ)). TakesObject tells v.shape v.lattice v.digests k digest left rest d old.files mid.files) (sym c.as_slice.ensures.value) c.in-Ok.ensures.took in
     let stored : Stored = next_stored v name k digest nodes digests in
     let bad = c.weave_object.result ≡ Err DiskFault in
     let last : t.heads.lattice.n ≡ c.args.ledger.now.lattice.n + c.in-Ok.taken.nodes = (let n = t.nodes in omega (arith, n, counted)) in
@@ -339,8 +342,8 @@ returns-in-Err-NoMemory-commit_object-clause-refused_leaves g c is fine told =
     let nodes = c.in-Ok.taken.nodes in
     let digests = c.as_slice.result.now in
     let counted : c.in-Ok.taken.nodes ≡ nodes_for c.args.ledger.now.shape c.in-Ok.taken.length = c.in-Ok.ensures.nodes in
-    let t : TakesAll g.D.Disk.tells c.args.ledger.now.shape c.args.ledger.now.lattice c.args.ledger.now.digests c.in-Ok.taken.length c.in-Ok.taken.digest (g.S.Source.state c.args.source.now).left (g.S.Source.state c.weave_object.new.source).left c.as_slice.result.now (g.D.Disk.state c.args.disk.now).files (g.D.Disk.state c.weave_object.new.disk).files =
-    subst (λ (d : List (List ℕ)). TakesAll tells v.shape v.lattice v.digests k digest left rest d old.files mid.files) (sym c.as_slice.ensures.value) c.in-Ok.ensures.took in
+    let t : TakesObject g.D.Disk.tells c.args.ledger.now.shape c.args.ledger.now.lattice c.args.ledger.now.digests c.in-Ok.taken.length c.in-Ok.taken.digest (g.S.Source.state c.args.source.now).left (g.S.Source.state c.weave_object.new.source).left c.as_slice.result.now (g.D.Disk.state c.args.disk.now).files (g.D.Disk.state c.weave_object.new.disk).files =
+    subst (λ (d : List (List ℕ)). TakesObject tells v.shape v.lattice v.digests k digest left rest d old.files mid.files) (sym c.as_slice.ensures.value) c.in-Ok.ensures.took in
     let stored : Stored = next_stored v name k digest nodes digests in
     let bad = c.weave_object.result ≡ Err DiskFault in
     let last : t.heads.lattice.n ≡ c.args.ledger.now.lattice.n + c.in-Ok.taken.nodes = (let n = t.nodes in omega (arith, n, counted)) in
@@ -366,17 +369,19 @@ returns-in-Err-DiskFault-commit_object-clause-stopped g c is told =
     let nodes = c.in-Ok.taken.nodes in
     let digests = c.as_slice.result.now in
     let counted : c.in-Ok.taken.nodes ≡ nodes_for c.args.ledger.now.shape c.in-Ok.taken.length = c.in-Ok.ensures.nodes in
-    let t : TakesAll g.D.Disk.tells c.args.ledger.now.shape c.args.ledger.now.lattice c.args.ledger.now.digests c.in-Ok.taken.length c.in-Ok.taken.digest (g.S.Source.state c.args.source.now).left (g.S.Source.state c.weave_object.new.source).left c.as_slice.result.now (g.D.Disk.state c.args.disk.now).files (g.D.Disk.state c.weave_object.new.disk).files =
-    subst (λ (d : List (List ℕ)). TakesAll tells v.shape v.lattice v.digests k digest left rest d old.files mid.files) (sym c.as_slice.ensures.value) c.in-Ok.ensures.took in
+    let t : TakesObject g.D.Disk.tells c.args.ledger.now.shape c.args.ledger.now.lattice c.args.ledger.now.digests c.in-Ok.taken.length c.in-Ok.taken.digest (g.S.Source.state c.args.source.now).left (g.S.Source.state c.weave_object.new.source).left c.as_slice.result.now (g.D.Disk.state c.args.disk.now).files (g.D.Disk.state c.weave_object.new.disk).files =
+    subst (λ (d : List (List ℕ)). TakesObject tells v.shape v.lattice v.digests k digest left rest d old.files mid.files) (sym c.as_slice.ensures.value) c.in-Ok.ensures.took in
     let stored : Stored = next_stored v name k digest nodes digests in
     let bad = c.weave_object.result ≡ Err DiskFault in
     let last : t.heads.lattice.n ≡ c.args.ledger.now.lattice.n + c.in-Ok.taken.nodes = (let n = t.nodes in omega (arith, n, counted)) in
     let o : NewObject = record { name = name; bytes = t.bytes } in
     record {
       objects = o ∷ [];
-      most = inr (o, record { name_is = refl; taken = t.taken; end = t.end }, refl);
+      most = inr (o, wanted_of c.args.want name t.bytes left rest t.taken c.in-Ok.ensures.end (λ n is. (let cut = c.in-Ok.ensures.cut n is in let all = c.is_short.ensures.no c.if-is_short.false n is in omega (arith, cut.0, all, t.long))), refl);
       payload = t.woven.payload;
       homes = λ some. t.woven.homes told;
+      lasts_wide = λ some. t.woven.lasts_wide;
+      bytes = one_of (λ q. AreBytes q.bytes) o t.are;
       added = Object stored ∷ [];
       lattice = t.heads.lattice;
       next = (t.heads.lattice, stored, refl, next_woven tells v name k nodes digest left rest digests old.files mid.files counted t, refl);
@@ -405,17 +410,19 @@ returns-in-Ok-commit_object-clause-stored g c =
     let nodes = c.in-Ok.taken.nodes in
     let digests = c.as_slice.result.now in
     let counted : c.in-Ok.taken.nodes ≡ nodes_for c.args.ledger.now.shape c.in-Ok.taken.length = c.in-Ok.ensures.nodes in
-    let t : TakesAll g.D.Disk.tells c.args.ledger.now.shape c.args.ledger.now.lattice c.args.ledger.now.digests c.in-Ok.taken.length c.in-Ok.taken.digest (g.S.Source.state c.args.source.now).left (g.S.Source.state c.weave_object.new.source).left c.as_slice.result.now (g.D.Disk.state c.args.disk.now).files (g.D.Disk.state c.weave_object.new.disk).files =
-    subst (λ (d : List (List ℕ)). TakesAll tells v.shape v.lattice v.digests k digest left rest d old.files mid.files) (sym c.as_slice.ensures.value) c.in-Ok.ensures.took in
+    let t : TakesObject g.D.Disk.tells c.args.ledger.now.shape c.args.ledger.now.lattice c.args.ledger.now.digests c.in-Ok.taken.length c.in-Ok.taken.digest (g.S.Source.state c.args.source.now).left (g.S.Source.state c.weave_object.new.source).left c.as_slice.result.now (g.D.Disk.state c.args.disk.now).files (g.D.Disk.state c.weave_object.new.disk).files =
+    subst (λ (d : List (List ℕ)). TakesObject tells v.shape v.lattice v.digests k digest left rest d old.files mid.files) (sym c.as_slice.ensures.value) c.in-Ok.ensures.took in
     let stored : Stored = next_stored v name k digest nodes digests in
     let bad = c.weave_object.result ≡ Err DiskFault in
     let last : t.heads.lattice.n ≡ c.args.ledger.now.lattice.n + c.in-Ok.taken.nodes = (let n = t.nodes in omega (arith, n, counted)) in
     let o : NewObject = record { name = name; bytes = t.bytes } in
     let w = c.commit_object.new.ledger in
     let value = c.in-Ok-commit_object.ensures.value in
-    let same = c.in-Ok-commit_object.ensures.shape in (
+    let same = c.in-Ok-commit_object.ensures.shape in
+    let woven_is : (records : List Record) → HasRecords v records → t.heads.lattice ≡ w.lattice =
+    λ records has. woven_to tells v w name k nodes digest left rest digests old.files mid.files counted t same records has (value records has) in (
       o,
-      record { name_is = refl; taken = t.taken; end = t.end },
+      wanted_of c.args.want name t.bytes left rest t.taken c.in-Ok.ensures.end (λ n is. (let cut = c.in-Ok.ensures.cut n is in let all = c.is_short.ensures.no c.if-is_short.false n is in omega (arith, cut.0, all, t.long))),
       record {
         count = counted ∙ ap (nodes_for v.shape) (sym t.long);
         size = sym t.long;
@@ -423,6 +430,9 @@ returns-in-Ok-commit_object-clause-stored g c =
         payload = t.woven.payload;
         lasts = t.woven.lasts;
         homes = t.woven.homes;
+        lasts_wide = t.woven.lasts_wide;
+        wide = subst (λ (l : Lattice). AreBlocksWide v.shape v.lattice.n l.n t.woven.payload) (woven_is c.requires.opened.0 c.requires.opened.1) t.woven.wide;
+        bytes = t.are;
         r = stored;
         next = next_of tells v w name k nodes digest left rest digests old.files mid.files counted t same c.requires.opened.0 c.requires.opened.1 (value c.requires.opened.0 c.requires.opened.1);
         value = value;
@@ -437,6 +447,9 @@ returns-in-Ok-commit_object-clause-stored g c =
             added_of tells v name k nodes digest left rest digests old.files mid.files counted t c.cells_have_lengths.ensures c.cells_have_parts.ensures c.digests_are_counted.ensures records its.has new
             (cells_stay v.shape v.lattice.n t.heads.lattice.n t.woven.payload mid.files new.files (c.commit_object.ensures.writes.contents told) (t.woven.cells told))
             (c.in-Ok-commit_object.ensures.appended told records (its_later tells bad told v records old mid c.weave_object.ensures.writes its)) (c.in-Ok-commit_object.ensures.durable told);
+        cells = λ told.
+            subst (λ (l : Lattice). AreAtHome v.shape v.lattice.n l.n t.woven.payload new.files) (woven_is c.requires.opened.0 c.requires.opened.1)
+            (cells_stay v.shape v.lattice.n t.heads.lattice.n t.woven.payload mid.files new.files (c.commit_object.ensures.writes.contents told) (t.woven.cells told));
         records_more = λ told records datas has old_records honest.
             more_of tells v w name k nodes digest left rest digests old.files mid.files counted t same records has (value records has) c.next_records_more.ensures c.lasts_are_values.ensures told datas old_records honest;
         honest = λ told records datas has old_records honest plain.
@@ -448,3 +461,90 @@ returns-in-Ok-commit_object-clause-stored g c =
             honest plain;
       },
     )
+
+pub returns-in-Err-Full-clause-full_leaves : goal.returns-in-Err-Full-clause-full_leaves
+returns-in-Err-Full-clause-full_leaves g c nodes n is some =
+    c.in-Err-Full.ensures.full_leaves nodes n (ap Err (c.in-Err-Full.field-0-is ∙ ap Full (sym c.in-Err-Full.nodes-is ∙ same_nodes _ nodes is))) some
+
+pub returns-in-Err-Full-clause-over_refused : goal.returns-in-Err-Full-clause-over_refused
+returns-in-Err-Full-clause-over_refused g c n is past =
+    inl (ap (λ (k : ℕ). Err (Full k)) (c.in-Err-Full.nodes-is ∙ (c.in-Err-Full.ensures.full c.in-Err-Full.nodes (ap Err c.in-Err-Full.field-0-is)).0))
+
+pub returns-in-Err-ReadFault-clause-over_refused : goal.returns-in-Err-ReadFault-clause-over_refused
+returns-in-Err-ReadFault-clause-over_refused g c n is past =
+    absurd (⊎_elim {C = ⊥} (λ full. (let e = full in let f = (c.in-Err-ReadFault.is ∙ ap Err c.in-Err-ReadFault.field-0-is) in cc))
+    (λ head. ⊎_elim {C = ⊥} (λ damaged. (let e = damaged.1 in let f = (c.in-Err-ReadFault.is ∙ ap Err c.in-Err-ReadFault.field-0-is) in cc)) (λ out. ⊎_elim {C = ⊥} (λ disk. (let e = disk in let f = (c.in-Err-ReadFault.is ∙ ap Err c.in-Err-ReadFault.field-0-is) in cc)) (λ memory. (let e = memory in let f = (c.in-Err-ReadFault.is ∙ ap Err c.in-Err-ReadFault.field-0-is) in cc)) out) head)
+    (c.weave_object.ensures.over n is past))
+
+pub returns-then-is_short-clause-over_refused : goal.returns-then-is_short-clause-over_refused
+returns-then-is_short-clause-over_refused g c n is past =
+    absurd (⊎_elim {C = ⊥} (λ full. (let e = full in let f = c.in-Ok.is in cc))
+    (λ head. ⊎_elim {C = ⊥} (λ damaged. (let e = damaged.1 in let f = c.in-Ok.is in cc)) (λ out. ⊎_elim {C = ⊥} (λ disk. (let e = disk in let f = c.in-Ok.is in cc)) (λ memory. (let e = memory in let f = c.in-Ok.is in cc)) out) head)
+    (c.weave_object.ensures.over n is past))
+
+pub returns-in-Ok-commit_object-clause-over_refused : goal.returns-in-Ok-commit_object-clause-over_refused
+returns-in-Ok-commit_object-clause-over_refused g c n is past =
+    absurd (⊎_elim {C = ⊥} (λ full. (let e = full in let f = c.in-Ok.is in cc))
+    (λ head. ⊎_elim {C = ⊥} (λ damaged. (let e = damaged.1 in let f = c.in-Ok.is in cc)) (λ out. ⊎_elim {C = ⊥} (λ disk. (let e = disk in let f = c.in-Ok.is in cc)) (λ memory. (let e = memory in let f = c.in-Ok.is in cc)) out) head)
+    (c.weave_object.ensures.over n is past))
+
+pub returns-then-is_short-clause-writes : goal.returns-then-is_short-clause-writes
+returns-then-is_short-clause-writes g c =
+    let old = g.D.Disk.state c.args.disk.now in
+    let mid = g.D.Disk.state c.weave_object.new.disk in
+    let v = c.args.ledger.now in
+    let left = (g.S.Source.state c.args.source.now).left in
+    let rest = (g.S.Source.state c.weave_object.new.source).left in
+    writes_as g.D.Disk.tells _ (c.weave_object.result ≡ Err DiskFault) _ _ old mid (λ is. absurd (let e = is in cc)) (cells_wider g.D.Disk.tells (c.weave_object.result ≡ Err DiskFault) v c.args.name.now c.args.want left rest old mid c.weave_object.ensures.writes)
+
+pub returns-then-is_short-clause-refused_leaves : goal.returns-then-is_short-clause-refused_leaves
+returns-then-is_short-clause-refused_leaves g c fine other told =
+    let old = g.D.Disk.state c.args.disk.now in
+    let mid = g.D.Disk.state c.weave_object.new.disk in
+    let v = c.args.ledger.now in
+    let left = (g.S.Source.state c.args.source.now).left in
+    let rest = (g.S.Source.state c.weave_object.new.source).left in
+    leaves_ledger g.D.Disk.tells (c.weave_object.result ≡ Err DiskFault) told v old mid (c.requires.fixed told) c.weave_object.ensures.writes
+
+pub returns-then-is_short-clause-padded : goal.returns-then-is_short-clause-padded
+returns-then-is_short-clause-padded g c fine told =
+    c.weave_object.ensures.padded (λ e. (let is = c.in-Ok.is in cc)) told
+
+pub returns-then-is_short-clause-ended : goal.returns-then-is_short-clause-ended
+returns-then-is_short-clause-ended g c is =
+    let t = c.in-Ok.ensures.took in
+    let s = c.is_short.ensures.yes c.if-is_short.true in
+    let long = t.long in (
+      s.0,
+      s.1,
+      (c.in-Ok.ensures.cut s.0 s.1).1 s.2,
+      (t.bytes, t.taken, (let l = s.2 in omega (arith, long, l))),
+    )
+
+pub returns-then-is_short-clause-head_refused : goal.returns-then-is_short-clause-head_refused
+returns-then-is_short-clause-head_refused g c told a damaged =
+    absurd (damaged.damaged (c.in-Ok.ensures.intact told a damaged.last))
+
+pub returns-then-is_short-clause-full_refused : goal.returns-then-is_short-clause-full_refused
+returns-then-is_short-clause-full_refused g c bytes is all past =
+    (let s = c.is_short.ensures.yes c.if-is_short.true in absurd (not_both c.args.want s.0 all s.1))
+
+pub returns-then-is_short-clause-complete : goal.returns-then-is_short-clause-complete
+returns-then-is_short-clause-complete g c told bytes is there intact fits disk source =
+    let t = c.in-Ok.ensures.took in
+    let s = c.is_short.ensures.yes c.if-is_short.true in
+    let less = s.2 in
+    let long = t.long in
+    let all = all_long (g.S.Source.state c.args.source.now).left bytes t.bytes (g.S.Source.state c.weave_object.new.source).left is t.taken ((c.in-Ok.ensures.cut s.0 s.1).1 s.2) in
+    absurd (omega (arith, less, long, all, there_long c.args.want s.0 bytes s.1 there))
+
+pub returns-in-Ok-commit_object-clause-complete : goal.returns-in-Ok-commit_object-clause-complete
+returns-in-Ok-commit_object-clause-complete g c told bytes is there intact fits disk source =
+    inl (_, refl)
+
+pub returns-then-is_short-clause-whole : goal.returns-then-is_short-clause-whole
+returns-then-is_short-clause-whole g c all is = (let s = c.is_short.ensures.yes c.if-is_short.true in not_both c.args.want s.0 all s.1)
+
+pub returns-in-Err-HeadDamaged-clause-head_counts : goal.returns-in-Err-HeadDamaged-clause-head_counts
+returns-in-Err-HeadDamaged-clause-head_counts g c b is =
+    c.in-Err-HeadDamaged.ensures.head_counts b (ap Err (c.in-Err-HeadDamaged.field-0-is ∙ ap HeadDamaged (sym c.in-Err-HeadDamaged.block-is ∙ same_head _ b is)))

@@ -1,0 +1,93 @@
+//! The head of a frame.
+
+ghost use Rattle.std.specs.Prelude.{◌≡◌, ◌⊎◌, ◌+◌, ◌<◌, ◌≤◌, ◌^◌, true, false, ℕ, List, length, take, Some, IfOk};
+ghost use Rattle.std.specs.Io.KnownBytes.{Consumes, IsAtEnd};
+ghost use Rattle.aea_faults.specs.Faults.{HasCause};
+ghost use Rattle.aea_records.specs.TableLaws.{AreBytes};
+ghost use Rattle.aea_append.specs.Taking.{Counts};
+ghost use Rattle.aea_append.specs.Frames.{IsHeadOf, HasNameLength, name_length, frame_head};
+
+use crate::fill::fill;
+use aea_io::{ReadFault, Source};
+
+/// What a stream begins with.
+#[derive(Clone, Copy)]
+pub(crate) enum Head {
+    /// Nothing: it is at its end.
+    End,
+    /// Some bytes of a head, and then its end.
+    Cut,
+    /// A length that no name has.
+    NoName,
+    /// A whole head: the length of the name, and that of the object.
+    Whole { long: usize, size: u64 },
+}
+
+// These are bytes.
+fn are_bytes(bytes: &[u8])
+    ensures { AreBytes bytes.now }
+{
+    let _first = bytes.first();
+}
+
+// Whether no name is so long.
+fn is_no_length(long: usize) -> bool
+    ensures yes { result ≡ true → (long ≡ 0) ⊎ (255 < long) }
+    ensures no { result ≡ false → (1 ≤ long) × (long ≤ 255) }
+{
+    long == 0 || long > 255
+}
+
+/// Reads the head of a frame: the length of the name (2 bytes), the name into the buffer, and the length of the object
+/// (8 bytes), high bytes first. Where no name is so long, nothing more is read. `at` grows by the bytes that were taken.
+pub(crate) fn read_head<S: Source>(
+    source: &mut S,
+    buffer: &mut [u8],
+    at: &mut u64,
+) -> Result<Head, ReadFault>
+    requires buffer { length buffer.old ≡ 255 }
+    requires count { at.old ≤ 2 ^ 63 }
+    ensures told { (stream : List ℕ) → (S.state source.old).left ≡ Some stream → IfOk result (λ head. IsHeadOf stream head buffer.new) }
+    ensures end { result ≡ Ok Head.End → IsAtEnd (S.state source.old).left × (at.new ≡ at.old) }
+    ensures ended { result ≡ Ok Head.End → IsAtEnd (S.state source.new).left }
+    ensures cut { result ≡ Ok Head.Cut → IsAtEnd (S.state source.new).left }
+    ensures whole { (long size : ℕ) → result ≡ Ok (Head.Whole long size) → (1 ≤ long) × (long ≤ 255) × (length (take long buffer.new) ≡ long) × Consumes (S.state source.old).left (S.state source.new).left (frame_head (take long buffer.new) size) × (at.new ≡ at.old + 10 + long) }
+    ensures within { (stream : List ℕ) → (S.state source.old).left ≡ Some stream → HasNameLength stream → at.new ≤ at.old + 10 + name_length stream }
+    ensures counted { Counts (S.state source.old).left (S.state source.new).left at.old at.new 265 }
+    ensures cause { HasCause (S.state source.old).faults (S.state source.new).faults result }
+{
+    let mut two = [0; 2];
+    let count = match fill(source, &mut two, at) {
+        Ok(count) => count,
+        Err(fault) => return Err(fault),
+    };
+    if count == 0 {
+        return Ok(Head::End);
+    }
+    if count < 2 {
+        return Ok(Head::Cut);
+    }
+    are_bytes(&two);
+    let long = usize::from(u16::from_be_bytes(two));
+    if is_no_length(long) {
+        return Ok(Head::NoName);
+    }
+    let named = match fill(source, &mut buffer[..long], at) {
+        Ok(named) => named,
+        Err(fault) => return Err(fault),
+    };
+    if named < long {
+        return Ok(Head::Cut);
+    }
+    let mut eight = [0; 8];
+    let sized = match fill(source, &mut eight, at) {
+        Ok(sized) => sized,
+        Err(fault) => return Err(fault),
+    };
+    if sized < 8 {
+        return Ok(Head::Cut);
+    }
+    are_bytes(&eight);
+    let size = u64::from_be_bytes(eight);
+    Ok(Head::Whole { long, size })
+}

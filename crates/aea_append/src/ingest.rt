@@ -1,0 +1,265 @@
+//! An object that is taken from a stream of frames.
+
+ghost use Rattle.std.specs.Prelude.{◌≡◌, ◌≢◌, ◌⊎◌, ◌↔◌, ◌+◌, ◌*◌, ◌^◌, ◌≤◌, ◌<◌, [], true, false, ℕ, List, length, max, min, None, Some, IfOk};
+ghost use Rattle.std.specs.FinMap.{len};
+ghost use Rattle.std.specs.Io.KnownBytes.{IsAtEnd};
+ghost use Rattle.aea_faults.specs.Faults.{Rose};
+ghost use Rattle.aea_lattice.specs.declared.blocks.BlockId.{BlockId};
+ghost use Rattle.aea_disk.specs.State.{IsFixed};
+ghost use Rattle.aea_disk.specs.Frames.{OnlyReads, OnlyWrites};
+ghost use Rattle.aea_shelf.specs.Writes.{KeepsPadded};
+ghost use Rattle.aea_catalog.specs.Names.{IsName};
+ghost use Rattle.aea_records.specs.Format.{greatest_objects, nodes_for, limit_when};
+ghost use Rattle.aea_ledger.specs.Values.{HasSomeRecords, IsThisOne};
+ghost use Rattle.aea_archive.specs.Blocks.{IsBlockIn};
+ghost use Rattle.aea_archive.specs.Cells.{IsBesides, ChangesArchive};
+ghost use Rattle.aea_archive.specs.Lasts.{IsLastParity, IsDamagedLast, IsFirstDamagedLast, AreLastsIntact};
+ghost use Rattle.aea_archive.specs.Next.{NewObject};
+ghost use Rattle.aea_append.specs.Taking.{Counts, HasEnded, room_left};
+ghost use Rattle.aea_append.specs.Puts.{IsCut, HasKept, HasStored, MayHaveStored, LeavesLedger};
+ghost use Rattle.aea_append.specs.Causes.{IsTaken, MayEnter, HasCutRoom, next_end};
+ghost use Rattle.aea_append.specs.Frames.{IsFramed, HasHead, HasBadName, HasEntry, FitsFrame, IsTooLong, EndsInside, IsEarlyFault, IsHeadFault, IsReadOrHeadFault, IsByHead, HasFrameRoom, name_length, frame_name, object_length, frame_length};
+ghost use Rattle.aea_append.specs.declared.store.StoredObject.{StoredObject};
+
+use crate::fault::PutFault;
+use crate::frame::{Head, read_head};
+use crate::store::{StoredObject, may_enter, put_wanted};
+use aea_catalog::NameText;
+use aea_disk::Disk;
+use aea_io::Source;
+use aea_lattice::BlockId;
+use aea_ledger::Ledger;
+use aea_records::records_are_few;
+use std::alloc::{AllocError, Global};
+
+/// What was taken from the stream: the frame of an object that is stored now, or nothing, since the stream was at its end.
+#[derive(Debug, Drop)]
+pub enum Ingest {
+    Stored {
+        name: NameText,
+        stored: StoredObject,
+    },
+    End,
+}
+
+/// Why the object of a frame was not stored.
+#[derive(Clone, Copy, Debug, PartialEq, Eq)]
+pub enum IngestFault {
+    /// The bytes are no name, or no name is so long.
+    BadName,
+    /// An object has the name.
+    NameTaken,
+    /// The last parity of a strand is damaged: the one with the least number.
+    HeadDamaged { block: BlockId },
+    /// The object takes more nodes than are left; so many are there.
+    Full { nodes: u32 },
+    /// There are the most objects that there may be.
+    CatalogFull,
+    /// The stream ends inside a frame, after so many bytes.
+    BadStream { at: u64 },
+    /// A read of the source failed. The source has counted it.
+    ReadFault,
+    /// The disk failed. It has counted it.
+    DiskFault,
+    /// There was no memory.
+    NoMemory,
+}
+
+// The name as a text of its own.
+fn text_of(alloc: Global, name: &[u8]) -> Result<NameText, AllocError>
+    ensures { IfOk result (λ text. text ≡ name.now) }
+{
+    let mut text = NameText::new(alloc);
+    for byte in name {
+        text.push(*byte)?;
+    }
+    Ok(text)
+}
+
+// Stores the object of a frame whose head was read: so many bytes under this name.
+fn store_frame<D: Disk, S: Source>(
+    alloc: Global,
+    ledger: &mut Ledger,
+    disk: &mut D,
+    name: &[u8],
+    size: u64,
+    source: &mut S,
+    at: &mut u64,
+) -> Result<Ingest, IngestFault>
+    requires live { ledger.old.live ≡ true }
+    requires this { D.tells → IsThisOne ledger.old ((D.state disk.old).files 0) }
+    requires fixed { D.tells → IsFixed (D.state disk.old) 0 }
+    requires count { at.old ≤ 2 ^ 63 + 265 }
+
+    // Stored.
+    ensures stored { (text : List ℕ) (stored : StoredObject) → result ≡ Ok (Ingest.Stored text stored) → (text ≡ name.now) × HasKept D.tells ledger.old ledger.new name.now (Some size) (S.state source.old).left (S.state source.new).left (D.state disk.old) (D.state disk.new) stored }
+    ensures exact { (text : List ℕ) (stored : StoredObject) → result ≡ Ok (Ingest.Stored text stored) → at.new ≡ at.old + stored.length }
+    ensures kind { result ≢ Ok Ingest.End }
+
+    // Refusals by the name and the number of objects.
+    ensures bad_name { (result ≡ Err IngestFault.BadName) ↔ (¬ IsName name.now) }
+    ensures name_taken { (result ≡ Err IngestFault.NameTaken) ↔ (IsName name.now × IsTaken ledger.old name.now) }
+    ensures many { (result ≡ Err IngestFault.CatalogFull) ↔ (IsName name.now × (¬ IsTaken ledger.old name.now) × (len ledger.old.objects ≡ greatest_objects)) }
+    ensures early { IsEarlyFault result → disk.new ≡ disk.old }
+    ensures by_head { IsByHead result → (source.new ≡ source.old) × (at.new ≡ at.old) }
+
+    // A last parity that is damaged.
+    ensures head { (b : BlockId) → result ≡ Err (IngestFault.HeadDamaged b) → IsLastParity ledger.old.lattice b × (D.tells → IsFirstDamagedLast ledger.old.shape ledger.old.lattice ledger.old.digests (D.state disk.old).files b) }
+    ensures head_leaves { (b : BlockId) → result ≡ Err (IngestFault.HeadDamaged b) → OnlyReads D.tells ⊥ (D.state disk.old) (D.state disk.new) }
+    ensures head_enters { (b : BlockId) → result ≡ Err (IngestFault.HeadDamaged b) → MayEnter ledger.old name.now }
+    ensures head_refused { D.tells → MayEnter ledger.old name.now → (a : BlockId) → IsDamagedLast ledger.old.shape ledger.old.lattice ledger.old.digests (D.state disk.old).files a → IsHeadFault result }
+
+    // More bytes than there are nodes for.
+    ensures full { (nodes : ℕ) → result ≡ Err (IngestFault.Full nodes) → (nodes ≡ ledger.old.lattice.n) × MayEnter ledger.old name.now × (limit_when ledger.old.raised < ledger.old.lattice.n + nodes_for ledger.old.shape size) × (D.tells → AreLastsIntact ledger.old.shape ledger.old.lattice ledger.old.digests (D.state disk.old).files) }
+    ensures full_refused { MayEnter ledger.old name.now → limit_when ledger.old.raised < ledger.old.lattice.n + nodes_for ledger.old.shape size → (result ≡ Err (IngestFault.Full ledger.old.lattice.n)) ⊎ IsHeadFault result }
+
+    // The stream ends inside the object's bytes.
+    ensures bad_stream { (n : ℕ) → result ≡ Err (IngestFault.BadStream n) → (n ≡ at.new) × MayEnter ledger.old name.now × (ledger.old.lattice.n + nodes_for ledger.old.shape size ≤ limit_when ledger.old.raised) × HasEnded (Some size) (S.state source.old).left (S.state source.new).left }
+    ensures bad_stream_intact { (n : ℕ) → result ≡ Err (IngestFault.BadStream n) → D.tells → AreLastsIntact ledger.old.shape ledger.old.lattice ledger.old.digests (D.state disk.old).files }
+    ensures bad_stream_refused { (bytes : List ℕ) → (S.state source.old).left ≡ Some bytes → MayEnter ledger.old name.now → ledger.old.lattice.n + nodes_for ledger.old.shape size ≤ limit_when ledger.old.raised → length bytes < size
+        → (result ≡ Err (IngestFault.BadStream at.new)) ⊎ IsReadOrHeadFault result }
+
+    // Where nothing stands against it and no count of faults rises, it is stored, but for want of memory.
+    ensures complete { D.tells → (bytes : List ℕ) → (S.state source.old).left ≡ Some bytes → MayEnter ledger.old name.now → size ≤ length bytes
+        → AreLastsIntact ledger.old.shape ledger.old.lattice ledger.old.digests (D.state disk.old).files
+        → ledger.old.lattice.n + nodes_for ledger.old.shape size ≤ limit_when ledger.old.raised
+        → (Rose (D.state disk.old).faults (D.state disk.new).faults → ⊥) → (Rose (S.state source.old).faults (S.state source.new).faults → ⊥)
+        → ((text : List ℕ) × (stored : StoredObject) × (result ≡ Ok (Ingest.Stored text stored))) ⊎ (result ≡ Err IngestFault.NoMemory) }
+
+    // What stands after each other answer.
+    ensures refused { result ≢ Err IngestFault.DiskFault → ((text : List ℕ) (stored : StoredObject) → result ≢ Ok (Ingest.Stored text stored)) → ledger.new ≡ ledger.old }
+    ensures refused_leaves { result ≢ Err IngestFault.DiskFault → ((text : List ℕ) (stored : StoredObject) → result ≢ Ok (Ingest.Stored text stored)) → D.tells → LeavesLedger (D.state disk.old) (D.state disk.new) }
+    ensures dead { result ≡ Err IngestFault.DiskFault → ledger.new ≡ record ledger.old { live = false } }
+    ensures stopped { result ≡ Err IngestFault.DiskFault → D.tells → MayHaveStored ledger.old (IsCut name.now size (S.state source.old).left (S.state source.new).left) (D.state disk.old) (D.state disk.new) }
+
+    // The blocks that the archive had and the other files stay, no site grows past the rows that the archive can have, and
+    // when the disk is at fault.
+    ensures writes { OnlyWrites D.tells (HasCutRoom ledger.old name.now size (D.state disk.old)) (result ≡ Err IngestFault.DiskFault) (ChangesArchive ledger.old.shape (limit_when ledger.old.raised) (IsBlockIn ledger.old.shape ledger.old.lattice.n) (IsBesides ledger.old.shape)) (D.state disk.old) (D.state disk.new) }
+    ensures padded { result ≢ Err IngestFault.DiskFault → D.tells → KeepsPadded ledger.old.shape (IsBlockIn ledger.old.shape ledger.old.lattice.n) (D.state disk.old).files (D.state disk.new).files }
+
+    // How many bytes are taken, and when the source is at fault.
+    ensures counted { Counts (S.state source.old).left (S.state source.new).left at.old at.new (min size (room_left ledger.old)) }
+    ensures source_kept { (S.state source.old).faults ≤ (S.state source.new).faults }
+    ensures read_cause { result ≡ Err IngestFault.ReadFault → Rose (S.state source.old).faults (S.state source.new).faults }
+
+    // No write goes past the gate that ends the new ledger.
+    ensures ledger { (text : List ℕ) (stored : StoredObject) → result ≡ Ok (Ingest.Stored text stored) → D.tells → length ((D.state disk.new).files 0) ≤ max (length ((D.state disk.old).files 0)) (next_end ledger.old.end (length name.now) (stored.nodes * (1 + ledger.old.shape.alpha)) + 1) }
+{
+    records_are_few();
+    match may_enter(ledger, name) {
+        Ok(()) => (),
+        Err(PutFault::BadName) => return Err(IngestFault::BadName),
+        Err(PutFault::NameTaken) => return Err(IngestFault::NameTaken),
+        Err(PutFault::CatalogFull) => return Err(IngestFault::CatalogFull),
+        Err(_) => unreachable!(),
+    }
+    let text = match text_of(alloc, name) {
+        Ok(text) => text,
+        Err(_) => return Err(IngestFault::NoMemory),
+    };
+    match put_wanted(alloc, ledger, disk, name, source, Some(size), at) {
+        Ok(Some(stored)) => Ok(Ingest::Stored { name: text, stored }),
+        Ok(None) => Err(IngestFault::BadStream { at: *at }),
+        Err(PutFault::DiskFault) => Err(IngestFault::DiskFault),
+        Err(PutFault::HeadDamaged { block }) => Err(IngestFault::HeadDamaged { block }),
+        Err(PutFault::Full { nodes }) => Err(IngestFault::Full { nodes }),
+        Err(PutFault::ReadFault) => Err(IngestFault::ReadFault),
+        Err(PutFault::NoMemory) => Err(IngestFault::NoMemory),
+        Err(_) => unreachable!(),
+    }
+}
+
+/// Takes one frame from the source, and stores its object as `put` does: the cells of the object are made sure before its
+/// record is committed, and at `Stored` every file is sure. A frame is the length of a name (2 bytes), the name, the length
+/// of the object (8 bytes), and its bytes, numbers with high bytes first. `at` counts the bytes that were taken of the
+/// source, whatever the answer, and none past the frame is. It takes the memory that `put` takes, and that of the name; none
+/// from the first write of the record on.
+pub fn ingest_one<D: Disk, S: Source>(
+    alloc: Global,
+    ledger: &mut Ledger,
+    disk: &mut D,
+    source: &mut S,
+    at: &mut u64,
+) -> Result<Ingest, IngestFault>
+    requires live { ledger.old.live ≡ true }
+    requires this { D.tells → IsThisOne ledger.old ((D.state disk.old).files 0) }
+    requires fixed { D.tells → IsFixed (D.state disk.old) 0 }
+    requires count { at.old ≤ 2 ^ 63 }
+
+    // The bytes that were taken are counted, and none past the frame is taken.
+    ensures taken { Counts (S.state source.old).left (S.state source.new).left at.old at.new (265 + room_left ledger.old) }
+    ensures within { (stream : List ℕ) → (S.state source.old).left ≡ Some stream → HasHead stream → at.new ≤ at.old + frame_length stream }
+    ensures exact { (name : List ℕ) (stored : StoredObject) → result ≡ Ok (Ingest.Stored name stored) → at.new ≡ at.old + 10 + length name + stored.length }
+    ensures by_head { (stream : List ℕ) → (S.state source.old).left ≡ Some stream → IsByHead result → at.new ≡ at.old + 10 + name_length stream }
+
+    // Stored.
+    ensures stored { (name : List ℕ) (stored : StoredObject) → result ≡ Ok (Ingest.Stored name stored) → (o : NewObject) × (o.name ≡ name) × IsFramed (S.state source.old).left (S.state source.new).left o × HasStored D.tells ledger.old ledger.new o (D.state disk.old) (D.state disk.new) stored }
+
+    // The end of the stream.
+    ensures end { result ≡ Ok Ingest.End → IsAtEnd (S.state source.old).left × (ledger.new ≡ ledger.old) × (disk.new ≡ disk.old) × (at.new ≡ at.old) }
+    ensures ended { result ≡ Ok Ingest.End → IsAtEnd (S.state source.new).left }
+    ensures ends { (S.state source.old).left ≡ Some [] → (result ≡ Ok Ingest.End) ⊎ (result ≡ Err IngestFault.ReadFault) }
+
+    // Refusals by the name and the number of objects, before the disk is touched.
+    ensures bad_name { (stream : List ℕ) → (S.state source.old).left ≡ Some stream → result ≡ Err IngestFault.BadName → HasBadName stream }
+    ensures bad_name_refused { (stream : List ℕ) → (S.state source.old).left ≡ Some stream → HasBadName stream → (result ≡ Err IngestFault.BadName) ⊎ (result ≡ Err IngestFault.ReadFault) }
+    ensures name_taken { (stream : List ℕ) → (S.state source.old).left ≡ Some stream → result ≡ Err IngestFault.NameTaken → HasHead stream × IsName (frame_name stream) × IsTaken ledger.old (frame_name stream) }
+    ensures name_taken_refused { (stream : List ℕ) → (S.state source.old).left ≡ Some stream → HasHead stream → IsName (frame_name stream) → IsTaken ledger.old (frame_name stream) → (result ≡ Err IngestFault.NameTaken) ⊎ (result ≡ Err IngestFault.ReadFault) }
+    ensures many { result ≡ Err IngestFault.CatalogFull → (len ledger.old.objects ≡ greatest_objects) × ((stream : List ℕ) → (S.state source.old).left ≡ Some stream → HasHead stream × IsName (frame_name stream) × (¬ IsTaken ledger.old (frame_name stream))) }
+    ensures many_refused { (stream : List ℕ) → (S.state source.old).left ≡ Some stream → HasHead stream → IsName (frame_name stream) → (¬ IsTaken ledger.old (frame_name stream)) → len ledger.old.objects ≡ greatest_objects → (result ≡ Err IngestFault.CatalogFull) ⊎ (result ≡ Err IngestFault.ReadFault) }
+    ensures early { IsEarlyFault result → disk.new ≡ disk.old }
+
+    // A last parity that is damaged.
+    ensures head { (b : BlockId) → result ≡ Err (IngestFault.HeadDamaged b) → IsLastParity ledger.old.lattice b × (D.tells → IsFirstDamagedLast ledger.old.shape ledger.old.lattice ledger.old.digests (D.state disk.old).files b) }
+    ensures head_leaves { (b : BlockId) → result ≡ Err (IngestFault.HeadDamaged b) → OnlyReads D.tells ⊥ (D.state disk.old) (D.state disk.new) }
+    ensures head_told { (b : BlockId) (stream : List ℕ) → (S.state source.old).left ≡ Some stream → result ≡ Err (IngestFault.HeadDamaged b) → HasEntry ledger.old stream }
+    ensures head_refused { D.tells → (stream : List ℕ) → (S.state source.old).left ≡ Some stream → HasEntry ledger.old stream → (a : BlockId) → IsDamagedLast ledger.old.shape ledger.old.lattice ledger.old.digests (D.state disk.old).files a → IsReadOrHeadFault result }
+
+    // An object that takes more nodes than are left, by the length in the head.
+    ensures full { (nodes : ℕ) → result ≡ Err (IngestFault.Full nodes) → (nodes ≡ ledger.old.lattice.n) × (D.tells → AreLastsIntact ledger.old.shape ledger.old.lattice ledger.old.digests (D.state disk.old).files) }
+    ensures full_told { (nodes : ℕ) (stream : List ℕ) → (S.state source.old).left ≡ Some stream → result ≡ Err (IngestFault.Full nodes) → HasEntry ledger.old stream × IsTooLong ledger.old stream }
+    ensures full_refused { (stream : List ℕ) → (S.state source.old).left ≡ Some stream → HasEntry ledger.old stream → IsTooLong ledger.old stream → (result ≡ Err (IngestFault.Full ledger.old.lattice.n)) ⊎ IsReadOrHeadFault result }
+
+    // A stream that ends inside a frame.
+    ensures bad_stream { (n : ℕ) → result ≡ Err (IngestFault.BadStream n) → (n ≡ at.new) × IsAtEnd (S.state source.new).left }
+    ensures bad_stream_told { (n : ℕ) (stream : List ℕ) → (S.state source.old).left ≡ Some stream → result ≡ Err (IngestFault.BadStream n) → EndsInside ledger.old stream }
+    ensures bad_stream_refused { (stream : List ℕ) → (S.state source.old).left ≡ Some stream → EndsInside ledger.old stream → (result ≡ Err (IngestFault.BadStream at.new)) ⊎ IsReadOrHeadFault result }
+
+    // Where nothing stands against it and no count of faults rises, it is stored, but for want of memory.
+    ensures complete { D.tells → (stream : List ℕ) → (S.state source.old).left ≡ Some stream → HasEntry ledger.old stream → FitsFrame ledger.old stream → frame_length stream ≤ length stream
+        → AreLastsIntact ledger.old.shape ledger.old.lattice ledger.old.digests (D.state disk.old).files
+        → (Rose (D.state disk.old).faults (D.state disk.new).faults → ⊥) → (Rose (S.state source.old).faults (S.state source.new).faults → ⊥)
+        → ((name : List ℕ) × (stored : StoredObject) × (result ≡ Ok (Ingest.Stored name stored))) ⊎ (result ≡ Err IngestFault.NoMemory) }
+
+    // What stands after each other answer.
+    ensures refused { result ≢ Err IngestFault.DiskFault → ((name : List ℕ) (stored : StoredObject) → result ≢ Ok (Ingest.Stored name stored)) → ledger.new ≡ ledger.old }
+    ensures refused_leaves { result ≢ Err IngestFault.DiskFault → ((name : List ℕ) (stored : StoredObject) → result ≢ Ok (Ingest.Stored name stored)) → D.tells → LeavesLedger (D.state disk.old) (D.state disk.new) }
+    ensures dead { result ≡ Err IngestFault.DiskFault → ledger.new ≡ record ledger.old { live = false } }
+    ensures stopped { result ≡ Err IngestFault.DiskFault → D.tells → MayHaveStored ledger.old (IsFramed (S.state source.old).left (S.state source.new).left) (D.state disk.old) (D.state disk.new) }
+
+    // The blocks that the archive had and the other files stay, no site grows past the rows that the archive can have, and
+    // when the disk is at fault.
+    ensures writes { OnlyWrites D.tells (HasFrameRoom ledger.old (S.state source.old).left (D.state disk.old)) (result ≡ Err IngestFault.DiskFault) (ChangesArchive ledger.old.shape (limit_when ledger.old.raised) (IsBlockIn ledger.old.shape ledger.old.lattice.n) (IsBesides ledger.old.shape)) (D.state disk.old) (D.state disk.new) }
+    ensures padded { result ≢ Err IngestFault.DiskFault → D.tells → KeepsPadded ledger.old.shape (IsBlockIn ledger.old.shape ledger.old.lattice.n) (D.state disk.old).files (D.state disk.new).files }
+
+    // When the source is at fault.
+    ensures source_kept { (S.state source.old).faults ≤ (S.state source.new).faults }
+    ensures read_cause { result ≡ Err IngestFault.ReadFault → Rose (S.state source.old).faults (S.state source.new).faults }
+
+    // No write goes past the gate that ends the new ledger.
+    ensures ledger { (name : List ℕ) (stored : StoredObject) → result ≡ Ok (Ingest.Stored name stored) → D.tells → length ((D.state disk.new).files 0) ≤ max (length ((D.state disk.old).files 0)) (next_end ledger.old.end (length name) (stored.nodes * (1 + ledger.old.shape.alpha)) + 1) }
+{
+    let mut buffer = [0; 255];
+    match read_head(source, &mut buffer, at) {
+        Ok(Head::Whole { long, size }) => {
+            store_frame(alloc, ledger, disk, &buffer[..long], size, source, at)
+        }
+        Ok(Head::End) => Ok(Ingest::End),
+        Ok(Head::Cut) => Err(IngestFault::BadStream { at: *at }),
+        Ok(Head::NoName) => Err(IngestFault::BadName),
+        Err(_) => Err(IngestFault::ReadFault),
+    }
+}
+
+#[cfg(test)]
+mod tests;

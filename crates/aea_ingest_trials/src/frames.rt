@@ -1,0 +1,171 @@
+//! Streams of frames: what is printed, what is refused, and what then stands in the archive.
+
+use aea_cli::Status;
+use aea_disk::{Disk, SureDisk};
+use aea_runs::{run_over, run_put, run_words, text_of};
+use std::alloc::{AllocError, Global};
+use std::test::Fail;
+
+const LINE: &str = "create 3 2 5 64 4";
+
+// The frames of `a` with the bytes `abc`, of `b` with none, and of `c` with three bytes, of which one is there.
+const CUT: &[u8; 37] =
+    b"\0\x01a\0\0\0\0\0\0\0\x03abc\0\x01b\0\0\0\0\0\0\0\0\0\x01c\0\0\0\0\0\0\0\x03x";
+
+const STORED_A: &str =
+    "stored 1 3 ba7816bf8f01cfea414140de5dae2223b00361a396177a9cb410ff61f20015ad a\n";
+
+const STORED_B: &str =
+    "stored 0 0 e3b0c44298fc1c149afbf4c8996fb92427ae41e4649b934ca495991b7852b855 b\n";
+
+const LISTED_A: &str = "3 ba7816bf8f01cfea414140de5dae2223b00361a396177a9cb410ff61f20015ad a\n";
+
+const LISTED_B: &str = "0 e3b0c44298fc1c149afbf4c8996fb92427ae41e4649b934ca495991b7852b855 b\n";
+
+// An archive without objects.
+fn fresh(alloc: Global) -> Result<SureDisk, AllocError> {
+    let mut disk = SureDisk::new(alloc, 4, 4096, 4096)?;
+    let _made = run_over(alloc, LINE, &mut disk, 99)?;
+    Ok(disk)
+}
+
+#[test]
+fn a_stream_that_ends_inside_its_third_frame(rt: HostRuntime) -> Result<(), Fail> {
+    let alloc = rt.alloc();
+    let mut disk = fresh(alloc)?;
+    let left = run_words(alloc, &["ingest"], &mut disk, CUT, 400)?;
+    assert_eq!(rt; left.status, Status::Refused);
+    let lines = format!(in alloc; "{STORED_A}{STORED_B}")?;
+    assert_eq!(rt; text_of(left.out.bytes())?, lines.as_str());
+    assert_eq!(rt; text_of(left.err.bytes())?, "refused: bad stream at 37\n");
+    assert_eq!(rt; left.unread, 0);
+    let left = run_over(alloc, "list", &mut disk, 400)?;
+    let listed = format!(in alloc; "{LISTED_A}{LISTED_B}")?;
+    assert_eq!(rt; text_of(left.out.bytes())?, listed.as_str());
+    Ok(())
+}
+
+#[test]
+fn a_stream_of_two_frames(rt: HostRuntime) -> Result<(), Fail> {
+    let alloc = rt.alloc();
+    let mut disk = fresh(alloc)?;
+    let left = run_words(alloc, &["ingest"], &mut disk, &CUT[..25], 400)?;
+    assert_eq!(rt; left.status, Status::Done);
+    let lines = format!(in alloc; "{STORED_A}{STORED_B}end 2\n")?;
+    assert_eq!(rt; text_of(left.out.bytes())?, lines.as_str());
+    assert_eq!(rt; left.out.flushed, lines.len());
+    assert!(rt; left.err.bytes().is_empty() && left.unread == 0);
+    let left = run_words(alloc, &["ingest"], &mut disk, b"", 400)?;
+    assert_eq!(rt; left.status, Status::Done);
+    assert_eq!(rt; text_of(left.out.bytes())?, "end 0\n");
+    let left = run_words(alloc, &["ingest"], &mut disk, &CUT[..14], 400)?;
+    assert_eq!(rt; (left.status, left.unread), (Status::Refused, 3));
+    assert_eq!(rt; text_of(left.err.bytes())?, "refused: name taken\n");
+    assert!(rt; left.out.bytes().is_empty());
+    Ok(())
+}
+
+#[test]
+fn a_stream_that_ends_at_each_byte(rt: HostRuntime) -> Result<(), Fail> {
+    let alloc = rt.alloc();
+    for end in 0..37usize {
+        let mut disk = fresh(alloc)?;
+        let left = run_words(alloc, &["ingest"], &mut disk, &CUT[..end], 400)?;
+        let whole = end == 0 || end == 14 || end == 25;
+        let count = if end < 14 {
+            0
+        } else if end < 25 {
+            1
+        } else {
+            2
+        };
+        let status = if whole { Status::Done } else { Status::Refused };
+        assert_eq!(rt; (left.status, left.unread), (status, 0), "{end}");
+        let line = format!(in alloc; "refused: bad stream at {end}\n")?;
+        assert_eq!(rt;
+            text_of(left.err.bytes())? == line.as_str(),
+            !whole,
+            "{end}"
+        );
+        let last = format!(in alloc; "end {count}\n")?;
+        let out = text_of(left.out.bytes())?;
+        assert_eq!(rt; out.ends_with(last.as_str()), whole, "{end}");
+        assert_eq!(rt; out.contains(STORED_A), end >= 14, "{end}");
+        assert_eq!(rt; out.contains(STORED_B), end >= 25, "{end}");
+        let stat = run_over(alloc, "stat", &mut disk, 99)?;
+        let objects = format!(in alloc; "\"objects\":{count},")?;
+        assert!(rt;
+            text_of(stat.out.bytes())?.contains(objects.as_str()),
+            "{end}"
+        );
+    }
+    Ok(())
+}
+
+#[rattlefmt::skip]
+#[test]
+fn streams_that_are_refused(rt: HostRuntime) -> Result<(), Fail> {
+    let alloc = rt.alloc();
+    for (bytes, line, unread) in [
+        (b"\0\0".as_slice(), "refused: bad name\n", 0usize),
+        (b"\0\0rest", "refused: bad name\n", 4),
+        (b"\x01\0rest", "refused: bad name\n", 4),
+        (b"\0\x01\n\0\0\0\0\0\0\0\x01z", "refused: bad name\n", 1),
+        (b"\0\x01a\xff\xff\xff\xff\xff\xff\xff\xffz", "refused: full at 0 nodes\n", 1),
+        (b"\0\x01a\0\0\0\0\0\x40\0\x01", "refused: full at 0 nodes\n", 0),
+        (b"\0\x01a\0\0\0\0\0\x40\0\0", "refused: bad stream at 11\n", 0),
+    ] {
+        let mut disk = fresh(alloc)?;
+        let left = run_words(alloc, &["ingest"], &mut disk, bytes, 400)?;
+        assert_eq!(rt; (left.status, left.unread), (Status::Refused, unread), "{line}");
+        assert_eq!(rt; text_of(left.err.bytes())?, line);
+        assert!(rt; left.out.bytes().is_empty(), "{line}");
+    }
+    Ok(())
+}
+
+#[test]
+fn a_length_that_no_node_is_left_for(rt: HostRuntime) -> Result<(), Fail> {
+    let alloc = rt.alloc();
+    let mut disk = SureDisk::new(alloc, 1, 4096, 4096)?;
+    let _made = run_over(alloc, "create 1 1 0 16 1", &mut disk, 99)?;
+    // no byte of the object is read, whether it is there or not
+    for (bytes, unread) in [
+        (b"\0\x01a\0\0\0\0\0\x10\0\x01".as_slice(), 0usize),
+        (b"\0\x01a\0\0\0\0\0\x10\0\x01rest", 4),
+    ] {
+        let left = run_words(alloc, &["ingest"], &mut disk, bytes, 400)?;
+        assert_eq!(rt; (left.status, left.unread), (Status::Refused, unread));
+        assert_eq!(rt; text_of(left.err.bytes())?, "refused: full at 0 nodes\n");
+    }
+    Ok(())
+}
+
+#[test]
+fn a_damaged_head_refuses_the_first_frame_alone(rt: HostRuntime) -> Result<(), Fail> {
+    let alloc = rt.alloc();
+    let mut disk = fresh(alloc)?;
+    let _stored = run_put(alloc, &mut disk, "z", b"abc")?;
+    disk.write(3, 16, b"x")?;
+    let left = run_words(alloc, &["ingest"], &mut disk, &CUT[..25], 400)?;
+    assert_eq!(rt; (left.status, left.unread), (Status::Refused, 14));
+    assert_eq!(rt; text_of(left.err.bytes())?, "refused: head damaged r1\n");
+    assert!(rt; left.out.bytes().is_empty());
+    Ok(())
+}
+
+#[test]
+fn what_is_no_archive_takes_no_frame(rt: HostRuntime) -> Result<(), Fail> {
+    let alloc = rt.alloc();
+    let mut disk = SureDisk::new(alloc, 4, 1024, 1024)?;
+    let left = run_words(alloc, &["ingest"], &mut disk, CUT, 400)?;
+    assert_eq!(rt; (left.status, left.unread), (Status::Refused, 37));
+    assert_eq!(rt; text_of(left.err.bytes())?, "refused: no archive\n");
+    let mut disk = fresh(alloc)?;
+    disk.write(0, 9, &[4])?;
+    let left = run_words(alloc, &["ingest"], &mut disk, CUT, 400)?;
+    assert_eq!(rt; (left.status, left.unread), (Status::Refused, 37));
+    assert_eq!(rt; text_of(left.err.bytes())?, "refused: ledger bad at 9\n");
+    assert!(rt; left.out.bytes().is_empty());
+    Ok(())
+}

@@ -5,6 +5,7 @@ use Rattle.std.proofs.lemmas.Bool.{cases_Bool, false≢true}
 use Rattle.aea_lattice.specs.declared.blocks.BlockId.{BlockId}
 use Rattle.aea_lattice.specs.declared.grid.Lattice.{Lattice}
 use Rattle.aea_lattice.specs.Blocks.{HasBlock, same_block}
+use Rattle.aea_lattice.specs.Data.{Determines}
 use Rattle.aea_lattice.specs.LeastWord.{IsWord}
 use Rattle.aea_lattice.proofs.Equations.{same_block-equal, same_block-refl}
 use Rattle.aea_view.specs.Marked.{Marked, is_marked}
@@ -13,12 +14,12 @@ use Rattle.aea_ledger.specs.Recorded.{IsLatticeOf}
 use Rattle.aea_ledger.specs.Values.{Opened}
 use Rattle.aea_archive.specs.Blocks.{IsBlockIn, IsIntactBy, TellsSurvivors}
 use Rattle.aea_fates.specs.Sums.{IsSum}
-use Rattle.aea_fates.specs.Laws.{ListsAreOne, WordsStay}
+use Rattle.aea_fates.specs.Laws.{ListsAreOne, SumsAreDetermined, WordsAreOpen, WordsStay}
 use Rattle.aea_gauss.specs.declared.fates.Fate.{Fate}
 use Rattle.aea_gauss.specs.declared.fates.Fate.TheVariants.{Sum, Word}
 use Rattle.aea_gauss.specs.Fates.{block_of_fate, IsFate}
 use Rattle.aea_explain.specs.declared.explaining.Explanation.{Explanation}
-use Rattle.aea_explain.specs.Explained.{without, Agree, IsExplained, Explains, ExplanationsAreOne}
+use Rattle.aea_explain.specs.Explained.{without, Agree, IsExplained, Explains, is_sum, ExplanationsAreOne, SumsExplainDetermined}
 use Rattle.aea_explain.proofs.Marking.{Sets, mark_here, mark_other}
 use Rattle.aea_explain.proofs.Fated.{fate_same}
 
@@ -48,6 +49,18 @@ explanations-one one stay l known test b e f has agree by_known by_test =
     (by_known.intact ∙ agree b has ∙ sym by_test.intact)
     (fate_one one l (without known b) e.fate f.fate (subst (HasBlock l) (sym by_known.block) has) (by_known.block ∙ sym by_test.block) by_known.fate
     (fate_same stay l (without test b) (without known b) (agree_without l test known b (agree_turned l known test agree)) f.fate by_test.fate))
+
+-- a fate is a sum exactly where the known blocks determine its block
+fate_determined : SumsAreDetermined → WordsAreOpen → (l : Lattice) (known : BlockId → Bool) (b : BlockId) (fate : Fate) → HasBlock l b → block_of_fate fate ≡ b → IsFate l known fate
+    → IsTrue (is_sum fate) ↔ Determines l known b
+fate_determined sums words l known b (Sum d equations) has same is = (λ yes'. subst (Determines l known) same (sums l known d equations (subst (HasBlock l) (sym same) has) is), λ given. refl)
+fate_determined sums words l known b (Word d nodes) has same is = (
+  λ no'. absurd (false≢true no'),
+  λ given. absurd (words l known d nodes (subst (HasBlock l) (sym same) has) is (subst (Determines l known) (sym same) given)),
+)
+
+pub sums-determined : SumsAreDetermined → WordsAreOpen → SumsExplainDetermined
+sums-determined sums words l known b e has is = fate_determined sums words l (without known b) b e.fate has is.block is.fate
 
 -- ---- the explanation by marks
 

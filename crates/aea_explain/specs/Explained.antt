@@ -1,11 +1,14 @@
 -- “Explanation”: whether a block is intact, and its fate where all other intact blocks are known.
-use Rattle.std.specs.Prelude.{◌≡◌, ◌↔◌, Bool, not, ◌&&◌, IsTrue}
+use Rattle.std.specs.Prelude.{◌≡◌, ◌↔◌, Bool, true, false, not, ◌&&◌, IsTrue}
 use Rattle.aea_lattice.specs.declared.blocks.BlockId.{BlockId}
 use Rattle.aea_lattice.specs.declared.grid.Lattice.{Lattice}
 use Rattle.aea_lattice.specs.Blocks.{HasBlock, same_block}
+use Rattle.aea_lattice.specs.Data.{Determines}
 use Rattle.aea_disk.specs.Files.{Files}
 use Rattle.aea_ledger.specs.Values.{Opened}
 use Rattle.aea_archive.specs.Blocks.{IsIntactBy, TellsSurvivors}
+use Rattle.aea_gauss.specs.declared.fates.Fate.{Fate}
+use Rattle.aea_gauss.specs.declared.fates.Fate.TheVariants.{Sum, Word}
 use Rattle.aea_gauss.specs.Fates.{block_of_fate, IsFate}
 use Rattle.aea_explain.specs.declared.explaining.Explanation.{Explanation}
 
@@ -36,3 +39,15 @@ abbrev pub ExplanationsAreOne : Type 0
 ExplanationsAreOne =
     (l : Lattice) (known test : BlockId → Bool) (b : BlockId) (e f : Explanation) → HasBlock l b → Agree l known test
     → IsExplained l known b e → IsExplained l test b f → e ≡ f
+
+-- whether the fate is listed equations, and not listed nodes
+abbrev pub is_sum : Fate → Bool
+is_sum (Sum b equations) = true
+is_sum (Word b nodes) = false
+
+-- An explanation has listed equations exactly where the other known blocks determine the block, and listed nodes where
+-- they do not.
+abbrev pub SumsExplainDetermined : Type 0
+SumsExplainDetermined =
+    (l : Lattice) (known : BlockId → Bool) (b : BlockId) (e : Explanation) → HasBlock l b → IsExplained l known b e
+    → IsTrue (is_sum e.fate) ↔ Determines l (without known b) b

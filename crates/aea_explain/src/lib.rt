@@ -10,4 +10,4 @@ mod flood;
 pub mod laws;
 
 pub use explaining::{ExplainFault, Explanation, explain};
-pub use laws::explanations_are_one;
+pub use laws::{explanations_are_one, sums_explain_determined};

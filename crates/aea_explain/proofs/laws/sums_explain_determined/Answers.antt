@@ -1,0 +1,5 @@
+use Rattle.aea_explain.proofs.Scanned.{sums-determined}
+use Rattle.aea_explain.proofs.laws.sums_explain_determined.Goals as goal
+
+pub returns : goal.returns
+returns c = sums-determined c.sums_are_determined.ensures c.words_are_open.ensures

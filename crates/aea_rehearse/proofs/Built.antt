@@ -1,6 +1,6 @@
 -- The archive of a rehearsal when its one object was put.
-use Rattle.std.proofs.Common.{◌≡◌, ◌⊎◌, inl, inr, ℕ, zero, suc, ◌+◌, ◌-◌, ◌*◌, ◌/◌, ◌^◌, ◌<◌, ◌≤◌, List, [], ◌∷◌, ◌++◌, length, length-append, take, drop, codes, Option, Some, None, refl, sym, ◌∙◌, ap, subst, arith, Bool, true, false, ltb, get_or}
-use Rattle.std.specs.Prelude.{◌&&◌, Result, Err, IsOk}
+use Rattle.std.proofs.Common.{◌≡◌, ℕ, zero, suc, ◌+◌, ◌-◌, ◌*◌, ◌/◌, ◌<◌, ◌≤◌, List, [], ◌∷◌, ◌++◌, length, length-append, take, drop, codes, Option, Some, None, refl, sym, ◌∙◌, ap, subst, arith, Bool, true, false, ltb, get_or}
+use Rattle.std.specs.Prelude.{◌&&◌}
 use Rattle.std.specs.List.{list_all}
 use Rattle.std.proofs.lemmas.Bool.{false≢true}
 use Rattle.std.proofs.lemmas.Bool.Decides.{Decides-ltb}
@@ -8,7 +8,6 @@ use Rattle.std.proofs.lemmas.Str.{is_utf8-from_IsUtf8, IsUtf8-from_ascii}
 use Rattle.std.specs.FinMap.{get, len, get-empty, len-empty}
 use Rattle.std.specs.Io.KnownBytes.{Consumes, IsAtEnd}
 use Rattle.std.proofs.lemmas.List.{append-nil}
-use Rattle.aea_faults.specs.Faults.{Rose}
 use Rattle.aea_lattice.specs.declared.blocks.BlockId.{BlockId}
 use Rattle.aea_lattice.specs.declared.shape.Shape.{Shape}
 use Rattle.aea_lattice.specs.Blocks.{HasBlock}
@@ -29,13 +28,11 @@ use Rattle.aea_ledger.specs.Next.{AreItsRecords}
 use Rattle.aea_ledger.specs.Stops.{empty_ledger, HasLedger}
 use Rattle.aea_archive.specs.Blocks.{recorded_in, IsIntactBy}
 use Rattle.aea_archive.specs.Data.{AreSurvivorsHonest, IsDamagePlain}
-use Rattle.aea_archive.specs.Lasts.{AreLastsIntact, AreLastsHonest}
+use Rattle.aea_archive.specs.Lasts.{AreLastsHonest}
 use Rattle.aea_archive.specs.Laws.{NoneRecordNone}
 use Rattle.aea_archive.specs.Next.{object_blocks}
 use Rattle.aea_archive.proofs.Values.{last_inside}
 use Rattle.aea_append.specs.declared.store.StoredObject.{StoredObject}
-use Rattle.aea_append.specs.declared.fault.PutFault.{PutFault}
-use Rattle.aea_append.specs.declared.fault.PutFault.TheVariants as fault
 use Rattle.aea_append.specs.Causes.{MayEnter, HasPutRoom, next_end}
 use Rattle.aea_append.specs.Puts.{HasPut}
 use Rattle.aea_rehearse.specs.Rehearsed.{IsRehearsalShape}
@@ -81,10 +78,6 @@ new_nodes v has = has.lattice.n
 
 no_block : (v : Opened) (b : BlockId) → HasRecords v [] → HasBlock v.lattice b → ⊥
 no_block v b has inside = let none = new_nodes v has in let first = inside.first in let last = inside.last in omega arith
-
--- what is true of each block is true where there is none
-pub lasts_intact : (v : Opened) (c : Files) → HasRecords v [] → AreLastsIntact v.shape v.lattice v.digests c
-lasts_intact v c has b last = absurd (no_block v b has (last_inside v.lattice b last))
 
 pub lasts_honest : (v : Opened) (datas : List (List ℕ)) (c : Files) → HasRecords v [] → AreLastsHonest v.shape v.lattice v.digests datas c
 lasts_honest v datas c has b last intact = absurd (no_block v b has (last_inside v.lattice b last))
@@ -151,10 +144,6 @@ put_room v bytes rest s is has room = record {
       let four : nodes_for v.shape (length taken) * (1 + v.shape.alpha) ≡ nodes_for v.shape (length taken) * 4 = ap (λ (a : ℕ). nodes_for v.shape (length taken) * (1 + a)) is.alpha in
       room.ledger (next_end v.end (length (codes "rehearsal")) (nodes_for v.shape (length taken) * (1 + v.shape.alpha)) + 1) (omega (arith, end, fewer, four));
 }
-
--- a count that stays has not risen
-pub not_risen : (old new : ℕ) → old < 2 ^ 64 - 1 → new ≡ old → Rose old new → ⊥
-not_risen old new small same rose = omega (arith, small, same, rose)
 
 -- the cell of an intact block whose payload is known
 pub record StandsSo (shape : Shape) (b : BlockId) (recorded payload : List ℕ) (c : Files) : Type 0 where
@@ -226,23 +215,3 @@ is_built lengths parts none tells v w bytes rest old new stored told is its put 
       woven = all_woven lengths parts w (object_blocks w.shape o.bytes) new.files (subst (λ (s : Shape). AreSurvivorsHonest w.shape w.lattice w.digests (object_blocks s o.bytes) new.files) (sym shape) honest) intact;
     } in
     subst (λ (xs : List ℕ). IsBuilt xs w new.files) (sym (all_taken bytes o.bytes rest whole.taken whole.end)) built
-
--- the limit on nodes is not met
-pub put_limit : (v : Opened) (bytes : List ℕ) → IsRehearsalShape v.shape → HasRecords v [] → length bytes ≤ 2000 * 512 → v.lattice.n + nodes_for v.shape (length bytes) ≤ limit_when v.raised
-put_limit v bytes is has few =
-    let limit : limit_when v.raised ≡ 65536 = ap limit_when has.raised in
-    let none = new_nodes v has in
-    let count = nodes-512 v.shape (length bytes) is in
-    let small : (length bytes + 512 - 1) / 512 ≤ 2001 = omega (arith, few) in
-    omega (arith, limit, none, count, small)
-
-same_fault : (f g : PutFault) → (let one : Result StoredObject PutFault = Err f in one ≡ Err g) → f ≡ g
-same_fault f g e = cc
-
--- a put that is done, but for want of memory, has no other fault
-pub is_put_only : (result : Result StoredObject PutFault) (f : PutFault) → (f ≡ fault.NoMemory → ⊥) → IsOk result ⊎ (result ≡ Err fault.NoMemory) → result ≡ Err f → ⊥
-is_put_only result f other done is =
-    elim done [
-      | inl ok ↦ false≢true (subst IsOk is ok)
-      | inr none ↦ other (same_fault f fault.NoMemory (sym is ∙ none))
-    ]

@@ -9,7 +9,7 @@ use Rattle.aea_place.specs.declared.homes.Spot.{Spot}
 use Rattle.aea_place.specs.Homes.{home_of}
 use Rattle.aea_disk.specs.Files.{Files, ChangesFile, Holds, Torn}
 use Rattle.aea_disk.specs.State.{State, Passes, HasRoom, HasRoomTo}
-use Rattle.aea_disk.specs.Steps.{changes_wider, changes_none, torn_none, holds_torn}
+use Rattle.aea_disk.specs.Steps.{changes_wider, holds_torn}
 use Rattle.aea_shelf.specs.Places.{cell_size, home_file, home_place, site_bytes}
 use Rattle.aea_shelf.specs.Writes.{ChangesHome}
 use Rattle.aea_shelf.specs.Facts.{HomesAreInRows, HomesAreOnItsSites}
@@ -88,11 +88,6 @@ pub writes_home : (shape : Shape) (b : BlockId) (cell : List ℕ) (old new : Fil
 writes_home shape b cell old new long changes =
     changes_wider (home_file shape b) (Holds (home_place shape b) cell) (Torn (home_place shape b) (cell_size shape)) old new
     (λ xs ys holds. subst (λ (n : ℕ). Torn (home_place shape b) n xs ys) long (holds_torn (home_place shape b) cell xs ys holds)) changes
-
--- and so is no write at all
-pub leaves_home : (shape : Shape) (b : BlockId) (old new : Files) → new ≡ old → ChangesHome shape b old new
-leaves_home shape b old new same =
-    subst (λ (c : Files). ChangesHome shape b old c) (sym same) (changes_none (home_file shape b) (Torn (home_place shape b) (cell_size shape)) old (torn_none (home_place shape b) (cell_size shape) (old (home_file shape b))))
 
 pub rehearsal_room_stays : (nodes : ℕ) (old new : State) → Passes old new → new.faults ≡ old.faults → HasRehearsalRoom nodes old → HasRehearsalRoom nodes new
 rehearsal_room_stays nodes old new time steady room = record {

@@ -3,12 +3,14 @@
 //! `plain_put hash` prints the SHA-256 of its input. `plain_put put FOLDER A S P B M RAISED NAME` hashes its input, weaves it
 //! into AE(A,S,P) in blocks of B bytes, writes the cells to the files of M sites in the folder, makes them sure, and then
 //! writes the ledger with the object NAME and makes it sure; where RAISED is 1, with a raise of the limit before it.
+//! `plain_put frames FOLDER A S P B M` does what `aea create A S P B M` and then `aea ingest` do: it stores the objects of a
+//! stream of frames, with the heads kept from one to the next, and prints the same lines.
 
 mod plain_sha256;
 
 use plain_sha256::Sha256;
 use std::fs::{File, OpenOptions, create_dir_all};
-use std::io::{Read, Result, Write, stdin};
+use std::io::{ErrorKind, Read, Result, Write, stdin, stdout};
 use std::os::unix::fs::FileExt;
 
 fn fill(input: &mut impl Read, block: &mut [u8]) -> Result<usize> {
@@ -57,68 +59,179 @@ fn write_cell(shape: &Shape, files: &[File], cell: &mut [u8], class: usize, node
     Ok(digest)
 }
 
-fn put(folder: &str, shape: &Shape, raised: bool, name: &str) -> Result<()> {
-    let mut files = Vec::new();
-    for site in 1..=shape.sites {
-        create_dir_all(format!("{folder}/site-{site:02}"))?;
-        let path = format!("{folder}/site-{site:02}/blocks.aea");
-        files.push(OpenOptions::new().write(true).create(true).truncate(true).open(path)?);
-    }
-    let strands = shape.s + shape.p * (shape.alpha - 1);
-    let mut heads = vec![0u8; strands * shape.block];
-    let mut cell = vec![0u8; shape.block + 48];
-    let mut digests = Vec::new();
-    let mut block = vec![0u8; shape.block];
-    let mut input = stdin().lock();
-    let mut hash = Sha256::new();
-    let (mut nodes, mut length) = (0, 0u64);
-    loop {
-        let count = fill(&mut input, &mut block)?;
-        if count == 0 {
-            break;
+/// An archive under way: the files of its sites, and of each strand what a next node adds its data to.
+struct Archive {
+    shape: Shape,
+    files: Vec<File>,
+    /// Which of the files changed since they were made sure.
+    changed: Vec<bool>,
+    heads: Vec<u8>,
+    block: Vec<u8>,
+    cell: Vec<u8>,
+    nodes: usize,
+}
+
+/// What is woven of an object.
+struct Woven {
+    first: usize,
+    nodes: usize,
+    length: u64,
+    digest: [u8; 32],
+    digests: Vec<[u8; 32]>,
+}
+
+impl Archive {
+    fn new(folder: &str, shape: Shape) -> Result<Archive> {
+        let mut files = Vec::new();
+        for site in 1..=shape.sites {
+            create_dir_all(format!("{folder}/site-{site:02}"))?;
+            let path = format!("{folder}/site-{site:02}/blocks.aea");
+            files.push(OpenOptions::new().write(true).create(true).truncate(true).open(path)?);
         }
-        block[count..].fill(0);
-        hash.update(&block[..count]);
-        (nodes, length) = (nodes + 1, length + count as u64);
-        cell[16..16 + shape.block].copy_from_slice(&block);
-        digests.push(write_cell(shape, &files, &mut cell, 0, nodes)?);
-        for class in 1..=shape.alpha {
-            let from = shape.strand(nodes, class) * shape.block;
-            let head = &mut heads[from..from + shape.block];
-            for (byte, other) in head.iter_mut().zip(&block) {
-                *byte ^= other;
+        let strands = shape.s + shape.p * (shape.alpha - 1);
+        let (changed, heads) = (vec![false; files.len()], vec![0; strands * shape.block]);
+        let (block, cell) = (vec![0; shape.block], vec![0; shape.block + 48]);
+        Ok(Archive { shape, files, changed, heads, block, cell, nodes: 0 })
+    }
+
+    /// Writes the cell of a block that stands in the buffer, and keeps its digest.
+    fn write(&mut self, class: usize, digests: &mut Vec<[u8; 32]>) -> Result<()> {
+        let number = (self.nodes - 1) * (1 + self.shape.alpha) + class;
+        self.changed[(number % self.shape.sites + number / self.shape.sites) % self.shape.sites] = true;
+        digests.push(write_cell(&self.shape, &self.files, &mut self.cell, class, self.nodes)?);
+        Ok(())
+    }
+
+    /// Weaves all that the input has, and writes its cells.
+    fn weave(&mut self, input: &mut impl Read) -> Result<Woven> {
+        let (size, first) = (self.shape.block, self.nodes + 1);
+        let (mut digests, mut hash, mut length) = (Vec::new(), Sha256::new(), 0);
+        loop {
+            let count = fill(input, &mut self.block)?;
+            if count == 0 {
+                break;
             }
-            cell[16..16 + shape.block].copy_from_slice(head);
-            digests.push(write_cell(shape, &files, &mut cell, class, nodes)?);
+            self.block[count..].fill(0);
+            hash.update(&self.block[..count]);
+            (self.nodes, length) = (self.nodes + 1, length + count as u64);
+            self.cell[16..16 + size].copy_from_slice(&self.block);
+            self.write(0, &mut digests)?;
+            for class in 1..=self.shape.alpha {
+                let from = self.shape.strand(self.nodes, class) * size;
+                let head = &mut self.heads[from..from + size];
+                for (byte, other) in head.iter_mut().zip(&self.block) {
+                    *byte ^= other;
+                }
+                self.cell[16..16 + size].copy_from_slice(head);
+                self.write(class, &mut digests)?;
+            }
+            if count < size {
+                break;
+            }
         }
-        if count < shape.block {
-            break;
-        }
+        Ok(Woven { first, nodes: self.nodes + 1 - first, length, digest: hash.finish(), digests })
     }
-    for (file, site) in files.iter().zip(1..) {
-        file.sync_all()?;
+
+    /// Makes the files sure that changed.
+    fn sync(&mut self) -> Result<()> {
+        for (file, changed) in self.files.iter().zip(&mut self.changed) {
+            if std::mem::take(changed) {
+                file.sync_all()?;
+            }
+        }
+        Ok(())
+    }
+
+    /// The ledger before its first gate.
+    fn header(&self) -> Vec<u8> {
+        let mut ledger = b"\x01AEALEDG1".to_vec();
+        ledger.extend([self.shape.alpha as u8, self.shape.s as u8, self.shape.p as u8, self.shape.sites as u8]);
+        ledger.extend((self.shape.block as u32).to_be_bytes());
+        ledger
+    }
+}
+
+/// The record of an object behind its gate, without the digests.
+fn record(name: &[u8], woven: &Woven) -> Vec<u8> {
+    let mut bytes = vec![1];
+    bytes.extend(((50 + name.len() + 32 * woven.digests.len()) as u32).to_be_bytes());
+    bytes.extend((name.len() as u16).to_be_bytes());
+    bytes.extend(name);
+    bytes.extend(woven.length.to_be_bytes());
+    bytes.extend(woven.digest);
+    bytes.extend((woven.first as u32).to_be_bytes());
+    bytes.extend((woven.nodes as u32).to_be_bytes());
+    bytes
+}
+
+/// Makes the folders of the sites sure.
+fn sync_folders(folder: &str, shape: &Shape) -> Result<()> {
+    for site in 1..=shape.sites {
         File::open(format!("{folder}/site-{site:02}"))?.sync_all()?;
     }
-    let mut ledger = b"\x01AEALEDG1".to_vec();
-    ledger.extend([shape.alpha as u8, shape.s as u8, shape.p as u8, shape.sites as u8]);
-    ledger.extend((shape.block as u32).to_be_bytes());
+    Ok(())
+}
+
+fn put(folder: &str, shape: Shape, raised: bool, name: &str) -> Result<()> {
+    let mut archive = Archive::new(folder, shape)?;
+    let woven = archive.weave(&mut stdin().lock())?;
+    archive.sync()?;
+    sync_folders(folder, &archive.shape)?;
+    let mut ledger = archive.header();
     if raised {
         ledger.extend(b"\x01\x04\x00\x00\x00\x04\x00\x10\x00\x00");
     }
-    ledger.extend([1, 1]);
-    ledger.extend(((50 + name.len() + 32 * digests.len()) as u32).to_be_bytes());
-    ledger.extend((name.len() as u16).to_be_bytes());
-    ledger.extend(name.as_bytes());
-    ledger.extend(length.to_be_bytes());
-    ledger.extend(hash.finish());
-    ledger.extend(1u32.to_be_bytes());
-    ledger.extend((nodes as u32).to_be_bytes());
+    ledger.push(1);
+    ledger.extend(record(name.as_bytes(), &woven));
     let mut file = File::create(format!("{folder}/ledger.aea"))?;
     file.write_all(&ledger)?;
-    file.write_all(digests.as_flattened())?;
+    file.write_all(woven.digests.as_flattened())?;
     file.write_all(&[0])?;
     file.sync_all()?;
     File::open(folder)?.sync_all()
+}
+
+/// Stores the objects of a stream of frames, one after the other. Each of three steps is made sure before the next: the cells, the
+/// record with a closed gate behind it, and the gate before it, which is opened.
+fn ingest(folder: &str, shape: Shape) -> Result<()> {
+    let mut archive = Archive::new(folder, shape)?;
+    let ledger = File::create(format!("{folder}/ledger.aea"))?;
+    let mut bytes = archive.header();
+    let mut gate = bytes.len() as u64;
+    bytes.push(0);
+    ledger.write_all_at(&bytes, 0)?;
+    ledger.sync_all()?;
+    sync_folders(folder, &archive.shape)?;
+    File::open(folder)?.sync_all()?;
+    let (mut input, mut out, mut count) = (stdin().lock(), stdout().lock(), 0);
+    let (mut two, mut eight) = ([0; 2], [0; 8]);
+    while fill(&mut input, &mut two)? == 2 {
+        let mut name = vec![0; usize::from(u16::from_be_bytes(two))];
+        input.read_exact(&mut name)?;
+        input.read_exact(&mut eight)?;
+        let length = u64::from_be_bytes(eight);
+        let woven = archive.weave(&mut input.by_ref().take(length))?;
+        if woven.length < length {
+            return Err(ErrorKind::UnexpectedEof.into());
+        }
+        archive.sync()?;
+        let mut bytes = record(&name, &woven);
+        bytes.extend(woven.digests.as_flattened());
+        bytes.push(0);
+        ledger.write_all_at(&bytes, gate + 1)?;
+        ledger.sync_all()?;
+        ledger.write_all_at(&[1], gate)?;
+        ledger.sync_all()?;
+        gate += bytes.len() as u64;
+        write!(out, "stored {} {} ", woven.nodes, woven.length)?;
+        for byte in woven.digest {
+            write!(out, "{byte:02x}")?;
+        }
+        writeln!(out, " {}", String::from_utf8_lossy(&name))?;
+        out.flush()?;
+        count += 1;
+    }
+    writeln!(out, "end {count}")
 }
 
 fn main() -> Result<()> {
@@ -140,5 +253,8 @@ fn main() -> Result<()> {
     }
     let number = |k: usize| words[k].parse::<usize>().unwrap();
     let shape = Shape { alpha: number(2), s: number(3), p: number(4), block: number(5), sites: number(6) };
-    put(&words[1], &shape, words[7] == "1", &words[8])
+    if words[0] == "frames" {
+        return ingest(&words[1], shape);
+    }
+    put(&words[1], shape, words[7] == "1", &words[8])
 }

@@ -119,7 +119,7 @@ fn streams_that_are_refused(rt: HostRuntime) -> Result<(), Fail> {
         let left = run_words(alloc, &["ingest"], &mut disk, bytes, 400)?;
         assert_eq!(rt; (left.status, left.unread), (Status::Refused, unread), "{line}");
         assert_eq!(rt; text_of(left.err.bytes())?, line);
-        assert!(rt; left.out.bytes().is_empty(), "{line}");
+        assert!(rt; left.out.bytes().is_empty());
     }
     Ok(())
 }

@@ -10,83 +10,19 @@
 //! missing. It prints the lines of the loss report. It knows one segment of a lattice alone, and no fence; and its status is 1
 //! where a block is left that no single equation brings back.
 
+mod plain_ledger;
 mod plain_sha256;
 
-use plain_sha256::Sha256;
-use std::fs::{File, OpenOptions, create_dir_all, read};
-use std::io::{BufWriter, Error, ErrorKind, Result, Write, stdout};
+use plain_ledger::{Ledger, digest, wrong};
+use std::fs::{File, OpenOptions, create_dir_all};
+use std::io::{BufWriter, ErrorKind, Result, Write, stdout};
 use std::os::unix::fs::FileExt;
 use std::process::exit;
 
 /// The letters of the classes in the texts of blocks.
 const LETTERS: [char; 4] = ['d', 'h', 'r', 'l'];
 
-type Digest = [u8; 32];
-
-fn digest(bytes: &[u8]) -> Digest {
-    let mut hash = Sha256::new();
-    hash.update(bytes);
-    hash.finish()
-}
-
-fn wrong(what: &str) -> Error {
-    Error::new(ErrorKind::InvalidData, what)
-}
-
-/// The shape of an archive, the digests of its blocks in number order, and its seal.
-struct Ledger {
-    alpha: usize,
-    s: usize,
-    p: usize,
-    sites: usize,
-    block: usize,
-    digests: Vec<u8>,
-    seal: Digest,
-}
-
 impl Ledger {
-    fn open(path: &str) -> Result<Ledger> {
-        let bytes = read(path)?;
-        let number = |at: usize, count: usize| bytes[at..at + count].iter().fold(0, |sum, byte| sum << 8 | *byte as usize);
-        if bytes.len() < 18 || !bytes.starts_with(b"\x01AEALEDG1") {
-            return Err(wrong("no archive"));
-        }
-        let mut digests = Vec::new();
-        let mut gate = 17;
-        while bytes[gate] == 1 {
-            let end = gate + 6 + number(gate + 2, 4);
-            match bytes[gate + 1] {
-                // an object whose nodes are all new: its digests stand behind its name and 48 bytes more
-                1 => digests.extend_from_slice(&bytes[gate + 56 + number(gate + 6, 2)..end]),
-                // a raise of the limit
-                4 => (),
-                _ => return Err(wrong("a record that the plain program does not know")),
-            }
-            gate = end;
-        }
-        Ok(Ledger {
-            alpha: bytes[9] as usize,
-            s: bytes[10] as usize,
-            p: bytes[11] as usize,
-            sites: bytes[12] as usize,
-            block: number(13, 4),
-            digests,
-            seal: digest(&bytes[..gate]),
-        })
-    }
-
-    fn blocks(&self) -> usize {
-        self.digests.len() / 32
-    }
-
-    fn classes(&self) -> usize {
-        1 + self.alpha
-    }
-
-    fn nodes(&self) -> usize {
-        self.blocks() / self.classes()
-    }
-
     /// How far the node before on a strand is, by docs/FORMATS.md; the strand begins where that is no node.
     fn back(&self, node: usize, class: usize) -> usize {
         let (s, p, row) = (self.s, self.p, (node - 1) % self.s);
@@ -263,8 +199,8 @@ impl Archive {
     fn print(&self, damaged: &[usize]) -> Result<()> {
         let ledger = &self.ledger;
         let mut out = BufWriter::new(stdout().lock());
-        let seal: String = ledger.seal.iter().map(|byte| format!("{byte:02x}")).collect();
-        writeln!(out, "aea-report 1\nlattice {} {} {} {}\nledger {seal}", ledger.alpha, ledger.s, ledger.p, ledger.nodes())?;
+        let Ledger { alpha, s, p, seal, .. } = ledger;
+        writeln!(out, "aea-report 1\nlattice {alpha} {s} {p} {}\nledger {seal}", ledger.nodes())?;
         writeln!(out, "counts {0} {0} 0 0", damaged.len())?;
         for number in damaged {
             writeln!(out, "peeled {}{}", LETTERS[number % ledger.classes()], number / ledger.classes() + 1)?;

@@ -7,75 +7,20 @@
 //! block's nodes is walked from the first of them to where no strand has an odd number of them. It prints `accepted`, or
 //! `rejected LINE WHY`, with status 1; and where the text is no report, or a line is too long, the first bad line, with status 3.
 
+mod plain_ledger;
 mod plain_sha256;
 
-use plain_sha256::Sha256;
+use plain_ledger::{Ledger, digest};
 use std::convert::TryInto;
-use std::fs::{File, read};
-use std::io::{BufRead, Error, ErrorKind, Read, Result, stdin};
+use std::fs::File;
+use std::io::{BufRead, ErrorKind, Read, Result, stdin};
 use std::os::unix::fs::FileExt;
 use std::process::exit;
 
 const LETTERS: &[u8; 4] = b"dhrl";
 const LONGEST_LINE: u64 = 16_777_216;
 
-fn digest(bytes: &[u8]) -> [u8; 32] {
-    let mut hash = Sha256::new();
-    hash.update(bytes);
-    hash.finish()
-}
-
-/// The shape of an archive, the digests of its blocks in number order, and its seal in digits.
-struct Ledger {
-    alpha: usize,
-    s: usize,
-    p: usize,
-    sites: usize,
-    block: usize,
-    digests: Vec<u8>,
-    seal: String,
-}
-
 impl Ledger {
-    fn open(path: &str) -> Result<Ledger> {
-        let bytes = read(path)?;
-        let number = |at: usize, count: usize| bytes[at..at + count].iter().fold(0, |sum, byte| sum << 8 | *byte as usize);
-        let mut digests = Vec::new();
-        let mut gate = 17;
-        while bytes[gate] == 1 {
-            let end = gate + 6 + number(gate + 2, 4);
-            match bytes[gate + 1] {
-                // an object whose nodes are all new: its digests stand behind its name and 48 bytes more
-                1 => digests.extend_from_slice(&bytes[gate + 56 + number(gate + 6, 2)..end]),
-                // a raise of the limit
-                4 => (),
-                _ => return Err(Error::new(ErrorKind::InvalidData, "a record that the plain program does not know")),
-            }
-            gate = end;
-        }
-        Ok(Ledger {
-            alpha: bytes[9] as usize,
-            s: bytes[10] as usize,
-            p: bytes[11] as usize,
-            sites: bytes[12] as usize,
-            block: number(13, 4),
-            digests,
-            seal: digest(&bytes[..gate]).iter().map(|byte| format!("{byte:02x}")).collect(),
-        })
-    }
-
-    fn classes(&self) -> usize {
-        1 + self.alpha
-    }
-
-    fn blocks(&self) -> usize {
-        self.digests.len() / 32
-    }
-
-    fn nodes(&self) -> usize {
-        self.blocks() / self.classes()
-    }
-
     /// The strand of a node, counted over all classes: of class 1 there are s, and of each other one p.
     fn strand(&self, node: usize, class: usize) -> usize {
         let (column, row) = ((node - 1) / self.s, (node - 1) % self.s);

@@ -260,6 +260,3 @@ pub fn ingest_one<D: Disk, S: Source>(
         Err(_) => Err(IngestFault::ReadFault),
     }
 }
-
-#[cfg(test)]
-mod tests;

@@ -262,6 +262,3 @@ pub fn put<D: Disk, S: Source>(
         Err(fault) => Err(fault),
     }
 }
-
-#[cfg(test)]
-mod tests;

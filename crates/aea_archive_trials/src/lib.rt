@@ -1,4 +1,4 @@
-//! Trials of archives: making one, what is told of it, and disks and outputs that fail or stop.
+//! Trials of archives: making one, what is told of it, bad ledgers, and a disk without room.
 #![tactic(auto)]
 
 #[cfg(test)]

@@ -14,6 +14,3 @@ pub use catalog::Catalog;
 pub use name_text::NameText;
 pub use names::check_name;
 pub use objects::{Extent, ObjectRef};
-
-#[cfg(test)]
-mod tests;

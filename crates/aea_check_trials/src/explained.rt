@@ -151,7 +151,7 @@ fn each_block_of_a_chain_is_explained(rt: HostRuntime) -> Result<(), Fail> {
         let drill = "drill 1 1 0 8";
         let mut archive = make_damaged(alloc, "create 1 1 0 16 3", drill, lattice, &numbers)?;
         let found = first_false(alloc, &mut archive)?;
-        assert_eq!(rt; said(&found), "none", "{numbers:?}");
+        assert!(rt; said(&found) == "none", "{numbers:?}");
     }
     Ok(())
 }
@@ -171,7 +171,7 @@ fn each_block_around_two_codewords_is_explained(rt: HostRuntime) -> Result<(), F
         &numbers,
     )?;
     let found = first_false(alloc, &mut archive)?;
-    assert_eq!(rt; said(&found), "none");
+    assert!(rt; said(&found) == "none");
     Ok(())
 }
 
@@ -191,6 +191,6 @@ fn each_block_of_three_classes_is_explained(rt: HostRuntime) -> Result<(), Fail>
         &numbers,
     )?;
     let found = first_false(alloc, &mut archive)?;
-    assert_eq!(rt; said(&found), "none");
+    assert!(rt; said(&found) == "none");
     Ok(())
 }

@@ -15,6 +15,6 @@ mod lines;
 #[cfg(test)]
 mod plain;
 #[cfg(test)]
-mod shapes;
+mod refusals;
 #[cfg(test)]
-mod streams;
+mod shapes;

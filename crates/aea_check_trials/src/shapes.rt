@@ -96,7 +96,7 @@ fn first_not_accepted(alloc: Global, row: Row, seed: u64) -> Result<Option<Strin
 fn reports_of_one_class_are_accepted(rt: HostRuntime) -> Result<(), Fail> {
     for row in ONE_CLASS {
         let found = first_not_accepted(rt.alloc(), row, 1)?;
-        assert_eq!(rt; said(&found), "none");
+        assert!(rt; said(&found) == "none");
     }
     Ok(())
 }
@@ -105,7 +105,7 @@ fn reports_of_one_class_are_accepted(rt: HostRuntime) -> Result<(), Fail> {
 fn reports_of_two_classes_are_accepted(rt: HostRuntime) -> Result<(), Fail> {
     for row in TWO_CLASSES {
         let found = first_not_accepted(rt.alloc(), row, 2)?;
-        assert_eq!(rt; said(&found), "none");
+        assert!(rt; said(&found) == "none");
     }
     Ok(())
 }
@@ -114,7 +114,7 @@ fn reports_of_two_classes_are_accepted(rt: HostRuntime) -> Result<(), Fail> {
 fn reports_of_three_classes_are_accepted(rt: HostRuntime) -> Result<(), Fail> {
     for row in THREE_CLASSES {
         let found = first_not_accepted(rt.alloc(), row, 3)?;
-        assert_eq!(rt; said(&found), "none");
+        assert!(rt; said(&found) == "none");
     }
     Ok(())
 }

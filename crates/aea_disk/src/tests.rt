@@ -1,4 +1,3 @@
-mod folder;
 mod gate;
 
 use crate::{Disk, DiskFault, FailDisk, Loss, MemDisk, SureDisk};

@@ -88,6 +88,3 @@ pub fn decode(b: BlockId, cell: &[u8]) -> Option<(&[u8], [u8; 32])>
         None
     }
 }
-
-#[cfg(test)]
-mod tests;

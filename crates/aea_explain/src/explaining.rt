@@ -64,6 +64,3 @@ pub fn explain<D: Disk>(
         Err(_) => Err(ExplainFault::NoMemory),
     }
 }
-
-#[cfg(test)]
-mod tests;

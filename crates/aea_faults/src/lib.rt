@@ -13,20 +13,3 @@ pub fn risen(count: u64) -> u64
 {
     count.saturating_add(1)
 }
-
-#[cfg(test)]
-mod tests {
-    use super::*;
-
-    #[test]
-    fn stops_at_the_end(rt: HostRuntime) {
-        for (count, want) in [
-            (0, 1),
-            (41, 42),
-            (u64::MAX - 1, u64::MAX),
-            (u64::MAX, u64::MAX),
-        ] {
-            assert_eq!(rt; risen(count), want, "after {count}");
-        }
-    }
-}

@@ -1,4 +1,4 @@
-//! Trials of fences and raises of the limit, over disks and outputs that fail or stop.
+//! Trials of fences and raises of the limit.
 #![tactic(auto)]
 
 #[cfg(test)]

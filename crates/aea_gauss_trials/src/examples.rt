@@ -44,7 +44,7 @@ fn examples_have_their_fates(rt: HostRuntime) -> Result<(), Fail> {
         let lattice = Lattice::new(alpha, s, p, n).ok_or("no lattice")?;
         let lost = blocks_of(rt.alloc(), lost)?;
         let fates = fates_of(rt.alloc(), &lattice, lost.as_slice())?;
-        assert_eq!(rt; fates.as_str(), want);
+        assert!(rt; fates.as_str() == want);
     }
     Ok(())
 }

@@ -90,9 +90,8 @@ fn parts_alone_have_their_fates(rt: HostRuntime) -> Result<(), Fail> {
             lines_stand_in(&rt, first.as_str(), whole.as_str());
             lines_stand_in(&rt, second.as_str(), whole.as_str());
             let lines = first.as_str().lines().count() + second.as_str().lines().count();
-            assert_eq!(rt;
-                lines,
-                lost.len(),
+            assert!(rt;
+                lines == lost.len(),
                 "{percent} of 100 in {lattice:?}, from {seed}"
             );
             if !part.is_empty() && !others.is_empty() {

@@ -122,6 +122,6 @@ fn many_rows_are_reduced_as_few(rt: HostRuntime) -> Result<(), Fail> {
         eliminate(192, 300, words.as_mut_slice());
         reduce_plain(other.as_mut_slice());
     }
-    assert_eq!(rt; digest(words.as_slice()), digest(other.as_slice()));
+    assert!(rt; digest(words.as_slice()) == digest(other.as_slice()));
     Ok(())
 }

@@ -2,7 +2,7 @@
 
 use crate::turning::TurningDisk;
 use aea_cli::{Status, run};
-use aea_disk::{Disk, FailDisk, SureDisk};
+use aea_disk::{Disk, SureDisk};
 use aea_io::{MemSink, SureSource};
 use aea_runs::{Left, run_over, run_put, run_words, text_of, words_of};
 use std::alloc::{AllocError, Global};
@@ -48,10 +48,10 @@ fn objects_are_got_as_they_were_put(rt: HostRuntime) -> Result<(), Fail> {
     let mut disk = filled(alloc)?;
     for (name, bytes) in TEXTS {
         let left = run_get(alloc, &mut disk, name, 99)?;
-        assert_eq!(rt; left.status, Status::Done, "{name}");
+        assert!(rt; left.status == Status::Done, "{name}");
         assert!(rt; left.out.bytes() == bytes, "{name}");
         assert!(rt; left.err.bytes().is_empty() && left.unread == 6, "{name}");
-        assert_eq!(rt; left.out.flushed, bytes.len(), "{name}");
+        assert!(rt; left.out.flushed == bytes.len(), "{name}");
     }
     Ok(())
 }
@@ -62,8 +62,8 @@ fn a_name_that_no_object_has(rt: HostRuntime) -> Result<(), Fail> {
     let mut disk = filled(alloc)?;
     for name in ["fir", "firsts", "", "b"] {
         let left = run_get(alloc, &mut disk, name, 99)?;
-        assert_eq!(rt; left.status, Status::Refused, "{name}");
-        assert_eq!(rt; text_of(left.err.bytes())?, "refused: unknown name\n");
+        assert!(rt; left.status == Status::Refused, "{name}");
+        assert!(rt; left.err.bytes() == "refused: unknown name\n".as_bytes());
         assert!(rt; left.out.bytes().is_empty());
     }
     Ok(())
@@ -84,32 +84,12 @@ fn the_first_damaged_block_is_told(rt: HostRuntime) -> Result<(), Fail> {
         let _count = disk.read(file, place, &mut byte)?;
         disk.write(file, place, &[byte[0] ^ 1])?;
         let left = run_get(alloc, &mut disk, "second", 99)?;
-        assert_eq!(rt; left.status, Status::Refused, "{file}");
-        assert_eq!(rt; text_of(left.err.bytes())?, line);
+        assert!(rt; left.status == Status::Refused, "{file}");
+        assert!(rt; left.err.bytes() == line.as_bytes());
         assert!(rt; left.out.bytes().is_empty());
         // the others are got
         let left = run_get(alloc, &mut disk, "first", 99)?;
-        assert_eq!(rt; left.status, Status::Done, "{file}");
-    }
-    Ok(())
-}
-
-// How many calls of the disk the get of three blocks makes: six to open the archive, and two reads of each cell.
-const CALLS: u64 = 6 + 6;
-
-#[test]
-fn each_call_of_the_disk_fails(rt: HostRuntime) -> Result<(), Fail> {
-    let alloc = rt.alloc();
-    for k in 1..CALLS + 2 {
-        let mut disk = FailDisk::new(alloc, filled(alloc)?, &[k])?;
-        let left = run_get(alloc, &mut disk, "second", 99)?;
-        if CALLS < k {
-            assert_eq!(rt; left.status, Status::Done, "{k}");
-            continue;
-        }
-        assert_eq!(rt; left.status, Status::Disk, "{k}");
-        assert_eq!(rt; text_of(left.err.bytes())?, "fault: disk\n", "{k}");
-        assert!(rt; TEXTS[0].1.starts_with(left.out.bytes()), "{k}");
+        assert!(rt; left.status == Status::Done, "{file}");
     }
     Ok(())
 }
@@ -165,8 +145,8 @@ fn each_write_of_the_output_fails(rt: HostRuntime) -> Result<(), Fail> {
         } else {
             (Status::Done, "")
         };
-        assert_eq!(rt; (status, text_of(err.bytes())?), told, "{call}");
-        assert_eq!(rt; out.bytes().len(), written, "{call}");
+        assert!(rt; (status, text_of(err.bytes())?) == told, "{call}");
+        assert!(rt; out.bytes().len() == written, "{call}");
         assert!(rt; bytes.as_slice().starts_with(out.bytes()), "{call}");
     }
     Ok(())
@@ -192,9 +172,9 @@ fn a_cell_that_changes_between_the_passes_is_damaged(rt: HostRuntime) -> Result<
             reads: 0,
         };
         let left = run_get(alloc, &mut disk, "pages", bytes.len())?;
-        assert_eq!(rt; left.status, Status::Refused, "{from}");
-        assert_eq!(rt; text_of(left.err.bytes())?, line, "{from}");
-        assert_eq!(rt; left.out.bytes().len(), written, "{from}");
+        assert!(rt; left.status == Status::Refused, "{from}");
+        assert!(rt; left.err.bytes() == line.as_bytes(), "{from}");
+        assert!(rt; left.out.bytes().len() == written, "{from}");
         assert!(rt; bytes.as_slice().starts_with(left.out.bytes()), "{from}");
     }
     let inner = with_pages(alloc, bytes.as_slice())?;
@@ -205,23 +185,8 @@ fn a_cell_that_changes_between_the_passes_is_damaged(rt: HostRuntime) -> Result<
         reads: 0,
     };
     let left = run_get(alloc, &mut disk, "pages", bytes.len())?;
-    assert_eq!(rt; left.status, Status::Done);
+    assert!(rt; left.status == Status::Done);
     assert!(rt; left.out.bytes() == bytes.as_slice());
-    Ok(())
-}
-
-#[test]
-fn an_output_without_room_is_at_fault(rt: HostRuntime) -> Result<(), Fail> {
-    let alloc = rt.alloc();
-    let mut disk = filled(alloc)?;
-    for room in [0usize, 1, 16, 35] {
-        let left = run_get(alloc, &mut disk, "second", room)?;
-        assert_eq!(rt; left.status, Status::Output, "{room}");
-        assert_eq!(rt; text_of(left.err.bytes())?, "fault: output\n");
-        assert!(rt; TEXTS[0].1.starts_with(left.out.bytes()), "{room}");
-    }
-    let left = run_get(alloc, &mut disk, "second", 36)?;
-    assert_eq!(rt; left.status, Status::Done);
     Ok(())
 }
 
@@ -230,17 +195,14 @@ fn objects_are_listed_by_name(rt: HostRuntime) -> Result<(), Fail> {
     let alloc = rt.alloc();
     let mut disk = SureDisk::new(alloc, 4, 4096, 4096)?;
     let left = run_over(alloc, "list", &mut disk, 999)?;
-    assert_eq!(rt; text_of(left.err.bytes())?, "refused: no archive\n");
+    assert!(rt; left.err.bytes() == "refused: no archive\n".as_bytes());
     let _made = run_over(alloc, LINE, &mut disk, 99)?;
     let left = run_over(alloc, "list", &mut disk, 999)?;
     assert!(rt; left.status == Status::Done && left.out.bytes().is_empty());
     let mut disk = filled(alloc)?;
     let left = run_over(alloc, "list", &mut disk, 999)?;
-    assert_eq!(rt; left.status, Status::Done);
-    assert_eq!(rt; text_of(left.out.bytes())?, LISTED);
-    assert_eq!(rt; left.out.flushed, LISTED.len());
-    let left = run_over(alloc, "list", &mut disk, 80)?;
-    assert_eq!(rt; left.status, Status::Output);
-    assert!(rt; LISTED.as_bytes().starts_with(left.out.bytes()));
+    assert!(rt; left.status == Status::Done);
+    assert!(rt; left.out.bytes() == LISTED.as_bytes());
+    assert!(rt; left.out.flushed == LISTED.len());
     Ok(())
 }

@@ -44,22 +44,22 @@ fn many_objects_a_lost_site_and_a_repair(rt: HostRuntime) -> Result<(), Fail> {
     let mut disk = SureDisk::new(alloc, 4, 400_000, 12_000_000)?;
     let _made = run_over(alloc, "create 3 2 5 4096 4", &mut disk, 99)?;
     let left = run_words(alloc, &["ingest"], &mut disk, stream.as_slice(), 16_384)?;
-    assert_eq!(rt; (left.status, left.unread), (Status::Done, 0));
+    assert!(rt; (left.status, left.unread) == (Status::Done, 0));
     let out = text_of(left.out.bytes())?;
     assert!(rt; out.ends_with(" object 75\nend 75\n") && out.lines().count() == 76);
 
     disk.cut(2, 0)?;
     let repaired = run_over(alloc, "repair", &mut disk, 100_000)?;
-    assert_eq!(rt; repaired.status, Status::Done);
+    assert!(rt; repaired.status == Status::Done);
     let report = repaired.out.bytes();
     assert!(rt; text_of(report)?.contains("\ncounts 2817 2817 0 0\npeeled h1\n"));
     let verified = run_words(alloc, &["verify"], &mut disk, report, 99)?;
-    assert_eq!(rt; text_of(verified.out.bytes())?, "accepted\n");
+    assert!(rt; verified.out.bytes() == "accepted\n".as_bytes());
     for object in 1..76u8 {
         let name = format!(in alloc; "object {object}")?;
         let got = run_words(alloc, &["get", name.as_str()], &mut disk, b"", 300_000)?;
         let bytes = bytes_of(alloc, object, size_of(object))?;
-        assert_eq!(rt; got.status, Status::Done, "{object}");
+        assert!(rt; got.status == Status::Done, "{object}");
         assert!(rt; got.out.bytes() == bytes.as_slice(), "{object}");
     }
     Ok(())
@@ -75,8 +75,8 @@ fn as_many_nodes_as_there_may_be_and_a_byte_more(rt: HostRuntime) -> Result<(), 
     let mut stream = Vec::new(alloc);
     add_frame(&mut stream, "a", bytes.as_slice())?;
     let left = run_words(alloc, &["ingest"], &mut disk, stream.as_slice(), 400)?;
-    assert_eq!(rt; (left.status, left.unread), (Status::Refused, 1_048_577));
-    assert_eq!(rt; text_of(left.err.bytes())?, "refused: full at 0 nodes\n");
+    assert!(rt; (left.status, left.unread) == (Status::Refused, 1_048_577));
+    assert!(rt; left.err.bytes() == "refused: full at 0 nodes\n".as_bytes());
     assert!(rt; left.out.bytes().is_empty());
 
     let bytes = vec![in alloc; 7u8; 1_048_576]?;
@@ -85,20 +85,18 @@ fn as_many_nodes_as_there_may_be_and_a_byte_more(rt: HostRuntime) -> Result<(), 
     add_frame(&mut stream, "e", b"")?;
     add_frame(&mut stream, "b", b"xyz")?;
     let left = run_words(alloc, &["ingest"], &mut disk, stream.as_slice(), 400)?;
-    assert_eq!(rt; (left.status, left.unread), (Status::Refused, 3));
-    assert_eq!(rt;
-        text_of(left.out.bytes())?,
-        "stored 65536 1048576 51b12eb838732b786b4d45c660a974ddf3860ae09084fd293fa6e5df46581a6c a\n\
+    assert!(rt; (left.status, left.unread) == (Status::Refused, 3));
+    assert!(rt;
+        left.out.bytes()
+            == "stored 65536 1048576 51b12eb838732b786b4d45c660a974ddf3860ae09084fd293fa6e5df46581a6c a\n\
         stored 0 0 e3b0c44298fc1c149afbf4c8996fb92427ae41e4649b934ca495991b7852b855 e\n"
+                .as_bytes()
     );
-    assert_eq!(rt;
-        text_of(left.err.bytes())?,
-        "refused: full at 65536 nodes\n"
-    );
+    assert!(rt; left.err.bytes() == "refused: full at 65536 nodes\n".as_bytes());
     let left = run_over(alloc, "stat", &mut disk, 99)?;
-    assert_eq!(rt;
-        text_of(left.out.bytes())?,
-        "{\"alpha\":1,\"block\":16,\"nodes\":65536,\"objects\":2,\"p\":0,\"s\":1,\"sites\":1}\n"
+    assert!(rt;
+        left.out.bytes()
+            == "{\"alpha\":1,\"block\":16,\"nodes\":65536,\"objects\":2,\"p\":0,\"s\":1,\"sites\":1}\n".as_bytes()
     );
     Ok(())
 }

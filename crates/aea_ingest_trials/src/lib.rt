@@ -1,9 +1,7 @@
-//! Trials of streams of frames that are stored: worked examples, what is refused, and runs that fail or are stopped under way.
+//! Trials of streams of frames that are stored: worked examples, and what is refused.
 #![tactic(auto)]
 
 #[cfg(test)]
 mod examples;
 #[cfg(test)]
 mod frames;
-#[cfg(test)]
-mod stops;

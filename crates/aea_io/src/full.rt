@@ -23,6 +23,3 @@ pub fn read_full<S: Source>(input: &mut S, buf: &mut [u8]) -> Result<usize, Read
     }
     Ok(done)
 }
-
-#[cfg(test)]
-mod tests;

@@ -163,6 +163,3 @@ impl Sink for MemSink {
         self.sink.flush()
     }
 }
-
-#[cfg(test)]
-mod tests;

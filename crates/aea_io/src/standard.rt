@@ -137,6 +137,3 @@ impl<W: Write> Sink for StdSink<W> {
         self.flush_once()
     }
 }
-
-#[cfg(test)]
-mod tests;

@@ -156,6 +156,3 @@ impl Sink for SureSink {
         Ok(())
     }
 }
-
-#[cfg(test)]
-mod tests;

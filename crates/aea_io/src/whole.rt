@@ -63,6 +63,3 @@ pub fn read_whole<S: Source>(
     }
     Ok(whole)
 }
-
-#[cfg(test)]
-mod tests;

@@ -47,6 +47,3 @@ impl Lattice {
         }
     }
 }
-
-#[cfg(test)]
-mod tests;

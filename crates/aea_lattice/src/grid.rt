@@ -378,6 +378,3 @@ impl Lattice {
         }
     }
 }
-
-#[cfg(test)]
-mod tests;

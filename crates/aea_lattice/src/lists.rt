@@ -68,6 +68,3 @@ pub type NodeList = Items<u32>;
 
 /// Equations in order.
 pub type EqList = Items<EqId>;
-
-#[cfg(test)]
-mod tests;

@@ -93,6 +93,3 @@ pub fn parse_block(text: &[u8]) -> Option<BlockId>
         None
     }
 }
-
-#[cfg(test)]
-mod tests;

@@ -309,6 +309,3 @@ impl Ledger {
         self.add(disk, name, &object, Some(parts), digests)
     }
 }
-
-#[cfg(test)]
-mod tests;

@@ -155,6 +155,3 @@ pub fn create_ledger<D: Disk>(disk: &mut D, shape: &Shape) -> Result<(), CreateF
     make(disk, shape)?;
     Ok(())
 }
-
-#[cfg(test)]
-mod tests;

@@ -175,16 +175,10 @@ fn each_kind_is_spelled_as_by_hand(rt: HostRuntime) -> Result<(), Fail> {
     }
     let mut bytes = [0u8; 512];
     let count = disk.read(0, 0, &mut bytes)? as u64;
-    assert_eq!(rt; part(&bytes, 0, count), each_kind(alloc)?.as_slice());
+    assert!(rt; part(&bytes, 0, count) == each_kind(alloc)?.as_slice());
     let ledger = open_ledger(alloc, &mut disk)?;
-    assert_eq!(rt;
-        ledger.catalog().part(b"b", 0),
-        Some(Extent { first: 1, count: 1 })
-    );
-    assert_eq!(rt;
-        ledger.catalog().part(b"b", 1),
-        Some(Extent { first: 2, count: 1 })
-    );
+    assert!(rt; ledger.catalog().part(b"b", 0) == Some(Extent { first: 1, count: 1 }));
+    assert!(rt; ledger.catalog().part(b"b", 1) == Some(Extent { first: 2, count: 1 }));
     Ok(())
 }
 
@@ -234,7 +228,7 @@ fn each_fault_leaves_the_old_or_the_new(rt: HostRuntime) -> Result<(), Fail> {
         for call in 1..=32u64 {
             let (taken, state) = failing_at(rt.alloc(), k, call)?;
             if taken {
-                assert_eq!(rt; state, STATES[k + 1]);
+                assert!(rt; state == STATES[k + 1]);
                 break;
             }
             calls = call;
@@ -274,25 +268,16 @@ fn a_fence_behind_one_node(rt: HostRuntime) -> Result<(), Fail> {
     let alloc = rt.alloc();
     let mut disk = SureDisk::new(alloc, 0, 1024, 0)?;
     create_ledger(&mut disk, &SMALL)?;
-    assert_eq!(rt;
-        fence(alloc, &mut disk)?,
-        Err(FenceFault::AlreadyFenced { nodes: 0 })
-    );
+    assert!(rt; fence(alloc, &mut disk)? == Err(FenceFault::AlreadyFenced { nodes: 0 }));
     assert!(rt; alone(alloc, &mut disk, &[[1; 32], [2; 32]]));
-    assert_eq!(rt; fence(alloc, &mut disk)?, Ok(1));
-    assert_eq!(rt;
-        fence(alloc, &mut disk)?,
-        Err(FenceFault::AlreadyFenced { nodes: 1 })
-    );
+    assert!(rt; fence(alloc, &mut disk)? == Ok(1));
+    assert!(rt; fence(alloc, &mut disk)? == Err(FenceFault::AlreadyFenced { nodes: 1 }));
     let bytes = file_bytes(alloc, &mut disk)?;
-    assert_eq!(rt; bytes.len(), 149);
-    assert_eq!(rt;
-        part(&bytes, 138, 11),
-        b"\x01\x02\0\0\0\x04\0\0\0\x01\0".as_slice()
-    );
+    assert!(rt; bytes.len() == 149);
+    assert!(rt; part(&bytes, 138, 11) == b"\x01\x02\0\0\0\x04\0\0\0\x01\0".as_slice());
     for (place, value, at) in [(147usize, 2u8, 144u64), (139, 3, 139), (143, 5, 140)] {
         let opened = opened_with(alloc, &mut disk, &bytes, place, value)?;
-        assert_eq!(rt; opened, Reading::Bad { at });
+        assert!(rt; opened == Reading::Bad { at });
     }
     Ok(())
 }
@@ -302,20 +287,14 @@ fn a_raise_of_an_empty_archive(rt: HostRuntime) -> Result<(), Fail> {
     let alloc = rt.alloc();
     let mut disk = SureDisk::new(alloc, 0, 1024, 0)?;
     create_ledger(&mut disk, &SMALL)?;
-    assert_eq!(rt; raise(alloc, &mut disk)?, Ok(()));
-    assert_eq!(rt;
-        raise(alloc, &mut disk)?,
-        Err(UpgradeFault::AlreadyUpgraded)
-    );
+    assert!(rt; raise(alloc, &mut disk)? == Ok(()));
+    assert!(rt; raise(alloc, &mut disk)? == Err(UpgradeFault::AlreadyUpgraded));
     let bytes = file_bytes(alloc, &mut disk)?;
-    assert_eq!(rt; bytes.len(), 28);
-    assert_eq!(rt;
-        part(&bytes, 17, 11),
-        b"\x01\x04\0\0\0\x04\0\x10\0\0\0".as_slice()
-    );
+    assert!(rt; bytes.len() == 28);
+    assert!(rt; part(&bytes, 17, 11) == b"\x01\x04\0\0\0\x04\0\x10\0\0\0".as_slice());
     for (place, value, at) in [(18usize, 3u8, 18u64), (24, 32, 23)] {
         let opened = opened_with(alloc, &mut disk, &bytes, place, value)?;
-        assert_eq!(rt; opened, Reading::Bad { at });
+        assert!(rt; opened == Reading::Bad { at });
     }
     Ok(())
 }
@@ -335,19 +314,16 @@ fn parts_without_a_new_node(rt: HostRuntime) -> Result<(), Fail> {
     let alloc = rt.alloc();
     let mut disk = SureDisk::new(alloc, 0, 1024, 0)?;
     create_ledger(&mut disk, &SMALL)?;
-    assert_eq!(rt; raise(alloc, &mut disk)?, Ok(()));
+    assert!(rt; raise(alloc, &mut disk)? == Ok(()));
     let Some(ledger) = with_parts(alloc, &mut disk)? else {
         return Err(Fail::new("no ledger takes it"));
     };
     let opened = open_ledger(alloc, &mut disk)?;
-    assert_eq!(rt; opened.lattice().n(), 3);
-    assert_eq!(rt; opened.catalog().parts(b"x"), Some(2));
-    assert_eq!(rt;
-        opened.catalog().part(b"x", 1),
-        Some(Extent { first: 3, count: 1 })
-    );
-    assert_eq!(rt; opened.catalog().find(b"x"), ledger.catalog().find(b"x"));
-    assert_eq!(rt; opened.seal(), ledger.seal());
+    assert!(rt; opened.lattice().n() == 3);
+    assert!(rt; opened.catalog().parts(b"x") == Some(2));
+    assert!(rt; opened.catalog().part(b"x", 1) == Some(Extent { first: 3, count: 1 }));
+    assert!(rt; opened.catalog().find(b"x") == ledger.catalog().find(b"x"));
+    assert!(rt; opened.seal() == ledger.seal());
     Ok(())
 }
 
@@ -368,12 +344,9 @@ fn as_many_fences_as_there_may_be(rt: HostRuntime) -> Result<(), Fail> {
     let mut disk = SureDisk::new(alloc, 0, 4096, 0)?;
     create_ledger(&mut disk, &SMALL)?;
     for k in 0..16u8 {
-        assert_eq!(rt;
-            fenced_node(alloc, &mut disk, b'a' + k)?,
-            Ok(u32::from(k) + 1)
-        );
+        assert!(rt; fenced_node(alloc, &mut disk, b'a' + k)? == Ok(u32::from(k) + 1));
     }
     let more = fenced_node(alloc, &mut disk, b'z')?;
-    assert_eq!(rt; more, Err(FenceFault::TooManyFences));
+    assert!(rt; more == Err(FenceFault::TooManyFences));
     Ok(())
 }

@@ -2,6 +2,10 @@
 #![tactic(auto)]
 
 #[cfg(test)]
+mod adding;
+#[cfg(test)]
+mod creating;
+#[cfg(test)]
 mod example;
 #[cfg(test)]
 mod kinds;

@@ -49,28 +49,28 @@ fn recorded(ledger: &Ledger, k: u32) -> Option<[u8; 32]> {
 #[test]
 fn the_example_is_read_field_by_field(rt: HostRuntime) -> Result<(), Fail> {
     let bytes = example(rt.alloc())?;
-    assert_eq!(rt; bytes.len(), 203);
+    assert!(rt; bytes.len() == 203);
     let mut disk = SureDisk::new(rt.alloc(), 0, 256, 0)?;
     fill(&mut disk, &bytes)?;
     let ledger = open_ledger(rt.alloc(), &mut disk)?;
-    assert_eq!(rt; Some(ledger.shape()), Shape::new(3, 2, 5, 64, 4));
-    assert_eq!(rt; ledger.lattice().n(), 1);
+    assert!(rt; Some(ledger.shape()) == Shape::new(3, 2, 5, 64, 4));
+    assert!(rt; ledger.lattice().n() == 1);
     assert!(rt; ledger.live());
-    assert_eq!(rt; ledger.catalog().len(), 1);
+    assert!(rt; ledger.catalog().len() == 1);
     let Some(object) = ledger.catalog().find(b"a") else {
         return Err(Fail::new("no object"));
     };
-    assert_eq!(rt; (object.first, object.count, object.length), (1, 1, 3));
-    assert_eq!(rt; &object.digest, ABC);
+    assert!(rt; (object.first, object.count, object.length) == (1, 1, 3));
+    assert!(rt; &object.digest == ABC);
     for (k, class) in [
         (0u32, Class::Datum),
         (1, Class::Horiz),
         (2, Class::Right),
         (3, Class::Left),
     ] {
-        assert_eq!(rt; recorded(&ledger, k), Some(first_digest(class)));
+        assert!(rt; recorded(&ledger, k) == Some(first_digest(class)));
     }
-    assert_eq!(rt; ledger.seal(), Sha256::digest(part(&bytes, 0, 202)));
+    assert!(rt; ledger.seal() == Sha256::digest(part(&bytes, 0, 202)));
     Ok(())
 }
 
@@ -117,16 +117,15 @@ fn each_cut_and_change_is_as_the_plain_reader_has_it(rt: HostRuntime) -> Result<
     let alloc = rt.alloc();
     let bytes = example(alloc)?;
     let mut disk = SureDisk::new(alloc, 0, 256, 0)?;
-    assert_eq!(rt; first_cut_apart(alloc, &mut disk, &bytes)?, None);
+    assert!(rt; first_cut_apart(alloc, &mut disk, &bytes)? == None);
     let mut changed = Vec::from_slice(alloc, &bytes)?;
     for place in 0..bytes.len() {
         let kept = changed[place];
         for value in 0..=255u8 {
             changed[place] = value;
             let plain = read_plainly(alloc, &changed)?;
-            assert_eq!(rt;
-                open_bytes(alloc, &mut disk, &changed)?,
-                plain,
+            assert!(rt;
+                open_bytes(alloc, &mut disk, &changed)? == plain,
                 "{value} at {place}"
             );
         }
@@ -140,19 +139,19 @@ fn each_kind_is_as_the_plain_reader_has_it(rt: HostRuntime) -> Result<(), Fail> 
     let alloc = rt.alloc();
     let bytes = each_kind(alloc)?;
     let mut disk = SureDisk::new(alloc, 0, 512, 0)?;
-    assert_eq!(rt;
-        open_bytes(alloc, &mut disk, &bytes)?,
-        Reading::Ledger {
-            nodes: 2,
-            objects: 2
-        }
+    assert!(rt;
+        open_bytes(alloc, &mut disk, &bytes)?
+            == Reading::Ledger {
+                nodes: 2,
+                objects: 2
+            }
     );
     let ledger = open_ledger(alloc, &mut disk)?;
-    assert_eq!(rt; ledger.limit(), 1_048_576);
-    assert_eq!(rt; ledger.lattice().fence_count(), 1);
-    assert_eq!(rt; ledger.catalog().parts(b"b"), Some(2));
-    assert_eq!(rt; first_cut_apart(alloc, &mut disk, &bytes)?, None);
-    assert_eq!(rt; first_change_apart(alloc, &mut disk, &bytes)?, None);
+    assert!(rt; ledger.limit() == 1_048_576);
+    assert!(rt; ledger.lattice().fence_count() == 1);
+    assert!(rt; ledger.catalog().parts(b"b") == Some(2));
+    assert!(rt; first_cut_apart(alloc, &mut disk, &bytes)? == None);
+    assert!(rt; first_change_apart(alloc, &mut disk, &bytes)? == None);
     Ok(())
 }
 
@@ -188,8 +187,8 @@ fn bad_places(rt: HostRuntime) -> Result<(), Fail> {
         if let Some(byte) = changed.get_mut(place) {
             *byte = value;
         }
-        assert_eq!(rt; open_bytes(alloc, &mut disk, &changed)?, want, "{end} {place} {value}");
-        assert_eq!(rt; read_plainly(alloc, &changed)?, want, "{end} {place} {value}");
+        assert!(rt; open_bytes(alloc, &mut disk, &changed)? == want, "{end} {place} {value}");
+        assert!(rt; read_plainly(alloc, &changed)? == want, "{end} {place} {value}");
     }
     Ok(())
 }
@@ -232,15 +231,15 @@ fn names_at_their_limits(rt: HostRuntime) -> Result<(), Fail> {
     ] {
         let mut bytes = Vec::from_slice(alloc, FRONT)?;
         add_empty(&mut bytes, name, 1)?;
-        assert_eq!(rt; open_bytes(alloc, &mut disk, &bytes)?, want, "{name:?}");
-        assert_eq!(rt; read_plainly(alloc, &bytes)?, want, "{name:?}");
+        assert!(rt; open_bytes(alloc, &mut disk, &bytes)? == want, "{name:?}");
+        assert!(rt; read_plainly(alloc, &bytes)? == want, "{name:?}");
     }
     // a name that stands twice
     let mut bytes = Vec::from_slice(alloc, FRONT)?;
     add_empty(&mut bytes, b"b", 1)?;
     add_empty(&mut bytes, b"a", 1)?;
     add_empty(&mut bytes, b"b", 1)?;
-    assert_eq!(rt; open_bytes(alloc, &mut disk, &bytes)?, Reading::Bad { at: 17 + 57 + 57 + 8 });
+    assert!(rt; open_bytes(alloc, &mut disk, &bytes)? == Reading::Bad { at: 17 + 57 + 57 + 8 });
     Ok(())
 }
 
@@ -258,12 +257,9 @@ fn as_many_objects_as_there_may_be(rt: HostRuntime) -> Result<(), Fail> {
         nodes: 0,
         objects: 65_536,
     };
-    assert_eq!(rt; open_bytes(alloc, &mut disk, &bytes)?, full);
+    assert!(rt; open_bytes(alloc, &mut disk, &bytes)? == full);
     let end = (bytes.len() as u64).saturating_sub(1);
     add_empty(&mut bytes, b"one more", 1)?;
-    assert_eq!(rt;
-        open_bytes(alloc, &mut disk, &bytes)?,
-        Reading::Bad { at: end }
-    );
+    assert!(rt; open_bytes(alloc, &mut disk, &bytes)? == Reading::Bad { at: end });
     Ok(())
 }

@@ -137,13 +137,13 @@ fn what_was_added_is_opened_again(rt: HostRuntime) -> Result<(), Fail> {
     let mut bytes = [0u8; 512];
     let count = disk.read(0, 0, &mut bytes)? as u64;
     let first = example(alloc)?;
-    assert_eq!(rt; part(&bytes, 0, 202), part(&first, 0, 202));
-    assert_eq!(rt; count, 202 + 57 + 1);
+    assert!(rt; part(&bytes, 0, 202) == part(&first, 0, 202));
+    assert!(rt; count == 202 + 57 + 1);
     let opened = open_ledger(alloc, &mut disk)?;
-    assert_eq!(rt; opened.seal(), added.seal());
-    assert_eq!(rt; opened.catalog().find(b"e"), added.catalog().find(b"e"));
-    assert_eq!(rt; opened.catalog().find(b"a"), added.catalog().find(b"a"));
-    assert_eq!(rt; opened.lattice(), added.lattice());
+    assert!(rt; opened.seal() == added.seal());
+    assert!(rt; opened.catalog().find(b"e") == added.catalog().find(b"e"));
+    assert!(rt; opened.catalog().find(b"a") == added.catalog().find(b"a"));
+    assert!(rt; opened.lattice() == added.lattice());
     assert!(rt; opened.catalog().find(b"e").is_some());
     Ok(())
 }
@@ -168,7 +168,7 @@ fn a_full_catalogue_takes_no_more(rt: HostRuntime) -> Result<(), Fail> {
     fill(&mut disk, &bytes)?;
     let len = disk.len(0)?;
     assert!(rt; is_full_after_one(alloc, &mut disk)?);
-    assert_eq!(rt; disk.len(0)?, len.saturating_add(60));
+    assert!(rt; disk.len(0)? == len.saturating_add(60));
     Ok(())
 }
 
@@ -178,10 +178,7 @@ fn an_archive_is_not_made_twice(rt: HostRuntime) -> Result<(), Fail> {
     let mut disk = SureDisk::new(alloc, 0, 512, 0)?;
     create_ledger(&mut disk, &SHAPE)?;
     let added = add_two(alloc, &mut disk)?;
-    assert_eq!(rt;
-        create_ledger(&mut disk, &SHAPE),
-        Err(CreateFault::Occupied)
-    );
-    assert_eq!(rt; open_ledger(alloc, &mut disk)?.seal(), added.seal());
+    assert!(rt; create_ledger(&mut disk, &SHAPE) == Err(CreateFault::Occupied));
+    assert!(rt; open_ledger(alloc, &mut disk)?.seal() == added.seal());
     Ok(())
 }

@@ -194,6 +194,3 @@ pub fn peel<F: Fn(BlockId) -> bool>(
     let peeled = peel_marks(alloc, view.marks(alloc)?)?;
     Ok(peeled.plan)
 }
-
-#[cfg(test)]
-mod tests;

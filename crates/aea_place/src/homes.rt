@@ -45,6 +45,3 @@ pub fn at(sites: u8, spot: Spot) -> u64
     let column = (site + count - spot.cell % count) % count;
     spot.cell * count + column
 }
-
-#[cfg(test)]
-mod tests;

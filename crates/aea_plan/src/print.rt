@@ -123,6 +123,3 @@ pub fn print_report<O: Sink>(
     print_head(out, page, &head_of(plan, seal))?;
     print_lines(out, page, &plan.verdicts, text)
 }
-
-#[cfg(test)]
-mod tests;

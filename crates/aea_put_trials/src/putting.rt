@@ -2,7 +2,7 @@
 
 use aea_cli::Status;
 use aea_disk::{Disk, DiskFault, SureDisk};
-use aea_runs::{run_over, run_put, run_words, text_of};
+use aea_runs::{run_over, run_put, run_words};
 use std::alloc::{AllocError, Global};
 use std::test::Fail;
 
@@ -52,25 +52,25 @@ fn an_object_of_three_bytes(rt: HostRuntime) -> Result<(), Fail> {
     let mut disk = SureDisk::new(alloc, 4, 203, 112)?;
     let _made = run_over(alloc, LINE, &mut disk, 99)?;
     let left = run_put(alloc, &mut disk, "a", b"abc")?;
-    assert_eq!(rt; left.status, Status::Done);
-    assert_eq!(rt; text_of(left.out.bytes())?, STORED_ABC);
+    assert!(rt; left.status == Status::Done);
+    assert!(rt; left.out.bytes() == STORED_ABC.as_bytes());
     assert!(rt; left.err.bytes().is_empty() && left.unread == 0);
-    assert_eq!(rt; left.out.flushed, STORED_ABC.len());
+    assert!(rt; left.out.flushed == STORED_ABC.len());
 
     let mut bytes = [9u8; 256];
-    assert_eq!(rt; disk.read(0, 0, &mut bytes), Ok(203));
+    assert!(rt; disk.read(0, 0, &mut bytes) == Ok(203));
     assert!(rt; bytes.starts_with(ABC));
     assert!(rt; bytes[17] == 1 && bytes[202] == 0);
     assert!(rt; bytes[170..].starts_with(LEFT_DIGEST));
     for file in 1..5u8 {
-        assert_eq!(rt; disk.len(file), Ok(112), "site {file}");
+        assert!(rt; disk.len(file) == Ok(112), "site {file}");
     }
-    assert_eq!(rt; disk.read(4, 0, &mut bytes), Ok(112));
+    assert!(rt; disk.read(4, 0, &mut bytes) == Ok(112));
     assert!(rt; bytes.starts_with(LEFT_CELL) && bytes[80..].starts_with(LEFT_DIGEST));
     let left = run_over(alloc, "stat", &mut disk, 99)?;
-    assert_eq!(rt;
-        text_of(left.out.bytes())?,
-        "{\"alpha\":3,\"block\":64,\"nodes\":1,\"objects\":1,\"p\":5,\"s\":2,\"sites\":4}\n"
+    assert!(rt;
+        left.out.bytes()
+            == "{\"alpha\":3,\"block\":64,\"nodes\":1,\"objects\":1,\"p\":5,\"s\":2,\"sites\":4}\n".as_bytes()
     );
     Ok(())
 }
@@ -80,15 +80,15 @@ fn an_empty_object_has_no_nodes(rt: HostRuntime) -> Result<(), Fail> {
     let alloc = rt.alloc();
     let mut disk = with_abc(alloc)?;
     let left = run_put(alloc, &mut disk, "e", b"")?;
-    assert_eq!(rt; left.status, Status::Done);
-    assert_eq!(rt; text_of(left.out.bytes())?, STORED_EMPTY);
+    assert!(rt; left.status == Status::Done);
+    assert!(rt; left.out.bytes() == STORED_EMPTY.as_bytes());
     let left = run_over(alloc, "stat", &mut disk, 99)?;
-    assert_eq!(rt;
-        text_of(left.out.bytes())?,
-        "{\"alpha\":3,\"block\":64,\"nodes\":1,\"objects\":2,\"p\":5,\"s\":2,\"sites\":4}\n"
+    assert!(rt;
+        left.out.bytes()
+            == "{\"alpha\":3,\"block\":64,\"nodes\":1,\"objects\":2,\"p\":5,\"s\":2,\"sites\":4}\n".as_bytes()
     );
     for file in 1..5u8 {
-        assert_eq!(rt; disk.len(file), Ok(112), "site {file}");
+        assert!(rt; disk.len(file) == Ok(112), "site {file}");
     }
     Ok(())
 }
@@ -106,15 +106,15 @@ fn names_that_are_refused(rt: HostRuntime) -> Result<(), Fail> {
         ("\u{7f}", "refused: bad name\n"),
     ] {
         let left = run_put(alloc, &mut disk, name, b"abc")?;
-        assert_eq!(rt; left.status, Status::Refused, "{name:?}");
-        assert_eq!(rt; text_of(left.err.bytes())?, line, "{name:?}");
+        assert!(rt; left.status == Status::Refused, "{name:?}");
+        assert!(rt; left.err.bytes() == line.as_bytes(), "{name:?}");
         assert!(rt; left.out.bytes().is_empty() && left.unread == 3, "{name:?}");
         assert!(rt; snapshot(alloc, &mut disk)? == before, "{name:?}");
     }
     // names that are taken, a word like a command among them
     for name in ["put", "fence", "b c", "A", "\u{e9}"] {
         let left = run_put(alloc, &mut disk, name, b"")?;
-        assert_eq!(rt; left.status, Status::Done, "{name:?}");
+        assert!(rt; left.status == Status::Done, "{name:?}");
     }
     Ok(())
 }
@@ -125,19 +125,19 @@ fn objects_of_whole_blocks_and_one_byte_more(rt: HostRuntime) -> Result<(), Fail
     let mut disk = SureDisk::new(alloc, 1, 1024, 1024)?;
     let _made = run_over(alloc, "create 1 1 0 16 1", &mut disk, 99)?;
     let left = run_put(alloc, &mut disk, "sixteen", b"0123456789abcdef")?;
-    assert_eq!(rt;
-        text_of(left.out.bytes())?,
-        "stored 1 16 9f9f5111f7b27a781f1f1ddde5ebc2dd2b796bfc7365c9c28b548e564176929f sixteen\n"
+    assert!(rt;
+        left.out.bytes()
+            == "stored 1 16 9f9f5111f7b27a781f1f1ddde5ebc2dd2b796bfc7365c9c28b548e564176929f sixteen\n".as_bytes()
     );
     let left = run_put(alloc, &mut disk, "seventeen", b"0123456789abcdefg")?;
-    assert_eq!(rt;
-        text_of(left.out.bytes())?,
-        "stored 2 17 8378b19d693ee89e2ca594b6ec0abfaadc4fe1831eaca2f748f0b71ede38892e seventeen\n"
+    assert!(rt;
+        left.out.bytes()
+            == "stored 2 17 8378b19d693ee89e2ca594b6ec0abfaadc4fe1831eaca2f748f0b71ede38892e seventeen\n".as_bytes()
     );
     let left = run_over(alloc, "stat", &mut disk, 99)?;
-    assert_eq!(rt;
-        text_of(left.out.bytes())?,
-        "{\"alpha\":1,\"block\":16,\"nodes\":3,\"objects\":2,\"p\":0,\"s\":1,\"sites\":1}\n"
+    assert!(rt;
+        left.out.bytes()
+            == "{\"alpha\":1,\"block\":16,\"nodes\":3,\"objects\":2,\"p\":0,\"s\":1,\"sites\":1}\n".as_bytes()
     );
     Ok(())
 }
@@ -149,35 +149,32 @@ fn as_many_nodes_as_there_may_be_and_a_byte_more(rt: HostRuntime) -> Result<(), 
     let _made = run_over(alloc, "create 1 1 0 16 1", &mut disk, 99)?;
     let bytes = vec![in alloc; 7u8; 1_048_580]?;
     let left = run_put(alloc, &mut disk, "a", &bytes)?;
-    assert_eq!(rt; text_of(left.err.bytes())?, "refused: full at 0 nodes\n");
+    assert!(rt; left.err.bytes() == "refused: full at 0 nodes\n".as_bytes());
     assert!(rt; left.status == Status::Refused && left.out.bytes().is_empty());
-    assert_eq!(rt; left.unread, 3);
+    assert!(rt; left.unread == 3);
     let left = run_over(alloc, "stat", &mut disk, 99)?;
-    assert_eq!(rt;
-        text_of(left.out.bytes())?,
-        "{\"alpha\":1,\"block\":16,\"nodes\":0,\"objects\":0,\"p\":0,\"s\":1,\"sites\":1}\n"
+    assert!(rt;
+        left.out.bytes()
+            == "{\"alpha\":1,\"block\":16,\"nodes\":0,\"objects\":0,\"p\":0,\"s\":1,\"sites\":1}\n".as_bytes()
     );
 
     let bytes = vec![in alloc; 7u8; 1_048_576]?;
     let left = run_put(alloc, &mut disk, "a", &bytes)?;
-    assert_eq!(rt;
-        text_of(left.out.bytes())?,
-        "stored 65536 1048576 51b12eb838732b786b4d45c660a974ddf3860ae09084fd293fa6e5df46581a6c a\n"
+    assert!(rt;
+        left.out.bytes()
+            == "stored 65536 1048576 51b12eb838732b786b4d45c660a974ddf3860ae09084fd293fa6e5df46581a6c a\n".as_bytes()
     );
     let left = run_put(alloc, &mut disk, "b", b"xyz")?;
-    assert_eq!(rt;
-        text_of(left.err.bytes())?,
-        "refused: full at 65536 nodes\n"
-    );
-    assert_eq!(rt; left.unread, 2);
+    assert!(rt; left.err.bytes() == "refused: full at 65536 nodes\n".as_bytes());
+    assert!(rt; left.unread == 2);
     let left = run_put(alloc, &mut disk, "e", b"")?;
-    assert_eq!(rt; text_of(left.out.bytes())?, STORED_EMPTY);
+    assert!(rt; left.out.bytes() == STORED_EMPTY.as_bytes());
     let left = run_over(alloc, "upgrade", &mut disk, 99)?;
-    assert_eq!(rt; left.status, Status::Done);
+    assert!(rt; left.status == Status::Done);
     let left = run_put(alloc, &mut disk, "b", b"x")?;
-    assert_eq!(rt;
-        text_of(left.out.bytes())?,
-        "stored 1 1 2d711642b726b04401627ca9fbac32f5c8530fb1903cc4db02258717921a4881 b\n"
+    assert!(rt;
+        left.out.bytes()
+            == "stored 1 1 2d711642b726b04401627ca9fbac32f5c8530fb1903cc4db02258717921a4881 b\n".as_bytes()
     );
     Ok(())
 }
@@ -227,8 +224,8 @@ fn a_full_catalogue_takes_no_object(rt: HostRuntime) -> Result<(), Fail> {
         ("", "refused: bad name\n"),
     ] {
         let left = run_put(alloc, &mut disk, name, b"x")?;
-        assert_eq!(rt; text_of(left.err.bytes())?, line);
-        assert_eq!(rt; (left.status, left.unread), (Status::Refused, 1));
+        assert!(rt; left.err.bytes() == line.as_bytes());
+        assert!(rt; (left.status, left.unread) == (Status::Refused, 1));
     }
     // of a stream of frames none is stored, though its object has no byte
     for (frame, line) in [
@@ -239,8 +236,8 @@ fn a_full_catalogue_takes_no_object(rt: HostRuntime) -> Result<(), Fail> {
         (b"\0\x05aaaaz\0\0\0\0\0\0\0\0", "refused: name taken\n"),
     ] {
         let left = run_words(alloc, &["ingest"], &mut disk, frame, 99)?;
-        assert_eq!(rt; text_of(left.err.bytes())?, line);
-        assert_eq!(rt; (left.status, left.unread), (Status::Refused, 0));
+        assert!(rt; left.err.bytes() == line.as_bytes());
+        assert!(rt; (left.status, left.unread) == (Status::Refused, 0));
     }
     Ok(())
 }
@@ -267,22 +264,22 @@ fn the_damaged_head_with_the_least_number_is_named(rt: HostRuntime) -> Result<()
         let before = snapshot(alloc, &mut disk)?;
         for bytes in [b"x".as_slice(), b""] {
             let left = run_put(alloc, &mut disk, "b", bytes)?;
-            assert_eq!(rt; left.status, Status::Refused, "{line}");
-            assert_eq!(rt; text_of(left.err.bytes())?, line);
+            assert!(rt; left.status == Status::Refused, "{line}");
+            assert!(rt; left.err.bytes() == line.as_bytes());
             assert!(rt; left.out.bytes().is_empty() && left.unread == bytes.len());
             assert!(rt; snapshot(alloc, &mut disk)? == before, "{line}");
         }
         let left = run_put(alloc, &mut disk, "a", b"x")?;
-        assert_eq!(rt; text_of(left.err.bytes())?, "refused: name taken\n");
+        assert!(rt; left.err.bytes() == "refused: name taken\n".as_bytes());
     }
 
     // a datum alone is no head
     let mut disk = with_abc(alloc)?;
     spoil(&mut disk, 1)?;
     let left = run_put(alloc, &mut disk, "b", b"x")?;
-    assert_eq!(rt; left.status, Status::Done);
+    assert!(rt; left.status == Status::Done);
     let left = run_put(alloc, &mut disk, "c", b"x")?;
-    assert_eq!(rt; left.status, Status::Done);
+    assert!(rt; left.status == Status::Done);
     Ok(())
 }
 
@@ -299,21 +296,21 @@ fn a_bad_ledger_takes_no_object(rt: HostRuntime) -> Result<(), Fail> {
     ] {
         let mut disk = with_abc(alloc)?;
         let len = disk.len(0)?;
-        assert_eq!(rt; len, 203);
+        assert!(rt; len == 203);
         disk.cut(0, end.min(len))?;
         disk.write(0, place, &[value])?;
         let before = snapshot(alloc, &mut disk)?;
         for name in ["b", "a", ""] {
             let left = run_put(alloc, &mut disk, name, b"x")?;
-            assert_eq!(rt; left.status, Status::Refused, "{end} {place}");
-            assert_eq!(rt; text_of(left.err.bytes())?, line, "{end} {place}");
+            assert!(rt; left.status == Status::Refused, "{end} {place}");
+            assert!(rt; left.err.bytes() == line.as_bytes(), "{end} {place}");
             assert!(rt; left.out.bytes().is_empty() && left.unread == 1, "{end} {place}");
             assert!(rt; snapshot(alloc, &mut disk)? == before, "{end} {place}");
         }
         for other in ["get a", "get z", "list", "stat", "scrub", "fence", "upgrade", "ingest"] {
             let left = run_over(alloc, other, &mut disk, 99)?;
-            assert_eq!(rt; left.status, Status::Refused, "{other} {end} {place}");
-            assert_eq!(rt; text_of(left.err.bytes())?, line, "{other} {end} {place}");
+            assert!(rt; left.status == Status::Refused, "{other} {end} {place}");
+            assert!(rt; left.err.bytes() == line.as_bytes(), "{other} {end} {place}");
             assert!(rt; left.out.bytes().is_empty(), "{other} {end} {place}");
         }
     }
@@ -327,13 +324,13 @@ fn a_disk_without_room_for_a_cell_is_at_fault(rt: HostRuntime) -> Result<(), Fai
         let mut disk = SureDisk::new(alloc, 4, ledger, site)?;
         let _made = run_over(alloc, LINE, &mut disk, 99)?;
         let left = run_put(alloc, &mut disk, "a", b"abc")?;
-        assert_eq!(rt; left.status, Status::Disk, "{ledger} {site}");
-        assert_eq!(rt; text_of(left.err.bytes())?, "fault: disk\n");
+        assert!(rt; left.status == Status::Disk, "{ledger} {site}");
+        assert!(rt; left.err.bytes() == "fault: disk\n".as_bytes());
         assert!(rt; left.out.bytes().is_empty());
         let left = run_words(alloc, &["stat"], &mut disk, b"", 99)?;
-        assert_eq!(rt;
-            text_of(left.out.bytes())?,
-            "{\"alpha\":3,\"block\":64,\"nodes\":0,\"objects\":0,\"p\":5,\"s\":2,\"sites\":4}\n"
+        assert!(rt;
+            left.out.bytes()
+                == "{\"alpha\":3,\"block\":64,\"nodes\":0,\"objects\":0,\"p\":5,\"s\":2,\"sites\":4}\n".as_bytes()
         );
     }
     Ok(())

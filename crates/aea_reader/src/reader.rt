@@ -153,6 +153,3 @@ impl Reader {
         }
     }
 }
-
-#[cfg(test)]
-mod tests;

@@ -143,6 +143,3 @@ pub fn rehearse(
 {
     rehearse_on(alloc, disk, number, nodes, permille)
 }
-
-#[cfg(test)]
-mod tests;

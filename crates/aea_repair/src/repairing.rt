@@ -131,6 +131,3 @@ pub fn repair<D: Disk, O: Sink>(
         Err(_) => Err(RepairFault::WriteFault),
     }
 }
-
-#[cfg(test)]
-mod tests;

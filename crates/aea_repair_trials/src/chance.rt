@@ -212,7 +212,7 @@ fn said(found: &Option<String>) -> &str {
 fn repairs_of_one_class_agree_with_the_plain_one(rt: HostRuntime) -> Result<(), Fail> {
     for row in ONE_CLASS {
         let found = first_fault(rt.alloc(), row, 1)?;
-        assert_eq!(rt; said(&found), "");
+        assert!(rt; said(&found) == "");
     }
     Ok(())
 }
@@ -221,7 +221,7 @@ fn repairs_of_one_class_agree_with_the_plain_one(rt: HostRuntime) -> Result<(), 
 fn repairs_of_two_classes_agree_with_the_plain_one(rt: HostRuntime) -> Result<(), Fail> {
     for row in TWO_CLASSES {
         let found = first_fault(rt.alloc(), row, 2)?;
-        assert_eq!(rt; said(&found), "");
+        assert!(rt; said(&found) == "");
     }
     Ok(())
 }
@@ -230,7 +230,7 @@ fn repairs_of_two_classes_agree_with_the_plain_one(rt: HostRuntime) -> Result<()
 fn repairs_of_three_classes_agree_with_the_plain_one(rt: HostRuntime) -> Result<(), Fail> {
     for row in THREE_CLASSES {
         let found = first_fault(rt.alloc(), row, 3)?;
-        assert_eq!(rt; said(&found), "");
+        assert!(rt; said(&found) == "");
     }
     Ok(())
 }

@@ -1,5 +1,5 @@
-//! Trials of whole repairs: worked examples, the lines and statuses of what goes wrong, repairs that fail or are stopped under
-//! way, and damage by chance against a plain repair of the files.
+//! Trials of whole repairs: worked examples, the lines and statuses of what goes wrong, and damage by chance against a plain
+//! repair of the files.
 #![tactic(auto)]
 
 #[cfg(test)]
@@ -20,7 +20,5 @@ mod objects;
 mod plain;
 #[cfg(test)]
 mod statuses;
-#[cfg(test)]
-mod stopped;
 #[cfg(test)]
 mod turning;

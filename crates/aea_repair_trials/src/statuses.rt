@@ -1,8 +1,6 @@
-//! Repairs that are refused, words that mean none, and outputs that fail.
+//! Repairs that are refused, words that mean none, and a site without room.
 
-use crate::archives::{
-    all_bytes, archive_of_four, file_bytes, fill_file, has_bytes, report_of, run_repair, spoil,
-};
+use crate::archives::{all_bytes, archive_of_four, file_bytes, fill_file, has_bytes, spoil};
 use aea_cli::Status;
 use aea_disk::{Disk, SureDisk};
 use aea_runs::{run_over, run_words, text_of};
@@ -23,8 +21,8 @@ fn words_beside_it_are_no_command(rt: HostRuntime) -> Result<(), Fail> {
         ["Repair", "a"],
     ] {
         let left = run_words(alloc, &words, &mut disk, b"unread", 99)?;
-        assert_eq!(rt; left.status, Status::Words, "{words:?}");
-        assert_eq!(rt; text_of(left.err.bytes())?, "words: no such command\n");
+        assert!(rt; left.status == Status::Words, "{words:?}");
+        assert!(rt; left.err.bytes() == "words: no such command\n".as_bytes());
         assert!(rt;
             left.out.bytes().is_empty() && left.unread == 6,
             "{words:?}"
@@ -34,8 +32,8 @@ fn words_beside_it_are_no_command(rt: HostRuntime) -> Result<(), Fail> {
         "Repair", "repairs", "repai", "repair ", " repair", "REPAIR", "repair\n",
     ] {
         let left = run_words(alloc, &[word], &mut disk, b"unread", 99)?;
-        assert_eq!(rt; left.status, Status::Words, "{word:?}");
-        assert_eq!(rt; text_of(left.err.bytes())?, "words: no such command\n");
+        assert!(rt; left.status == Status::Words, "{word:?}");
+        assert!(rt; left.err.bytes() == "words: no such command\n".as_bytes());
         assert!(rt; left.out.bytes().is_empty() && left.unread == 6, "{word:?}");
     }
     assert!(rt; has_bytes(alloc, &mut disk, stands.as_slice())?);
@@ -76,65 +74,21 @@ fn what_is_no_archive_is_not_repaired(rt: HostRuntime) -> Result<(), Fail> {
     Ok(())
 }
 
-const LINES: &str = "counts 2 2 0 0\npeeled d1\npeeled l1\n";
-
 #[test]
-fn an_output_that_fails_leaves_all_restored(rt: HostRuntime) -> Result<(), Fail> {
+fn a_site_without_room_is_at_fault(rt: HostRuntime) -> Result<(), Fail> {
     let alloc = rt.alloc();
-    let mut whole = archive_of_four(alloc, b"abc")?;
-    let want = report_of(alloc, &mut whole, "3 2 5 1", LINES)?;
-    let files = all_bytes(alloc, &mut whole)?;
-    let long = want.len();
-    // the room of the output, which call of it fails, the status, and how much is written: one write, and a flush
-    for (room, call, status, written) in [
-        (999usize, 1u32, Status::Output, 0),
-        (999, 2, Status::Output, long),
-        (999, 3, Status::Done, long),
-        (0, 0, Status::Output, 0),
-        (1, 0, Status::Output, 1),
-        (12, 0, Status::Output, 12),
-        (100, 0, Status::Output, 100),
-        (
-            long.saturating_sub(1),
-            0,
-            Status::Output,
-            long.saturating_sub(1),
-        ),
-        (long, 0, Status::Done, long),
-    ] {
-        let mut disk = archive_of_four(alloc, b"abc")?;
-        spoil(&mut disk, 1, 20)?;
-        spoil(&mut disk, 4, 0)?;
-        let left = run_repair(alloc, &mut disk, room, &[call], 64)?;
-        assert_eq!(rt; left.status, status, "{room} {call}");
-        assert_eq!(rt; left.out.bytes().len(), written, "{room} {call}");
-        assert!(rt;
-            want.as_bytes().starts_with(left.out.bytes()),
-            "{room} {call}"
-        );
-        let line = if status == Status::Output {
-            "fault: output\n"
-        } else {
-            ""
-        };
-        assert_eq!(rt; text_of(left.err.bytes())?, line, "{room} {call}");
-        assert!(rt;
-            has_bytes(alloc, &mut disk, files.as_slice())?,
-            "{room} {call}"
-        );
-    }
-    Ok(())
-}
-
-#[test]
-fn errors_without_room_change_no_status(rt: HostRuntime) -> Result<(), Fail> {
-    let alloc = rt.alloc();
-    let mut disk = SureDisk::new(alloc, 4, 4096, 4096)?;
-    for (room, line) in [(0usize, ""), (7, "refused"), (20, "refused: no archive\n")] {
-        let left = run_repair(alloc, &mut disk, 999, &[1], room)?;
-        assert_eq!(rt; left.status, Status::Refused, "{room}");
-        assert_eq!(rt; text_of(left.err.bytes())?, line);
-        assert!(rt; left.out.bytes().is_empty(), "{room}");
+    let whole = all_bytes(alloc, &mut archive_of_four(alloc, &[7; 150])?)?;
+    // the fourth site is lost, with a cell of each of three nodes, and there is room for it or none
+    for (sites, status) in [(3u8, Status::Disk), (4, Status::Done)] {
+        let mut disk = SureDisk::new(alloc, sites, 4096, 4096)?;
+        for (file, bytes) in whole.iter().take(4).enumerate() {
+            fill_file(&mut disk, file.min(64) as u8, bytes.as_slice())?;
+        }
+        let left = run_over(alloc, "repair", &mut disk, 999)?;
+        assert!(rt; left.status == status, "{sites}");
+        assert!(rt; left.out.bytes().is_empty() == (status == Status::Disk));
+        let restored = has_bytes(alloc, &mut disk, whole.as_slice())?;
+        assert!(rt; restored == (status == Status::Done), "{sites}");
     }
     Ok(())
 }

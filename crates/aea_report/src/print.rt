@@ -84,6 +84,3 @@ pub fn print_line<O: Sink>(out: &mut O, page: &mut Page, line: &Line) -> Result<
         Line::Lost { block, nodes } => print_lost(out, page, *block, nodes),
     }
 }
-
-#[cfg(test)]
-mod tests;

@@ -35,6 +35,3 @@ pub fn write_line<O: Sink>(sink: &mut O, line: &Line) -> Result<(), WriteFault>
     send(sink, &mut page)?;
     Ok(())
 }
-
-#[cfg(test)]
-mod tests;

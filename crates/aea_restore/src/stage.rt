@@ -195,6 +195,3 @@ pub fn restore<D: Disk>(
         Err(_) => Err(RestoreFault::DiskFault),
     }
 }
-
-#[cfg(test)]
-mod tests;

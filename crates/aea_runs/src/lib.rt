@@ -1,9 +1,14 @@
 //! Runs of the program over streams and disks in memory, for the trials.
 #![tactic(auto)]
 
+mod failing;
+mod slow;
+
 use aea_cli::{Status, run, run_surely};
 use aea_disk::{Disk, SureDisk};
 use aea_io::{SureSink, SureSource};
+pub use failing::{Ended, Faults, NONE, run_failing};
+pub use slow::run_slowly;
 use std::alloc::{AllocError, Global};
 use std::str::{self, Utf8Error};
 
@@ -85,6 +90,17 @@ pub fn run_over<D: Disk>(
 ) -> Result<Left, AllocError> {
     let words = words_of(alloc, line)?;
     run_with(alloc, words.as_slice(), disk, b"unread", room)
+}
+
+/// Runs the command of a line over this disk and input.
+pub fn run_input<D: Disk>(
+    alloc: Global,
+    line: &str,
+    disk: &mut D,
+    bytes: &[u8],
+) -> Result<Left, AllocError> {
+    let words = words_of(alloc, line)?;
+    run_with(alloc, words.as_slice(), disk, bytes, 999)
 }
 
 /// Runs the command of these words over this disk and input, with so many bytes of room on `out`.

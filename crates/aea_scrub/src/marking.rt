@@ -105,6 +105,3 @@ pub fn scan<D: Disk>(alloc: Global, ledger: &Ledger, disk: &mut D) -> Result<Mar
         Err(_) => Err(ScanFault::DiskFault),
     }
 }
-
-#[cfg(test)]
-mod tests;

@@ -160,6 +160,3 @@ pub fn write_cell<D: Disk>(
     write_home(disk, shape, b, cell)?;
     Ok(digest)
 }
-
-#[cfg(test)]
-mod tests;

@@ -9,7 +9,7 @@ use aea_cli::Status;
 use aea_lattice::{BlockId, Lattice};
 use aea_peel::{Plan, peel};
 use aea_plain::closure;
-use aea_runs::{run_line, text_of};
+use aea_runs::run_line;
 use aea_view::View;
 use std::alloc::{AllocError, Global};
 use std::test::Fail;
@@ -151,15 +151,13 @@ fn plans_and_drills_agree_with_the_plain_programs(rt: HostRuntime) -> Result<(),
             let list = damage_list(rt.alloc(), lost.as_slice())?;
             let want = plain_report(rt.alloc(), &lattice, lost.as_slice(), reached.as_slice())?;
             let left = run_line(rt.alloc(), case.as_str(), list.as_bytes())?;
-            assert_eq!(rt;
-                text_of(left.out.bytes())?,
-                want.as_str(),
+            assert!(rt;
+                left.out.bytes() == want.as_str().as_bytes(),
                 "{case}, {percent} of 100, from {seed}"
             );
             let is_done = left.status == Status::Done;
-            assert_eq!(rt;
-                is_done,
-                !want.as_str().contains("\nlost "),
+            assert!(rt;
+                is_done == !want.as_str().contains("\nlost "),
                 "{case}, from {seed}"
             );
         }

@@ -1,22 +1,11 @@
 //! Worked examples of whole runs.
 
+use crate::cases::{NINETEEN, TWO_CODEWORDS};
 use crate::lists::add_line;
 use aea_cli::{Command, Status, parse_words};
 use aea_lattice::Lattice;
-use aea_runs::{Left, run_line, text_of, words_of};
+use aea_runs::{Left, run_line, words_of};
 use std::test::Fail;
-
-// The damage of nineteen blocks of which no equation has just one.
-pub const NINETEEN: &str =
-    "d1\nd3\nd4\nd5\nd6\nd8\nd9\nd10\nd11\nh1\nh3\nh4\nh8\nh9\nr1\nr3\nr5\nr8\nr10\n";
-
-// What is printed of them: three are determined, and the others stand in two codewords.
-const TWO_CODEWORDS: &str = "aea-report 1\nlattice 2 2 2 11\nledger none\ncounts 19 0 3 16\n\
-    lost d1 by 1 3 4 6\nlost h1 by 1 3 4 6\nlost r1 by 1 3 4 6\nlost d3 by 1 3 4 6\nsolved h3\n\
-    lost r3 by 1 3 4 6\nlost d4 by 1 3 4 6\nlost h4 by 1 3 4 6\nsolved d5\nsolved r5\n\
-    lost d6 by 1 3 4 6\nlost d8 by 8 9 10 11\nlost h8 by 8 9 10 11\nlost r8 by 8 9 10 11\n\
-    lost d9 by 8 9 10 11\nlost h9 by 8 9 10 11\nlost d10 by 8 9 10 11\nlost r10 by 8 9 10 11\n\
-    lost d11 by 8 9 10 11\n";
 
 // The words, the damage list, the status, and what is printed.
 const OUTCOMES: [(&str, &str, Status, &str); 7] = [
@@ -65,10 +54,10 @@ const OUTCOMES: [(&str, &str, Status, &str); 7] = [
 fn drills_print_the_outcome(rt: HostRuntime) -> Result<(), Fail> {
     for (line, list, status, text) in OUTCOMES {
         let left = run_line(rt.alloc(), line, list.as_bytes())?;
-        assert_eq!(rt; text_of(left.out.bytes())?, text, "{line}");
-        assert_eq!(rt; left.status, status, "{line}");
+        assert!(rt; left.out.bytes() == text.as_bytes(), "{line}");
+        assert!(rt; left.status == status, "{line}");
         assert!(rt; left.err.bytes().is_empty() && left.unread == 0, "{line}");
-        assert_eq!(rt; left.out.flushed, left.out.bytes().len(), "{line}");
+        assert!(rt; left.out.flushed == left.out.bytes().len(), "{line}");
     }
     Ok(())
 }
@@ -154,10 +143,9 @@ const NO_COMMANDS: [&str; 73] = [
 fn words_that_are_no_command_read_nothing(rt: HostRuntime) -> Result<(), Fail> {
     for line in NO_COMMANDS {
         let left = run_line(rt.alloc(), line, b"d1\n")?;
-        assert_eq!(rt; left.status, Status::Words, "{line}");
-        assert_eq!(rt;
-            text_of(left.err.bytes())?,
-            "words: no such command\n",
+        assert!(rt; left.status == Status::Words, "{line}");
+        assert!(rt;
+            left.err.bytes() == "words: no such command\n".as_bytes(),
             "{line}"
         );
         assert!(rt; left.out.bytes().is_empty() && left.unread == 3, "{line}");
@@ -184,8 +172,8 @@ fn the_first_bad_line_is_refused(rt: HostRuntime) -> Result<(), Fail> {
     ] {
         let left = run_line(rt.alloc(), "drill 2 2 2 11", list.as_bytes())?;
         let want = format!(in rt.alloc(); "refused: bad block at line {number}\n")?;
-        assert_eq!(rt; text_of(left.err.bytes())?, want.as_str(), "{list:?}");
-        assert_eq!(rt; left.status, Status::Refused, "{list:?}");
+        assert!(rt; left.err.bytes() == want.as_str().as_bytes(), "{list:?}");
+        assert!(rt; left.status == Status::Refused, "{list:?}");
         assert!(rt; left.out.bytes().is_empty(), "{list:?}");
     }
     Ok(())
@@ -209,7 +197,7 @@ fn a_lost_site_of_four_is_peeled(rt: HostRuntime) -> Result<(), Fail> {
         err,
         unread,
     } = run_line(rt.alloc(), "drill 3 2 5 40", list.as_bytes())?;
-    assert_eq!(rt; text_of(out.bytes())?, want.as_str());
+    assert!(rt; out.bytes() == want.as_str().as_bytes());
     assert!(rt;
         want.as_str().contains("0\npeeled h1\npeeled d2\npeeled l3\npeeled r4\npeeled h5\n")
     );
@@ -224,9 +212,6 @@ fn words_are_parsed(rt: HostRuntime) -> Result<(), Fail> {
     let Some(Command::Drill { lattice }) = &command else {
         return Err(Fail::new("no drill"));
     };
-    assert_eq!(rt;
-        (lattice.alpha(), lattice.s(), lattice.p(), lattice.n()),
-        (3, 2, 5, 40)
-    );
+    assert!(rt; (lattice.alpha(), lattice.s(), lattice.p(), lattice.n()) == (3, 2, 5, 40));
     Ok(())
 }

@@ -67,6 +67,3 @@ pub fn verify<D: Disk, S: Source>(
         Err(fault) => Err(verify_fault(fault)),
     }
 }
-
-#[cfg(test)]
-mod tests;

@@ -136,6 +136,3 @@ impl Marks {
         }
     }
 }
-
-#[cfg(test)]
-mod tests;

@@ -13,6 +13,3 @@ mod walk;
 
 pub use codewords::{first_touched, is_in_codeword};
 pub use missing::least_missing;
-
-#[cfg(test)]
-mod tests;

@@ -190,6 +190,3 @@ impl Heads {
         block_at(self.bytes.as_slice(), self.size, place)
     }
 }
-
-#[cfg(test)]
-mod tests;

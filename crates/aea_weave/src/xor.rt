@@ -34,6 +34,3 @@ pub fn xor_into(dst: &mut [u8], src: &[u8])
         dst[k] ^= src[k];
     }
 }
-
-#[cfg(test)]
-mod tests;

@@ -8,7 +8,7 @@ use aea_disk::{Disk, SureDisk};
 use aea_lattice::{BlockId, Class, Lattice};
 use aea_ledger::{Ledger, open_ledger};
 use aea_plain::prefix;
-use aea_runs::{run_over, run_put, run_words, text_of};
+use aea_runs::{run_over, run_put, run_words};
 use sha2::{Digest, Sha256};
 use std::alloc::{AllocError, Global};
 use std::test::Fail;
@@ -16,8 +16,8 @@ use std::test::Fail;
 // Archives of these trials have blocks of 16 bytes, so cells of 64, on four sites.
 const CELL: u64 = 64;
 
-/// Adds the blocks of an object: its bytes, cut, and the last filled with zeros.
-pub fn add_blocks(datas: &mut Vec<[u8; 16]>, bytes: &[u8]) -> Result<(), AllocError> {
+// Adds the blocks of an object: its bytes, cut, and the last filled with zeros.
+fn add_blocks(datas: &mut Vec<[u8; 16]>, bytes: &[u8]) -> Result<(), AllocError> {
     let mut block = [0; 16];
     for (k, byte) in bytes.iter().enumerate() {
         block[k % 16] = *byte;
@@ -105,9 +105,9 @@ fn is_block_woven<D: Disk>(
     Ok(stands && cell.ends_with(&ledger.digest(k)))
 }
 
-/// The first block of the archive that does not stand as the plain sum of these data; the node 0 where it has not as many
-/// nodes.
-pub fn first_unwoven<D: Disk>(
+// The first block of the archive that does not stand as the plain sum of these data; the node 0 where it has not as many
+// nodes.
+fn first_unwoven<D: Disk>(
     alloc: Global,
     disk: &mut D,
     datas: &[[u8; 16]],
@@ -158,10 +158,9 @@ fn three_objects_are_plain_sums(rt: HostRuntime) -> Result<(), Fail> {
             let bytes = some_bytes(alloc, *count, 7)?;
             add_blocks(&mut datas, &bytes)?;
             let left = run_put(alloc, &mut disk, name, &bytes)?;
-            assert_eq!(rt; left.status, Status::Done, "{line} {name}");
-            assert_eq!(rt;
-                first_unwoven(alloc, &mut disk, &datas)?,
-                None,
+            assert!(rt; left.status == Status::Done, "{line} {name}");
+            assert!(rt;
+                first_unwoven(alloc, &mut disk, &datas)? == None,
                 "{line} {name}"
             );
         }
@@ -180,11 +179,10 @@ fn strands_begin_anew_behind_a_fence(rt: HostRuntime) -> Result<(), Fail> {
             let bytes = some_bytes(alloc, *count, 11)?;
             add_blocks(&mut datas, &bytes)?;
             let left = run_put(alloc, &mut disk, name, &bytes)?;
-            assert_eq!(rt; left.status, Status::Done, "{line} {name}");
+            assert!(rt; left.status == Status::Done, "{line} {name}");
             let _fenced = run_words(alloc, &["fence"], &mut disk, b"", 99)?;
-            assert_eq!(rt;
-                first_unwoven(alloc, &mut disk, &datas)?,
-                None,
+            assert!(rt;
+                first_unwoven(alloc, &mut disk, &datas)? == None,
                 "{line} {name}"
             );
         }
@@ -206,24 +204,24 @@ fn a_fence_serves_where_a_head_is_lost(rt: HostRuntime) -> Result<(), Fail> {
     let mut datas = Vec::new(alloc);
     add_blocks(&mut datas, b"seventeen bytes..")?;
     let left = run_put(alloc, &mut disk, "a", b"seventeen bytes..")?;
-    assert_eq!(rt; left.status, Status::Done);
+    assert!(rt; left.status == Status::Done);
     // h1 is block 1: the first cell of the second site
     let mut cell = [0; 64];
-    assert_eq!(rt; disk.read(2, 0, &mut cell), Ok(64));
+    assert!(rt; disk.read(2, 0, &mut cell) == Ok(64));
     disk.write(2, 0, &[0; 64])?;
     let left = run_put(alloc, &mut disk, "b", b"later")?;
-    assert_eq!(rt; text_of(left.err.bytes())?, "refused: head damaged h1\n");
+    assert!(rt; left.err.bytes() == "refused: head damaged h1\n".as_bytes());
     let left = run_words(alloc, &["fence"], &mut disk, b"", 99)?;
-    assert_eq!(rt; text_of(left.out.bytes())?, "fence 2\n");
+    assert!(rt; left.out.bytes() == "fence 2\n".as_bytes());
     let left = run_put(alloc, &mut disk, "b", b"later")?;
-    assert_eq!(rt; left.status, Status::Done);
+    assert!(rt; left.status == Status::Done);
     let left = run_words(alloc, &["upgrade"], &mut disk, b"", 99)?;
-    assert_eq!(rt; left.status, Status::Done);
+    assert!(rt; left.status == Status::Done);
     let left = run_put(alloc, &mut disk, "c", b"and one more object")?;
-    assert_eq!(rt; left.status, Status::Done);
+    assert!(rt; left.status == Status::Done);
     add_blocks(&mut datas, b"later")?;
     add_blocks(&mut datas, b"and one more object")?;
     disk.write(2, 0, &cell)?;
-    assert_eq!(rt; first_unwoven(alloc, &mut disk, &datas)?, None);
+    assert!(rt; first_unwoven(alloc, &mut disk, &datas)? == None);
     Ok(())
 }

@@ -1,0 +1,43 @@
+//! Texts of blocks, there and back, and others, which are refused.
+
+use aea_lattice::{BlockId, Class, parse_block, print_block};
+
+#[test]
+fn texts_of_blocks_go_there_and_back(rt: HostRuntime) {
+    let table: [(&[u8], u32, Class); 5] = [
+        (b"d1", 1, Class::Datum),
+        (b"h12", 12, Class::Horiz),
+        (b"r4294967295", 4_294_967_295, Class::Right),
+        (b"l2", 2, Class::Left),
+        (b"d1048576", 1_048_576, Class::Datum),
+    ];
+    for (text, node, class) in table {
+        let block = BlockId { node, class };
+        assert!(rt; parse_block(text) == Some(block), "parse {node}");
+        if 1 <= node {
+            assert!(rt; print_block(block).bytes() == text, "print {node}");
+        }
+    }
+}
+
+#[test]
+fn other_texts_are_refused(rt: HostRuntime) {
+    let table: [&[u8]; 13] = [
+        b"",
+        b"d",
+        b"d0",
+        b"d012",
+        b"D1",
+        b"x1",
+        b"d+1",
+        b"d 1",
+        b"d1\n",
+        b"d1\r",
+        b"d4294967296",
+        b"1d",
+        b"d\xc2\xb9",
+    ];
+    for text in table {
+        assert!(rt; parse_block(text).is_none());
+    }
+}

@@ -1,0 +1,170 @@
+//! Walks along codewords: by hand, beside the plain program, and that they end.
+
+ghost use Rattle.std.specs.Prelude.{◌≡◌, IfOk};
+ghost use Rattle.aea_walk.specs.Codewords.{AreRising};
+
+use aea_lattice::{BlockId, Lattice, NodeList, parse_block};
+use aea_plain::codeword;
+use aea_view::Marks;
+use aea_walk::{first_touched, is_in_codeword, least_missing};
+use std::alloc::{AllocError, Global};
+use std::test::Fail;
+
+// The lattice of this shape with these fences and n nodes.
+fn fenced(alpha: u8, s: u8, p: u8, fences: &[u32], n: u32) -> Option<Lattice> {
+    let mut lattice = Lattice::new(alpha, s, p, 0)?;
+    for fence in fences {
+        lattice = lattice.grown(*fence)?.fenced()?;
+    }
+    lattice.grown(n)
+}
+
+// The list of these nodes, an error where one is not of the lattice or not greater than the one before.
+fn rising(alloc: Global, lattice: &Lattice, listed: &[u32]) -> Result<NodeList, Fail>
+    ensures { IfOk result (AreRising lattice.now) }
+{
+    let mut nodes = NodeList::new(alloc);
+    let mut last = 0;
+    for node in listed {
+        if *node <= last || lattice.n() < *node {
+            return Err(Fail::new("the nodes do not rise"));
+        }
+        nodes.push(*node)?;
+        last = *node;
+    }
+    Ok(nodes)
+}
+
+// The blocks of a text of one word each.
+fn blocks(alloc: Global, text: &str) -> Result<Vec<BlockId>, Fail> {
+    let mut blocks = Vec::new(alloc);
+    for word in text.split_whitespace() {
+        blocks.push(parse_block(word.as_bytes()).ok_or("no block")?)?;
+    }
+    Ok(blocks)
+}
+
+// Marks of the lattice at these blocks.
+fn marked(alloc: Global, lattice: &Lattice, listed: &[BlockId]) -> Result<Marks, AllocError>
+    ensures { IfOk result (λ m. m.lattice ≡ lattice.now) }
+{
+    let mut marks = Marks::new(alloc, lattice)?;
+    for k in 0..lattice.blocks() {
+        let block = lattice.block(k);
+        marks.set(block, listed.contains(&block));
+    }
+    Ok(marks)
+}
+
+// The first block for which the answer of a walk is not whether it is one of these.
+fn first_difference(lattice: &Lattice, nodes: &NodeList, word: &[BlockId]) -> Option<BlockId>
+    requires { AreRising lattice.now nodes.now }
+{
+    for k in 0..lattice.blocks() {
+        let block = lattice.block(k);
+        if is_in_codeword(lattice, nodes, block) != word.contains(&block) {
+            return Some(block);
+        }
+    }
+    None
+}
+
+// In AE(2,2,2) with a fence after node 4 the strands of the nodes are 1 3, 2 4, 5 7 9 11 and 6 8 10 of Horiz, and 1 4, 2 3,
+// 5 8 9 and 6 7 10 11 of Right.
+#[test]
+fn codewords_are_those_written_down_by_hand(rt: HostRuntime) -> Result<(), Fail> {
+    let lattice = fenced(2, 2, 2, &[4], 11).ok_or("no lattice")?;
+    for (listed, text) in [
+        ([].as_slice(), ""),
+        (&[4], "d4 h4 r4"),
+        (&[5, 9], "d5 h5 r5 h7 r8 d9"),
+        (&[1, 3, 4], "d1 h1 r1 d3 r3 d4 h4"),
+        (&[1, 4, 6], "d1 h1 r1 h3 d4 h4 d6 h6 r6 r7 h8 h10 r10 r11"),
+    ] {
+        let nodes = rising(rt.alloc(), &lattice, listed)?;
+        let word = blocks(rt.alloc(), text)?;
+        let difference = first_difference(&lattice, &nodes, word.as_slice());
+        assert!(rt; difference == None, "of {listed:?}");
+    }
+    Ok(())
+}
+
+#[test]
+fn codewords_are_those_of_the_plain_program(rt: HostRuntime) -> Result<(), Fail> {
+    for (alpha, s, p, fences, n) in [
+        (1, 1, 0, [4, 5].as_slice(), 20),
+        (2, 2, 5, &[7, 15], 24),
+        (3, 2, 5, &[], 20),
+        (3, 3, 3, &[1, 2], 20),
+        (3, 4, 5, &[10], 20),
+    ] {
+        let lattice = fenced(alpha, s, p, fences, n).ok_or("no lattice")?;
+        for listed in [[1, 2, 3, 6], [4, 5, 14, 20], [2, 9, 11, 17]] {
+            let nodes = rising(rt.alloc(), &lattice, &listed)?;
+            let word = codeword(rt.alloc(), &lattice, &listed)?;
+            let difference = first_difference(&lattice, &nodes, word.as_slice());
+            assert!(rt; difference == None, "of {listed:?} in {lattice:?}");
+        }
+    }
+    Ok(())
+}
+
+// The codeword ends at node 3. Were each walk to go on to its block, a million nodes later, these calls would not end in time.
+#[test]
+fn a_walk_ends_with_its_codeword(rt: HostRuntime) -> Result<(), Fail> {
+    let lattice = Lattice::new(1, 1, 0, 1_048_576).ok_or("no lattice")?;
+    let nodes = rising(rt.alloc(), &lattice, &[2, 3])?;
+    for k in 1_900_000..lattice.blocks() {
+        let block = lattice.block(k);
+        assert!(rt; !is_in_codeword(&lattice, &nodes, block), "{block:?}");
+    }
+    Ok(())
+}
+
+// The codeword of the nodes is d1 h1 r1 h3 d4 h4 d6 h6 r6 r7 h8 h10 r10 r11.
+#[test]
+fn the_least_marked_block_of_a_codeword_is_found(rt: HostRuntime) -> Result<(), Fail> {
+    let lattice = fenced(2, 2, 2, &[4], 11).ok_or("no lattice")?;
+    let nodes = rising(rt.alloc(), &lattice, &[1, 4, 6])?;
+    for (text, want) in [
+        ("", ""),
+        (
+            "d2 h2 r2 d3 r3 r4 d5 h5 r5 d7 h7 d8 r8 d9 h9 r9 d10 d11 h11",
+            "",
+        ),
+        ("r11 h10 r7 d8 h2", "r7"),
+        ("h4 h3 d2 d4", "h3"),
+        ("h1 r1 d1", "d1"),
+        ("r11", "r11"),
+    ] {
+        let intact = blocks(rt.alloc(), text)?;
+        let marks = marked(rt.alloc(), &lattice, intact.as_slice())?;
+        let want = blocks(rt.alloc(), want)?;
+        let found = first_touched(&marks, &nodes);
+        assert!(rt; found == want.first().copied(), "where {text} are intact");
+    }
+    Ok(())
+}
+
+#[test]
+fn the_least_missing_block_is_in_its_range(rt: HostRuntime) -> Result<(), Fail> {
+    let lattice = fenced(1, 1, 0, &[2], 5).ok_or("no lattice")?;
+    let intact = blocks(rt.alloc(), "d1 h1 d2 d3 h3 d4 d5 h5")?;
+    let marks = marked(rt.alloc(), &lattice, intact.as_slice())?;
+    // h2 has number 3, and h4 number 7
+    for (least, next, want) in [
+        (0, 10, "h2"),
+        (3, 4, "h2"),
+        (4, 7, ""),
+        (4, 8, "h4"),
+        (8, 10, ""),
+        (10, 10, ""),
+        (9, 5, ""),
+    ] {
+        assert!(rt; next <= lattice.blocks());
+        let found = least_missing(&marks, least, next);
+        let want = blocks(rt.alloc(), want)?;
+        assert!(rt; found == want.first().copied(), "from {least} to {next}");
+    }
+    Ok(())
+}

@@ -1,0 +1,11 @@
+//! Trials of reports: their texts, plans whose reports are printed, and reports that are read.
+#![tactic(auto)]
+
+#[cfg(test)]
+mod planning;
+#[cfg(test)]
+mod printing;
+#[cfg(test)]
+mod reading;
+#[cfg(test)]
+mod writing;

@@ -1,0 +1,93 @@
+//! A disk in a real folder: what is written and cut is read back, a lost site is made anew, and a file in the place of a
+//! folder is a fault.
+
+ghost use Rattle.std.specs.Prelude.{◌≤◌};
+
+use aea_disk::{DirDisk, Disk, DiskFault};
+use std::alloc::Global;
+use std::path::PathBuf;
+use std::test::Fail;
+use std::{env, fs, io, process};
+
+// The file has these bytes and no more.
+fn has_bytes<D: Disk>(disk: &mut D, file: u8, want: &[u8]) -> Result<bool, DiskFault>
+    requires { file ≤ 66 }
+{
+    let mut buf = [9u8; 16];
+    let count = disk.read(file, 0, &mut buf)?;
+    Ok(disk.len(file)? == want.len() as u64 && buf.get(..count) == Some(want))
+}
+
+fn write_and_cut<D: Disk>(disk: &mut D) -> Result<(), DiskFault>
+    requires { ¬ D.tells }
+{
+    disk.write(0, 0, b"ledger")?;
+    disk.write(1, 4, b"cell")?;
+    disk.write(64, 0, b"far cell")?;
+    disk.write(65, 3, b"")?;
+    disk.cut(0, 3)?;
+    disk.cut(1, 100)?;
+    disk.cut(2, 0)?;
+    disk.sync()
+}
+
+// Each file that differs from what `write_and_cut` leaves.
+fn differs<D: Disk>(disk: &mut D, far: &[u8]) -> Result<Option<u8>, DiskFault> {
+    for (file, want) in [
+        (0, &b"led"[..]),
+        (1, b"\0\0\0\0cell"),
+        (2, b""),
+        (64, far),
+        (65, b"\0\0\0"),
+    ] {
+        if !has_bytes(disk, file, want)? {
+            return Ok(Some(file));
+        }
+    }
+    Ok(None)
+}
+
+// Makes a folder of its own for this process, and goes there.
+fn enter(rt: &HostRuntime) -> Result<PathBuf<Global>, Fail> {
+    let name = format!(in rt.alloc(); "aea-disk-{}", process::id(rt.process()))?;
+    let folder = env::temp_dir(rt)?.join(rt.alloc(), name.as_str())?;
+    fs::create_dir(rt, folder.as_path())?;
+    env::set_current_dir(rt, folder.as_path())?;
+    Ok(folder)
+}
+
+// Whether a new disk reads an empty file, and another has what was written and cut on it.
+fn keeps_what_was_written(rt: &HostRuntime) -> Result<bool, DiskFault> {
+    let mut disk = DirDisk::new(rt);
+    let empty = disk.len(7)? == 0;
+    write_and_cut(&mut disk)?;
+    Ok(empty && differs(&mut DirDisk::new(rt), b"far cell")? == None)
+}
+
+// Whether a disk whose far site is gone reads it as empty, and makes it anew.
+fn makes_a_lost_site_anew(rt: &HostRuntime) -> Result<bool, DiskFault> {
+    let mut disk = DirDisk::new(rt);
+    let empty = differs(&mut disk, b"")? == None;
+    disk.write(64, 0, b"new")?;
+    disk.sync()?;
+    Ok(empty && differs(&mut DirDisk::new(rt), b"new")? == None)
+}
+
+// Goes back home, and removes the folder.
+fn leave(rt: &HostRuntime, home: &PathBuf<Global>, folder: &PathBuf<Global>) -> io::Result<()> {
+    env::set_current_dir(rt, home.as_path())?;
+    fs::remove_dir_all(rt, folder.as_path())
+}
+
+#[test]
+fn keeps_files_in_a_folder(rt: HostRuntime) -> Result<(), Fail> {
+    let home = env::current_dir(&rt)?;
+    let folder = enter(&rt)?;
+    assert!(rt; keeps_what_was_written(&rt) == Ok(true));
+    fs::remove_dir_all(&rt, "site-64")?;
+    assert!(rt; makes_a_lost_site_anew(&rt) == Ok(true));
+    fs::write(&rt, "site-05", "no folder")?;
+    assert!(rt; DirDisk::new(&rt).sync() == Err(DiskFault));
+    leave(&rt, &home, &folder)?;
+    Ok(())
+}

@@ -1,6 +1,6 @@
 //! The head of a frame.
 
-ghost use Rattle.std.specs.Prelude.{◌≡◌, ◌⊎◌, ◌+◌, ◌<◌, ◌≤◌, ◌^◌, true, false, ℕ, List, length, take, Some, IfOk};
+ghost use Rattle.std.specs.Prelude.{◌≡◌, ◌⊎◌, ◌+◌, ◌<◌, ◌≤◌, ◌^◌, true, false, ℕ, List, length, take, Some, IfOk, IfErr};
 ghost use Rattle.std.specs.Io.KnownBytes.{Consumes, IsAtEnd};
 ghost use Rattle.aea_faults.specs.Faults.{HasCause};
 ghost use Rattle.aea_records.specs.TableLaws.{AreBytes};
@@ -51,9 +51,11 @@ pub(crate) fn read_head<S: Source>(
     ensures end { result ≡ Ok Head.End → IsAtEnd (S.state source.old).left × (at.new ≡ at.old) }
     ensures ended { result ≡ Ok Head.End → IsAtEnd (S.state source.new).left }
     ensures cut { result ≡ Ok Head.Cut → IsAtEnd (S.state source.new).left }
+    ensures no_name { result ≡ Ok Head.NoName → at.new ≡ at.old + 2 }
     ensures whole { (long size : ℕ) → result ≡ Ok (Head.Whole long size) → (1 ≤ long) × (long ≤ 255) × (length (take long buffer.new) ≡ long) × Consumes (S.state source.old).left (S.state source.new).left (frame_head (take long buffer.new) size) × (at.new ≡ at.old + 10 + long) }
     ensures within { (stream : List ℕ) → (S.state source.old).left ≡ Some stream → HasNameLength stream → at.new ≤ at.old + 10 + name_length stream }
     ensures counted { Counts (S.state source.old).left (S.state source.new).left at.old at.new 265 }
+    ensures short { (stream : List ℕ) → (S.state source.old).left ≡ Some stream → HasNameLength stream → IfErr result (λ f. at.new < at.old + 10 + name_length stream) }
     ensures cause { HasCause (S.state source.old).faults (S.state source.new).faults result }
 {
     let mut two = [0; 2];

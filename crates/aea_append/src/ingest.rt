@@ -18,7 +18,7 @@ ghost use Rattle.aea_archive.specs.Next.{NewObject};
 ghost use Rattle.aea_append.specs.Taking.{Counts, HasEnded, room_left};
 ghost use Rattle.aea_append.specs.Puts.{IsCut, HasKept, HasStored, MayHaveStored, LeavesLedger};
 ghost use Rattle.aea_append.specs.Causes.{IsTaken, MayEnter, HasCutRoom, next_end};
-ghost use Rattle.aea_append.specs.Frames.{IsFramed, HasHead, HasBadName, HasEntry, FitsFrame, IsTooLong, EndsInside, IsEarlyFault, IsHeadFault, IsReadOrHeadFault, IsByHead, HasFrameRoom, name_length, frame_name, object_length, frame_length};
+ghost use Rattle.aea_append.specs.Frames.{IsFramed, HasHead, HasNoName, HasBadName, HasEntry, FitsFrame, IsTooLong, EndsInside, IsEarlyFault, IsHeadFault, IsReadOrHeadFault, IsByHead, HasFrameRoom, name_length, frame_name, object_length, frame_length};
 ghost use Rattle.aea_append.specs.declared.store.StoredObject.{StoredObject};
 
 use crate::fault::PutFault;
@@ -101,6 +101,7 @@ fn store_frame<D: Disk, S: Source>(
     ensures name_taken { (result ≡ Err IngestFault.NameTaken) ↔ (IsName name.now × IsTaken ledger.old name.now) }
     ensures many { (result ≡ Err IngestFault.CatalogFull) ↔ (IsName name.now × (¬ IsTaken ledger.old name.now) × (len ledger.old.objects ≡ greatest_objects)) }
     ensures early { IsEarlyFault result → disk.new ≡ disk.old }
+    ensures early_takes { IsEarlyFault result → (source.new ≡ source.old) × (at.new ≡ at.old) }
     ensures by_head { IsByHead result → (source.new ≡ source.old) × (at.new ≡ at.old) }
 
     // A last parity that is damaged.
@@ -139,6 +140,7 @@ fn store_frame<D: Disk, S: Source>(
 
     // How many bytes are taken, and when the source is at fault.
     ensures counted { Counts (S.state source.old).left (S.state source.new).left at.old at.new (min size (room_left ledger.old)) }
+    ensures short { result ≡ Err IngestFault.ReadFault → at.new < at.old + size }
     ensures source_kept { (S.state source.old).faults ≤ (S.state source.new).faults }
     ensures read_cause { result ≡ Err IngestFault.ReadFault → Rose (S.state source.old).faults (S.state source.new).faults }
 
@@ -186,11 +188,13 @@ pub fn ingest_one<D: Disk, S: Source>(
     requires fixed { D.tells → IsFixed (D.state disk.old) 0 }
     requires count { at.old ≤ 2 ^ 63 }
 
-    // The bytes that were taken are counted, and none past the frame is taken.
+    // The bytes that were taken are counted, and none past the frame is taken; a read fails only before all of the frame is.
     ensures taken { Counts (S.state source.old).left (S.state source.new).left at.old at.new (265 + room_left ledger.old) }
     ensures within { (stream : List ℕ) → (S.state source.old).left ≡ Some stream → HasHead stream → at.new ≤ at.old + frame_length stream }
+    ensures short { (stream : List ℕ) → (S.state source.old).left ≡ Some stream → HasHead stream → result ≡ Err IngestFault.ReadFault → at.new < at.old + frame_length stream }
     ensures exact { (name : List ℕ) (stored : StoredObject) → result ≡ Ok (Ingest.Stored name stored) → at.new ≡ at.old + 10 + length name + stored.length }
     ensures by_head { (stream : List ℕ) → (S.state source.old).left ≡ Some stream → IsByHead result → at.new ≡ at.old + 10 + name_length stream }
+    ensures by_name { (stream : List ℕ) → (S.state source.old).left ≡ Some stream → result ≡ Err IngestFault.BadName → (HasNoName stream → at.new ≡ at.old + 2) × (HasHead stream → at.new ≡ at.old + 10 + name_length stream) }
 
     // Stored.
     ensures stored { (name : List ℕ) (stored : StoredObject) → result ≡ Ok (Ingest.Stored name stored) → (o : NewObject) × (o.name ≡ name) × IsFramed (S.state source.old).left (S.state source.new).left o × HasStored D.tells ledger.old ledger.new o (D.state disk.old) (D.state disk.new) stored }

@@ -93,6 +93,7 @@ fn has_more<S: Source>(source: &mut S, full: bool, at: &mut u64) -> Result<bool,
     ensures same { result ≡ Ok false → at.new ≡ at.old }
     ensures counted { (n : ℕ) → (full ≡ true → 1 ≤ n) → Counts (S.state source.old).left (S.state source.new).left at.old at.new n }
     ensures fault { IfErr result (λ f. f ≡ PutFault.ReadFault) }
+    ensures only_full { IfErr result (λ f. full ≡ true) }
     ensures kept { (S.state source.old).faults ≤ (S.state source.new).faults }
     ensures cause { result ≡ Err PutFault.ReadFault → Rose (S.state source.old).faults (S.state source.new).faults }
 {
@@ -159,6 +160,7 @@ fn take_object<D: Disk, S: Source>(
     ensures writes { WritesCells D.tells ledger.now.shape (limit_when ledger.now.raised) (IsBlockIn ledger.now.shape ledger.now.lattice.n) (result ≡ Err PutFault.DiskFault) (D.state disk.old) (D.state disk.new) }
     ensures padded { result ≢ Err PutFault.DiskFault → D.tells → KeepsPadded ledger.now.shape (IsBlockIn ledger.now.shape ledger.now.lattice.n) (D.state disk.old).files (D.state disk.new).files }
     ensures counted { Counts (S.state source.old).left (S.state source.new).left at.old at.new (most_of want (room_left ledger.now)) }
+    ensures short { (n : ℕ) → want ≡ Some n → result ≡ Err PutFault.ReadFault → at.new < at.old + n }
     ensures source_kept { (S.state source.old).faults ≤ (S.state source.new).faults }
     ensures read_cause { result ≡ Err PutFault.ReadFault → Rose (S.state source.old).faults (S.state source.new).faults }
 {
@@ -231,6 +233,7 @@ pub(crate) fn weave_object<D: Disk, S: Source>(
     ensures writes { WritesCells D.tells ledger.now.shape (limit_when ledger.now.raised) (IsBlockIn ledger.now.shape ledger.now.lattice.n) (result ≡ Err PutFault.DiskFault) (D.state disk.old) (D.state disk.new) }
     ensures padded { result ≢ Err PutFault.DiskFault → D.tells → KeepsPadded ledger.now.shape (IsBlockIn ledger.now.shape ledger.now.lattice.n) (D.state disk.old).files (D.state disk.new).files }
     ensures counted { Counts (S.state source.old).left (S.state source.new).left at.old at.new (most_of want (room_left ledger.now)) }
+    ensures short { (n : ℕ) → want ≡ Some n → result ≡ Err PutFault.ReadFault → at.new < at.old + n }
     ensures source_kept { (S.state source.old).faults ≤ (S.state source.new).faults }
     ensures read_cause { result ≡ Err PutFault.ReadFault → Rose (S.state source.old).faults (S.state source.new).faults }
 {

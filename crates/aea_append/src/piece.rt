@@ -38,6 +38,7 @@ fn read_piece<S: Source>(
     ensures are { AreBytes block.new }
     ensures exact { IfOk result (λ k. at.new ≡ at.old + k) }
     ensures counted { Counts (S.state source.old).left (S.state source.new).left at.old at.new want }
+    ensures short { IfErr result (λ f. at.new < at.old + want) }
     ensures cause { HasCause (S.state source.old).faults (S.state source.new).faults result }
 {
     let count = match fill(source, &mut block[..want], at) {
@@ -75,6 +76,7 @@ fn weave_piece<D: Disk, S: Source>(
     ensures padded { result ≢ Err PutFault.DiskFault → D.tells → KeepsPadded shape.now (λ a. a.node ≢ heads.old.lattice.n + 1) (D.state disk.old).files (D.state disk.new).files }
     ensures exact { IfOk result (λ k. at.new ≡ at.old + k) }
     ensures counted { Counts (S.state source.old).left (S.state source.new).left at.old at.new want }
+    ensures short { result ≡ Err PutFault.ReadFault → at.new < at.old + want }
     ensures faults { IfErr result IsBroken }
     ensures source_kept { (S.state source.old).faults ≤ (S.state source.new).faults }
     ensures read_cause { result ≡ Err PutFault.ReadFault → Rose (S.state source.old).faults (S.state source.new).faults }
@@ -121,6 +123,7 @@ pub(crate) fn weave_all<D: Disk, S: Source>(
     ensures padded { result ≢ Err PutFault.DiskFault → D.tells → KeepsPadded shape.now (IsBlockIn shape.now heads.old.lattice.n) (D.state disk.old).files (D.state disk.new).files }
     ensures exact { IfOk result (λ k. at.new ≡ at.old + k) }
     ensures counted { Counts (S.state source.old).left (S.state source.new).left at.old at.new limit }
+    ensures short { result ≡ Err PutFault.ReadFault → at.new < at.old + limit }
     ensures faults { IfErr result IsBroken }
     ensures source_kept { (S.state source.old).faults ≤ (S.state source.new).faults }
     ensures read_cause { result ≡ Err PutFault.ReadFault → Rose (S.state source.old).faults (S.state source.new).faults }

@@ -14,6 +14,7 @@ pub mod Upgrading
 pub mod Recording
 pub mod Growing
 pub mod Putting
+pub mod GoingOn
 pub mod Ingesting
 pub mod Getting
 pub mod Listing

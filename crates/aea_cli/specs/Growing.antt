@@ -1,5 +1,5 @@
 -- What a command leaves that stores objects: behind its opening the archive grows by the records of these objects.
-use Rattle.std.specs.Prelude.{◌≢◌, ◌⊎◌, ◌≤◌, ℕ, List, [], ◌++◌, All}
+use Rattle.std.specs.Prelude.{◌≡◌, ◌≢◌, ◌⊎◌, ◌≤◌, ℕ, List, [], ◌++◌, All}
 use Rattle.std.specs.List.{flat_map}
 use Rattle.aea_lattice.specs.declared.blocks.BlockId.{BlockId}
 use Rattle.aea_lattice.specs.declared.grid.Lattice.{Lattice}
@@ -32,9 +32,9 @@ pub record OpensThen (old new : State) (P : State → State → Type 0) : Type 0
   pub synced : IsSynced (opened_at old new moment)
   pub rest : P (opened_at old new moment) new
 
--- The sync failed, and all images are those at the entry; or it has succeeded.
+-- The sync failed: all images are those at the entry, and every file reads as it did. Or it has succeeded.
 abbrev pub OpensOr : State → State → (State → State → Type 0) → Type 0
-OpensOr old new P = KeepsImages old new ⊎ OpensThen old new P
+OpensOr old new P = (KeepsImages old new × (new.files ≡ old.files)) ⊎ OpensThen old new P
 
 -- the data blocks of these objects, one after the other
 abbrev pub blocks_of_objects : Shape → List NewObject → List (List ℕ)

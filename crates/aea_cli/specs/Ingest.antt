@@ -24,8 +24,9 @@ use Rattle.aea_cli.specs.declared.refusal.Refusal.TheVariants.{NoArchive, Ledger
 use Rattle.aea_cli.specs.declared.refusal.Failure.{Failure}
 use Rattle.aea_cli.specs.declared.refusal.Failure.TheVariants as failure
 use Rattle.aea_cli.specs.declared.status.Status.TheVariants.{Done}
+use Rattle.aea_cli.specs.Causes.{place_of}
 use Rattle.aea_cli.specs.Failures.{Answer}
-use Rattle.aea_cli.specs.Growing.{OpensThen, OpensOr, Grows, HasGrown}
+use Rattle.aea_cli.specs.Growing.{OpensThen, Grows, HasGrown}
 use Rattle.aea_cli.specs.Lines.{newline}
 use Rattle.aea_cli.specs.Put.{IsStored, HasDamagedHead, HasLimit, stored_line}
 
@@ -110,18 +111,21 @@ FrameCauses shape f files long before stream (BadStream at) =
     (at ≡ long) × (EndsInHead stream ⊎ (HasPlace f stream × FitsLimit shape f stream × (length stream < frame_length stream)))
 FrameCauses shape f files long before stream why = ⊥
 
--- The archive in these files would store the objects of the first frames of the input, and then, for this cause, no more.
-pub record IsRefusedAt (files : Files) (input : List ℕ) (why : Refusal) : Type 0 where
+-- The archive in these files would store the objects of these first frames of the input, and then, for this cause, no more.
+pub record IsRefusedBehind (files : Files) (input : List ℕ) (before : List NewObject) (why : Refusal) : Type 0 where
   pub shape : Shape
   pub records : List Record
   pub ledger : HasLedger shape records (files 0)
-  pub before : List NewObject
   pub rest : List ℕ
   pub framed : input ≡ frames_of before ++ rest
   pub taken : MayAllBeTaken shape (filled_by records) before
   -- and none is stored where a last parity is damaged
   pub intact : before ≢ [] → (block : BlockId) → HasDamagedHead files block → ⊥
   pub cause : FrameCauses shape (filled_all shape (filled_by records) before) files (length input) before rest why
+
+-- it would do so behind some first frames
+abbrev pub IsRefusedAt : Files → List ℕ → Refusal → Type 0
+IsRefusedAt files input why = (before : List NewObject) × IsRefusedBehind files input before why
 
 -- why a run is refused behind its opening
 abbrev pub OpenedCauses : Files → List ℕ → Refusal → Type 0
@@ -134,6 +138,30 @@ abbrev pub IngestCauses : Files → List ℕ → Refusal → Type 0
 IngestCauses files input NoArchive = IsNoArchive (files 0)
 IngestCauses files input (LedgerBad at) = IsBadAt (files 0) at
 IngestCauses files input why = IsRefusedAt files input why
+
+-- ---- where a run ends before all of its input is stored
+
+-- why a run is refused that stored these objects: at its opening, or for the frame behind theirs
+abbrev pub EndCauses : Files → List ℕ → List NewObject → Refusal → Type 0
+EndCauses files input objects NoArchive = IsNoArchive (files 0)
+EndCauses files input objects (LedgerBad at) = IsBadAt (files 0) at
+EndCauses files input objects why = IsRefusedBehind files input objects why
+
+-- Behind the frames of these objects a part of the input was taken that is not the whole of the next frame.
+pub record IsReadInPart (input : List ℕ) (rest : Option (List ℕ)) (objects : List NewObject) : Type 0 where
+  pub stream : List ℕ
+  pub framed : input ≡ frames_of objects ++ stream
+  pub part : List ℕ
+  pub taken : Consumes (Some stream) rest part
+  pub short : HasHead stream → length part < frame_length stream
+
+-- Of a run whose lines are those of these objects: where it is refused, the frame behind theirs is the one that is not
+-- stored, and where a read failed, the one that was not read whole. So no object before that frame is left out.
+pub record EndsEarly {T : Type 0} (tells : Type 0) (files : Files) (left rest : Option (List ℕ)) (objects : List NewObject) (answer : Result T Failure) : Type 0 where
+  pub refused : tells → (input : List ℕ) → left ≡ Some input → (why : Refusal) → answer ≡ Err (failure.Refused why) → EndCauses files input objects why
+  pub unread : (input : List ℕ) → left ≡ Some input → answer ≡ Err failure.Input → IsReadInPart input rest objects
+  -- and where it is refused at its opening, nothing of the input was taken
+  pub closed : (why : Refusal) → place_of why < 2 → answer ≡ Err (failure.Refused why) → rest ≡ left
 
 -- ---- the room
 
@@ -197,6 +225,13 @@ abbrev pub MayBeLast : {T : Type 0} → Option (List ℕ) → List NewObject →
 MayBeLast left objects answer last =
     (last ≡ []) ⊎ ((answer ≡ Err failure.Disk) × ((o : NewObject) × (last ≡ o ∷ []) × ((taken : Option (List ℕ)) × Consumes left taken (frames_of (objects ++ o ∷ [])))))
 
+-- The archive was not opened, since the disk failed or memory was wanting: none of these objects was stored.
+pub record IsNotOpened {T : Type 0} (old new : State) (objects : List NewObject) (answer : Result T Failure) : Type 0 where
+  pub by : (answer ≡ Err failure.Disk) ⊎ (answer ≡ Err failure.Memory)
+  pub none : objects ≡ []
+  pub images : KeepsImages old new
+  pub reads : new.files ≡ old.files
+
 -- Of a run that stores the frames of the input, with the disk and the rest of the input before and after it, and what it
 -- answers: the objects whose lines were printed, and the one whose line was begun.
 pub record StoresFrames {T : Type 0} (tells : Type 0) (old new : State) (left rest : Option (List ℕ)) (printed more : List NewObject) (answer : Result T Failure) : Type 0 where
@@ -213,7 +248,7 @@ pub record StoresFrames {T : Type 0} (tells : Type 0) (old new : State) (left re
   -- disk failed; and at the end, after any answer, those whose lines were printed stand in every image
   pub stops : tells → (shape : Shape) (records : List Record) → HasLedger shape records (old.files 0)
       → (last : List NewObject) × MayBeLast left printed answer last
-      × OpensOr old new (GrowsSurely shape records ((printed ++ more) ++ last) (length (printed ++ more)))
+      × (IsNotOpened old new (printed ++ more) answer ⊎ OpensThen old new (GrowsSurely shape records ((printed ++ more) ++ last) (length (printed ++ more))))
   -- where there is no ledger, nothing is stored
   pub none : tells → (IsSomeLedger (old.files 0) → ⊥) → KeepsImages old new × (new.files ≡ old.files)
   -- within the room of the disk nothing fails
@@ -246,6 +281,7 @@ pub record IngestsOpened (tells : Type 0) (v : Opened) (old new : State) (left r
   pub printed : List NewObject
   pub more : List NewObject
   pub stores : StoresOpened tells v old new left rest printed more answer
+  pub early : EndsEarly tells old.files left rest printed answer
   pub prints : PrintsLines v.shape printed more before after answer
 
 -- Nothing was stored and nothing printed, since there was no archive to begin from.
@@ -272,5 +308,7 @@ pub record Ingests (tells : Type 0) (old new : State) (left rest : Option (List 
   pub more : List NewObject
   -- what becomes of the archive
   pub stores : StoresFrames tells old new left rest printed more answer
+  -- which frame was not stored, where it is refused, and where a read failed
+  pub early : EndsEarly tells old.files left rest printed answer
   -- what is printed
   pub prints : PrintsNothing printed more before after answer ⊎ PrintsSome tells (old.files 0) printed more before after answer

@@ -16,6 +16,7 @@ pub mod Fence
 pub mod Upgrade
 pub mod Growing
 pub mod Put
+pub mod GoingOn
 pub mod Ingest
 pub mod Get
 pub mod Listing

@@ -52,6 +52,9 @@ pub record RepairsOpened (tells : Type 0) (v : Opened) (old new : State) (before
   -- sites, as they were
   pub alone : tells → (known : BlockId → Bool) → TellsSurvivors v.shape v.lattice.n v.digests old.files known
       → OpensThen old new (λ opened end. During opened end (ChangesArchive v.shape v.lattice.n (IsLeft (IsRestorable v.lattice known)) (IsNoSite v.shape) old.files))
+  -- and so the disk reads
+  pub reads : tells → (known : BlockId → Bool) → TellsSurvivors v.shape v.lattice.n v.digests old.files known
+      → ChangesArchive v.shape v.lattice.n (IsLeft (IsRestorable v.lattice known)) (IsNoSite v.shape) old.files new.files
   -- and each block that was intact is held at every moment; where all is written, each that is intact then is held
   pub held : tells → (b : BlockId) → HasBlock v.lattice b → IsIntactBy v.shape v.digests old.files b
       → OpensThen old new (λ opened end. AtEachMoment opened end (IsHeldIn v.shape b (recorded_in v.shape v.digests b)))

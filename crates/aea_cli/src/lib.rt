@@ -8,6 +8,7 @@ mod drill;
 mod explain;
 mod fence;
 mod get;
+mod going_on;
 mod ingest;
 mod list;
 mod numbers;
@@ -26,6 +27,7 @@ mod verify;
 mod words;
 
 pub use command::{Command, parse_words};
+pub use going_on::stops_keep_puts;
 pub use program::run;
 pub use refusal::Refusal;
 pub use status::Status;

@@ -1,11 +1,13 @@
 //! The top call.
 
-ghost use Rattle.std.specs.Prelude.{◌≡◌, ◌≢◌, ◌≤◌, ◌↔◌, map, string_bytes};
+ghost use Rattle.std.specs.Prelude.{◌≡◌, ◌≢◌, ◌⊎◌, ◌≤◌, ◌↔◌, map, string_bytes};
 ghost use Rattle.aea_faults.specs.Faults.{Rose};
 ghost use Rattle.aea_io.specs.Written.{IsFlushed};
 ghost use Rattle.aea_disk.specs.State.{Passes};
 ghost use Rattle.aea_cli.specs.declared.command.Command.{Command};
-ghost use Rattle.aea_cli.specs.Does.{ReadsInput, UsesDisk, Runs};
+ghost use Rattle.aea_cli.specs.declared.refusal.Refusal.{Refusal};
+ghost use Rattle.aea_cli.specs.Causes.{IsFirst};
+ghost use Rattle.aea_cli.specs.Does.{ReadsInput, UsesDisk, Causes, IsHonest, IsTold, Runs};
 ghost use Rattle.aea_cli.specs.Ends.{IsSound, Ends};
 ghost use Rattle.aea_cli.specs.Failures.{IsWell};
 ghost use Rattle.aea_cli.specs.Words.{AreNoCommand, IsSane, Means};
@@ -135,6 +137,17 @@ pub fn run<D: Disk, S: Source, O: Sink, E: Sink>(
     // Where all work was done.
     ensures flushed { IsWell result → IsFlushed (O.state out.new) }
     ensures err_unused { IsWell result → err.new ≡ err.old }
+
+    // Where nothing stands against it and no count rises, all work is done, but for want of memory; of a repair where the
+    // intact blocks are honest.
+    ensures complete { (command : Command) → Means (map string_bytes words.now) command
+        → IsTold command (world D.tells (D.state disk.old) (S.state input.old) (O.state out.old))
+        → ((why : Refusal) → IsFirst (Causes command (world D.tells (D.state disk.old) (S.state input.old) (O.state out.old))) why → ⊥)
+        → IsHonest command (world D.tells (D.state disk.old) (S.state input.old) (O.state out.old))
+        → (Rose (D.state disk.old).faults (D.state disk.new).faults → ⊥)
+        → (Rose (S.state input.old).faults (S.state input.new).faults → ⊥)
+        → (Rose (O.state out.old).faults (O.state out.new).faults → ⊥)
+        → IsWell result ⊎ (result ≡ Status.Memory) }
 
     // Where something failed.
     ensures disk_cause { result ≡ Status.Disk → Rose (D.state disk.old).faults (D.state disk.new).faults }

@@ -1,8 +1,8 @@
 -- How a run that stores the frames of a stream tells why it is refused, by what the call ensures that takes a frame.
-use Rattle.std.proofs.Common.{◌≡◌, ◌⊎◌, ℕ, ◌+◌, ◌≤◌, List, [], ◌++◌, length, sym, ◌∙◌, ap, subst, arith, Option, Some, Result, Ok, Err, length-append}
+use Rattle.std.proofs.Common.{◌≡◌, ◌⊎◌, ℕ, ◌+◌, ◌<◌, ◌≤◌, List, [], ◌++◌, length, refl, sym, ◌∙◌, ap, subst, arith, Option, Some, Result, Ok, Err, length-append}
 use Rattle.std.specs.Prelude.{IsSome, unwrap_or}
 use Rattle.std.specs.FinMap.{len}
-use Rattle.std.specs.Io.KnownBytes.{IsAtEnd}
+use Rattle.std.specs.Io.KnownBytes.{Consumes, IsAtEnd}
 use Rattle.std.proofs.lemmas.Bool.Decides.{nat_tests}
 use Rattle.aea_io.specs.Streams.{SinkState}
 use Rattle.aea_lattice.specs.declared.blocks.BlockId.{BlockId}
@@ -17,7 +17,7 @@ use Rattle.aea_ledger.specs.Values.{Opened, HasRecords, IsThisOne}
 use Rattle.aea_archive.specs.Lasts.{IsLastParity, IsDamagedLast, IsFirstDamagedLast, AreLastsIntact}
 use Rattle.aea_archive.specs.Next.{NewObject}
 use Rattle.aea_append.specs.Causes.{IsTaken}
-use Rattle.aea_append.specs.Frames.{HasHead, HasBadName, HasEntry, IsTooLong, EndsInside, IsReadOrHeadFault, frame_name}
+use Rattle.aea_append.specs.Frames.{HasHead, HasBadName, HasEntry, IsTooLong, EndsInside, IsReadOrHeadFault, frame_name, frame_length}
 use Rattle.aea_append.specs.Taking.{Counts, room_left}
 use Rattle.aea_append.specs.declared.ingest.Ingest.{Ingest}
 use Rattle.aea_append.specs.declared.ingest.Ingest.TheVariants.{End}
@@ -29,11 +29,12 @@ use Rattle.aea_cli.specs.declared.status.Status.{Status}
 use Rattle.aea_cli.specs.declared.status.Status.TheVariants.{Done}
 use Rattle.aea_cli.specs.Causes.{IsFirst, IsStopped, Refuses}
 use Rattle.aea_cli.specs.Failures.{Answer, ingest_failure}
-use Rattle.aea_cli.specs.Ingest.{OpenedCauses, frames_of}
+use Rattle.aea_cli.specs.Ingest.{OpenedCauses, EndCauses, IsReadInPart, EndsEarly, frames_of}
 use Rattle.aea_cli.specs.Put.{HasDamagedHead}
 use Rattle.aea_cli.proofs.Ingesting.Damaged.{damaged_here, damaged_there}
 use Rattle.aea_cli.proofs.Ingesting.Going.{HasGone}
-use Rattle.aea_cli.proofs.Ingesting.Refused.{HasAnswered, none_at_end, only_answer, always_answer}
+use Rattle.aea_cli.proofs.Ingesting.Looping.{ingest_input, ingest_no_opening}
+use Rattle.aea_cli.proofs.Ingesting.Refused.{HasAnswered, none_at_end, only_answer, always_answer, ends_behind}
 use Rattle.aea_cli.proofs.Ingesting.Telling.{AreTold, are_told, counted_all}
 use Rattle.aea_cli.proofs.Putting.Reading.{one_head}
 use Rattle.aea_cli.proofs.Refusing.{refuses_none}
@@ -47,6 +48,7 @@ name_lengths name named = grind (arith, nat_tests)
 -- call, and the answer.
 pub record HasTried (tells : Type 0) (w : Opened) (now : Files) (rest after : Option (List ℕ)) (at next : ℕ) (r : Result Ingest IngestFault) : Type 0 where
   pub taken : Counts rest after at next (265 + room_left w)
+  pub short : (stream : List ℕ) → rest ≡ Some stream → HasHead stream → r ≡ Err ingest.ReadFault → next < at + frame_length stream
   pub ends : rest ≡ Some [] → (r ≡ Ok End) ⊎ (r ≡ Err ingest.ReadFault)
   pub bad_name : (stream : List ℕ) → rest ≡ Some stream → r ≡ Err ingest.BadName → HasBadName stream
   pub bad_name_refused : (stream : List ℕ) → rest ≡ Some stream → HasBadName stream → (r ≡ Err ingest.BadName) ⊎ (r ≡ Err ingest.ReadFault)
@@ -149,6 +151,11 @@ module _ (reading : HasOneReading) (count : ObjectsAreCounted) (free : NewNamesA
           (only_answer reading count free name_lengths v w old.files now.files (is_this told) objects gone.added gone.are gone.same_shape has_now input stream (told_frames some).parts head_here head_there only_one
           next fault tried all_bytes why is)
 
+      ends_tried : (why : Refusal) → (let a : Answer = Err (ingest_failure fault) in a ≡ Err (failure.Refused why)) → EndCauses old.files input objects why
+      ends_tried why is =
+          ends_behind reading count free name_lengths v w old.files now.files (is_this told) objects gone.added gone.are gone.same_shape has_now input stream (told_frames some).parts head_here head_there only_one
+          next fault tried all_bytes why is
+
       always_tried : (why : Refusal) → IsFirst told_causes why → (let a : Answer = Err (ingest_failure fault) in (a ≡ Err (failure.Refused why)) ⊎ IsStopped a)
       always_tried why first =
           always_answer reading count free name_lengths v w old.files now.files (is_this told) objects gone.added gone.are gone.same_shape has_now input stream (told_frames some).parts head_here head_there only_one
@@ -170,3 +177,32 @@ module _ (reading : HasOneReading) (count : ObjectsAreCounted) (free : NewNamesA
         only = λ why e told. only_tried told.0 told.1 after at next exact fault at_fault why e;
         always = λ why told first. always_tried told.0 told.1 after at next exact fault at_fault why first;
       }
+
+  -- Which frame was not taken.
+  unread_by : (some : IsSome left) (after : Option (List ℕ)) (at next : ℕ) (r : Result Ingest IngestFault) → HasTried tells w now.files rest after at next r → r ≡ Err ingest.ReadFault → IsReadInPart (told_frames some).input after objects
+  unread_by some after at next r gave is =
+      let told = told_frames some in
+      record {
+        stream = told.stream;
+        framed = told.parts;
+        part = gave.taken.bytes;
+        taken = subst (λ (o : Option (List ℕ)). Consumes o after gave.taken.bytes) told.stream_is gave.taken.taken;
+        short = λ head. let less = gave.short told.stream told.stream_is head is in omega (arith, less, gave.taken.counted);
+      }
+
+  pub fault_ends : (after : Option (List ℕ)) (at next : ℕ) → at ≡ length (frames_of objects) → (fault : IngestFault) → HasTried tells w now.files rest after at next (Err fault) → EndsEarly {T = Status} tells old.files left after objects (Err (ingest_failure fault))
+  fault_ends after at next exact fault gave = record {
+    refused = λ told bytes is why e.
+        let some = some_by bytes is in
+        subst (λ (s : List ℕ). EndCauses old.files s objects why) (same_input bytes is) (ends_tried told some after at next exact fault gave why e);
+    unread = λ bytes is e.
+        let some = some_by bytes is in
+        subst (λ (s : List ℕ). IsReadInPart s after objects) (same_input bytes is) (unread_by some after at next (Err fault) gave (ingest_input fault e));
+    closed = λ why opening e. absurd (ingest_no_opening fault why opening e);
+  }
+    where
+      some_by : (bytes : List ℕ) → left ≡ Some bytes → IsSome left
+      some_by bytes is = subst IsSome (sym is) refl
+
+      same_input : (bytes : List ℕ) (is : left ≡ Some bytes) → (told_frames (some_by bytes is)).input ≡ bytes
+      same_input bytes is = let both : Some (told_frames (some_by bytes is)).input ≡ Some bytes = sym (told_frames (some_by bytes is)).input_is ∙ is in cc

@@ -1,6 +1,7 @@
 -- What a run leaves that stores the frames of a stream, its opening included.
-use Rattle.std.proofs.Common.{◌≡◌, ◌⊎◌, inl, inr, ℕ, ◌+◌, ◌*◌, ◌≤◌, List, [], ◌++◌, length, refl, sym, ◌∙◌, ap, subst, arith, Option, Ok, Err, length-append}
+use Rattle.std.proofs.Common.{◌≡◌, ◌⊎◌, inl, inr, ℕ, ◌+◌, ◌*◌, ◌≤◌, List, [], ◌++◌, length, refl, sym, ◌∙◌, ap, subst, arith, Option, Some, Result, Ok, Err, length-append}
 use Rattle.std.specs.Prelude.{IsSome, unwrap_or}
+use Rattle.std.specs.Io.KnownBytes.{Consumes}
 use Rattle.std.specs.List.{flat_map}
 use Rattle.std.proofs.lemmas.List.Concat.{flat_map-append}
 use Rattle.std.proofs.KnownBytes.{Consumes-nil}
@@ -16,6 +17,7 @@ use Rattle.aea_disk.proofs.Moments.{passes_both, passes_none, where_both, where_
 use Rattle.aea_shelf.specs.Places.{site_bytes}
 use Rattle.aea_records.specs.Format.{Record, limit_when, limit_of, nodes_for, nodes_of, spelled, digests_of, header, entry}
 use Rattle.aea_records.specs.Laws.{HasOneReading, IsSomeLedger}
+use Rattle.aea_ledger.specs.Stops.{HasLedger}
 use Rattle.aea_ledger.specs.Values.{Opened, HasRecords}
 use Rattle.aea_archive.specs.Cells.{IsBesides}
 use Rattle.aea_archive.specs.Data.{AreSurvivorsHonest, IsDamagePlain}
@@ -30,8 +32,8 @@ use Rattle.aea_cli.specs.declared.refusal.Failure.TheVariants as failure
 use Rattle.aea_cli.specs.Causes.{Refuses, IsFirst, place_of}
 use Rattle.aea_cli.specs.declared.status.Status.{Status}
 use Rattle.aea_cli.specs.Failures.{Answer}
-use Rattle.aea_cli.specs.Growing.{opened_at, LeavesArchive, OpensThen, OpensOr, Grows, HasGrown}
-use Rattle.aea_cli.specs.Ingest.{OpenedCauses, IngestCauses, IsRefusedAt, FitsIngest, FitsFrames, GrowsSurely, MayBeLast, IngestsOpened, Ingests}
+use Rattle.aea_cli.specs.Growing.{opened_at, LeavesArchive, OpensThen, Grows, HasGrown}
+use Rattle.aea_cli.specs.Ingest.{OpenedCauses, IngestCauses, IsRefusedAt, EndCauses, IsNotOpened, FitsIngest, FitsFrames, GrowsSurely, MayBeLast, IngestsOpened, Ingests}
 use Rattle.aea_cli.specs.Openings.{OpeningCauses, Opens}
 use Rattle.aea_cli.specs.Put.{greatest_sites, IsStored, KeepsOtherFiles}
 use Rattle.aea_cli.proofs.Adding.{its_records}
@@ -41,6 +43,7 @@ use Rattle.aea_cli.proofs.Putting.Reading.{has_ledger_of, by_reading}
 use Rattle.aea_cli.proofs.Putting.Running.{unopened_not_output}
 use Rattle.aea_cli.proofs.Putting.Storing.{sites_most}
 use Rattle.aea_cli.proofs.Refusing.{refuses_told}
+use Rattle.aea_cli.proofs.Stating.Running.{opening_not_input}
 
 -- ---- a stretch from the end of the opening, as one of the whole run
 
@@ -143,7 +146,8 @@ module _ (reading : HasOneReading) (tells : Type 0) (v : Opened) (left rest : Op
       stops = λ told.
           let one = opens.this_one told in
           by_reading reading v (old.files 0) one
-          (λ shape records. (last : List NewObject) × MayBeLast left does.printed answer last × OpensOr old new (GrowsSurely shape records ((does.printed ++ does.more) ++ last) (length (does.printed ++ does.more))))
+          (λ shape records. (last : List NewObject) × MayBeLast left does.printed answer last
+          × (IsNotOpened old new (does.printed ++ does.more) answer ⊎ OpensThen old new (GrowsSurely shape records ((does.printed ++ does.more) ++ last) (length (does.printed ++ does.more)))))
           (let stops = does.stores.stops told one.records (its_records tells old mid v opens told one) in (
             stops.0,
             stops.1,
@@ -152,6 +156,11 @@ module _ (reading : HasOneReading) (tells : Type 0) (v : Opened) (left rest : Op
           ));
       none = λ told never. let one = opens.this_one told in absurd (never (record { shape = v.shape; records = one.records; end = v.end; ledger = one.ledger }));
       in_room = λ fits. let sure = writes.sure (fits_frames fits) in (sure.0, sure.1 ∙ (opens.reads.sure fits.some).1);
+    };
+    early = record {
+      refused = λ told input is why e. subst (λ (c : Files). EndCauses c input does.printed why) (opens.reads.contents told) (does.early.refused told input is why e);
+      unread = does.early.unread;
+      closed = does.early.closed;
     };
     prints = inr (v.shape, (λ told. by_reading reading v (old.files 0) (opens.this_one told) (λ shape list. v.shape ≡ shape) refl), does.prints);
   }
@@ -209,15 +218,43 @@ ingests_unopened tells old new left out f opens = record {
     whole = λ ok. absurd (false≢true ok);
     archive = λ stored. absurd (not_stored stored);
     stands = λ stored. absurd (not_stored stored);
-    stops = λ told shape records ledger. ([], inl refl, inl opens.reads.crash);
+    stops = λ told shape records ledger. ([], inl refl, inl (record { by = not_opened told shape records ledger; none = refl; images = opens.reads.crash; reads = opens.reads.contents told }));
     none = λ told never. (opens.reads.crash, opens.reads.contents told);
     in_room = λ fits. let sure = opens.reads.sure fits.some in (λ is. sure.0 (let same = same_failure failure.Disk is in ap Err same), sure.1);
+  };
+  early = record {
+    refused = λ told input is why e. at_opening input why (opens.refuses.only why (let same = same_failure (failure.Refused why) e in ap Err same) told).stands;
+    unread = λ input is e. record {
+      stream = input;
+      framed = refl;
+      part = [];
+      taken = subst (λ (rest : Option (List ℕ)). Consumes (Some input) rest []) (sym is) (Consumes-nil (Some input));
+      short = λ head. omega arith;
+    };
+    closed = λ why opening e. refl;
   };
   prints = inl (record { failed = refl; by = λ is. unopened_not_output tells old new f opens (same_failure failure.Output is); no_lines = refl; no_more = refl; unused = refl });
 }
   where
     same_failure : (g : Failure) → (let one : Answer = Err f in one ≡ Err g) → f ≡ g
     same_failure g e = cc
+
+    fault_is : (g : Failure) → (let one : Result Opened Failure = Err f in one ≡ Err g) → f ≡ g
+    fault_is g e = cc
+
+    -- a ledger is not opened only by a fault of the disk and for want of memory
+    not_opened : tells → (shape : Shape) (records : List Record) → HasLedger shape records (old.files 0) → (let one : Answer = Err f in (one ≡ Err failure.Disk) ⊎ (one ≡ Err failure.Memory))
+    not_opened told shape records ledger = elim (opens.complete told (some_ledger (old.files 0) shape records ledger)) [
+      | inl ok ↦ absurd (false≢true ok)
+      | inr (inl e) ↦ inl (ap Err (fault_is failure.Disk e))
+      | inr (inr (inl e)) ↦ absurd (let kind = opens.kinds in opening_not_input kind.0 (sym kind.1 ∙ fault_is failure.Input e))
+      | inr (inr (inr e)) ↦ inr (ap Err (fault_is failure.Memory e))
+    ]
+
+    at_opening : (input : List ℕ) (why : Refusal) → OpeningCauses (old.files 0) why → EndCauses old.files input [] why
+    at_opening input NoArchive cause = cause
+    at_opening input (LedgerBad at) cause = cause
+    at_opening input why cause = absurd cause
 
     not_stored : (let one : Answer = Err f in IsStored one) → ⊥
     not_stored (inl ok) = false≢true ok
@@ -233,7 +270,7 @@ ingest_behind_opening files input = record { from = λ why cause. from_opening w
     from_opening why cause = absurd cause
 
     later : (why : Refusal) → IsRefusedAt files input why → IsSomeLedger (files 0)
-    later why cause = some_ledger (files 0) cause.shape cause.records cause.ledger
+    later why cause = some_ledger (files 0) cause.1.shape cause.1.records cause.1.ledger
 
     back_to : (why : Refusal) → IngestCauses files input why → OpeningCauses (files 0) why ⊎ (IsSomeLedger (files 0) × (2 ≤ place_of why))
     back_to NoArchive cause = inl cause
@@ -244,7 +281,7 @@ ingest_behind_opening files input = record { from = λ why cause. from_opening w
     back_to (HeadDamaged block) cause = inr (later (HeadDamaged block) cause, omega arith)
     back_to (Full nodes) cause = inr (later (Full nodes) cause, omega arith)
     back_to (BadStream at) cause = inr (later (BadStream at) cause, omega arith)
-    back_to why cause = absurd cause.cause
+    back_to why cause = absurd cause.1.cause
 
 pub unopened_ingest : (tells : Type 0) (old new : State) (left : Option (List ℕ)) (f : Failure) → Opens tells old new (Err f) → Refuses {T = Status} (tells × IsSome left) (IngestCauses old.files (unwrap_or left [])) (Err f)
 unopened_ingest tells old new left f opens =

@@ -13,6 +13,7 @@ use Rattle.aea_io.specs.Written.{AppendsPart}
 use Rattle.aea_io.proofs.Printing.{prints_then}
 use Rattle.aea_lattice.specs.declared.shape.Shape.{Shape}
 use Rattle.aea_envelope.specs.Facts.{CellsHaveLengths, CellsHaveParts}
+use Rattle.aea_disk.specs.Files.{Files}
 use Rattle.aea_disk.specs.Frames.{OnlyWrites}
 use Rattle.aea_disk.specs.State.{State, IsSynced}
 use Rattle.aea_disk.proofs.Frames.{writes_none}
@@ -36,12 +37,13 @@ use Rattle.aea_append.specs.declared.ingest.IngestFault.TheVariants as ingest
 use Rattle.aea_append.specs.declared.store.StoredObject.{StoredObject}
 use Rattle.aea_cli.specs.declared.refusal.Failure.{Failure}
 use Rattle.aea_cli.specs.declared.refusal.Failure.TheVariants as failure
+use Rattle.aea_cli.specs.declared.refusal.Refusal.{Refusal}
 use Rattle.aea_cli.specs.declared.refusal.Refusal.TheVariants as refusal
 use Rattle.aea_cli.specs.declared.status.Status.{Status}
 use Rattle.aea_cli.specs.declared.status.Status.TheVariants.{Done}
 use Rattle.aea_cli.specs.Failures.{Answer, ingest_failure}
 use Rattle.aea_cli.specs.Growing.{HasGrown}
-use Rattle.aea_cli.specs.Ingest.{GrowsSurely, StoresOpened, PrintsLines, IngestsOpened, frames_of, stored_lines, end_line}
+use Rattle.aea_cli.specs.Ingest.{GrowsSurely, EndsEarly, StoresOpened, PrintsLines, IngestsOpened, frames_of, stored_lines, end_line}
 use Rattle.aea_cli.specs.Put.{IsStored, stored_line}
 use Rattle.aea_cli.proofs.Putting.Opening.{changes}
 use Rattle.aea_cli.proofs.Texts.{printed_all}
@@ -189,6 +191,17 @@ module _ (shape : Shape) (objects : List NewObject) (before after : SinkState) (
             (λ e. (let h : (let a : Answer = Ok Done in a ≡ Err failure.Output) = e in cc), all.steady room told (omega (arith, ap length same, enough)));
       }
 
+-- ---- the frame that is not stored
+
+-- a run that is not refused, and in which no read failed
+early_none : {T : Type 0} (tells : Type 0) (files : Files) (left rest : Option (List ℕ)) (objects : List NewObject) (answer : Result T Failure) → ((why : Refusal) → answer ≡ Err (failure.Refused why) → ⊥) → (answer ≡ Err failure.Input → ⊥)
+    → EndsEarly tells files left rest objects answer
+early_none tells files left rest objects answer fine whole = record { refused = λ told input is why e. absurd (fine why e); unread = λ input is e. absurd (whole e); closed = λ why opening e. absurd (fine why e) }
+
+early_failed : {T : Type 0} (tells : Type 0) (files : Files) (left rest : Option (List ℕ)) (objects : List NewObject) (f : Failure) → ((why : Refusal) → f ≡ failure.Refused why → ⊥) → (f ≡ failure.Input → ⊥) → EndsEarly {T = T} tells files left rest objects (Err f)
+early_failed {T} tells files left rest objects f fine whole =
+    early_none tells files left rest objects (Err f) (λ why e. fine why (same_failure {T = T} f (failure.Refused why) e)) (λ e. whole (same_failure {T = T} f failure.Input e))
+
 -- ---- the ends
 
 module _ (reading : HasOneReading) (lengths : CellsHaveLengths) (parts : CellsHaveParts) (values : LastsAreValues) (record_more : ObjectsRecordMore) (counts : DigestsAreCounted)
@@ -203,8 +216,9 @@ module _ (reading : HasOneReading) (lengths : CellsHaveLengths) (parts : CellsHa
 
   -- a frame was not taken, for another reason than the disk
   pub refused_opened : (fault : IngestFault) (next : State) (rest2 : Option (List ℕ)) (bad : Type 0) → OnlyWrites tells (HasFrameRoom w rest now) bad (changes w) now next → (tells → LeavesLedger now next)
+      → EndsEarly {T = Status} tells old.files left rest2 objects (Err (ingest_failure fault))
       → IngestsOpened tells v old next left rest2 before after (Err (ingest_failure fault))
-  refused_opened fault next rest2 bad writes leaves = record {
+  refused_opened fault next rest2 bad writes leaves early = record {
     done = tt;
     printed = objects;
     more = [];
@@ -221,6 +235,7 @@ module _ (reading : HasOneReading) (lengths : CellsHaveLengths) (parts : CellsHa
             (grows_no_more tells told w (list ++ gone.added) now next (gone.its told list its) (gone.synced told) (HasFrameRoom w rest now) bad writes reading (leaves told))),
       );
     };
+    early = early;
     prints = prints_quiet v.shape objects before after gone.printed (ingest_failure fault) (ingest_not_output fault);
   }
 
@@ -246,6 +261,7 @@ module _ (reading : HasOneReading) (lengths : CellsHaveLengths) (parts : CellsHa
             (grows_maybe tells told w (list ++ gone.added) now next (gone.its told list its) (gone.synced told) (HasFrameRoom w rest now) bad writes (IsFramed rest rest2) (may told))),
       );
     };
+    early = early_failed tells old.files left rest2 objects failure.Disk (λ why e. let h : failure.Disk ≡ failure.Refused why = e in cc) (λ e. cc);
     prints = prints_quiet v.shape objects before after gone.printed failure.Disk (λ e. cc);
   }
 
@@ -275,6 +291,7 @@ module _ (reading : HasOneReading) (lengths : CellsHaveLengths) (parts : CellsHa
                     (surely_all v.shape list (objects ++ o ∷ []) old next all.0 many),
               );
         };
+        early = early_failed tells old.files left rest2 objects failure.Output (λ why e. let h : failure.Output ≡ failure.Refused why = e in cc) (λ e. cc);
         prints = prints_cut v.shape objects before after gone.printed last o fault line;
       }
 
@@ -323,6 +340,7 @@ module _ (reading : HasOneReading) (lengths : CellsHaveLengths) (parts : CellsHa
     printed = objects;
     more = [];
     stores = stores_all rest2 (Ok Done) (λ ok. (none, end));
+    early = early_none tells old.files left rest2 objects (Ok Done) (λ why e. let h : (let one : Answer = Ok Done in one ≡ Err (failure.Refused why)) = e in cc) (λ e. let h : (let one : Answer = Ok Done in one ≡ Err failure.Input) = e in cc);
     prints = prints_end v.shape objects before after gone.printed last line;
   }
 
@@ -333,5 +351,6 @@ module _ (reading : HasOneReading) (lengths : CellsHaveLengths) (parts : CellsHa
     printed = objects;
     more = [];
     stores = stores_all rest2 (Err failure.Output) (λ ok. absurd (false≢true ok));
+    early = early_failed tells old.files left rest2 objects failure.Output (λ why e. let h : failure.Output ≡ failure.Refused why = e in cc) (λ e. cc);
     prints = prints_cut_end v.shape objects before after gone.printed last fault line;
   }

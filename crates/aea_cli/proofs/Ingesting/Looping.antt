@@ -26,10 +26,13 @@ use Rattle.aea_append.specs.declared.ingest.IngestFault.TheVariants as ingest
 use Rattle.aea_append.specs.declared.store.StoredObject.{StoredObject}
 use Rattle.aea_cli.specs.declared.refusal.Failure.{Failure}
 use Rattle.aea_cli.specs.declared.refusal.Failure.TheVariants as failure
+use Rattle.aea_cli.specs.declared.refusal.Refusal.{Refusal}
 use Rattle.aea_cli.specs.declared.refusal.Refusal.TheVariants as refusal
+use Rattle.aea_cli.specs.declared.status.Status.{Status}
 use Rattle.aea_cli.specs.declared.status.Status.TheVariants.{Done}
+use Rattle.aea_cli.specs.Causes.{place_of}
 use Rattle.aea_cli.specs.Failures.{Answer, NeverClashes, ingest_failure}
-use Rattle.aea_cli.specs.Ingest.{IngestsOpened, FitsFrames, frames_of, end_line}
+use Rattle.aea_cli.specs.Ingest.{EndsEarly, IngestsOpened, FitsFrames, frames_of, end_line}
 use Rattle.aea_cli.specs.Put.{stored_line, stored_text}
 use Rattle.aea_cli.proofs.Putting.Opening.{changes}
 use Rattle.aea_cli.proofs.Ingesting.Counting.{fewer_than_most, most_of_frame, at_more}
@@ -106,6 +109,21 @@ fault_input ingest.NoMemory e = let h : failure.Memory ≡ failure.Input = e in 
 
 pub ingest_input : (fault : IngestFault) → (let one : Answer = Err (ingest_failure fault) in one ≡ Err failure.Input) → (let one : Result Ingest IngestFault = Err fault in one ≡ Err ingest.ReadFault)
 ingest_input fault e = ap Err (fault_input fault (same_answer (ingest_failure fault) failure.Input e))
+
+-- it is no refusal of the opening
+fault_no_opening : (fault : IngestFault) (why : Refusal) → place_of why < 2 → ingest_failure fault ≡ failure.Refused why → ⊥
+fault_no_opening ingest.BadName why opening e = omega (arith, opening, ap place_of (let same : refusal.BadName ≡ why = cc in same))
+fault_no_opening ingest.NameTaken why opening e = omega (arith, opening, ap place_of (let same : refusal.NameTaken ≡ why = cc in same))
+fault_no_opening ingest.CatalogFull why opening e = omega (arith, opening, ap place_of (let same : refusal.CatalogFull ≡ why = cc in same))
+fault_no_opening (ingest.HeadDamaged b) why opening e = omega (arith, opening, ap place_of (let same : refusal.HeadDamaged b ≡ why = cc in same))
+fault_no_opening (ingest.Full n) why opening e = omega (arith, opening, ap place_of (let same : refusal.Full n ≡ why = cc in same))
+fault_no_opening (ingest.BadStream n) why opening e = omega (arith, opening, ap place_of (let same : refusal.BadStream n ≡ why = cc in same))
+fault_no_opening ingest.ReadFault why opening e = let h : failure.Input ≡ failure.Refused why = e in cc
+fault_no_opening ingest.DiskFault why opening e = let h : failure.Disk ≡ failure.Refused why = e in cc
+fault_no_opening ingest.NoMemory why opening e = let h : failure.Memory ≡ failure.Refused why = e in cc
+
+pub ingest_no_opening : (fault : IngestFault) (why : Refusal) → place_of why < 2 → (let one : Answer = Err (ingest_failure fault) in one ≡ Err (failure.Refused why)) → ⊥
+ingest_no_opening fault why opening e = fault_no_opening fault why opening (same_answer (ingest_failure fault) (failure.Refused why) e)
 
 -- it is one of the disk, or another
 by_disk : (fault : IngestFault) → (fault ≡ ingest.DiskFault) ⊎ (fault ≢ ingest.DiskFault)
@@ -196,14 +214,15 @@ module _ (reading : HasOneReading) (lengths : CellsHaveLengths) (parts : CellsHa
   pub fails_by : (fault : IngestFault) (next : State) (rest2 : Option (List ℕ)) (bad : Type 0) → OnlyWrites tells (HasFrameRoom w rest now) bad (changes w) now next
       → ((let r : Result Ingest IngestFault = Err fault in r ≢ Err ingest.DiskFault) → ((name : List ℕ) (stored : StoredObject) → (let r : Result Ingest IngestFault = Err fault in r ≢ Ok (frame.Stored name stored))) → tells → LeavesLedger now next)
       → ((let r : Result Ingest IngestFault = Err fault in r ≡ Err ingest.DiskFault) → tells → MayHaveStored w (IsFramed rest rest2) now next)
+      → EndsEarly {T = Status} tells old.files left rest2 objects (Err (ingest_failure fault))
       → IngestsOpened tells v old next left rest2 before after (Err (ingest_failure fault))
-  fails_by fault next rest2 bad writes leaves stopped = ⊎_elim
+  fails_by fault next rest2 bad writes leaves stopped early = ⊎_elim
       (λ disk.
       subst (λ (f : IngestFault). IngestsOpened tells v old next left rest2 before after (Err (ingest_failure f))) (sym disk)
       (failed_opened reading lengths parts values record_more counts tells same v w some left rest old now before after objects gone still is_this next rest2 bad writes (stopped (ap Err disk))))
       (λ other.
       refused_opened reading lengths parts values record_more counts tells same v w some left rest old now before after objects gone still is_this fault next rest2 bad writes
-      (leaves (λ e. other (same_fault fault ingest.DiskFault e)) (λ name stored e. let h : (let r : Result Ingest IngestFault = Err fault in r ≡ Ok (frame.Stored name stored)) = e in cc)))
+      (leaves (λ e. other (same_fault fault ingest.DiskFault e)) (λ name stored e. let h : (let r : Result Ingest IngestFault = Err fault in r ≡ Ok (frame.Stored name stored)) = e in cc)) early)
       (by_disk fault)
 
   -- ---- the end of the stream

@@ -23,7 +23,7 @@ use Rattle.aea_cli.specs.declared.refusal.Refusal.TheVariants.{NoArchive, Ledger
 use Rattle.aea_cli.specs.declared.refusal.Failure.TheVariants as failure
 use Rattle.aea_cli.specs.Causes.{place_of, IsFirst, IsStopped}
 use Rattle.aea_cli.specs.Failures.{Answer, ingest_failure}
-use Rattle.aea_cli.specs.Ingest.{Filled, filled_by, filled_all, HasPlace, FitsLimit, FrameCauses, IsRefusedAt, OpenedCauses, MayAllBeTaken, AreOfObjects, frames_of}
+use Rattle.aea_cli.specs.Ingest.{Filled, filled_by, filled_all, HasPlace, FitsLimit, FrameCauses, IsRefusedBehind, IsRefusedAt, OpenedCauses, EndCauses, MayAllBeTaken, AreOfObjects, frames_of}
 use Rattle.aea_cli.specs.Put.{HasDamagedHead}
 use Rattle.aea_cli.proofs.Growing.{follow_behind}
 use Rattle.aea_cli.proofs.Ingesting.Causing.{place_of_entry, entry_of_place, too_long, is_too_long, inside, ends_inside, names_are_free, free_are_new, as_many, none_before_bad, none_before_taken, none_before_many, none_before_place, none_before_length, none_before_cut, no_cause}
@@ -74,13 +74,12 @@ module _ (reading : HasOneReading) (count : ObjectsAreCounted) (free : NewNamesA
   full_here : filled_all v.shape (filled_by one.records) objects ≡ filled_by (one.records ++ added)
   full_here = filled_is v.shape one.records objects added are
 
-  -- a cause here is one of the run
-  refused_at : (why : Refusal) → here why → IsRefusedAt files input why
-  refused_at why is = record {
+  -- a cause here is one of the run, behind the frames that were stored
+  refused_behind : (why : Refusal) → here why → IsRefusedBehind files input objects why
+  refused_behind why is = record {
     shape = v.shape;
     records = one.records;
     ledger = has_ledger_of reading v (files 0) one;
-    before = objects;
     rest = stream;
     framed = framed;
     taken = taken;
@@ -88,31 +87,34 @@ module _ (reading : HasOneReading) (count : ObjectsAreCounted) (free : NewNamesA
     cause = subst (λ (g : Filled). FrameCauses v.shape g files (length input) objects stream why) (sym full_here) is;
   }
 
+  refused_at : (why : Refusal) → here why → IsRefusedAt files input why
+  refused_at why is = (objects, refused_behind why is)
+
   -- a cause of the run that is no damaged last parity is one here, where no frame begins that may be stored
   at_here : HasNoFrame v.shape (filled_by (one.records ++ added)) stream → (why : Refusal) → ((b : BlockId) → why ≢ HeadDamaged b) → IsRefusedAt files input why → here why
   at_here none why apart cause =
       let there = from_reading reading v (files 0) one
-      (λ shape records. MayAllBeTaken shape (filled_by records) cause.before × FrameCauses shape (filled_all shape (filled_by records) cause.before) files (length input) cause.before cause.rest why)
-      cause.shape cause.records cause.ledger (cause.taken, cause.cause) in
-      let cut = one_cut name_long v.shape (filled_by one.records) objects cause.before stream cause.rest taken there.0
+      (λ shape records. MayAllBeTaken shape (filled_by records) cause.0 × FrameCauses shape (filled_all shape (filled_by records) cause.0) files (length input) cause.0 cause.1.rest why)
+      cause.1.shape cause.1.records cause.1.ledger (cause.1.taken, cause.1.cause) in
+      let cut = one_cut name_long v.shape (filled_by one.records) objects cause.0 stream cause.1.rest taken there.0
       (subst (λ (g : Filled). HasNoFrame v.shape g stream) (sym full_here) none)
-      (no_cause v.shape (filled_all v.shape (filled_by one.records) cause.before) files (length input) cause.before cause.rest name_long why apart there.1)
-      (sym framed ∙ cause.framed) in
+      (no_cause v.shape (filled_all v.shape (filled_by one.records) cause.0) files (length input) cause.0 cause.1.rest name_long why apart there.1)
+      (sym framed ∙ cause.1.framed) in
       subst (λ (g : Filled). FrameCauses v.shape g files (length input) objects stream why) full_here
       (subst (λ (s : List ℕ). FrameCauses v.shape (filled_all v.shape (filled_by one.records) objects) files (length input) objects s why) (sym cut.1)
-      (subst (λ (os : List NewObject). FrameCauses v.shape (filled_all v.shape (filled_by one.records) os) files (length input) os cause.rest why) (sym cut.0) there.1))
+      (subst (λ (os : List NewObject). FrameCauses v.shape (filled_all v.shape (filled_by one.records) os) files (length input) os cause.1.rest why) (sym cut.0) there.1))
 
   -- one that is, is one of the archive as it was, and the run stands before its first frame
   head_at_here : (b : BlockId) → IsRefusedAt files input (HeadDamaged b) → here (HeadDamaged b)
   head_at_here b cause =
-      let first = head_there b cause.cause.2 in
+      let first = head_there b cause.1.cause.2 in
       let there = from_reading reading v (files 0) one
-      (λ shape records. HasPlace (filled_all shape (filled_by records) cause.before) cause.rest) cause.shape cause.records cause.ledger cause.cause.1 in
-      let place : HasPlace (filled_by one.records) cause.rest = subst (λ (os : List NewObject). HasPlace (filled_all v.shape (filled_by one.records) os) cause.rest) cause.cause.0 there in
+      (λ shape records. HasPlace (filled_all shape (filled_by records) cause.0) cause.1.rest) cause.1.shape cause.1.records cause.1.ledger cause.1.cause.1 in
+      let place : HasPlace (filled_by one.records) cause.1.rest = subst (λ (os : List NewObject). HasPlace (filled_all v.shape (filled_by one.records) os) cause.1.rest) cause.1.cause.0 there in
       let mine : input ≡ stream = framed ∙ ap (λ (os : List NewObject). frames_of os ++ stream) first.0 in
-      let theirs : input ≡ cause.rest = cause.framed ∙ ap (λ (os : List NewObject). frames_of os ++ cause.rest) cause.cause.0 in
+      let theirs : input ≡ cause.1.rest = cause.1.framed ∙ ap (λ (os : List NewObject). frames_of os ++ cause.1.rest) cause.1.cause.0 in
       let same : filled_by one.records ≡ filled_by (one.records ++ added) = ap (λ (os : List NewObject). filled_all v.shape (filled_by one.records) os) (sym first.0) ∙ full_here in
-      (first.0, subst (λ (g : Filled). HasPlace g stream) same (subst (λ (s : List ℕ). HasPlace (filled_by one.records) s) (sym theirs ∙ mine) place), cause.cause.2)
+      (first.0, subst (λ (g : Filled). HasPlace g stream) same (subst (λ (s : List ℕ). HasPlace (filled_by one.records) s) (sym theirs ∙ mine) place), cause.1.cause.2)
 
   none_here : HasNoFrame v.shape (filled_by (one.records ++ added)) stream → (why : Refusal) → OpenedCauses files input why → here why
   none_here none NoArchive cause = absurd cause
@@ -123,7 +125,7 @@ module _ (reading : HasOneReading) (count : ObjectsAreCounted) (free : NewNamesA
   none_here none (HeadDamaged b) cause = head_at_here b cause
   none_here none (Full n) cause = at_here none (Full n) (λ b e. (let h : Full n ≡ HeadDamaged b = e in cc)) cause
   none_here none (BadStream n) cause = at_here none (BadStream n) (λ b e. (let h : BadStream n ≡ HeadDamaged b = e in cc)) cause
-  none_here none why cause = absurd cause.cause
+  none_here none why cause = absurd cause.1.cause
 
   -- the first of the causes
   first_here : HasNoFrame v.shape (filled_by (one.records ++ added)) stream → (why : Refusal) → OpenedCauses files input why → ((other : Refusal) → place_of other < place_of why → here other → ⊥) → IsFirst (OpenedCauses files input) why
@@ -169,20 +171,8 @@ module _ (reading : HasOneReading) (count : ObjectsAreCounted) (free : NewNamesA
     intact_here : HasEntry w stream → ((e : IsReadOrHeadFault (let r : Result Ingest IngestFault = Err fault in r)) → ⊥) → (b : BlockId) → here (HeadDamaged b) → ⊥
     intact_here entry apart b is = apart (gave.head_refused entry b (head_there b is.2).1.damaged)
 
-    -- ---- what was answered is the first cause
+    -- ---- what was answered is a cause here
 
-    only_bad : fault ≡ ingest.BadName → IsFirst (OpenedCauses files input) BadName
-    only_bad is =
-        let cause : here BadName = gave.bad_name (ap Err is) in
-        first_here (no_cause v.shape f files (length input) objects stream name_long BadName (λ b e. cc) cause) BadName (refused_at BadName cause) (none_before_bad v.shape f files (length input) objects stream)
-
-    only_taken : fault ≡ ingest.NameTaken → IsFirst (OpenedCauses files input) NameTaken
-    only_taken is =
-        let told = gave.name_taken (ap Err is) in
-        let cause : here NameTaken = (told.0, told.1, λ all. told.2 (names_are_free count free w (one.records ++ added) has (frame_name stream) all)) in
-        first_here (no_cause v.shape f files (length input) objects stream name_long NameTaken (λ b e. cc) cause) NameTaken (refused_at NameTaken cause) (none_before_taken v.shape f files (length input) objects stream told.0 told.1)
-
-    -- ---- the rest: a number of objects, a damaged head, a length, and a stream that is cut
     new_name : (IsTaken w (frame_name stream) → ⊥) → All (λ n. n ≢ frame_name stream) (filled_by (one.records ++ added)).names
     new_name fresh = free_are_new count free w (one.records ++ added) has (frame_name stream) (none_of (get w.objects (frame_name stream)) fresh)
       where
@@ -190,27 +180,52 @@ module _ (reading : HasOneReading) (count : ObjectsAreCounted) (free : NewNamesA
         none_of None never = refl
         none_of (Some x) never = absurd (never (λ e. let h : Some x ≡ None = e in cc))
 
+    bad_cause : fault ≡ ingest.BadName → here BadName
+    bad_cause is = gave.bad_name (ap Err is)
+
+    taken_cause : fault ≡ ingest.NameTaken → here NameTaken
+    taken_cause is =
+        let told = gave.name_taken (ap Err is) in
+        (told.0, told.1, λ all. told.2 (names_are_free count free w (one.records ++ added) has (frame_name stream) all))
+
+    many_cause : fault ≡ ingest.CatalogFull → here CatalogFull
+    many_cause is =
+        let told = gave.many (ap Err is) in
+        (told.1.0, told.1.1, new_name told.1.2, sym (as_many count free w (one.records ++ added) has) ∙ told.0)
+
+    head_cause : (b : BlockId) → fault ≡ ingest.HeadDamaged b → here (HeadDamaged b)
+    head_cause b is =
+        let told = gave.head b (ap Err is) in
+        let head = head_here b told.1 in
+        (head.0, place_of_entry count free w (one.records ++ added) has stream told.0, head.1)
+
+    full_cause : (n : ℕ) → fault ≡ ingest.Full n → here (Full n)
+    full_cause n is =
+        let told = gave.full n (ap Err is) in
+        let past = subst (λ (s : Shape). f.limit < f.nodes + nodes_for s (object_length stream)) same_shape (too_long count free w (one.records ++ added) has stream told.2) in
+        (place_of_entry count free w (one.records ++ added) has stream told.1, told.0 ∙ has.lattice.n, past)
+
+    cut_cause : (n : ℕ) → fault ≡ ingest.BadStream n → here (BadStream n)
+    cut_cause n is =
+        let told = gave.bad_stream n (ap Err is) in
+        (exact n is, subst (λ (s : Shape). EndsInHead stream ⊎ (HasPlace f stream × FitsLimit s f stream × (length stream < frame_length stream))) same_shape (inside count free w (one.records ++ added) has stream told.1))
+
+    -- ---- and the first cause
+
+    only_bad : fault ≡ ingest.BadName → IsFirst (OpenedCauses files input) BadName
+    only_bad is =
+        let cause = bad_cause is in
+        first_here (no_cause v.shape f files (length input) objects stream name_long BadName (λ b e. cc) cause) BadName (refused_at BadName cause) (none_before_bad v.shape f files (length input) objects stream)
+
+    only_taken : fault ≡ ingest.NameTaken → IsFirst (OpenedCauses files input) NameTaken
+    only_taken is =
+        let cause = taken_cause is in
+        first_here (no_cause v.shape f files (length input) objects stream name_long NameTaken (λ b e. cc) cause) NameTaken (refused_at NameTaken cause) (none_before_taken v.shape f files (length input) objects stream cause.0 cause.1)
+
     only_many : fault ≡ ingest.CatalogFull → IsFirst (OpenedCauses files input) CatalogFull
     only_many is =
-        let told = gave.many (ap Err is) in
-        let new = new_name told.1.2 in
-        let cause : here CatalogFull = (told.1.0, told.1.1, new, sym (as_many count free w (one.records ++ added) has) ∙ told.0) in
-        first_here (no_cause v.shape f files (length input) objects stream name_long CatalogFull (λ b e. cc) cause) CatalogFull (refused_at CatalogFull cause) (none_before_many v.shape f files (length input) objects stream told.1.0 told.1.1 new)
-
-    only_full : (n : ℕ) → fault ≡ ingest.Full n → IsFirst (OpenedCauses files input) (Full n)
-    only_full n is =
-        let told = gave.full n (ap Err is) in
-        let place = place_of_entry count free w (one.records ++ added) has stream told.1 in
-        let past = subst (λ (s : Shape). f.limit < f.nodes + nodes_for s (object_length stream)) same_shape (too_long count free w (one.records ++ added) has stream told.2) in
-        let cause : here (Full n) = (place, told.0 ∙ has.lattice.n, past) in
-        first_here (no_cause v.shape f files (length input) objects stream name_long (Full n) (λ b e. (let h : Full n ≡ HeadDamaged b = e in cc)) cause) (Full n) (refused_at (Full n) cause)
-        (none_before_length v.shape f files (length input) objects stream place (intact_here told.1 (apart_of (λ b e. (let h : ingest.Full n ≡ ingest.HeadDamaged b = sym is ∙ e in cc)) (λ e. (let h : ingest.Full n ≡ ingest.ReadFault = sym is ∙ e in cc)) (λ e. (let h : ingest.Full n ≡ ingest.DiskFault = sym is ∙ e in cc)) (λ e. (let h : ingest.Full n ≡ ingest.NoMemory = sym is ∙ e in cc)))))
-      where
-        apart_of : ((b : BlockId) → fault ≡ ingest.HeadDamaged b → ⊥) → (fault ≡ ingest.ReadFault → ⊥) → (fault ≡ ingest.DiskFault → ⊥) → (fault ≡ ingest.NoMemory → ⊥) → IsReadOrHeadFault (let r : Result Ingest IngestFault = Err fault in r) → ⊥
-        apart_of head read disk memory (inl e) = read (no_fault fault ingest.ReadFault e)
-        apart_of head read disk memory (inr (inl found)) = head found.0 (no_fault fault (ingest.HeadDamaged found.0) found.1)
-        apart_of head read disk memory (inr (inr (inl e))) = disk (no_fault fault ingest.DiskFault e)
-        apart_of head read disk memory (inr (inr (inr e))) = memory (no_fault fault ingest.NoMemory e)
+        let cause = many_cause is in
+        first_here (no_cause v.shape f files (length input) objects stream name_long CatalogFull (λ b e. cc) cause) CatalogFull (refused_at CatalogFull cause) (none_before_many v.shape f files (length input) objects stream cause.0 cause.1 cause.2)
 
     apart_from : ((b : BlockId) → fault ≡ ingest.HeadDamaged b → ⊥) → (fault ≡ ingest.ReadFault → ⊥) → (fault ≡ ingest.DiskFault → ⊥) → (fault ≡ ingest.NoMemory → ⊥) → IsReadOrHeadFault (let r : Result Ingest IngestFault = Err fault in r) → ⊥
     apart_from head read disk memory (inl e) = read (no_fault fault ingest.ReadFault e)
@@ -218,30 +233,35 @@ module _ (reading : HasOneReading) (count : ObjectsAreCounted) (free : NewNamesA
     apart_from head read disk memory (inr (inr (inl e))) = disk (no_fault fault ingest.DiskFault e)
     apart_from head read disk memory (inr (inr (inr e))) = memory (no_fault fault ingest.NoMemory e)
 
+    only_full : (n : ℕ) → fault ≡ ingest.Full n → IsFirst (OpenedCauses files input) (Full n)
+    only_full n is =
+        let cause = full_cause n is in
+        first_here (no_cause v.shape f files (length input) objects stream name_long (Full n) (λ b e. (let h : Full n ≡ HeadDamaged b = e in cc)) cause) (Full n) (refused_at (Full n) cause)
+        (none_before_length v.shape f files (length input) objects stream cause.0
+        (intact_here (gave.full n (ap Err is)).1 (apart_from (λ b e. (let h : ingest.Full n ≡ ingest.HeadDamaged b = sym is ∙ e in cc)) (λ e. (let h : ingest.Full n ≡ ingest.ReadFault = sym is ∙ e in cc)) (λ e. (let h : ingest.Full n ≡ ingest.DiskFault = sym is ∙ e in cc)) (λ e. (let h : ingest.Full n ≡ ingest.NoMemory = sym is ∙ e in cc)))))
+
     only_cut : (n : ℕ) → fault ≡ ingest.BadStream n → IsFirst (OpenedCauses files input) (BadStream n)
     only_cut n is =
-        let told = gave.bad_stream n (ap Err is) in
-        let ends = subst (λ (s : Shape). EndsInHead stream ⊎ (HasPlace f stream × FitsLimit s f stream × (length stream < frame_length stream))) same_shape (inside count free w (one.records ++ added) has stream told.1) in
-        let cause : here (BadStream n) = (exact n is, ends) in
+        let cause = cut_cause n is in
         first_here (no_cause v.shape f files (length input) objects stream name_long (BadStream n) (λ b e. (let h : BadStream n ≡ HeadDamaged b = e in cc)) cause) (BadStream n) (refused_at (BadStream n) cause)
         (⊎_elim
         (λ head. none_before_cut v.shape f files (length input) objects stream head)
         (λ bytes.
         none_before_length v.shape f files (length input) objects stream (place_of_entry count free w (one.records ++ added) has stream bytes.0)
         (intact_here bytes.0 (apart_from (λ b e. (let h : ingest.BadStream n ≡ ingest.HeadDamaged b = sym is ∙ e in cc)) (λ e. (let h : ingest.BadStream n ≡ ingest.ReadFault = sym is ∙ e in cc)) (λ e. (let h : ingest.BadStream n ≡ ingest.DiskFault = sym is ∙ e in cc)) (λ e. (let h : ingest.BadStream n ≡ ingest.NoMemory = sym is ∙ e in cc)))))
-        told.1)
+        (gave.bad_stream n (ap Err is)).1)
 
     -- where a last parity is damaged, the run stands before the first frame, and so does each cause
     start_at : (b : BlockId) → HasDamagedHead files b → (why : Refusal) → ((a : BlockId) → why ≢ HeadDamaged a) → IsRefusedAt files input why → here why
     start_at b damaged why apart cause =
         let first = (head_there b damaged).0 in
-        let empty : cause.before ≡ [] = nothing cause.before (λ some. cause.intact some b damaged) in
+        let empty : cause.0 ≡ [] = nothing cause.0 (λ some. cause.1.intact some b damaged) in
         let there = from_reading reading v (files 0) one
-        (λ shape records. FrameCauses shape (filled_all shape (filled_by records) cause.before) files (length input) cause.before cause.rest why) cause.shape cause.records cause.ledger cause.cause in
-        let at_start : FrameCauses v.shape (filled_by one.records) files (length input) [] cause.rest why =
-        subst (λ (os : List NewObject). FrameCauses v.shape (filled_all v.shape (filled_by one.records) os) files (length input) os cause.rest why) empty there in
+        (λ shape records. FrameCauses shape (filled_all shape (filled_by records) cause.0) files (length input) cause.0 cause.1.rest why) cause.1.shape cause.1.records cause.1.ledger cause.1.cause in
+        let at_start : FrameCauses v.shape (filled_by one.records) files (length input) [] cause.1.rest why =
+        subst (λ (os : List NewObject). FrameCauses v.shape (filled_all v.shape (filled_by one.records) os) files (length input) os cause.1.rest why) empty there in
         let mine : input ≡ stream = framed ∙ ap (λ (os : List NewObject). frames_of os ++ stream) first in
-        let theirs : input ≡ cause.rest = cause.framed ∙ ap (λ (os : List NewObject). frames_of os ++ cause.rest) empty in
+        let theirs : input ≡ cause.1.rest = cause.1.framed ∙ ap (λ (os : List NewObject). frames_of os ++ cause.1.rest) empty in
         let same : filled_by one.records ≡ filled_by (one.records ++ added) = ap (λ (os : List NewObject). filled_all v.shape (filled_by one.records) os) (sym first) ∙ full_here in
         subst (λ (os : List NewObject). FrameCauses v.shape f files (length input) os stream why) (sym first)
         (subst (λ (g : Filled). FrameCauses v.shape g files (length input) [] stream why) same (subst (λ (s : List ℕ). FrameCauses v.shape (filled_by one.records) files (length input) [] s why) (sym theirs ∙ mine) at_start))
@@ -259,16 +279,14 @@ module _ (reading : HasOneReading) (count : ObjectsAreCounted) (free : NewNamesA
     start_here b damaged (HeadDamaged a) cause = head_at_here a cause
     start_here b damaged (Full n) cause = start_at b damaged (Full n) (λ a e. (let h : Full n ≡ HeadDamaged a = e in cc)) cause
     start_here b damaged (BadStream n) cause = start_at b damaged (BadStream n) (λ a e. (let h : BadStream n ≡ HeadDamaged a = e in cc)) cause
-    start_here b damaged why cause = absurd cause.cause
+    start_here b damaged why cause = absurd cause.1.cause
 
     only_head : (b : BlockId) → fault ≡ ingest.HeadDamaged b → IsFirst (OpenedCauses files input) (HeadDamaged b)
     only_head b is =
-        let told = gave.head b (ap Err is) in
-        let head = head_here b told.1 in
-        let place = place_of_entry count free w (one.records ++ added) has stream told.0 in
+        let cause = head_cause b is in
         record {
-          stands = refused_at (HeadDamaged b) (head.0, place, head.1);
-          none = λ other before cause. none_before_place v.shape f files (length input) objects stream place other before (start_here b head.1 other cause);
+          stands = refused_at (HeadDamaged b) cause;
+          none = λ other before here_is. none_before_place v.shape f files (length input) objects stream cause.1 other before (start_here b cause.2 other here_is);
         }
 
     -- ---- and the first cause is what was answered, but for faults and want of memory
@@ -343,29 +361,40 @@ module _ (reading : HasOneReading) (count : ObjectsAreCounted) (free : NewNamesA
 
     -- each cause of the run is one here, after a refusal
     to_here : (q : IngestFault) → fault ≡ q → (why : Refusal) → OpenedCauses files input why → here why ⊎ IsStopped (answer_by fault)
-    to_here ingest.BadName is why cause = inl (none_here (no_cause v.shape f files (length input) objects stream name_long BadName (λ b e. cc) (gave.bad_name (ap Err is))) why cause)
-    to_here ingest.NameTaken is why cause =
-        let told = gave.name_taken (ap Err is) in
-        let here_taken : here NameTaken = (told.0, told.1, λ all. told.2 (names_are_free count free w (one.records ++ added) has (frame_name stream) all)) in
-        inl (none_here (no_cause v.shape f files (length input) objects stream name_long NameTaken (λ b e. cc) here_taken) why cause)
-    to_here ingest.CatalogFull is why cause =
-        let told = gave.many (ap Err is) in
-        let here_many : here CatalogFull = (told.1.0, told.1.1, new_name told.1.2, sym (as_many count free w (one.records ++ added) has) ∙ told.0) in
-        inl (none_here (no_cause v.shape f files (length input) objects stream name_long CatalogFull (λ b e. cc) here_many) why cause)
-    to_here (ingest.HeadDamaged b) is why cause = inl (start_here b (head_here b (gave.head b (ap Err is)).1).1 why cause)
-    to_here (ingest.Full n) is why cause =
-        let told = gave.full n (ap Err is) in
-        let past = subst (λ (s : Shape). f.limit < f.nodes + nodes_for s (object_length stream)) same_shape (too_long count free w (one.records ++ added) has stream told.2) in
-        let here_full : here (Full n) = (place_of_entry count free w (one.records ++ added) has stream told.1, told.0 ∙ has.lattice.n, past) in
-        inl (none_here (no_cause v.shape f files (length input) objects stream name_long (Full n) (λ b e. (let h : Full n ≡ HeadDamaged b = e in cc)) here_full) why cause)
-    to_here (ingest.BadStream n) is why cause =
-        let told = gave.bad_stream n (ap Err is) in
-        let ends = subst (λ (s : Shape). EndsInHead stream ⊎ (HasPlace f stream × FitsLimit s f stream × (length stream < frame_length stream))) same_shape (inside count free w (one.records ++ added) has stream told.1) in
-        let here_cut : here (BadStream n) = (exact n is, ends) in
-        inl (none_here (no_cause v.shape f files (length input) objects stream name_long (BadStream n) (λ b e. (let h : BadStream n ≡ HeadDamaged b = e in cc)) here_cut) why cause)
+    to_here ingest.BadName is why cause = inl (none_here (no_cause v.shape f files (length input) objects stream name_long BadName (λ b e. cc) (bad_cause is)) why cause)
+    to_here ingest.NameTaken is why cause = inl (none_here (no_cause v.shape f files (length input) objects stream name_long NameTaken (λ b e. cc) (taken_cause is)) why cause)
+    to_here ingest.CatalogFull is why cause = inl (none_here (no_cause v.shape f files (length input) objects stream name_long CatalogFull (λ b e. cc) (many_cause is)) why cause)
+    to_here (ingest.HeadDamaged b) is why cause = inl (start_here b (head_cause b is).2 why cause)
+    to_here (ingest.Full n) is why cause = inl (none_here (no_cause v.shape f files (length input) objects stream name_long (Full n) (λ b e. (let h : Full n ≡ HeadDamaged b = e in cc)) (full_cause n is)) why cause)
+    to_here (ingest.BadStream n) is why cause = inl (none_here (no_cause v.shape f files (length input) objects stream name_long (BadStream n) (λ b e. (let h : BadStream n ≡ HeadDamaged b = e in cc)) (cut_cause n is)) why cause)
     to_here ingest.ReadFault is why cause = inr (inr (inl (ap answer_by is)))
     to_here ingest.DiskFault is why cause = inr (inl (ap answer_by is))
     to_here ingest.NoMemory is why cause = inr (inr (inr (ap answer_by is)))
 
     pub always_answer : (why : Refusal) → IsFirst (OpenedCauses files input) why → (answer_by fault ≡ Err (failure.Refused why)) ⊎ IsStopped (answer_by fault)
     always_answer why first = ⊎_elim (λ is. always_here why is (λ b before stands. first.none (HeadDamaged b) before stands)) (λ stopped. inr stopped) (to_here fault refl why first.stands)
+
+    -- ---- which frame is not stored
+
+    cause_as : (one_why why : Refusal) → here one_why → (let a : Answer = Err (failure.Refused one_why) in a ≡ Err (failure.Refused why)) → here why
+    cause_as one_why why is e = let same : one_why ≡ why = cc in subst (λ (x : Refusal). FrameCauses v.shape f files (length input) objects stream x) same is
+
+    cause_of : (q : IngestFault) → fault ≡ q → (why : Refusal) → answer_by q ≡ Err (failure.Refused why) → here why
+    cause_of ingest.BadName is why e = cause_as BadName why (bad_cause is) e
+    cause_of ingest.NameTaken is why e = cause_as NameTaken why (taken_cause is) e
+    cause_of ingest.CatalogFull is why e = cause_as CatalogFull why (many_cause is) e
+    cause_of (ingest.HeadDamaged b) is why e = cause_as (HeadDamaged b) why (head_cause b is) e
+    cause_of (ingest.Full n) is why e = cause_as (Full n) why (full_cause n is) e
+    cause_of (ingest.BadStream n) is why e = cause_as (BadStream n) why (cut_cause n is) e
+    cause_of ingest.ReadFault is why e = let h : (let a : Answer = Err failure.Input in a ≡ Err (failure.Refused why)) = e in cc
+    cause_of ingest.DiskFault is why e = let h : (let a : Answer = Err failure.Disk in a ≡ Err (failure.Refused why)) = e in cc
+    cause_of ingest.NoMemory is why e = let h : (let a : Answer = Err failure.Memory in a ≡ Err (failure.Refused why)) = e in cc
+
+    ends_for : (why : Refusal) → here why → EndCauses files input objects why
+    ends_for NoArchive is = absurd is
+    ends_for (LedgerBad n) is = absurd is
+    ends_for why is = refused_behind why is
+
+    -- a refusal is for the frame behind those that were stored
+    pub ends_behind : (why : Refusal) → answer_by fault ≡ Err (failure.Refused why) → EndCauses files input objects why
+    ends_behind why e = ends_for why (cause_of fault refl why e)

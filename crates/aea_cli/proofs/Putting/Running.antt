@@ -51,7 +51,7 @@ module _ {T : Type 0} (name : List ℕ) (tells : Type 0) (old new : State) (left
   unopened_stores = record {
     archive = λ stored. absurd (not_stored stored);
     stands = λ stored. absurd (not_stored stored);
-    stops = λ told shape records ledger. ([], inl refl, inl opens.reads.crash);
+    stops = λ told shape records ledger. ([], inl refl, inl (opens.reads.crash, opens.reads.contents told));
     untouched = λ why early is.
         let differs : f ≢ failure.Disk = λ d. (let h : failure.Refused why ≡ failure.Disk = sym (same_failure (failure.Refused why) is) ∙ d in cc) in (
           record {
@@ -162,7 +162,7 @@ nothing_stores : (name : List ℕ) (tells : Type 0) (s : State) (left : Option (
 nothing_stores name tells s left = record {
   archive = λ stored. absurd (never_stored failure.Memory (λ e. cc) stored);
   stands = λ stored. absurd (never_stored failure.Memory (λ e. cc) stored);
-  stops = λ told shape records ledger. ([], inl refl, inl (images_same s));
+  stops = λ told shape records ledger. ([], inl refl, inl (images_same s, refl));
   untouched = λ why early is. let h : Err failure.Memory ≡ Err (failure.Refused why) = is in cc;
   leaves = λ f disk output is told. (inl (images_same s), refl);
   none = λ told never. (images_same s, refl);

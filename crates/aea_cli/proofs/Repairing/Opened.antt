@@ -114,6 +114,9 @@ module _ (reading : HasOneReading) (tells : Type 0) (v : Opened) (old mid new : 
     alone = λ told known is.
         opens_then tells v old mid new opens told (λ opened end. During opened end (ChangesArchive v.shape v.lattice.n (IsLeft (IsRestorable v.lattice known)) (IsNoSite v.shape) old.files)) late
         (changed tells v old mid new opens (IsLeft (IsRestorable v.lattice known)) (result ≡ Err repair.DiskFault) (gave.alone told known (survivors told known is)) told);
+    reads = λ told known is.
+        subst (λ (c : Files). ChangesArchive v.shape v.lattice.n (IsLeft (IsRestorable v.lattice known)) (IsNoSite v.shape) c new.files) (same told)
+        ((gave.alone told known (survivors told known is)).contents told);
     held = λ told b inside intact.
         let here : IsIntactBy v.shape v.digests mid.files b = subst (λ (c : Files). IsIntactBy v.shape v.digests c b) (sym (same told)) intact in
         opens_then tells v old mid new opens told (λ opened end. AtEachMoment opened end (IsHeldIn v.shape b (recorded_in v.shape v.digests b))) late

@@ -25,7 +25,14 @@ use Rattle.aea_cli.proofs.Stating.{IsTelling, telling_never}
 same_failure : (answer : Answer) (f g : Failure) → answer ≡ Err f → answer ≡ Err g → f ≡ g
 same_failure answer f g one two = let h : Err f ≡ Err g = sym one ∙ two in cc
 
--- the opening does not fail by the output
+-- the opening does not fail by the input
+pub opening_not_input : (fault : OpenFault) → opening_failure fault ≡ failure.Input → ⊥
+opening_not_input opening.NoArchive e = cc
+opening_not_input (opening.LedgerBad at) e = cc
+opening_not_input opening.DiskFault e = cc
+opening_not_input opening.NoMemory e = cc
+
+-- nor by the output
 pub opening_not_output : (fault : OpenFault) → opening_failure fault ≡ failure.Output → ⊥
 opening_not_output opening.NoArchive e = cc
 opening_not_output (opening.LedgerBad at) e = cc

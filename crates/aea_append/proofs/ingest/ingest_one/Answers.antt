@@ -357,3 +357,28 @@ pub slice_bounds-store_frame-end : goal.slice_bounds-store_frame-end
 slice_bounds-store_frame-end g c =
     let w = c.in-Ok-Whole.ensures.whole c.in-Ok-Whole.long c.in-Ok-Whole.size (ap Ok c.in-Ok-Whole.field-0-is) in
     sym w.2
+
+-- a read fails only before all of the frame was taken
+pub returns-in-Err-clause-short : goal.returns-in-Err-clause-short
+returns-in-Err-clause-short g c stream is head r =
+    (let short = c.in-Err.ensures.short stream is head.name in omega (arith, short))
+
+pub returns-in-Ok-Whole-clause-short : goal.returns-in-Ok-Whole-clause-short
+returns-in-Ok-Whole-clause-short g c stream is head r =
+    let w = c.in-Ok-Whole.ensures.whole c.in-Ok-Whole.long c.in-Ok-Whole.size (ap Ok c.in-Ok-Whole.field-0-is) in
+    let t = (subst (λ (h : Head). IsHeadOf stream h c.read_head.new.buffer) c.in-Ok-Whole.field-0-is (c.in-Ok-Whole.ensures.told stream is)) in
+    let short = c.store_frame.ensures.short r in
+    omega (arith, w.4, short, t.2, t.3)
+
+-- a length that is none of a name is all that is read
+pub returns-in-Ok-NoName-clause-by_name : goal.returns-in-Ok-NoName-clause-by_name
+returns-in-Ok-NoName-clause-by_name g c stream is r =
+    let none = (subst (λ (h : Head). IsHeadOf stream h c.read_head.new.buffer) c.in-Ok-NoName.field-0-is (c.in-Ok-NoName.ensures.told stream is)) in
+    ((λ bad. c.in-Ok-NoName.ensures.no_name (ap Ok c.in-Ok-NoName.field-0-is)), (λ head. absurd (head_not_none stream none head)))
+
+pub returns-in-Ok-Whole-clause-by_name : goal.returns-in-Ok-Whole-clause-by_name
+returns-in-Ok-Whole-clause-by_name g c stream is r =
+    let w = c.in-Ok-Whole.ensures.whole c.in-Ok-Whole.long c.in-Ok-Whole.size (ap Ok c.in-Ok-Whole.field-0-is) in
+    let t = (subst (λ (h : Head). IsHeadOf stream h c.read_head.new.buffer) c.in-Ok-Whole.field-0-is (c.in-Ok-Whole.ensures.told stream is)) in
+    let same = c.store_frame.ensures.early_takes (inl r) in
+    ((λ bad. absurd (head_not_none stream bad t.0)), (λ head. omega (arith, same.1, w.4, t.3)))

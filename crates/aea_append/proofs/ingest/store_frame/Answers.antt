@@ -297,3 +297,7 @@ returns-in-Err-HeadDamaged-clause-by_head g c is =
 pub returns-in-Err-Full-clause-by_head : goal.returns-in-Err-Full-clause-by_head
 returns-in-Err-Full-clause-by_head g c is =
     c.put_wanted.ensures.full_leaves c.in-Err-Full.nodes c.args.size (c.in-Err-Full.is ∙ ap Err c.in-Err-Full.field-0-is) refl
+
+pub returns-in-Err-ReadFault-clause-short : goal.returns-in-Err-ReadFault-clause-short
+returns-in-Err-ReadFault-clause-short g c is =
+    c.put_wanted.ensures.short c.args.size refl (c.in-Err-ReadFault.is ∙ ap Err c.in-Err-ReadFault.field-0-is)

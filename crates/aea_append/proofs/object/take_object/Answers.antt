@@ -1,10 +1,10 @@
-use Rattle.std.proofs.Common.{◌≡◌, ◌+◌, ◌-◌, ◌*◌, ◌<◌, ◌≤◌, ◌++◌, Err, Ok, sym, ◌∙◌, ap, subst, arith, length-append}
+use Rattle.std.proofs.Common.{◌≡◌, ◌+◌, ◌-◌, ◌*◌, ◌<◌, ◌≤◌, ◌++◌, None, Some, Err, Ok, sym, ◌∙◌, ap, subst, arith, length-append}
 use Rattle.std.proofs.KnownBytes.{Consumes-trans}
 use Rattle.std.proofs.lemmas.Bool.Decides.{nat_tests}
 use Rattle.aea_lattice.specs.declared.grid.Lattice.{Lattice}
 use Rattle.aea_lattice.specs.declared.shape.Shape.{Shape}
 use Rattle.aea_lattice.specs.Profile.{greatest_nodes}
-use Rattle.aea_append.specs.declared.fault.PutFault.TheVariants.{DiskFault}
+use Rattle.aea_append.specs.declared.fault.PutFault.TheVariants.{DiskFault, ReadFault}
 use Rattle.aea_records.specs.Format.{limit_when}
 use Rattle.aea_archive.specs.Blocks.{IsBlockIn}
 use Rattle.aea_append.specs.Taking.{room_left, limit_of, most_of}
@@ -228,3 +228,17 @@ returns-in-Ok-false-clause-cut g c n is =
 pub returns-in-Ok-false-clause-exact : goal.returns-in-Ok-false-clause-exact
 returns-in-Ok-false-clause-exact g c =
     (let e = c.in-Ok.ensures.exact in let s = c.in-Ok-false.ensures.same (let t = c.in-Ok-false.field-0-test in ap Ok t) in omega (arith, e, s))
+
+-- a read fails only before all that is wanted was taken
+pub returns-in-Err-clause-short : goal.returns-in-Err-clause-short
+returns-in-Err-clause-short g c n some is =
+    let room = limit_is c.args.ledger.now c.limit.result c.n-nodes.result c.from.result c.block.result c.from-2.result c.lattice.result c.shape-shape.result c.limit.ensures.value c.lattice.ensures.value c.n-nodes.ensures c.from.ensures c.shape-shape.ensures.value c.block.ensures c.from-2.ensures in
+    let most : c.greatest_length-most.result ≡ limit_of c.args.want (room_left c.args.ledger.now) = c.greatest_length-most.ensures ∙ ap (limit_of c.args.want) room in
+    let short = c.weave_all.ensures.short (c.in-Err.is ∙ fault_as c.in-Err.fault ReadFault is) in
+    omega (arith, short, most, limit_cut c.args.want (room_left c.args.ledger.now) n some)
+
+-- a byte more is asked for only where all is wanted
+pub returns-in-Err-has_more-clause-short : goal.returns-in-Err-has_more-clause-short
+returns-in-Err-has_more-clause-short g c n some is =
+    let all = (c.is_full.ensures.yes c.in-Err-has_more.ensures.only_full).0 in
+    absurd (let never : None ≡ Some n = sym all ∙ some in cc)

@@ -5,7 +5,7 @@ use Rattle.aea_records.specs.Format.{limit_when}
 use Rattle.aea_archive.specs.Blocks.{IsBlockIn}
 use Rattle.aea_archive.specs.Cells.{IsNoSite, ChangesArchive, HaveSitesRoom}
 use Rattle.aea_archive.proofs.Cells.{changes_none, room_some, room_later}
-use Rattle.aea_append.specs.declared.fault.PutFault.TheVariants.{DiskFault, HeadDamaged, Full}
+use Rattle.aea_append.specs.declared.fault.PutFault.TheVariants.{DiskFault, HeadDamaged, Full, ReadFault}
 use Rattle.aea_append.proofs.Faults.{fault_is, fault_as}
 use Rattle.aea_append.specs.Taking.{most_of, room_left}
 use Rattle.aea_append.proofs.Takings.{counts_none}
@@ -111,3 +111,7 @@ returns-clause-over g c n is past = inl (sym c.in-Err-take_object.is ∙ c.take_
 pub returns-clause-full_leaves : goal.returns-clause-full_leaves
 returns-clause-full_leaves g c nodes n is some =
     c.take_object.ensures.full_leaves nodes n (c.in-Err-take_object.is ∙ fault_as c.in-Err-take_object.fault (Full nodes) is) some
+
+pub returns-clause-short : goal.returns-clause-short
+returns-clause-short g c n some is =
+    c.take_object.ensures.short n some (c.in-Err-take_object.is ∙ fault_as c.in-Err-take_object.fault ReadFault is)

@@ -4,7 +4,7 @@ use Rattle.aea_shelf.specs.Writes.{KeepsPadded}
 use Rattle.aea_shelf.proofs.Runs.{padded_none, padded_both, padded_less}
 use Rattle.aea_records.specs.Format.{nodes_for}
 use Rattle.aea_archive.specs.Blocks.{IsBlockIn}
-use Rattle.aea_append.specs.declared.fault.PutFault.TheVariants.{DiskFault}
+use Rattle.aea_append.specs.declared.fault.PutFault.TheVariants.{DiskFault, ReadFault}
 use Rattle.aea_append.specs.Weaving.{WritesCells}
 use Rattle.aea_append.specs.Taking.{Takes}
 use Rattle.aea_append.proofs.Cuts.{some_bytes, nodes_one, nodes-past}
@@ -194,3 +194,10 @@ loop-done-preserved g c =
           (omega (arith, all));
       kept = omega (arith, c.loop-done.invariant.kept, c.weave_piece.ensures.source_kept);
     }
+
+-- a read fails only before the limit
+pub returns-in-Err-clause-short : goal.returns-in-Err-clause-short
+returns-in-Err-clause-short g c is =
+    let short = c.weave_piece.ensures.short (c.in-Err.is ∙ fault_as c.in-Err.fault ReadFault is) in
+    let lt : c.loop-done.done < c.args.limit = grind (arith, nat_tests, c.loop-done-test.true) in
+    omega (arith, short, lt, c.min-want.ensures, c.loop-done.invariant.exact)

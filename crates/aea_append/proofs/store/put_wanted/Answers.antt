@@ -548,3 +548,7 @@ returns-then-is_short-clause-whole g c all is = (let s = c.is_short.ensures.yes 
 pub returns-in-Err-HeadDamaged-clause-head_counts : goal.returns-in-Err-HeadDamaged-clause-head_counts
 returns-in-Err-HeadDamaged-clause-head_counts g c b is =
     c.in-Err-HeadDamaged.ensures.head_counts b (ap Err (c.in-Err-HeadDamaged.field-0-is ∙ ap HeadDamaged (sym c.in-Err-HeadDamaged.block-is ∙ same_head _ b is)))
+
+pub returns-in-Err-ReadFault-clause-short : goal.returns-in-Err-ReadFault-clause-short
+returns-in-Err-ReadFault-clause-short g c n some is =
+    c.weave_object.ensures.short n some (c.in-Err-ReadFault.is ∙ ap Err c.in-Err-ReadFault.field-0-is)

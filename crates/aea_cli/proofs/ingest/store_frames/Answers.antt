@@ -9,10 +9,12 @@ use Rattle.aea_cli.specs.declared.refusal.Failure.TheVariants as failure
 use Rattle.aea_cli.specs.declared.status.Status.TheVariants.{Done}
 use Rattle.aea_cli.specs.Failures.{Answer, ingest_failure}
 use Rattle.aea_cli.proofs.OpeningCases.{err_with}
-use Rattle.aea_cli.proofs.Ingesting.Answering.{HasTried, done_refuses, fault_refuses}
+use Rattle.aea_cli.proofs.Ingesting.Answering.{HasTried, done_refuses, fault_refuses, fault_ends}
 use Rattle.aea_cli.proofs.Ingesting.Going.{gone_none}
 use Rattle.aea_cli.proofs.Ingesting.Looping.{this_now, goes_on, breaks_off, count_more, few_more, exact_more, at_most_more, writes_by, fails_by, ends_by, cut_by, writes_then, ingest_not_words, ingest_no_clash, ingest_no_output, ingest_disk, ingest_input}
 use Rattle.aea_cli.proofs.Ingesting.Telling.{counted_none}
+use Rattle.aea_cli.proofs.ingest.store_frames.Given.{Over}
+use Rattle.aea_cli.proofs.ingest.store_frames.Goals.{After-from_residual}
 use Rattle.aea_cli.proofs.ingest.store_frames.Goals as goal
 
 -- ---- the loop
@@ -110,6 +112,31 @@ loop-name-preserved g c =
 
 -- ---- a frame that was not taken
 
+-- what the call ensures that took none
+tried : (g : Over) (c : After-from_residual g) → HasTried g.D.Disk.tells c.loop-name.ledger (g.D.Disk.state c.loop-name.disk).files (g.S.Source.state c.loop-name.input).left (g.S.Source.state c.ingest_one.new.source).left c.loop-name.at c.ingest_one.new.at (Err c.in_err-name.field-0.0)
+tried g c =
+    let gave = c.in_err-name.ensures in
+    record {
+      taken = gave.taken;
+      short = gave.short;
+      ends = gave.ends;
+      bad_name = gave.bad_name;
+      bad_name_refused = gave.bad_name_refused;
+      name_taken = gave.name_taken;
+      name_taken_refused = gave.name_taken_refused;
+      many = gave.many;
+      many_refused = gave.many_refused;
+      head = gave.head;
+      head_told = gave.head_told;
+      head_refused = gave.head_refused;
+      full = gave.full;
+      full_told = gave.full_told;
+      full_refused = gave.full_refused;
+      bad_stream = gave.bad_stream;
+      bad_stream_told = gave.bad_stream_told;
+      bad_stream_refused = gave.bad_stream_refused;
+    }
+
 pub returns-in_err-name-clause-ingests : goal.returns-in_err-name-clause-ingests
 returns-in_err-name-clause-ingests g c =
     let tells = g.D.Disk.tells in
@@ -129,7 +156,9 @@ returns-in_err-name-clause-ingests g c =
     rw (err_with c.from_residual.result (ingest_failure c.in_err-name.field-0.0) c.from_residual.ensures.1)
     (fails_by c.ledgers_have_one_reading.ensures c.cells_have_lengths.ensures c.cells_have_parts.ensures c.lasts_are_values.ensures c.objects_record_more.ensures c.digests_are_counted.ensures
     tells (c.loop-name.disk ≡ c.args.disk.now) v w c.requires.opened left rest old now before after inv.objects inv.gone (λ e. ap g.D.Disk.state e) c.requires.this
-    fault next rest2 (let r : Result Ingest IngestFault = Err fault in r ≡ Err ingest.DiskFault) gave.writes gave.refused_leaves gave.stopped)
+    fault next rest2 (let r : Result Ingest IngestFault = Err fault in r ≡ Err ingest.DiskFault) gave.writes gave.refused_leaves gave.stopped
+    (fault_ends c.ledgers_have_one_reading.ensures c.objects_are_counted.ensures c.new_names_are_free.ensures c.numbers_tell_blocks.ensures c.cells_have_lengths.ensures c.cells_have_parts.ensures c.digests_are_counted.ensures
+    tells (c.loop-name.disk ≡ c.args.disk.now) v w left rest old now before after inv.objects inv.gone (λ e. ap g.D.Disk.state e) c.requires.this rest2 c.loop-name.at c.ingest_one.new.at inv.exact fault (tried g c)))
 
 pub returns-in_err-name-clause-refuses : goal.returns-in_err-name-clause-refuses
 returns-in_err-name-clause-refuses g c output =
@@ -140,29 +169,10 @@ returns-in_err-name-clause-refuses g c output =
     let left = (g.S.Source.state c.args.input.now).left in
     let rest = (g.S.Source.state c.loop-name.input).left in
     let after = (g.S.Source.state c.ingest_one.new.source).left in
-    let tried : HasTried g.D.Disk.tells c.loop-name.ledger now.files rest after c.loop-name.at c.ingest_one.new.at (Err fault) = record {
-      taken = gave.taken;
-      ends = gave.ends;
-      bad_name = gave.bad_name;
-      bad_name_refused = gave.bad_name_refused;
-      name_taken = gave.name_taken;
-      name_taken_refused = gave.name_taken_refused;
-      many = gave.many;
-      many_refused = gave.many_refused;
-      head = gave.head;
-      head_told = gave.head_told;
-      head_refused = gave.head_refused;
-      full = gave.full;
-      full_told = gave.full_told;
-      full_refused = gave.full_refused;
-      bad_stream = gave.bad_stream;
-      bad_stream_told = gave.bad_stream_told;
-      bad_stream_refused = gave.bad_stream_refused;
-    } in
     rw (err_with c.from_residual.result (ingest_failure fault) c.from_residual.ensures.1)
     (fault_refuses c.ledgers_have_one_reading.ensures c.objects_are_counted.ensures c.new_names_are_free.ensures c.numbers_tell_blocks.ensures c.cells_have_lengths.ensures c.cells_have_parts.ensures c.digests_are_counted.ensures
     g.D.Disk.tells (c.loop-name.disk ≡ c.args.disk.now) c.args.ledger.now c.loop-name.ledger left rest old now (g.O.Sink.state c.args.out.now) (g.O.Sink.state c.loop-name.out) c.loop-name.invariant.objects
-    c.loop-name.invariant.gone (λ e. ap g.D.Disk.state e) c.requires.this after c.loop-name.at c.ingest_one.new.at c.loop-name.invariant.exact (Err fault) tried fault refl)
+    c.loop-name.invariant.gone (λ e. ap g.D.Disk.state e) c.requires.this after c.loop-name.at c.ingest_one.new.at c.loop-name.invariant.exact (Err fault) (tried g c) fault refl)
 
 pub returns-in_err-name-clause-words : goal.returns-in_err-name-clause-words
 returns-in_err-name-clause-words g c =

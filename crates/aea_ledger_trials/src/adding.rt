@@ -29,6 +29,14 @@ const ADDED: u64 = 20;
 // Makes an archive, opens it and adds the record, and gives the answer and whether the ledger is live then.
 fn added<D: Disk>(alloc: Global, disk: &mut D) -> Result<(Result<bool, AppendFault>, bool), Fail> {
     create_ledger(disk, &SHAPE)?;
+    add_example(alloc, disk)
+}
+
+// Opens the archive and adds the record, likewise.
+fn add_example<D: Disk>(
+    alloc: Global,
+    disk: &mut D,
+) -> Result<(Result<bool, AppendFault>, bool), Fail> {
     let mut ledger = open_ledger(alloc, disk)?;
     let answer = add(&mut ledger, disk, b"a", 3, *ABC, &DIGESTS);
     Ok((answer, ledger.live()))

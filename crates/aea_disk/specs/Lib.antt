@@ -3,7 +3,6 @@ pub mod Events
 pub mod Fail
 pub mod Files
 pub mod Frames
-pub mod Gate
 pub mod Log
 pub mod Logged
 pub mod Loss

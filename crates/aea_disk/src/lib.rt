@@ -138,6 +138,3 @@ pub trait Disk {
     /// What is within a smaller range is within the room.
     ghost smaller_fits: { (d : Self) (f m n : ℕ) → m ≤ n → (state d).room f n → (state d).room f m };
 }
-
-#[cfg(test)]
-mod tests;

@@ -1,9 +1,9 @@
 use Rattle.std.proofs.lemmas.Result.{on_ok_weaker}
 use Rattle.aea_disk.specs.Files.{Files, ChangesFile, Torn}
 use Rattle.aea_disk.proofs.Moments.{during_change, during_then_kept, stays_step, stays_kept, stays_both, others_change, others_then_kept, synced_fixed}
-use Rattle.aea_disk.specs.Gate.{HasOldOrNew, HasNew}
-use Rattle.aea_disk.proofs.Gates.{torn_gate, old_same, not_new}
-use Rattle.aea_disk.proofs.tests.gate.open_gate.Goals as goal
+use Rattle.aea_system_trials.specs.Gate.{HasOldOrNew, HasNew}
+use Rattle.aea_system_trials.proofs.Gates.{torn_gate, old_same, not_new}
+use Rattle.aea_system_trials.proofs.commits.gate.open_gate.Goals as goal
 
 pub returns-in_err-write-clause-any_moment : goal.returns-in_err-write-clause-any_moment
 returns-in_err-write-clause-any_moment g c told =

@@ -2,9 +2,9 @@ use Rattle.std.proofs.Common.{Result, Ok, Err, sym, subst}
 use Rattle.std.specs.Prelude.{OnOk}
 use Rattle.aea_disk.specs.Files.{Files}
 use Rattle.aea_disk.proofs.Moments.{others_both, stays_both, stays_same}
-use Rattle.aea_disk.specs.Gate.{HasNew}
-use Rattle.aea_disk.proofs.Gates.{new_of_old, new_of_new}
-use Rattle.aea_disk.proofs.tests.gate.commit.Goals as goal
+use Rattle.aea_system_trials.specs.Gate.{HasNew}
+use Rattle.aea_system_trials.proofs.Gates.{new_of_old, new_of_new}
+use Rattle.aea_system_trials.proofs.commits.gate.commit.Goals as goal
 
 on_ok_two : {T E P Q R : Type 0} (r : Result T E) → (P → Q → R) → OnOk r P → OnOk r Q → OnOk r R
 on_ok_two (Ok x) f p q = f p q

@@ -1,14 +1,15 @@
-// Writes behind a closed gate, and then opens the gate.
+//! Writes behind a closed gate, and then opens the gate.
+
 ghost use Rattle.std.specs.Prelude.{◌≡◌, ◌+◌, ◌^◌, ◌≤◌, ℕ, List, length, OnOk};
 ghost use Rattle.aea_faults.specs.Faults.{HasCause};
 ghost use Rattle.aea_disk.specs.Files.{overwritten};
 ghost use Rattle.aea_disk.specs.State.{During, EveryImage, Stays, Passes, IsFixed, IsHeld, KeepsOthers, HasRange, IsSure};
-ghost use Rattle.aea_disk.specs.Gate.{IsClosed, HasOld, HasNew, HasOldOrNew, IsApart};
+ghost use Rattle.aea_system_trials.specs.Gate.{IsClosed, HasOld, HasNew, HasOldOrNew, IsApart};
 
-use crate::{Disk, DiskFault};
+use aea_disk::{Disk, DiskFault};
 
-// Writes a closed gate at the start, and syncs.
-pub(super) fn begin<D: Disk>(disk: &mut D) -> Result<(), DiskFault>
+/// Writes a closed gate at the start, and syncs.
+pub fn begin<D: Disk>(disk: &mut D) -> Result<(), DiskFault>
     ensures closed { OnOk result (D.tells → IsClosed 0 ((D.state disk.new).files 0)) }
     ensures fixed { OnOk result (D.tells → IsFixed (D.state disk.new) 0) }
     ensures cause { HasCause (D.state disk.old).faults (D.state disk.new).faults result }
@@ -17,8 +18,8 @@ pub(super) fn begin<D: Disk>(disk: &mut D) -> Result<(), DiskFault>
     disk.sync()
 }
 
-// Writes a body behind a closed gate, and syncs.
-pub(super) fn write_body<D: Disk>(disk: &mut D, gate: u64, body: &[u8]) -> Result<(), DiskFault>
+/// Writes a body behind a closed gate, and syncs.
+pub fn write_body<D: Disk>(disk: &mut D, gate: u64, body: &[u8]) -> Result<(), DiskFault>
     requires range { gate + 1 + length body.now ≤ 2 ^ 62 }
     requires closed { D.tells → IsClosed gate ((D.state disk.old).files 0) }
     requires fixed { D.tells → IsFixed (D.state disk.old) 0 }
@@ -38,8 +39,8 @@ pub(super) fn write_body<D: Disk>(disk: &mut D, gate: u64, body: &[u8]) -> Resul
     disk.sync()
 }
 
-// Opens a closed gate, and syncs.
-pub(super) fn open_gate<D: Disk>(disk: &mut D, gate: u64, body: &[u8]) -> Result<(), DiskFault>
+/// Opens a closed gate, and syncs.
+pub fn open_gate<D: Disk>(disk: &mut D, gate: u64, body: &[u8]) -> Result<(), DiskFault>
     requires range { gate + 1 ≤ 2 ^ 62 }
     requires closed { D.tells → IsClosed gate ((D.state disk.old).files 0) }
     requires staged { D.tells → HasRange 0 (gate + 1) body.now (D.state disk.old).files }
@@ -60,8 +61,8 @@ pub(super) fn open_gate<D: Disk>(disk: &mut D, gate: u64, body: &[u8]) -> Result
     disk.sync()
 }
 
-// Commits a body: at `Ok` every crash leaves it, and at any moment a crash leaves the old bytes or the new.
-pub(super) fn commit<D: Disk>(disk: &mut D, gate: u64, body: &[u8]) -> Result<(), DiskFault>
+/// Commits a body: at `Ok` every crash leaves it, and at any moment a crash leaves the old bytes or the new.
+pub fn commit<D: Disk>(disk: &mut D, gate: u64, body: &[u8]) -> Result<(), DiskFault>
     requires range { gate + 1 + length body.now ≤ 2 ^ 62 }
     requires closed { D.tells → IsClosed gate ((D.state disk.old).files 0) }
     requires fixed { D.tells → IsFixed (D.state disk.old) 0 }
@@ -81,13 +82,8 @@ pub(super) fn commit<D: Disk>(disk: &mut D, gate: u64, body: &[u8]) -> Result<()
     open_gate(disk, gate, body)
 }
 
-// Writes a range of a file. What every crash leaves of another range stays so at each moment of the call.
-pub(super) fn write_apart<D: Disk>(
-    disk: &mut D,
-    file: u8,
-    at: u64,
-    bytes: &[u8],
-) -> Result<(), DiskFault>
+/// Writes a range of a file. What every crash leaves of another range stays so at each moment of the call.
+pub fn write_apart<D: Disk>(disk: &mut D, file: u8, at: u64, bytes: &[u8]) -> Result<(), DiskFault>
     requires file { file ≤ 66 }
     requires range { at + length bytes.now ≤ 2 ^ 62 }
 

@@ -4,7 +4,7 @@ use Rattle.aea_disk.specs.Files.{Torn, overwritten}
 use Rattle.aea_disk.specs.Steps.{range-overwritten}
 use Rattle.aea_disk.specs.State.{HasRange}
 use Rattle.aea_disk.proofs.Moments.{during_none, during_then_kept, held_change, passes_none, others_change, others_then_kept}
-use Rattle.aea_disk.proofs.tests.gate.write_apart.Goals as goal
+use Rattle.aea_system_trials.proofs.commits.gate.write_apart.Goals as goal
 
 pub returns-in_err-write-clause-held : goal.returns-in_err-write-clause-held
 returns-in_err-write-clause-held g c a kept apart held =

@@ -3,7 +3,7 @@ use Rattle.std.proofs.Common.{◌≡◌, inl, inr, ⊎_elim, ℕ, ◌+◌, List,
 use Rattle.std.proofs.lemmas.Bool.{cases_eq}
 use Rattle.aea_disk.specs.Files.{Torn, Holds, overwritten}
 use Rattle.aea_disk.specs.Steps.{torn_front, torn_range, holds_torn, get_or-overwritten_at}
-use Rattle.aea_disk.specs.Gate.{IsClosed, HasOld, HasNew, HasOldOrNew}
+use Rattle.aea_system_trials.specs.Gate.{IsClosed, HasOld, HasNew, HasOldOrNew}
 
 -- a write behind the gate
 pub torn_body : (gate n : ℕ) (old new : List ℕ) → IsClosed gate old → Torn (gate + 1) n old new → HasOld gate old new

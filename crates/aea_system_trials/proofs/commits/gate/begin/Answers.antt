@@ -1,6 +1,6 @@
 use Rattle.std.proofs.lemmas.Result.{on_ok_weaker}
 use Rattle.aea_disk.proofs.Moments.{synced_fixed}
-use Rattle.aea_disk.proofs.tests.gate.begin.Goals as goal
+use Rattle.aea_system_trials.proofs.commits.gate.begin.Goals as goal
 
 pub returns-clause-fixed : goal.returns-clause-fixed
 returns-clause-fixed g c =

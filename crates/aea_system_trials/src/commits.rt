@@ -1,6 +1,8 @@
+//! A file behind a gate, over disks that fail, and over the images of a stop.
+
 mod gate;
 
-use crate::{Disk, DiskFault, FailDisk, Loss, MemDisk, SureDisk};
+use aea_disk::{Disk, DiskFault, FailDisk, Loss, MemDisk, SureDisk};
 use gate::{begin, commit, write_apart};
 use std::test::Fail;
 

@@ -7,7 +7,7 @@ use aea_io::{MemSink, MemSource};
 use std::alloc::{AllocError, Global};
 
 /// Which call of each stream fails, counted from 1 (at 0 none does), and the rooms of the sinks in bytes.
-#[derive(Clone, Copy, Debug)]
+#[derive(Clone, Copy)]
 pub struct Faults {
     pub read: u32,
     pub out_call: u32,

@@ -22,6 +22,16 @@ pub struct Left {
     pub unread: usize,
 }
 
+impl Left {
+    /// Whether the run ended with this status, and printed this, and this on the errors. One comparison of all three costs the
+    /// proof of a test least.
+    pub fn is(&self, status: Status, out: &str, err: &str) -> bool {
+        self.status == status
+            && self.out.bytes() == out.as_bytes()
+            && self.err.bytes() == err.as_bytes()
+    }
+}
+
 /// The words of a line, parted by spaces. An error is want of memory, here and below.
 pub fn words_of(alloc: Global, line: &str) -> Result<Vec<String>, AllocError> {
     let mut words = Vec::new(alloc);

@@ -66,12 +66,12 @@ const STORED_B: &str =
 const STORED_C: &str =
     "stored 1 3 ba7816bf8f01cfea414140de5dae2223b00361a396177a9cb410ff61f20015ad c\n";
 
-/// The damage of nineteen blocks of which no equation has just one.
-pub const NINETEEN: &str =
+// The damage of nineteen blocks of which no equation has just one.
+const NINETEEN: &str =
     "d1\nd3\nd4\nd5\nd6\nd8\nd9\nd10\nd11\nh1\nh3\nh4\nh8\nh9\nr1\nr3\nr5\nr8\nr10\n";
 
-/// What is printed of them: three are determined, and the others stand in two codewords.
-pub const TWO_CODEWORDS: &str = "aea-report 1\nlattice 2 2 2 11\nledger none\ncounts 19 0 3 16\n\
+// What is printed of them: three are determined, and the others stand in two codewords.
+const TWO_CODEWORDS: &str = "aea-report 1\nlattice 2 2 2 11\nledger none\ncounts 19 0 3 16\n\
     lost d1 by 1 3 4 6\nlost h1 by 1 3 4 6\nlost r1 by 1 3 4 6\nlost d3 by 1 3 4 6\nsolved h3\n\
     lost r3 by 1 3 4 6\nlost d4 by 1 3 4 6\nlost h4 by 1 3 4 6\nsolved d5\nsolved r5\n\
     lost d6 by 1 3 4 6\nlost d8 by 8 9 10 11\nlost h8 by 8 9 10 11\nlost r8 by 8 9 10 11\n\
@@ -122,8 +122,8 @@ const RESTORED: &str = "aea-report 1\nlattice 3 2 5 3\n\
     ledger 8f64e3355259d9db2689484dbbf26004d0d7a355d40a10207db743ad30d129c3\ncounts 4 4 0 0\n\
     peeled d1\npeeled r1\npeeled d2\npeeled l2\n";
 
-/// A run that makes, reads and prints nothing, where nothing stands.
-pub const NOTHING: Case = Case {
+// A run that makes, reads and prints nothing, where nothing stands.
+const NOTHING: Case = Case {
     before: &[],
     turned: &[],
     line: "",
@@ -310,8 +310,18 @@ const REHEARSE: Case = Case {
     ..NOTHING
 };
 
-/// One run of each command.
-pub const CASES: [Case; 14] = [
+// One run of each command.
+const CASES: &[Case] = &[
     DRILL, CREATE, STAT, LIST, PUT, INGEST, GET, FENCE, UPGRADE, SCRUB, REPAIR, EXPLAIN, VERIFY,
     REHEARSE,
 ];
+
+/// One run of each command. It is a function, so that the proof of a test does not carry the table.
+pub fn cases() -> &'static [Case] {
+    CASES
+}
+
+/// A run of these words that makes, reads and prints nothing, where nothing stands.
+pub fn bare(line: &'static str) -> Case {
+    Case { line, ..NOTHING }
+}

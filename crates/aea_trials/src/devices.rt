@@ -1,6 +1,6 @@
 //! Disks that fail and disks that are stopped: one table of runs, and what stands behind each fault and each stop.
 
-use crate::cases::{CASES, Case};
+use crate::cases::{Case, cases};
 use crate::standing::{is_whole, prepare, prepared, printed, run_case, stands};
 use aea_cli::Status;
 use aea_disk::{Disk, FailDisk, Loss, MemDisk, SureDisk};
@@ -63,7 +63,7 @@ fn first_not_borne(alloc: Global, case: &Case) -> Result<Option<u64>, Fail> {
 
 #[test]
 fn each_call_of_the_disk_fails(rt: HostRuntime) -> Result<(), Fail> {
-    for case in &CASES {
+    for case in cases() {
         let found = first_not_borne(rt.alloc(), case)?;
         assert!(rt; found == None, "{}", case.line);
     }
@@ -114,7 +114,7 @@ fn first_wrong_stop(alloc: Global, case: &Case) -> Result<Option<u64>, Fail> {
 
 #[test]
 fn each_run_is_stopped_after_each_call(rt: HostRuntime) -> Result<(), Fail> {
-    for case in &CASES {
+    for case in cases() {
         if !case.commits.is_empty() {
             let found = first_wrong_stop(rt.alloc(), case)?;
             assert!(rt; found == None, "{}", case.line);
@@ -132,7 +132,6 @@ fn bytes_behind_the_last_cell_are_no_damage(rt: HostRuntime) -> Result<(), Fail>
     assert!(rt; disk.len(1) == Ok(112));
     disk.write(1, 112, &[255; 1000])?;
     let left = run_over(alloc, "scrub", &mut disk, 99)?;
-    assert!(rt; left.status == Status::Done);
-    assert!(rt; left.out.bytes() == "total 4 damaged 0\n".as_bytes());
+    assert!(rt; left.is(Status::Done, "total 4 damaged 0\n", ""));
     Ok(())
 }

@@ -1,6 +1,6 @@
 //! What a run leaves whose input ends early.
 
-use crate::cases::{Case, DRILL};
+use crate::cases::Case;
 use crate::standing::printed;
 use aea_cli::Status;
 use aea_runs::{Left, run_line, text_of};
@@ -9,7 +9,7 @@ use std::alloc::{AllocError, Global};
 use std::test::Fail;
 
 /// What an input is.
-#[derive(Clone, Copy, Debug, PartialEq, Eq)]
+#[derive(Clone, Copy, PartialEq, Eq)]
 pub enum Kind {
     DamageList,
     Object,
@@ -54,7 +54,7 @@ fn ended(alloc: Global, status: Status, out: String) -> Told {
 }
 
 // Of a damage list: its last line need not end with a newline, but it has to be the text of a block.
-fn told_of_list(alloc: Global, part: &str) -> Result<Told, Fail> {
+fn told_of_list(alloc: Global, case: &Case, part: &str) -> Result<Told, Fail> {
     let last = match part.rsplit_once('\n') {
         Some((_lines, last)) => last,
         None => part,
@@ -66,7 +66,7 @@ fn told_of_list(alloc: Global, part: &str) -> Result<Told, Fail> {
     }
     let end = if last.is_empty() { "" } else { "\n" };
     let list = format!(in alloc; "{part}{end}")?;
-    let left = run_line(alloc, DRILL.line, list.as_bytes())?;
+    let left = run_line(alloc, case.line, list.as_bytes())?;
     let out = String::from_str(alloc, text_of(left.out.bytes())?)?;
     Ok(ended(alloc, left.status, out))
 }
@@ -127,7 +127,7 @@ fn told_of_report(alloc: Global, part: &str, is_whole: bool) -> Result<Told, All
 /// What the run of this case tells whose input is this first part of the whole.
 pub fn told_of(alloc: Global, case: &Case, kind: Kind, part: &[u8]) -> Result<Told, Fail> {
     match kind {
-        Kind::DamageList => told_of_list(alloc, text_of(part)?),
+        Kind::DamageList => told_of_list(alloc, case, text_of(part)?),
         Kind::Object => Ok(told_of_object(alloc, part)?),
         Kind::Frames => Ok(told_of_frames(alloc, case, part.len())?),
         Kind::Report => {

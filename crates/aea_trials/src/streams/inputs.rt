@@ -2,7 +2,7 @@
 //! failing.
 
 use super::ends::{Kind, commits_in, lines_in, told_of};
-use crate::cases::{CASES, Case, DRILL, INGEST, PUT, VERIFY};
+use crate::cases::{Case, DRILL, INGEST, PUT, VERIFY, cases};
 use crate::standing::{is_got, is_whole, prepared, printed, stands};
 use aea_cli::Status;
 use aea_disk::SureDisk;
@@ -11,12 +11,17 @@ use std::alloc::{AllocError, Global};
 use std::test::Fail;
 
 // The runs that read, and what each reads.
-const READERS: [(Case, Kind); 4] = [
+const READERS: &[(Case, Kind)] = &[
     (DRILL, Kind::DamageList),
     (PUT, Kind::Object),
     (INGEST, Kind::Frames),
     (VERIFY, Kind::Report),
 ];
+
+// The same, for proofs that do not look into the table.
+fn readers() -> &'static [(Case, Kind)] {
+    READERS
+}
 
 // Whether what stands is what the run stores of this first part of its input.
 fn stores(
@@ -62,7 +67,7 @@ fn first_wrong_end(alloc: Global, case: &Case, kind: Kind) -> Result<Option<usiz
 
 #[test]
 fn inputs_are_cut_at_each_place(rt: HostRuntime) -> Result<(), Fail> {
-    for (case, kind) in &READERS {
+    for (case, kind) in readers() {
         let found = first_wrong_end(rt.alloc(), case, *kind)?;
         assert!(rt; found == None, "{}", case.line);
     }
@@ -108,7 +113,7 @@ fn first_slow_read(alloc: Global, case: &Case) -> Result<Option<usize>, Fail> {
 
 #[test]
 fn each_read_of_a_byte_fails(rt: HostRuntime) -> Result<(), Fail> {
-    for (case, _kind) in &READERS {
+    for (case, _kind) in readers() {
         let found = first_slow_read(rt.alloc(), case)?;
         assert!(rt; found == None, "{}", case.line);
     }
@@ -144,7 +149,7 @@ fn reads_borne(alloc: Global, case: &Case) -> Result<Option<u32>, Fail> {
 
 #[test]
 fn each_read_of_a_piece_fails(rt: HostRuntime) -> Result<(), Fail> {
-    for case in &CASES {
+    for case in cases() {
         let reads = reads_borne(rt.alloc(), case)?;
         // an input is read by one at least, and its end found by one; a command that takes none reads nothing
         let fits = match reads {

@@ -1,7 +1,7 @@
 //! Outputs and errors that fail: each command with each call of its output failing, and with too little room on both.
 
 use super::ends::lines_in;
-use crate::cases::{CASES, Case, NOTHING};
+use crate::cases::{Case, bare, cases};
 use crate::standing::{is_whole, prepared, printed, stands};
 use aea_cli::Status;
 use aea_disk::SureDisk;
@@ -61,7 +61,7 @@ fn first_call(alloc: Global, case: &Case) -> Result<Option<u32>, Fail> {
 
 #[test]
 fn each_call_of_the_output_fails(rt: HostRuntime) -> Result<(), Fail> {
-    for case in &CASES {
+    for case in cases() {
         let found = first_call(rt.alloc(), case)?;
         assert!(rt; found == None, "{}", case.line);
     }
@@ -87,7 +87,7 @@ fn first_room(alloc: Global, case: &Case) -> Result<Option<usize>, Fail> {
 
 #[test]
 fn the_output_fails_at_each_byte(rt: HostRuntime) -> Result<(), Fail> {
-    for case in &CASES {
+    for case in cases() {
         let found = first_room(rt.alloc(), case)?;
         assert!(rt; found == None, "{}", case.line);
     }
@@ -148,7 +148,7 @@ fn the_errors_fail_at_each_byte(rt: HostRuntime) -> Result<(), Fail> {
         ..NONE
     };
     let input = Faults { read: 1, ..NONE };
-    for case in &CASES {
+    for case in cases() {
         let is_borne = bears_errors(rt.alloc(), case, output, Status::Output, "fault: output\n")?;
         assert!(rt; is_borne, "{}", case.line);
         let is_borne = case.input.is_empty()
@@ -196,7 +196,7 @@ const ALL: Faults = Faults {
 #[test]
 fn what_is_refused_reads_and_prints_nothing(rt: HostRuntime) -> Result<(), Fail> {
     for line in REFUSED {
-        let case = Case { line, ..NOTHING };
+        let case = bare(line);
         let text = "refused: no archive\n";
         assert!(rt;
             bears_errors(rt.alloc(), &case, ALL, Status::Refused, text)?,
@@ -209,7 +209,7 @@ fn what_is_refused_reads_and_prints_nothing(rt: HostRuntime) -> Result<(), Fail>
 #[test]
 fn what_is_no_command_reads_and_prints_nothing(rt: HostRuntime) -> Result<(), Fail> {
     for line in NO_COMMANDS {
-        let case = Case { line, ..NOTHING };
+        let case = bare(line);
         let text = "words: no such command\n";
         assert!(rt;
             bears_errors(rt.alloc(), &case, ALL, Status::Words, text)?,
@@ -236,9 +236,9 @@ fn a_failed_page_leaves_those_before_it(rt: HostRuntime) -> Result<(), Fail> {
         let mut disk = SureDisk::new(rt.alloc(), 0, 0, 0)?;
         let left = run_failing(rt.alloc(), line, &mut disk, list.as_bytes(), faults)?;
         let out = left.out.bytes();
-        assert!(rt; left.status == Status::Output, "{faults:?}");
-        assert!(rt; !out.is_empty() && out.len() <= 10_000, "{faults:?}");
-        assert!(rt; whole.out.bytes().starts_with(out), "{faults:?}");
+        assert!(rt; left.status == Status::Output, "{out_call}");
+        assert!(rt; !out.is_empty() && out.len() <= 10_000, "{out_call}");
+        assert!(rt; whole.out.bytes().starts_with(out), "{out_call}");
     }
     Ok(())
 }

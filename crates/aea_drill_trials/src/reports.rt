@@ -10,7 +10,7 @@ use aea_plain::previous;
 use std::alloc::{AllocError, Global};
 
 // A block, and the nodes that decide whether a codeword contains it: it does where an odd number of them are members.
-#[derive(Clone, Copy, Debug, Drop)]
+#[derive(Clone, Copy, Drop)]
 struct Mask {
     block: BlockId,
     nodes: u64,

@@ -23,24 +23,23 @@ fn one_byte_too_many_is_refused(rt: HostRuntime) -> Result<(), Fail> {
     assert!(rt; list.len() == 4_194_304);
     let left = run_line(rt.alloc(), "drill 1 1 0 10", list.as_bytes())?;
     assert!(rt;
-        left.out.bytes()
-            == "aea-report 1\nlattice 1 1 0 10\nledger none\ncounts 2 2 0 0\npeeled d1\npeeled d10\n".as_bytes()
+        left.is(
+            Status::Done,
+            "aea-report 1\nlattice 1 1 0 10\nledger none\ncounts 2 2 0 0\npeeled d1\npeeled d10\n",
+            ""
+        )
     );
-    assert!(rt; left.status == Status::Done);
-    assert!(rt; left.err.bytes().is_empty() && left.unread == 0);
+    assert!(rt; left.unread == 0);
 
     // The line past the limit is not judged, though it names no block.
     list.push_str("x")?;
     let left = run_line(rt.alloc(), "drill 1 1 0 10", list.as_bytes())?;
-    assert!(rt; left.err.bytes() == "refused: input too long\n".as_bytes());
-    assert!(rt; left.status == Status::Refused);
-    assert!(rt; left.out.bytes().is_empty());
+    assert!(rt; left.is(Status::Refused, "", "refused: input too long\n"));
 
     // No byte is read past the first that is too many.
     list.push_str("\nd1\n")?;
     let left = run_line(rt.alloc(), "drill 1 1 0 10", list.as_bytes())?;
-    assert!(rt; left.err.bytes() == "refused: input too long\n".as_bytes());
-    assert!(rt; left.status == Status::Refused);
+    assert!(rt; left.is(Status::Refused, "", "refused: input too long\n"));
     assert!(rt; left.unread == 4);
     Ok(())
 }
@@ -58,7 +57,6 @@ fn a_lost_site_of_the_greatest_drill_is_peeled(rt: HostRuntime) -> Result<(), Fa
         }
     }
     let left = run_line(rt.alloc(), "drill 3 2 5 65536", list.as_bytes())?;
-    assert!(rt; left.out.bytes() == want.as_bytes());
-    assert!(rt; left.status == Status::Done);
+    assert!(rt; left.is(Status::Done, want.as_str(), ""));
     Ok(())
 }

@@ -1,21 +1,19 @@
 //! Worked examples of whole runs.
 
-use crate::cases::{NINETEEN, TWO_CODEWORDS};
 use crate::lists::add_line;
 use aea_cli::{Command, Status, parse_words};
 use aea_lattice::Lattice;
 use aea_runs::{Left, run_line, words_of};
 use std::test::Fail;
 
-// The words, the damage list, the status, and what is printed.
-const OUTCOMES: [(&str, &str, Status, &str); 7] = [
+// The words, the damage list, the status, and what is printed. One more, of two codewords, is a case of aea_trials.
+const OUTCOMES: [(&str, &str, Status, &str); 6] = [
     (
         "drill 1 1 0 3",
         "d1\nh1\n",
         Status::Done,
         "aea-report 1\nlattice 1 1 0 3\nledger none\ncounts 2 2 0 0\npeeled d1\npeeled h1\n",
     ),
-    ("drill 2 2 2 11", NINETEEN, Status::Damage, TWO_CODEWORDS),
     (
         "drill 1 1 0 3",
         "d3\nh3\n",
@@ -54,10 +52,11 @@ const OUTCOMES: [(&str, &str, Status, &str); 7] = [
 fn drills_print_the_outcome(rt: HostRuntime) -> Result<(), Fail> {
     for (line, list, status, text) in OUTCOMES {
         let left = run_line(rt.alloc(), line, list.as_bytes())?;
-        assert!(rt; left.out.bytes() == text.as_bytes(), "{line}");
-        assert!(rt; left.status == status, "{line}");
-        assert!(rt; left.err.bytes().is_empty() && left.unread == 0, "{line}");
-        assert!(rt; left.out.flushed == left.out.bytes().len(), "{line}");
+        assert!(rt; left.is(status, text, ""), "{line}");
+        assert!(rt;
+            left.unread == 0 && left.out.flushed == left.out.bytes().len(),
+            "{line}"
+        );
     }
     Ok(())
 }
@@ -143,12 +142,11 @@ const NO_COMMANDS: [&str; 73] = [
 fn words_that_are_no_command_read_nothing(rt: HostRuntime) -> Result<(), Fail> {
     for line in NO_COMMANDS {
         let left = run_line(rt.alloc(), line, b"d1\n")?;
-        assert!(rt; left.status == Status::Words, "{line}");
         assert!(rt;
-            left.err.bytes() == "words: no such command\n".as_bytes(),
+            left.is(Status::Words, "", "words: no such command\n"),
             "{line}"
         );
-        assert!(rt; left.out.bytes().is_empty() && left.unread == 3, "{line}");
+        assert!(rt; left.unread == 3, "{line}");
     }
     Ok(())
 }
@@ -172,9 +170,7 @@ fn the_first_bad_line_is_refused(rt: HostRuntime) -> Result<(), Fail> {
     ] {
         let left = run_line(rt.alloc(), "drill 2 2 2 11", list.as_bytes())?;
         let want = format!(in rt.alloc(); "refused: bad block at line {number}\n")?;
-        assert!(rt; left.err.bytes() == want.as_str().as_bytes(), "{list:?}");
-        assert!(rt; left.status == Status::Refused, "{list:?}");
-        assert!(rt; left.out.bytes().is_empty(), "{list:?}");
+        assert!(rt; left.is(Status::Refused, "", want.as_str()), "{list:?}");
     }
     Ok(())
 }

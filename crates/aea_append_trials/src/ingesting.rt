@@ -29,7 +29,7 @@ const CUT: &[u8; 37] =
 const LONGER: &[u8; 42] = b"\0\x01a\0\0\0\0\0\0\0\x03abc\0\x01b\0\0\0\0\0\0\0\x110123456789abcdefg";
 
 // What a call answered: of a name its first byte.
-#[derive(Clone, Copy, Debug, PartialEq, Eq)]
+#[derive(Clone, Copy, PartialEq, Eq)]
 enum Answer {
     Stored { first: u8, nodes: u32, length: u64 },
     End,

@@ -20,7 +20,7 @@ pub const SHAPE: Shape = Shape {
 };
 
 // Why the test went no further.
-#[derive(Clone, Copy, Debug, PartialEq, Eq)]
+#[derive(Clone, Copy, PartialEq, Eq)]
 enum Stop {
     Ledger,
     Put(PutFault),

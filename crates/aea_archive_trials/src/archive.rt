@@ -27,15 +27,12 @@ fn stands<D: Disk>(disk: &mut D, want: &[u8]) -> Result<bool, DiskFault> {
 fn makes_an_archive_once(rt: HostRuntime) -> Result<(), Fail> {
     let mut disk = SureDisk::new(rt.alloc(), 0, 32, 0)?;
     let left = run_over(rt.alloc(), LINE, &mut disk, 99)?;
-    assert!(rt; left.status == Status::Done);
-    assert!(rt; left.out.bytes() == CREATED.as_bytes());
-    assert!(rt; left.err.bytes().is_empty() && left.out.flushed == CREATED.len());
+    assert!(rt; left.is(Status::Done, CREATED, ""));
+    assert!(rt; left.out.flushed == CREATED.len());
     assert!(rt; stands(&mut disk, LEDGER) == Ok(true));
 
     let left = run_over(rt.alloc(), "create 1 1 0 16 1", &mut disk, 99)?;
-    assert!(rt; left.status == Status::Refused);
-    assert!(rt; left.err.bytes() == "refused: occupied\n".as_bytes());
-    assert!(rt; left.out.bytes().is_empty());
+    assert!(rt; left.is(Status::Refused, "", "refused: occupied\n"));
     assert!(rt; stands(&mut disk, LEDGER) == Ok(true));
     Ok(())
 }
@@ -44,9 +41,7 @@ fn makes_an_archive_once(rt: HostRuntime) -> Result<(), Fail> {
 fn a_disk_without_room_is_at_fault(rt: HostRuntime) -> Result<(), Fail> {
     let mut disk = SureDisk::new(rt.alloc(), 0, 17, 0)?;
     let left = run_over(rt.alloc(), LINE, &mut disk, 99)?;
-    assert!(rt; left.status == Status::Disk);
-    assert!(rt; left.err.bytes() == "fault: disk\n".as_bytes());
-    assert!(rt; left.out.bytes().is_empty());
+    assert!(rt; left.is(Status::Disk, "", "fault: disk\n"));
     Ok(())
 }
 
@@ -84,9 +79,8 @@ fn tells_what_stands_in_an_archive(rt: HostRuntime) -> Result<(), Fail> {
     assert!(rt; left.status == Status::Done);
     for (line, text) in [("stat", STAT), ("stat", STAT)] {
         let left = run_over(alloc, line, &mut disk, 99)?;
-        assert!(rt; left.status == Status::Done);
-        assert!(rt; left.out.bytes() == text.as_bytes());
-        assert!(rt; left.err.bytes().is_empty() && left.out.flushed == text.len());
+        assert!(rt; left.is(Status::Done, text, ""));
+        assert!(rt; left.out.flushed == text.len());
     }
     assert!(rt; add_abc(alloc, &mut disk)?);
     let left = run_over(alloc, "stat", &mut disk, 99)?;

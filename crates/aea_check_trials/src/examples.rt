@@ -20,10 +20,8 @@ fn a_repaired_site_of_four_is_accepted(rt: HostRuntime) -> Result<(), Fail> {
     let report = text_of(left.out.bytes())?;
     assert!(rt; report.contains("\ncounts 40 40 0 0\npeeled h1\npeeled d2\npeeled l3\n"));
     let left = run_verify(alloc, &mut disk, report.as_bytes())?;
-    assert!(rt; left.status == Status::Done);
-    assert!(rt; left.out.bytes() == "accepted\n".as_bytes());
-    assert!(rt; left.err.bytes().is_empty() && left.unread == 0);
-    assert!(rt; left.out.flushed == 9);
+    assert!(rt; left.is(Status::Done, "accepted\n", ""));
+    assert!(rt; left.unread == 0 && left.out.flushed == 9);
     let left = run_over(alloc, "scrub", &mut disk, 99)?;
     assert!(rt; left.out.bytes() == "total 160 damaged 0\n".as_bytes());
     // once the site is gone again, its first block is damaged still
@@ -272,9 +270,7 @@ fn blocks_are_explained(rt: HostRuntime) -> Result<(), Fail> {
         } else {
             (told, "")
         };
-        assert!(rt; left.status == status, "{block}");
-        assert!(rt; left.out.bytes() == out.as_bytes(), "{block}");
-        assert!(rt; left.err.bytes() == err.as_bytes(), "{block}");
+        assert!(rt; left.is(status, out, err), "{block}");
         assert!(rt;
             left.unread == 6 && left.out.flushed == out.len(),
             "{block}"

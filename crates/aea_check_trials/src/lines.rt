@@ -6,7 +6,7 @@ use std::alloc::{AllocError, Global};
 use std::test::Fail;
 
 /// What a line of a report says of its block.
-#[derive(Clone, Copy, Debug, PartialEq, Eq)]
+#[derive(Clone, Copy, PartialEq, Eq)]
 pub enum Kind {
     Peeled,
     Solved,
@@ -14,7 +14,7 @@ pub enum Kind {
 }
 
 /// A line of a report. Only a lost block has nodes.
-#[derive(Debug, Drop)]
+#[derive(Drop)]
 pub struct Told {
     pub kind: Kind,
     pub block: BlockId,
@@ -69,7 +69,7 @@ pub fn told_of(alloc: Global, line: &str) -> Result<Option<Told>, AllocError> {
 }
 
 /// How a text is changed at one of its lines.
-#[derive(Clone, Copy, Debug)]
+#[derive(Clone, Copy)]
 pub enum Change<'a> {
     LeftOut,
     Doubled,

@@ -31,13 +31,10 @@ fn what_is_no_archive_is_not_judged(rt: HostRuntime) -> Result<(), Fail> {
         disk.write(0, 9, &[4])?;
         let left = run_over(alloc, word, &mut disk, 99)?;
         assert!(rt;
-            left.err.bytes() == "refused: ledger bad at 9\n".as_bytes(),
+            left.is(Status::Refused, "", "refused: ledger bad at 9\n"),
             "{word}"
         );
-        assert!(rt;
-            left.status == Status::Refused && left.unread == 6,
-            "{word}"
-        );
+        assert!(rt; left.unread == 6, "{word}");
     }
     Ok(())
 }

@@ -65,23 +65,19 @@ fn a_fresh_archive_takes_no_fence_and_one_raise(rt: HostRuntime) -> Result<(), F
     let made = run_over(alloc, "create 1 1 0 16 1", &mut disk, 99)?;
     assert!(rt; made.status == Status::Done);
     let left = run_over(alloc, "fence", &mut disk, 99)?;
-    assert!(rt; left.status == Status::Refused);
-    assert!(rt; left.err.bytes() == "refused: already fenced at 0\n".as_bytes());
+    assert!(rt; left.is(Status::Refused, "", "refused: already fenced at 0\n"));
     assert!(rt; disk.len(0) == Ok(18));
 
     let left = run_over(alloc, "upgrade", &mut disk, 99)?;
-    assert!(rt; left.status == Status::Done);
-    assert!(rt; left.out.bytes() == "upgraded 1048576\n".as_bytes());
-    assert!(rt; left.err.bytes().is_empty() && left.out.flushed == 17);
+    assert!(rt; left.is(Status::Done, "upgraded 1048576\n", ""));
+    assert!(rt; left.out.flushed == 17);
     let mut bytes = [9u8; 32];
     assert!(rt; disk.read(0, 0, &mut bytes) == Ok(28));
     assert!(rt; bytes.starts_with(b"\x01AEALEDG1\x01\x01\0\x01\0\0\0\x10"));
     assert!(rt; bytes[17..].starts_with(RAISE));
 
     let left = run_over(alloc, "upgrade", &mut disk, 99)?;
-    assert!(rt; left.status == Status::Refused);
-    assert!(rt; left.err.bytes() == "refused: already upgraded\n".as_bytes());
-    assert!(rt; left.out.bytes().is_empty());
+    assert!(rt; left.is(Status::Refused, "", "refused: already upgraded\n"));
     Ok(())
 }
 
@@ -92,14 +88,11 @@ fn each_command_adds_its_record_once(rt: HostRuntime) -> Result<(), Fail> {
         let mut disk = SureDisk::new(alloc, 0, 149, 0)?;
         fill(&mut disk)?;
         let left = run_over(alloc, command, &mut disk, 99)?;
-        assert!(rt; left.status == Status::Done, "{command}");
-        assert!(rt; left.out.bytes() == line.as_bytes());
-        assert!(rt; left.err.bytes().is_empty() && left.out.flushed == line.len());
+        assert!(rt; left.is(Status::Done, line, ""), "{command}");
+        assert!(rt; left.out.flushed == line.len(), "{command}");
         assert!(rt; has_added(&mut disk, record) == Ok(true), "{command}");
         let left = run_over(alloc, command, &mut disk, 99)?;
-        assert!(rt; left.status == Status::Refused, "{command}");
-        assert!(rt; left.err.bytes() == again.as_bytes());
-        assert!(rt; left.out.bytes().is_empty());
+        assert!(rt; left.is(Status::Refused, "", again), "{command}");
         assert!(rt; has_added(&mut disk, record) == Ok(true), "{command}");
         let left = run_over(alloc, "stat", &mut disk, 99)?;
         assert!(rt; left.status == Status::Done, "{command}");
@@ -126,9 +119,7 @@ fn an_added_record_that_is_bad_is_named(rt: HostRuntime) -> Result<(), Fail> {
         disk.write(0, place, &[value])?;
         for next in ["stat", "fence", "upgrade"] {
             let left = run_over(alloc, next, &mut disk, 99)?;
-            assert!(rt; left.status == Status::Refused, "{next} {place}");
-            assert!(rt; left.err.bytes() == refusal.as_bytes(), "{next} {place}");
-            assert!(rt; left.out.bytes().is_empty(), "{next} {place}");
+            assert!(rt; left.is(Status::Refused, "", refusal), "{next} {place}");
         }
         assert!(rt; disk.len(0) == Ok(149), "{place}");
     }
@@ -170,8 +161,7 @@ fn sixteen_fences_and_no_more(rt: HostRuntime) -> Result<(), Fail> {
     assert!(rt; add_node(alloc, &mut disk, b"a")?);
     let before = disk.len(0);
     let left = run_over(alloc, "fence", &mut disk, 99)?;
-    assert!(rt; left.status == Status::Refused);
-    assert!(rt; left.err.bytes() == "refused: too many fences\n".as_bytes());
+    assert!(rt; left.is(Status::Refused, "", "refused: too many fences\n"));
     assert!(rt; disk.len(0) == before);
     let left = run_over(alloc, "upgrade", &mut disk, 99)?;
     assert!(rt; left.status == Status::Done);
@@ -185,9 +175,7 @@ fn a_disk_that_lacks_one_byte_is_at_fault(rt: HostRuntime) -> Result<(), Fail> {
         let mut disk = SureDisk::new(alloc, 0, 148, 0)?;
         fill(&mut disk)?;
         let left = run_over(alloc, command, &mut disk, 99)?;
-        assert!(rt; left.status == Status::Disk, "{command}");
-        assert!(rt; left.err.bytes() == "fault: disk\n".as_bytes());
-        assert!(rt; left.out.bytes().is_empty(), "{command}");
+        assert!(rt; left.is(Status::Disk, "", "fault: disk\n"), "{command}");
         let left = run_over(alloc, "stat", &mut disk, 99)?;
         assert!(rt; left.status == Status::Done, "{command}");
     }
@@ -208,8 +196,10 @@ fn words_beside_them_are_no_command(rt: HostRuntime) -> Result<(), Fail> {
         let mut disk = SureDisk::new(alloc, 0, 149, 0)?;
         fill(&mut disk)?;
         let left = run_over(alloc, line, &mut disk, 99)?;
-        assert!(rt; left.status == Status::Words, "{line}");
-        assert!(rt; left.err.bytes() == "words: no such command\n".as_bytes());
+        assert!(rt;
+            left.is(Status::Words, "", "words: no such command\n"),
+            "{line}"
+        );
         assert!(rt; is_one(&mut disk) == Ok(true), "{line}");
     }
     Ok(())

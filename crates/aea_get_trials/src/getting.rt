@@ -62,9 +62,10 @@ fn a_name_that_no_object_has(rt: HostRuntime) -> Result<(), Fail> {
     let mut disk = filled(alloc)?;
     for name in ["fir", "firsts", "", "b"] {
         let left = run_get(alloc, &mut disk, name, 99)?;
-        assert!(rt; left.status == Status::Refused, "{name}");
-        assert!(rt; left.err.bytes() == "refused: unknown name\n".as_bytes());
-        assert!(rt; left.out.bytes().is_empty());
+        assert!(rt;
+            left.is(Status::Refused, "", "refused: unknown name\n"),
+            "{name}"
+        );
     }
     Ok(())
 }
@@ -84,9 +85,7 @@ fn the_first_damaged_block_is_told(rt: HostRuntime) -> Result<(), Fail> {
         let _count = disk.read(file, place, &mut byte)?;
         disk.write(file, place, &[byte[0] ^ 1])?;
         let left = run_get(alloc, &mut disk, "second", 99)?;
-        assert!(rt; left.status == Status::Refused, "{file}");
-        assert!(rt; left.err.bytes() == line.as_bytes());
-        assert!(rt; left.out.bytes().is_empty());
+        assert!(rt; left.is(Status::Refused, "", line), "{file}");
         // the others are got
         let left = run_get(alloc, &mut disk, "first", 99)?;
         assert!(rt; left.status == Status::Done, "{file}");
@@ -201,8 +200,7 @@ fn objects_are_listed_by_name(rt: HostRuntime) -> Result<(), Fail> {
     assert!(rt; left.status == Status::Done && left.out.bytes().is_empty());
     let mut disk = filled(alloc)?;
     let left = run_over(alloc, "list", &mut disk, 999)?;
-    assert!(rt; left.status == Status::Done);
-    assert!(rt; left.out.bytes() == LISTED.as_bytes());
+    assert!(rt; left.is(Status::Done, LISTED, ""));
     assert!(rt; left.out.flushed == LISTED.len());
     Ok(())
 }

@@ -172,7 +172,6 @@ fn an_object_in_parts_that_lie_apart_is_got(rt: HostRuntime) -> Result<(), Fail>
     let parts = [Extent { first: 1, count: 1 }, Extent { first: 3, count: 1 }];
     assert!(rt; share(alloc, &mut disk, b"0123456789abcdefwxyz", &parts)?);
     let left = run_words(alloc, &["get", "x"], &mut disk, b"", 20)?;
-    assert!(rt; left.status == Status::Done);
-    assert!(rt; left.out.bytes() == "0123456789abcdefwxyz".as_bytes());
+    assert!(rt; left.is(Status::Done, "0123456789abcdefwxyz", ""));
     Ok(())
 }

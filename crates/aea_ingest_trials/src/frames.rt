@@ -56,12 +56,10 @@ fn a_stream_of_two_frames(rt: HostRuntime) -> Result<(), Fail> {
     assert!(rt; left.out.flushed == lines.len());
     assert!(rt; left.err.bytes().is_empty() && left.unread == 0);
     let left = run_words(alloc, &["ingest"], &mut disk, b"", 400)?;
-    assert!(rt; left.status == Status::Done);
-    assert!(rt; left.out.bytes() == "end 0\n".as_bytes());
+    assert!(rt; left.is(Status::Done, "end 0\n", ""));
     let left = run_words(alloc, &["ingest"], &mut disk, &CUT[..14], 400)?;
-    assert!(rt; (left.status, left.unread) == (Status::Refused, 3));
-    assert!(rt; left.err.bytes() == "refused: name taken\n".as_bytes());
-    assert!(rt; left.out.bytes().is_empty());
+    assert!(rt; left.is(Status::Refused, "", "refused: name taken\n"));
+    assert!(rt; left.unread == 3);
     Ok(())
 }
 
@@ -80,9 +78,8 @@ fn streams_that_are_refused(rt: HostRuntime) -> Result<(), Fail> {
     ] {
         let mut disk = fresh(alloc)?;
         let left = run_words(alloc, &["ingest"], &mut disk, bytes, 400)?;
-        assert!(rt; (left.status, left.unread) == (Status::Refused, unread), "{line}");
-        assert!(rt; left.err.bytes() == line.as_bytes());
-        assert!(rt; left.out.bytes().is_empty());
+        assert!(rt; left.is(Status::Refused, "", line), "{line}");
+        assert!(rt; left.unread == unread, "{line}");
     }
     Ok(())
 }
@@ -111,9 +108,8 @@ fn a_damaged_head_refuses_the_first_frame_alone(rt: HostRuntime) -> Result<(), F
     let _stored = run_put(alloc, &mut disk, "z", b"abc")?;
     disk.write(3, 16, b"x")?;
     let left = run_words(alloc, &["ingest"], &mut disk, &CUT[..25], 400)?;
-    assert!(rt; (left.status, left.unread) == (Status::Refused, 14));
-    assert!(rt; left.err.bytes() == "refused: head damaged r1\n".as_bytes());
-    assert!(rt; left.out.bytes().is_empty());
+    assert!(rt; left.is(Status::Refused, "", "refused: head damaged r1\n"));
+    assert!(rt; left.unread == 14);
     Ok(())
 }
 
@@ -127,8 +123,7 @@ fn what_is_no_archive_takes_no_frame(rt: HostRuntime) -> Result<(), Fail> {
     let mut disk = fresh(alloc)?;
     disk.write(0, 9, &[4])?;
     let left = run_words(alloc, &["ingest"], &mut disk, CUT, 400)?;
-    assert!(rt; (left.status, left.unread) == (Status::Refused, 37));
-    assert!(rt; left.err.bytes() == "refused: ledger bad at 9\n".as_bytes());
-    assert!(rt; left.out.bytes().is_empty());
+    assert!(rt; left.is(Status::Refused, "", "refused: ledger bad at 9\n"));
+    assert!(rt; left.unread == 37);
     Ok(())
 }

@@ -4,7 +4,7 @@ use aea_catalog::check_name;
 use std::alloc::{AllocError, Global};
 
 /// What a file is.
-#[derive(Clone, Copy, Debug, PartialEq, Eq)]
+#[derive(Clone, Copy, PartialEq, Eq)]
 pub enum Reading {
     NoArchive,
     Bad { at: u64 },

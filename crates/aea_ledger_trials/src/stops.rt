@@ -122,7 +122,7 @@ fn each_image_opens_as_the_old_or_the_new(rt: HostRuntime) -> Result<(), Fail> {
             let last = after == made && opened == NONE
                 || after == first && opened == ONE
                 || after == second && opened == TWO;
-            assert!(rt; fits || last, "{opened:?} after {after}");
+            assert!(rt; fits || last, "after {after}");
         }
     }
     Ok(())

@@ -52,10 +52,8 @@ fn an_object_of_three_bytes(rt: HostRuntime) -> Result<(), Fail> {
     let mut disk = SureDisk::new(alloc, 4, 203, 112)?;
     let _made = run_over(alloc, LINE, &mut disk, 99)?;
     let left = run_put(alloc, &mut disk, "a", b"abc")?;
-    assert!(rt; left.status == Status::Done);
-    assert!(rt; left.out.bytes() == STORED_ABC.as_bytes());
-    assert!(rt; left.err.bytes().is_empty() && left.unread == 0);
-    assert!(rt; left.out.flushed == STORED_ABC.len());
+    assert!(rt; left.is(Status::Done, STORED_ABC, ""));
+    assert!(rt; left.unread == 0 && left.out.flushed == STORED_ABC.len());
 
     let mut bytes = [9u8; 256];
     assert!(rt; disk.read(0, 0, &mut bytes) == Ok(203));
@@ -80,8 +78,7 @@ fn an_empty_object_has_no_nodes(rt: HostRuntime) -> Result<(), Fail> {
     let alloc = rt.alloc();
     let mut disk = with_abc(alloc)?;
     let left = run_put(alloc, &mut disk, "e", b"")?;
-    assert!(rt; left.status == Status::Done);
-    assert!(rt; left.out.bytes() == STORED_EMPTY.as_bytes());
+    assert!(rt; left.is(Status::Done, STORED_EMPTY, ""));
     let left = run_over(alloc, "stat", &mut disk, 99)?;
     assert!(rt;
         left.out.bytes()
@@ -106,9 +103,8 @@ fn names_that_are_refused(rt: HostRuntime) -> Result<(), Fail> {
         ("\u{7f}", "refused: bad name\n"),
     ] {
         let left = run_put(alloc, &mut disk, name, b"abc")?;
-        assert!(rt; left.status == Status::Refused, "{name:?}");
-        assert!(rt; left.err.bytes() == line.as_bytes(), "{name:?}");
-        assert!(rt; left.out.bytes().is_empty() && left.unread == 3, "{name:?}");
+        assert!(rt; left.is(Status::Refused, "", line), "{name:?}");
+        assert!(rt; left.unread == 3, "{name:?}");
         assert!(rt; snapshot(alloc, &mut disk)? == before, "{name:?}");
     }
     // names that are taken, a word like a command among them
@@ -149,8 +145,7 @@ fn as_many_nodes_as_there_may_be_and_a_byte_more(rt: HostRuntime) -> Result<(), 
     let _made = run_over(alloc, "create 1 1 0 16 1", &mut disk, 99)?;
     let bytes = vec![in alloc; 7u8; 1_048_580]?;
     let left = run_put(alloc, &mut disk, "a", &bytes)?;
-    assert!(rt; left.err.bytes() == "refused: full at 0 nodes\n".as_bytes());
-    assert!(rt; left.status == Status::Refused && left.out.bytes().is_empty());
+    assert!(rt; left.is(Status::Refused, "", "refused: full at 0 nodes\n"));
     assert!(rt; left.unread == 3);
     let left = run_over(alloc, "stat", &mut disk, 99)?;
     assert!(rt;
@@ -224,8 +219,8 @@ fn a_full_catalogue_takes_no_object(rt: HostRuntime) -> Result<(), Fail> {
         ("", "refused: bad name\n"),
     ] {
         let left = run_put(alloc, &mut disk, name, b"x")?;
-        assert!(rt; left.err.bytes() == line.as_bytes());
-        assert!(rt; (left.status, left.unread) == (Status::Refused, 1));
+        assert!(rt; left.is(Status::Refused, "", line));
+        assert!(rt; left.unread == 1);
     }
     // of a stream of frames none is stored, though its object has no byte
     for (frame, line) in [
@@ -236,8 +231,8 @@ fn a_full_catalogue_takes_no_object(rt: HostRuntime) -> Result<(), Fail> {
         (b"\0\x05aaaaz\0\0\0\0\0\0\0\0", "refused: name taken\n"),
     ] {
         let left = run_words(alloc, &["ingest"], &mut disk, frame, 99)?;
-        assert!(rt; left.err.bytes() == line.as_bytes());
-        assert!(rt; (left.status, left.unread) == (Status::Refused, 0));
+        assert!(rt; left.is(Status::Refused, "", line));
+        assert!(rt; left.unread == 0);
     }
     Ok(())
 }
@@ -264,9 +259,8 @@ fn the_damaged_head_with_the_least_number_is_named(rt: HostRuntime) -> Result<()
         let before = snapshot(alloc, &mut disk)?;
         for bytes in [b"x".as_slice(), b""] {
             let left = run_put(alloc, &mut disk, "b", bytes)?;
-            assert!(rt; left.status == Status::Refused, "{line}");
-            assert!(rt; left.err.bytes() == line.as_bytes());
-            assert!(rt; left.out.bytes().is_empty() && left.unread == bytes.len());
+            assert!(rt; left.is(Status::Refused, "", line), "{line}");
+            assert!(rt; left.unread == bytes.len(), "{line}");
             assert!(rt; snapshot(alloc, &mut disk)? == before, "{line}");
         }
         let left = run_put(alloc, &mut disk, "a", b"x")?;
@@ -302,16 +296,13 @@ fn a_bad_ledger_takes_no_object(rt: HostRuntime) -> Result<(), Fail> {
         let before = snapshot(alloc, &mut disk)?;
         for name in ["b", "a", ""] {
             let left = run_put(alloc, &mut disk, name, b"x")?;
-            assert!(rt; left.status == Status::Refused, "{end} {place}");
-            assert!(rt; left.err.bytes() == line.as_bytes(), "{end} {place}");
-            assert!(rt; left.out.bytes().is_empty() && left.unread == 1, "{end} {place}");
+            assert!(rt; left.is(Status::Refused, "", line), "{end} {place}");
+            assert!(rt; left.unread == 1, "{end} {place}");
             assert!(rt; snapshot(alloc, &mut disk)? == before, "{end} {place}");
         }
         for other in ["get a", "get z", "list", "stat", "scrub", "fence", "upgrade", "ingest"] {
             let left = run_over(alloc, other, &mut disk, 99)?;
-            assert!(rt; left.status == Status::Refused, "{other} {end} {place}");
-            assert!(rt; left.err.bytes() == line.as_bytes(), "{other} {end} {place}");
-            assert!(rt; left.out.bytes().is_empty(), "{other} {end} {place}");
+            assert!(rt; left.is(Status::Refused, "", line), "{other} {end} {place}");
         }
     }
     Ok(())
@@ -324,9 +315,10 @@ fn a_disk_without_room_for_a_cell_is_at_fault(rt: HostRuntime) -> Result<(), Fai
         let mut disk = SureDisk::new(alloc, 4, ledger, site)?;
         let _made = run_over(alloc, LINE, &mut disk, 99)?;
         let left = run_put(alloc, &mut disk, "a", b"abc")?;
-        assert!(rt; left.status == Status::Disk, "{ledger} {site}");
-        assert!(rt; left.err.bytes() == "fault: disk\n".as_bytes());
-        assert!(rt; left.out.bytes().is_empty());
+        assert!(rt;
+            left.is(Status::Disk, "", "fault: disk\n"),
+            "{ledger} {site}"
+        );
         let left = run_words(alloc, &["stat"], &mut disk, b"", 99)?;
         assert!(rt;
             left.out.bytes()

@@ -62,12 +62,10 @@ fn shorten<D: Disk>(disk: &mut D, file: u8, to: u64) -> bool
 fn a_fresh_archive_has_no_block(rt: HostRuntime) -> Result<(), Fail> {
     let mut disk = SureDisk::new(rt.alloc(), 0, 18, 0)?;
     let left = run_over(rt.alloc(), "scrub", &mut disk, 99)?;
-    assert!(rt; left.status == Status::Refused);
-    assert!(rt; left.err.bytes() == "refused: no archive\n".as_bytes());
+    assert!(rt; left.is(Status::Refused, "", "refused: no archive\n"));
     let _made = run_over(rt.alloc(), LINE, &mut disk, 99)?;
     let left = run_over(rt.alloc(), "scrub", &mut disk, 99)?;
-    assert!(rt; left.status == Status::Done);
-    assert!(rt; left.out.bytes() == "total 0 damaged 0\n".as_bytes());
+    assert!(rt; left.is(Status::Done, "total 0 damaged 0\n", ""));
     Ok(())
 }
 
@@ -77,15 +75,13 @@ fn a_lost_site_is_told(rt: HostRuntime) -> Result<(), Fail> {
         panic!(rt; "no archive");
     };
     let left = run_over(rt.alloc(), "scrub", &mut disk, 99)?;
-    assert!(rt; left.status == Status::Done);
-    assert!(rt; left.out.bytes() == SOUND.as_bytes());
-    assert!(rt; left.err.bytes().is_empty() && left.out.flushed == SOUND.len());
+    assert!(rt; left.is(Status::Done, SOUND, ""));
+    assert!(rt; left.out.flushed == SOUND.len());
 
     assert!(rt; shorten(&mut disk, 3, 0));
     let left = run_over(rt.alloc(), "scrub", &mut disk, 99)?;
-    assert!(rt; left.status == Status::Damage);
-    assert!(rt; left.out.bytes() == SITE_3_LOST.as_bytes());
-    assert!(rt; left.err.bytes().is_empty() && left.out.flushed == SITE_3_LOST.len());
+    assert!(rt; left.is(Status::Damage, SITE_3_LOST, ""));
+    assert!(rt; left.out.flushed == SITE_3_LOST.len());
     // the objects stand
     let left = run_over(rt.alloc(), "stat", &mut disk, 99)?;
     assert!(rt; left.status == Status::Done);
@@ -128,8 +124,7 @@ fn a_cell_at_another_home_is_damaged(rt: HostRuntime) -> Result<(), Fail> {
     assert!(rt; count == 64);
     disk.write(2, 0, &cell)?;
     let left = run_over(rt.alloc(), "scrub", &mut disk, 99)?;
-    assert!(rt; left.status == Status::Damage);
-    assert!(rt; left.out.bytes() == "damaged h1\ntotal 16 damaged 1\n".as_bytes());
+    assert!(rt; left.is(Status::Damage, "damaged h1\ntotal 16 damaged 1\n", ""));
     Ok(())
 }
 
@@ -139,8 +134,10 @@ fn words_beside_it_are_no_command(rt: HostRuntime) -> Result<(), Fail> {
         let mut disk = SureDisk::new(rt.alloc(), 0, 18, 0)?;
         let _made = run_over(rt.alloc(), LINE, &mut disk, 99)?;
         let left = run_over(rt.alloc(), line, &mut disk, 99)?;
-        assert!(rt; left.status == Status::Words, "{line}");
-        assert!(rt; left.err.bytes() == "words: no such command\n".as_bytes());
+        assert!(rt;
+            left.is(Status::Words, "", "words: no such command\n"),
+            "{line}"
+        );
     }
     Ok(())
 }

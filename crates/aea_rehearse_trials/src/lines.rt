@@ -49,10 +49,11 @@ fn a_number_gives_the_same_line_each_time(rt: HostRuntime) -> Result<(), Fail> {
     for (line, status, text) in LINES {
         for _ in 0..2 {
             let left = run_line(rt.alloc(), line, b"unread")?;
-            assert!(rt; left.out.bytes() == text.as_bytes(), "{line}");
-            assert!(rt; (left.status, left.unread) == (status, 6), "{line}");
-            assert!(rt; left.out.flushed == text.len(), "{line}");
-            assert!(rt; left.err.bytes().is_empty(), "{line}");
+            assert!(rt; left.is(status, text, ""), "{line}");
+            assert!(rt;
+                left.unread == 6 && left.out.flushed == text.len(),
+                "{line}"
+            );
         }
     }
     Ok(())
@@ -61,10 +62,12 @@ fn a_number_gives_the_same_line_each_time(rt: HostRuntime) -> Result<(), Fail> {
 #[test]
 fn the_greatest_rehearsal(rt: HostRuntime) -> Result<(), Fail> {
     let left = run_line(rt.alloc(), "rehearse 7 2000 150", b"")?;
-    assert!(rt; left.status == Status::Done);
     assert!(rt;
-        left.out.bytes()
-            == "nodes 2000 blocks 8000 damaged 1186 peeled 1186 solved 0 lost 0 accepted\n".as_bytes()
+        left.is(
+            Status::Done,
+            "nodes 2000 blocks 8000 damaged 1186 peeled 1186 solved 0 lost 0 accepted\n",
+            ""
+        )
     );
     Ok(())
 }

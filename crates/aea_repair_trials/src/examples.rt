@@ -126,8 +126,7 @@ fn cells_of_another_archive_are_damage(rt: HostRuntime) -> Result<(), Fail> {
     let other = file_bytes(alloc, &mut archive_of_four(alloc, b"abd")?, 1)?;
     fill_file(&mut disk, 1, other.as_slice())?;
     let left = run_over(alloc, "scrub", &mut disk, 99)?;
-    assert!(rt; left.status == Status::Damage);
-    assert!(rt; left.out.bytes() == "damaged d1\ntotal 4 damaged 1\n".as_bytes());
+    assert!(rt; left.is(Status::Damage, "damaged d1\ntotal 4 damaged 1\n", ""));
     let left = run_over(alloc, "repair", &mut disk, 999)?;
     assert!(rt; left.status == Status::Done);
     assert!(rt; text_of(left.out.bytes())?.ends_with("\ncounts 1 1 0 0\npeeled d1\n"));
@@ -168,15 +167,12 @@ fn a_damaged_head_is_repaired_before_the_next_put(rt: HostRuntime) -> Result<(),
     let mut disk = archive_of_four(alloc, b"abc")?;
     spoil(&mut disk, 3, 20)?;
     let left = run_put(alloc, &mut disk, "b", b"abc")?;
-    assert!(rt; left.status == Status::Refused);
-    assert!(rt; left.err.bytes() == "refused: head damaged r1\n".as_bytes());
+    assert!(rt; left.is(Status::Refused, "", "refused: head damaged r1\n"));
     let want = report_of(alloc, &mut disk, "3 2 5 1", "counts 1 1 0 0\npeeled r1\n")?;
     let left = run_over(alloc, "repair", &mut disk, 999)?;
-    assert!(rt; left.status == Status::Done);
-    assert!(rt; left.out.bytes() == want.as_str().as_bytes());
+    assert!(rt; left.is(Status::Done, want.as_str(), ""));
     let left = run_put(alloc, &mut disk, "b", b"abc")?;
-    assert!(rt; left.status == Status::Done);
-    assert!(rt; left.out.bytes() == STORED.as_bytes());
+    assert!(rt; left.is(Status::Done, STORED, ""));
     Ok(())
 }
 
@@ -190,8 +186,7 @@ fn lost_blocks_stay_lost_before_a_fence(rt: HostRuntime) -> Result<(), Fail> {
     shorten(&mut disk, 1, 0)?;
     let want = report_of(alloc, &mut disk, "1 1 0 1", lost)?;
     let left = run_over(alloc, "repair", &mut disk, 999)?;
-    assert!(rt; left.status == Status::Damage);
-    assert!(rt; left.out.bytes() == want.as_str().as_bytes());
+    assert!(rt; left.is(Status::Damage, want.as_str(), ""));
     assert!(rt; disk.len(1) == Ok(0));
     let left = run_put(alloc, &mut disk, "b", b"abc")?;
     assert!(rt; left.err.bytes() == "refused: head damaged h1\n".as_bytes());
@@ -205,8 +200,7 @@ fn lost_blocks_stay_lost_before_a_fence(rt: HostRuntime) -> Result<(), Fail> {
     // the codeword of node 1 ends at the fence, so that the second object tells nothing of the first
     let want = report_of(alloc, &mut disk, "1 1 0 2", lost)?;
     let left = run_over(alloc, "repair", &mut disk, 999)?;
-    assert!(rt; left.status == Status::Damage);
-    assert!(rt; left.out.bytes() == want.as_str().as_bytes());
+    assert!(rt; left.is(Status::Damage, want.as_str(), ""));
     // and what is damaged of the second one is restored without it
     let whole = all_bytes(alloc, &mut disk)?;
     spoil_cell(&mut disk, 1, 64, 2, 16)?;

@@ -54,8 +54,7 @@ fn a_lost_site_of_four_is_peeled(rt: HostRuntime) -> Result<(), Fail> {
         assert!(rt; lines.as_str().starts_with(first), "{file}");
         let want = report_of(alloc, &mut disk, "3 2 5 40", lines.as_str())?;
         let left = run_over(alloc, "repair", &mut disk, 4096)?;
-        assert!(rt; left.status == Status::Done, "{file}");
-        assert!(rt; left.out.bytes() == want.as_str().as_bytes(), "{file}");
+        assert!(rt; left.is(Status::Done, want.as_str(), ""), "{file}");
         assert!(rt; has_bytes(alloc, &mut disk, whole.as_slice())?, "{file}");
         let left = run_over(alloc, "scrub", &mut disk, 99)?;
         assert!(rt; left.out.bytes() == "total 160 damaged 0\n".as_bytes());
@@ -94,9 +93,8 @@ fn what_is_solved_and_what_is_lost_is_told(rt: HostRuntime) -> Result<(), Fail> 
     }
     let want = report_of(alloc, &mut disk, "2 2 2 11", TWO_CODEWORDS)?;
     let left = run_over(alloc, "repair", &mut disk, 4096)?;
-    assert!(rt; left.status == Status::Damage);
-    assert!(rt; left.out.bytes() == want.as_str().as_bytes());
-    assert!(rt; left.err.bytes().is_empty() && left.out.flushed == want.len());
+    assert!(rt; left.is(Status::Damage, want.as_str(), ""));
+    assert!(rt; left.out.flushed == want.len());
     let left = run_over(alloc, "scrub", &mut disk, 999)?;
     assert!(rt; left.out.bytes() == STILL_DAMAGED.as_bytes());
     // a second repair changes nothing

@@ -17,7 +17,7 @@ pub const CELL: usize = 64;
 pub const SITES: u8 = 4;
 
 // A block, and the nodes that decide whether a codeword contains it: it does where an odd number of them are members.
-#[derive(Clone, Copy, Debug, Drop)]
+#[derive(Clone, Copy, Drop)]
 struct Mask {
     block: BlockId,
     nodes: u64,

@@ -21,20 +21,21 @@ fn words_beside_it_are_no_command(rt: HostRuntime) -> Result<(), Fail> {
         ["Repair", "a"],
     ] {
         let left = run_words(alloc, &words, &mut disk, b"unread", 99)?;
-        assert!(rt; left.status == Status::Words, "{words:?}");
-        assert!(rt; left.err.bytes() == "words: no such command\n".as_bytes());
         assert!(rt;
-            left.out.bytes().is_empty() && left.unread == 6,
+            left.is(Status::Words, "", "words: no such command\n"),
             "{words:?}"
         );
+        assert!(rt; left.unread == 6, "{words:?}");
     }
     for word in [
         "Repair", "repairs", "repai", "repair ", " repair", "REPAIR", "repair\n",
     ] {
         let left = run_words(alloc, &[word], &mut disk, b"unread", 99)?;
-        assert!(rt; left.status == Status::Words, "{word:?}");
-        assert!(rt; left.err.bytes() == "words: no such command\n".as_bytes());
-        assert!(rt; left.out.bytes().is_empty() && left.unread == 6, "{word:?}");
+        assert!(rt;
+            left.is(Status::Words, "", "words: no such command\n"),
+            "{word:?}"
+        );
+        assert!(rt; left.unread == 6, "{word:?}");
     }
     assert!(rt; has_bytes(alloc, &mut disk, stands.as_slice())?);
     Ok(())

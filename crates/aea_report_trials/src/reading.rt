@@ -21,7 +21,7 @@ lost d1 by 1 3 4 6\nsolved h3\npeeled r3\nlost d4 by 1 10 11\npeeled r11\n"
 }
 
 // What a reader answers of some bytes: how many of them it has read as lines, and the fault at which it stopped.
-#[derive(Clone, Copy, Debug, PartialEq, Eq)]
+#[derive(Clone, Copy, PartialEq, Eq)]
 struct Found {
     read: usize,
     fault: Option<ReportFault>,

@@ -7,3 +7,4 @@ mod Digests
 pub mod Records
 mod Runs
 pub mod Honest
+mod Told

@@ -1,5 +1,5 @@
 -- What follows of the definitions.
-use Rattle.std.specs.Prelude.{◌≡◌, ◌+◌, ◌*◌, ◌≤◌, ◌++◌, length, ℕ, List, [], ◌∷◌, All}
+use Rattle.std.specs.Prelude.{◌≡◌, Bool, ◌+◌, ◌*◌, ◌≤◌, ◌++◌, length, ℕ, List, [], ◌∷◌, All}
 use Rattle.std.specs.List.{flat_map}
 use Rattle.aea_lattice.specs.declared.blocks.BlockId.{BlockId}
 use Rattle.aea_lattice.specs.declared.grid.Lattice.{Lattice}
@@ -12,7 +12,7 @@ use Rattle.aea_lattice.specs.Data.{value_of}
 use Rattle.aea_lattice.specs.Growth.{IsGrown}
 use Rattle.aea_disk.specs.Files.{Files}
 use Rattle.aea_shelf.specs.Writes.{KeepsPadded, KeepsIntact}
-use Rattle.aea_archive.specs.Blocks.{IsBlockOn, IsBlockIn}
+use Rattle.aea_archive.specs.Blocks.{IsBlockOn, IsBlockIn, TellsSurvivors}
 use Rattle.aea_archive.specs.Cells.{AreAtHome}
 use Rattle.aea_archive.specs.Lasts.{IsLastParity, AreLastsHonest, AreLastsRecorded, AreLastsAtHome, AreLastsOf}
 use Rattle.aea_archive.specs.Next.{AreDigestsOn, object_blocks, IsNextStored, NewObject, AreNextRecords}
@@ -72,3 +72,9 @@ SurvivorsStayHonest =
     → KeepsPadded shape (IsBlockIn shape l.n) c d → KeepsIntact shape (IsBlockIn shape l.n) c d
     → AreSurvivorsHonest shape l digests datas c → IsDamagePlain shape l digests c
     → AreSurvivorsHonest shape m (digests ++ ds) (datas ++ more) d × IsDamagePlain shape m (digests ++ ds) d
+
+-- Whatever stands in the files, some test tells the survivors: what is said of each such test is said of one.
+abbrev pub SurvivorsAreTold : Type 0
+SurvivorsAreTold =
+    (shape : Shape) (nodes : ℕ) (digests : List (List ℕ)) (c : Files)
+    → (known : BlockId → Bool) × TellsSurvivors shape nodes digests c known

@@ -1,6 +1,6 @@
 //! What follows of the definitions.
 
-ghost use Rattle.aea_archive.specs.Laws.{NoneRecordNone, NextRecordsMore, ObjectsRecordMore, PutsRecord, LastsAreValues, SurvivorsStayHonest};
+ghost use Rattle.aea_archive.specs.Laws.{NoneRecordNone, NextRecordsMore, ObjectsRecordMore, PutsRecord, LastsAreValues, SurvivorsStayHonest, SurvivorsAreTold};
 
 use aea_envelope::{cells_have_lengths, cells_have_parts};
 use aea_shelf::plain_damage_stays;
@@ -48,4 +48,12 @@ pub fn survivors_stay_honest()
     cells_have_parts();
     plain_damage_stays();
     longer_data_keep_values();
+}
+
+/// Whatever stands in the files, some test tells which blocks are intact.
+pub fn survivors_are_told()
+    ensures { SurvivorsAreTold }
+{
+    cells_have_lengths();
+    cells_have_parts();
 }

@@ -30,6 +30,6 @@ pub mod read;
 
 pub use laws::{
     lasts_are_values, next_records_more, none_record_none, objects_record_more, puts_record,
-    survivors_stay_honest,
+    survivors_are_told, survivors_stay_honest,
 };
 pub use read::{read_block, recorded};

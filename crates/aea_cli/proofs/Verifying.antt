@@ -13,7 +13,7 @@ use Rattle.aea_ledger.specs.Values.{Opened}
 use Rattle.aea_verify.specs.declared.verdict.Verdict.{Verdict}
 use Rattle.aea_verify.specs.declared.verdict.VerifyFault.{VerifyFault}
 use Rattle.aea_verify.specs.declared.verdict.VerifyFault.TheVariants as fault
-use Rattle.aea_verify.specs.Answers.{Answers, IsAnswered}
+use Rattle.aea_verify.specs.Answers.{Answers, IsAnswered, IsReadAs}
 use Rattle.aea_cli.specs.declared.refusal.Failure.{Failure}
 use Rattle.aea_cli.specs.declared.refusal.Failure.TheVariants as failure
 use Rattle.aea_cli.specs.Failures.{Answer, verify_failure}
@@ -25,6 +25,7 @@ use Rattle.aea_cli.proofs.Verifying.Answering.{IsAnswerTo, from_disk}
 -- what the check of the report gave behind the opening
 pub record HasChecked (tells : Type 0) (v : Opened) (old mid new : State) (input rest : SourceState) (r : Result Verdict VerifyFault) : Type 1 where
   pub opens : Opens tells old mid (Ok v)
+  pub read : (report : List ℕ) → input.left ≡ Some report → IsReadAs report r
   pub answers : tells → (report : List ℕ) → input.left ≡ Some report → Answers v mid.files report r
   pub exactly : tells → (report : List ℕ) → input.left ≡ Some report → IsAnswered v mid.files report r
   pub end : OnOk r (IsAtEnd rest.left)
@@ -45,6 +46,7 @@ verifies_checked tells v old mid new input rest before after r answer gave to =
       judges = (
         r,
         record {
+          read = gave.read;
           answers = λ told report is. subst (λ (c : Files). Answers v c report r) (same told) (gave.answers told report is);
           exactly = λ told report is. subst (λ (c : Files). IsAnswered v c report r) (same told) (gave.exactly told report is);
           end = gave.end;

@@ -26,7 +26,7 @@ use Rattle.aea_verify.specs.declared.verdict.Why.TheVariants.{OtherArchive, Stil
 use Rattle.aea_verify.specs.declared.verdict.Verdict.{Verdict}
 use Rattle.aea_verify.specs.declared.verdict.Verdict.TheVariants.{Accepted, Rejected}
 use Rattle.aea_verify.specs.declared.verdict.VerifyFault.{VerifyFault}
-use Rattle.aea_verify.specs.Answers.{Answers, IsAnswered}
+use Rattle.aea_verify.specs.Answers.{Answers, IsAnswered, IsReadAs}
 use Rattle.aea_verify.specs.Rules.{verdict_of}
 use Rattle.aea_cli.specs.declared.refusal.Refusal.{Refusal}
 use Rattle.aea_cli.specs.declared.refusal.Refusal.TheVariants.{NoArchive, LedgerBad, BadLine, LineTooLong}
@@ -75,7 +75,9 @@ pub record PrintsVerdict (verdict : Verdict) (before after : SinkState) (answer 
 -- Of a run that judges the input against the opened archive in these files, with the input and `out` before and after it,
 -- its answer, and what the check of the report gave:
 pub record Judges (tells : Type 0) (v : Opened) (c : Files) (input rest : SourceState) (before after : SinkState) (result : Result Verdict VerifyFault) (answer : Answer) : Type 0 where
-  -- the verdict, or the line that is no line of a report, has its cause in the input and the files, and these have it alone
+  -- whether it is a report, and at which line it is none, is told by the input alone, whatever the disk is
+  pub read : (report : List ℕ) → input.left ≡ Some report → IsReadAs report result
+  -- the verdict has its cause in the input and the files, and these have it alone
   pub answers : tells → (report : List ℕ) → input.left ≡ Some report → Answers v c report result
   pub exactly : tells → (report : List ℕ) → input.left ≡ Some report → IsAnswered v c report result
   -- where there is a verdict the input was read to its end, and the verdict is printed

@@ -25,11 +25,11 @@ use Rattle.aea_verify.specs.declared.verdict.Why.TheVariants.{OtherArchive}
 use Rattle.aea_verify.specs.declared.verdict.Verdict.{Verdict}
 use Rattle.aea_verify.specs.declared.verdict.Verdict.TheVariants.{Accepted, Rejected}
 use Rattle.aea_verify.specs.declared.verdict.VerifyFault.{VerifyFault}
-use Rattle.aea_verify.specs.declared.verdict.VerifyFault.TheVariants.{BadLine, LineTooLong, ReadFault, NoMemory}
+use Rattle.aea_verify.specs.declared.verdict.VerifyFault.TheVariants.{BadLine, LineTooLong, ReadFault, DiskFault, NoMemory}
 use Rattle.aea_verify.specs.Rules.{has_lattice, verdict_of}
 use Rattle.aea_verify.specs.Shown.{AcceptedAreFitting, LostAreOpen}
 use Rattle.aea_verify.specs.Judged.{FaultSays, HasVerdict}
-use Rattle.aea_verify.specs.Answers.{IsJudged, IsFree, IsAnswered, fault_of}
+use Rattle.aea_verify.specs.Answers.{IsJudged, IsFree, IsReadAs, IsAnswered, fault_of}
 use Rattle.aea_verify.proofs.Judged.{lattice_of_fit}
 use Rattle.aea_verify.proofs.Agree.{verdict-agree, lines-same, head-same, other-lattice}
 
@@ -111,7 +111,7 @@ some_bytes v = let h = v.shape.in_profile in grind (arith, nat_tests)
 same_ok : (a b : Verdict) → ◌≡◌ {A = Result Verdict VerifyFault} (Ok a) (Ok b) → a ≡ b
 same_ok a b e = cc
 
-module _ (one : HaveOneReading) (not_bad : ReportsAreNotBad) (once : AreBadAtOneLine) (fitting : AcceptedAreFitting) (lost : LostAreOpen) (v : Opened) (c : Files) (input : List ℕ) where
+module _ (one : HaveOneReading) (fitting : AcceptedAreFitting) (lost : LostAreOpen) (v : Opened) (c : Files) (input : List ℕ) where
   fits_exactly : (verdict : Verdict) → IsJudged v c input verdict → (test : BlockId → Bool) (h : Head) (lines : List Line) → TellsSurvivors v.shape v.lattice.n v.digests c test → IsReport input h lines
       → (verdict ≡ Accepted) ↔ Fits v.lattice v.seal test h lines
   fits_exactly verdict is test h lines told report =
@@ -123,9 +123,6 @@ module _ (one : HaveOneReading) (not_bad : ReportsAreNotBad) (once : AreBadAtOne
 
   pub answered-ok : (verdict : Verdict) → IsJudged v c input verdict → IsAnswered v c input (Ok verdict)
   answered-ok verdict is = record {
-    report = λ h lines report. inl refl;
-    bad = λ k bad. absurd ((not_bad input is.head is.lines k is.report).0 bad);
-    long = λ k long. absurd ((not_bad input is.head is.lines k is.report).1 long);
     fits = λ test h lines told report ok.
         let exactly = fits_exactly verdict is test h lines told report in
         (λ accepted. exactly.0 (same_ok verdict Accepted accepted), λ fit. ap Ok (exactly.1 fit));
@@ -135,42 +132,95 @@ module _ (one : HaveOneReading) (not_bad : ReportsAreNotBad) (once : AreBadAtOne
         (block, lost v.lattice v.seal test h lines v.shape.block (some_bytes v) fit b nodes block has);
   }
 
-  no_ok : (fault : VerifyFault) (verdict : Verdict) → ◌≡◌ {A = Result Verdict VerifyFault} (Err fault) (Ok verdict) → ⊥
-  no_ok fault verdict e = cc
+no_ok : (fault : VerifyFault) (verdict : Verdict) → ◌≡◌ {A = Result Verdict VerifyFault} (Err fault) (Ok verdict) → ⊥
+no_ok fault verdict e = cc
 
-  -- a fault of the source or the disk, and want of memory
-  pub answered-free : (fault : VerifyFault) → IsFree (Err fault) → IsAnswered v c input (Err fault)
-  answered-free fault free = record {
-    report = λ h lines report. inr free;
-    bad = λ k bad. inr free;
-    long = λ k long. inr free;
-    fits = λ test h lines told report ok. absurd (false≢true ok);
-    shows = λ test h lines b nodes told report accepted has. absurd (no_ok fault Accepted accepted);
+-- of a fault there is nothing to say
+pub answered-err : (v : Opened) (c : Files) (input : List ℕ) (fault : VerifyFault) → IsAnswered v c input (Err fault)
+answered-err v c input fault = record {
+  fits = λ test h lines told report ok. absurd (false≢true ok);
+  shows = λ test h lines b nodes told report accepted has. absurd (no_ok fault Accepted accepted);
+}
+
+-- ---- what the input alone decides
+
+-- a fault of the source or the disk, and want of memory, name no line
+free_bad : (fault : VerifyFault) → IsFree (Err fault) → (k : ℕ) → ◌≡◌ {A = Result Verdict VerifyFault} (Err fault) (Err (BadLine k)) → ⊥
+free_bad fault free k e = elim free [
+  | inl read ↦ let h : ◌≡◌ {A = Result Verdict VerifyFault} (Err ReadFault) (Err (BadLine k)) = sym read ∙ e in cc
+  | inr other ↦ elim other [
+    | inl disk ↦ let h : ◌≡◌ {A = Result Verdict VerifyFault} (Err DiskFault) (Err (BadLine k)) = sym disk ∙ e in cc
+    | inr memory ↦ let h : ◌≡◌ {A = Result Verdict VerifyFault} (Err NoMemory) (Err (BadLine k)) = sym memory ∙ e in cc
+  ]
+]
+
+free_long : (fault : VerifyFault) → IsFree (Err fault) → (k : ℕ) → ◌≡◌ {A = Result Verdict VerifyFault} (Err fault) (Err (LineTooLong k)) → ⊥
+free_long fault free k e = elim free [
+  | inl read ↦ let h : ◌≡◌ {A = Result Verdict VerifyFault} (Err ReadFault) (Err (LineTooLong k)) = sym read ∙ e in cc
+  | inr other ↦ elim other [
+    | inl disk ↦ let h : ◌≡◌ {A = Result Verdict VerifyFault} (Err DiskFault) (Err (LineTooLong k)) = sym disk ∙ e in cc
+    | inr memory ↦ let h : ◌≡◌ {A = Result Verdict VerifyFault} (Err NoMemory) (Err (LineTooLong k)) = sym memory ∙ e in cc
+  ]
+]
+
+pub read-free : (input : List ℕ) (fault : VerifyFault) → IsFree (Err fault) → IsReadAs input (Err fault)
+read-free input fault free = record {
+  judged = λ ok. absurd (false≢true ok);
+  named_bad = λ k e. absurd (free_bad fault free k e);
+  named_long = λ k e. absurd (free_long fault free k e);
+  report = λ h lines report. inr free;
+  bad = λ k bad. inr free;
+  long = λ k long. inr free;
+}
+
+ok_bad : (verdict : Verdict) (fault : VerifyFault) → ◌≡◌ {A = Result Verdict VerifyFault} (Ok verdict) (Err fault) → ⊥
+ok_bad verdict fault e = cc
+
+bad_bad : (k j : ℕ) → ◌≡◌ {A = Result Verdict VerifyFault} (Err (BadLine k)) (Err (BadLine j)) → k ≡ j
+bad_bad k j e = cc
+
+long_long : (k j : ℕ) → ◌≡◌ {A = Result Verdict VerifyFault} (Err (LineTooLong k)) (Err (LineTooLong j)) → k ≡ j
+long_long k j e = cc
+
+bad_long : (k j : ℕ) → ◌≡◌ {A = Result Verdict VerifyFault} (Err (BadLine k)) (Err (LineTooLong j)) → ⊥
+bad_long k j e = cc
+
+module _ (not_bad : ReportsAreNotBad) (once : AreBadAtOneLine) (input : List ℕ) where
+  pub read-ok : (verdict : Verdict) (h : Head) (lines : List Line) → IsReport input h lines → IsReadAs input (Ok verdict)
+  read-ok verdict h lines report = record {
+    judged = λ ok. (h, lines, report);
+    named_bad = λ k e. absurd (ok_bad verdict (BadLine k) e);
+    named_long = λ k e. absurd (ok_bad verdict (LineTooLong k) e);
+    report = λ g ls other. inl refl;
+    bad = λ k bad. absurd ((not_bad input h lines k report).0 bad);
+    long = λ k long. absurd ((not_bad input h lines k report).1 long);
   }
 
-  answered_bad : (k : ℕ) → IsBadLine input k → IsAnswered v c input (Err (BadLine k))
-  answered_bad k says = record {
+  read_bad : (k : ℕ) → IsBadLine input k → IsReadAs input (Err (BadLine k))
+  read_bad k says = record {
+    judged = λ ok. absurd (false≢true ok);
+    named_bad = λ j e. subst (IsBadLine input) (bad_bad k j e) says;
+    named_long = λ j e. absurd (bad_long k j e);
     report = λ h lines report. absurd ((not_bad input h lines k report).0 says);
     bad = λ j bad. inl (ap (λ n. Err (BadLine n)) ((once input k j).0 says bad));
     long = λ j long. absurd ((once input k j).2 says long);
-    fits = λ test h lines told report ok. absurd ((not_bad input h lines k report).0 says);
-    shows = λ test h lines b nodes told report accepted has. absurd (no_ok (BadLine k) Accepted accepted);
   }
 
-  answered_long : (k : ℕ) → IsLongLine input k → IsAnswered v c input (Err (LineTooLong k))
-  answered_long k says = record {
+  read_long : (k : ℕ) → IsLongLine input k → IsReadAs input (Err (LineTooLong k))
+  read_long k says = record {
+    judged = λ ok. absurd (false≢true ok);
+    named_bad = λ j e. absurd (bad_long j k (sym e));
+    named_long = λ j e. subst (IsLongLine input) (long_long k j e) says;
     report = λ h lines report. absurd ((not_bad input h lines k report).1 says);
     bad = λ j bad. absurd ((once input j k).2 bad says);
     long = λ j long. inl (ap (λ n. Err (LineTooLong n)) ((once input k j).1 says long));
-    fits = λ test h lines told report ok. absurd ((not_bad input h lines k report).1 says);
-    shows = λ test h lines b nodes told report accepted has. absurd (no_ok (LineTooLong k) Accepted accepted);
   }
 
-  pub answered-err : (fault : ReportFault) → FaultSays input fault → IsAnswered v c input (Err (fault_of fault))
-  answered-err (reading.BadLine k) says = answered_bad k says
-  answered-err (reading.LineTooLong k) says = answered_long k says
-  answered-err reading.ReadFault says = answered-free ReadFault (inl refl)
-  answered-err reading.NoMemory says = answered-free NoMemory (inr (inr refl))
+  pub read-err : (fault : ReportFault) → FaultSays input fault → IsReadAs input (Err (fault_of fault))
+  read-err (reading.BadLine k) says = read_bad k says
+  read-err (reading.LineTooLong k) says = read_long k says
+  read-err reading.ReadFault says = read-free input ReadFault (inl refl)
+  read-err reading.NoMemory says = read-free input NoMemory (inr (inr refl))
 
 -- the verdict by the lattice and the seal of the ledger
 pub verdict-here : (v : Opened) (l : Lattice) (seal : List ℕ) (intact : BlockId → Bool) (input : List ℕ) (verdict : Verdict) → l ≡ v.lattice → seal ≡ v.seal

@@ -47,11 +47,18 @@ Answers v c input (Err NoMemory) = Unit {0}
 abbrev pub IsFree : Result Verdict VerifyFault → Type 0
 IsFree result = (result ≡ Err ReadFault) ⊎ ((result ≡ Err DiskFault) ⊎ (result ≡ Err NoMemory))
 
--- Each kind of input has its answer, but for those.
-pub record IsAnswered (v : Opened) (c : Files) (input : List ℕ) (result : Result Verdict VerifyFault) : Type 0 where
+-- What the input alone decides, whatever the disk is: a verdict is one on a report, and a line that is named is bad or too long;
+-- and each kind of input has its answer, but for those.
+pub record IsReadAs (input : List ℕ) (result : Result Verdict VerifyFault) : Type 0 where
+  pub judged : IsOk result → (h : Head) × (lines : List Line) × IsReport input h lines
+  pub named_bad : (k : ℕ) → result ≡ Err (BadLine k) → IsBadLine input k
+  pub named_long : (k : ℕ) → result ≡ Err (LineTooLong k) → IsLongLine input k
   pub report : (h : Head) (lines : List Line) → IsReport input h lines → IsOk result ⊎ IsFree result
   pub bad : (k : ℕ) → IsBadLine input k → (result ≡ Err (BadLine k)) ⊎ IsFree result
   pub long : (k : ℕ) → IsLongLine input k → (result ≡ Err (LineTooLong k)) ⊎ IsFree result
+
+-- What the input and the files decide of a verdict on a report.
+pub record IsAnswered (v : Opened) (c : Files) (input : List ℕ) (result : Result Verdict VerifyFault) : Type 0 where
   -- a report is accepted exactly where it fits
   pub fits : (intact : BlockId → Bool) (h : Head) (lines : List Line) → TellsSurvivors v.shape v.lattice.n v.digests c intact → IsReport input h lines
       → IsOk result → (result ≡ Ok Accepted) ↔ Fits v.lattice v.seal intact h lines

@@ -4,7 +4,7 @@ ghost use Rattle.std.specs.Prelude.{◌≡◌, ◌≤◌, ℕ, List, Some, Err, 
 ghost use Rattle.std.specs.Io.KnownBytes.{IsAtEnd};
 ghost use Rattle.aea_faults.specs.Faults.{Rose};
 ghost use Rattle.aea_disk.specs.Frames.{OnlyReads};
-ghost use Rattle.aea_verify.specs.Answers.{Answers, IsAnswered, fault_of};
+ghost use Rattle.aea_verify.specs.Answers.{Answers, IsAnswered, IsReadAs, fault_of};
 
 use crate::laws::{accepted_are_fitting, lost_are_open};
 use crate::reading::judge_report;
@@ -41,6 +41,9 @@ pub fn verify<D: Disk, S: Source>(
     // Each answer has its cause in the report and the files, and these have that answer alone.
     ensures answers { D.tells → (input : List ℕ) → (S.state source.old).left ≡ Some input → Answers ledger.now (D.state disk.old).files input result }
     ensures exactly { D.tells → (input : List ℕ) → (S.state source.old).left ≡ Some input → IsAnswered ledger.now (D.state disk.old).files input result }
+
+    // Whether the input is a report, and at which line it is none, is told by the input alone, whatever the disk is.
+    ensures read { (input : List ℕ) → (S.state source.old).left ≡ Some input → IsReadAs input result }
     ensures end { OnOk result (IsAtEnd (S.state source.new).left) }
 
     // The disk is scanned first: after a fault of it nothing of the report was read.

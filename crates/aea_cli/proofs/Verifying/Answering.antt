@@ -9,7 +9,7 @@ use Rattle.aea_verify.specs.declared.verdict.Verdict.{Verdict}
 use Rattle.aea_verify.specs.declared.verdict.Verdict.TheVariants.{Accepted, Rejected}
 use Rattle.aea_verify.specs.declared.verdict.VerifyFault.{VerifyFault}
 use Rattle.aea_verify.specs.declared.verdict.VerifyFault.TheVariants as fault
-use Rattle.aea_verify.specs.Answers.{Answers, IsAnswered, IsFree}
+use Rattle.aea_verify.specs.Answers.{IsReadAs, IsFree}
 use Rattle.aea_cli.specs.declared.refusal.Refusal.{Refusal}
 use Rattle.aea_cli.specs.declared.refusal.Refusal.TheVariants.{NoArchive, LedgerBad, BadLine, LineTooLong}
 use Rattle.aea_cli.specs.declared.refusal.Failure.{Failure}
@@ -123,8 +123,7 @@ unopened_verify {T} tells some old new f input opens =
 -- behind the opening
 module _ (reading : HasOneReading) (tells : Type 0) (v : Opened) (old mid : State) (source : SourceState) (before after : SinkState) (r : Result Verdict VerifyFault) (answer : Answer)
     (opens : Opens tells old mid (Ok v))
-    (answers : tells → (report : List ℕ) → source.left ≡ Some report → Answers v mid.files report r)
-    (exactly : tells → (report : List ℕ) → source.left ≡ Some report → IsAnswered v mid.files report r)
+    (read : (report : List ℕ) → source.left ≡ Some report → IsReadAs report r)
     (to : IsAnswerTo r before after answer) where
   module _ (told : tells) (some : IsSome source.left) where
     -- the input that is told
@@ -145,14 +144,11 @@ module _ (reading : HasOneReading) (tells : Type 0) (v : Opened) (old mid : Stat
     none_before (LineTooLong k) earlier cause = omega arith
     none_before other earlier cause = cause
 
-    says : (f : VerifyFault) → r ≡ Err f → Answers v mid.files input (Err f)
-    says f e = subst (λ (x : Result Verdict VerifyFault). Answers v mid.files input x) e (answers told input is_input)
-
     first_bad : (k : ℕ) → r ≡ Err (fault.BadLine k) → IsFirst (VerifyCauses (old.files 0) input) (BadLine k)
-    first_bad k e = record { stands = (ledger, says (fault.BadLine k) e); none = none_before }
+    first_bad k e = record { stands = (ledger, (read input is_input).named_bad k e); none = none_before }
 
     first_long : (k : ℕ) → r ≡ Err (fault.LineTooLong k) → IsFirst (VerifyCauses (old.files 0) input) (LineTooLong k)
-    first_long k e = record { stands = (ledger, says (fault.LineTooLong k) e); none = none_before }
+    first_long k e = record { stands = (ledger, (read input is_input).named_long k e); none = none_before }
 
     only_for : (why : Refusal) → answer ≡ Err (failure.Refused why) → IsFirst (VerifyCauses (old.files 0) input) why
     only_for why is = elim (refused_by r before after answer why to is) [
@@ -163,11 +159,11 @@ module _ (reading : HasOneReading) (tells : Type 0) (v : Opened) (old mid : Stat
     always_for : (why : Refusal) → IsFirst (VerifyCauses (old.files 0) input) why → (answer ≡ Err (failure.Refused why)) ⊎ IsStopped answer
     always_for NoArchive first = absurd (opened_no_opening tells old mid v opens told NoArchive first.stands)
     always_for (LedgerBad at) first = absurd (opened_no_opening tells old mid v opens told (LedgerBad at) first.stands)
-    always_for (BadLine k) first = elim ((exactly told input is_input).bad k first.stands.1) [
+    always_for (BadLine k) first = elim ((read input is_input).bad k first.stands.1) [
       | inl e ↦ inl (answer_is r (fault.BadLine k) before after answer to e)
       | inr free ↦ inr (stopped_by r before after answer to free)
     ]
-    always_for (LineTooLong k) first = elim ((exactly told input is_input).long k first.stands.1) [
+    always_for (LineTooLong k) first = elim ((read input is_input).long k first.stands.1) [
       | inl e ↦ inl (answer_is r (fault.LineTooLong k) before after answer to e)
       | inr free ↦ inr (stopped_by r before after answer to free)
     ]

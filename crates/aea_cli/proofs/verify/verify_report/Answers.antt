@@ -31,6 +31,7 @@ returns-in_err-verdict-clause-verifies g c =
     let out = g.O.Sink.state c.args.out.now in
     let has : HasChecked g.D.Disk.tells c.in_ok-ledger.ledger (g.D.Disk.state c.args.disk.now) (g.D.Disk.state c.open.new.disk) (g.D.Disk.state c.verify.new.disk) (g.S.Source.state c.args.input.now) (g.S.Source.state c.verify.new.source) (Err fault) = record {
       opens = c.in_ok-ledger.ensures;
+      read = gave.read;
       answers = gave.answers;
       exactly = gave.exactly;
       end = tt;
@@ -48,7 +49,7 @@ returns-in_err-verdict-clause-refuses g c =
     let out = g.O.Sink.state c.args.out.now in
     let to : IsAnswerTo (Err fault) out out (Err (verify_failure fault)) = record { prints = tt; unjudged = (refl, refl) } in
     rw (err_with c.from_residual-in_err-verdict.result (verify_failure fault) c.from_residual-in_err-verdict.ensures.1)
-    (checked_refuses c.ledgers_have_one_reading.ensures g.D.Disk.tells c.in_ok-ledger.ledger (g.D.Disk.state c.args.disk.now) (g.D.Disk.state c.open.new.disk) (g.S.Source.state c.args.input.now) out out (Err fault) (Err (verify_failure fault)) c.in_ok-ledger.ensures gave.answers gave.exactly to)
+    (checked_refuses c.ledgers_have_one_reading.ensures g.D.Disk.tells c.in_ok-ledger.ledger (g.D.Disk.state c.args.disk.now) (g.D.Disk.state c.open.new.disk) (g.S.Source.state c.args.input.now) out out (Err fault) (Err (verify_failure fault)) c.in_ok-ledger.ensures gave.read to)
 
 pub returns-in_err-verdict-clause-reads : goal.returns-in_err-verdict-clause-reads
 returns-in_err-verdict-clause-reads g c = (returns-in_err-verdict-clause-verifies g c).reads
@@ -61,6 +62,7 @@ returns-in_err-put_verdict-clause-verifies g c =
     let after = g.O.Sink.state c.put_verdict.new.out in
     let has : HasChecked g.D.Disk.tells c.in_ok-ledger.ledger (g.D.Disk.state c.args.disk.now) (g.D.Disk.state c.open.new.disk) (g.D.Disk.state c.verify.new.disk) (g.S.Source.state c.args.input.now) (g.S.Source.state c.verify.new.source) (Ok verdict) = record {
       opens = c.in_ok-ledger.ensures;
+      read = gave.read;
       answers = gave.answers;
       exactly = gave.exactly;
       end = gave.end;
@@ -79,7 +81,7 @@ returns-in_err-put_verdict-clause-refuses g c =
     let after = g.O.Sink.state c.put_verdict.new.out in
     let to : IsAnswerTo (Ok verdict) before after (Err failure.Output) = record { prints = record { prints = text_broken c.in_err-put_verdict.ensures.prints; is = inr refl }; unjudged = tt } in
     rw (err_with c.from_residual-in_err-put_verdict.result failure.Output c.from_residual-in_err-put_verdict.ensures.1)
-    (checked_refuses c.ledgers_have_one_reading.ensures g.D.Disk.tells c.in_ok-ledger.ledger (g.D.Disk.state c.args.disk.now) (g.D.Disk.state c.open.new.disk) (g.S.Source.state c.args.input.now) before after (Ok verdict) (Err failure.Output) c.in_ok-ledger.ensures gave.answers gave.exactly to)
+    (checked_refuses c.ledgers_have_one_reading.ensures g.D.Disk.tells c.in_ok-ledger.ledger (g.D.Disk.state c.args.disk.now) (g.D.Disk.state c.open.new.disk) (g.S.Source.state c.args.input.now) before after (Ok verdict) (Err failure.Output) c.in_ok-ledger.ensures gave.read to)
 
 pub returns-in_err-put_verdict-clause-reads : goal.returns-in_err-put_verdict-clause-reads
 returns-in_err-put_verdict-clause-reads g c = (returns-in_err-put_verdict-clause-verifies g c).reads
@@ -99,6 +101,7 @@ returns-clause-verifies g c =
     let after = g.O.Sink.state c.put_verdict.new.out in
     let has : HasChecked g.D.Disk.tells c.in_ok-ledger.ledger (g.D.Disk.state c.args.disk.now) (g.D.Disk.state c.open.new.disk) (g.D.Disk.state c.verify.new.disk) (g.S.Source.state c.args.input.now) (g.S.Source.state c.verify.new.source) (Ok verdict) = record {
       opens = c.in_ok-ledger.ensures;
+      read = gave.read;
       answers = gave.answers;
       exactly = gave.exactly;
       end = gave.end;
@@ -116,7 +119,7 @@ returns-clause-refuses g c =
     let before = g.O.Sink.state c.args.out.now in
     let after = g.O.Sink.state c.put_verdict.new.out in
     let to : IsAnswerTo (Ok verdict) before after (Ok status) = record { prints = record { prints = text_printed status c.in_ok-put_verdict.ensures.prints; is = inl (ap Ok c.in_ok-put_verdict.ensures.status) }; unjudged = tt } in
-    checked_refuses c.ledgers_have_one_reading.ensures g.D.Disk.tells c.in_ok-ledger.ledger (g.D.Disk.state c.args.disk.now) (g.D.Disk.state c.open.new.disk) (g.S.Source.state c.args.input.now) before after (Ok verdict) (Ok status) c.in_ok-ledger.ensures gave.answers gave.exactly to
+    checked_refuses c.ledgers_have_one_reading.ensures g.D.Disk.tells c.in_ok-ledger.ledger (g.D.Disk.state c.args.disk.now) (g.D.Disk.state c.open.new.disk) (g.S.Source.state c.args.input.now) before after (Ok verdict) (Ok status) c.in_ok-ledger.ensures gave.read to
 
 pub returns-clause-reads : goal.returns-clause-reads
 returns-clause-reads g c = (returns-clause-verifies g c).reads

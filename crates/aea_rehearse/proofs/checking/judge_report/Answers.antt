@@ -5,12 +5,12 @@ use Rattle.aea_rehearse.proofs.checking.judge_report.Goals as goal
 
 pub unreachable-requires : goal.unreachable-requires
 unreachable-requires g c =
-    not_bad c.verify.result c.in-Err-BadLine.field-0-0 ((c.verify.ensures.exactly c.requires.tells c.args.report.now (ap Some c.new-source.ensures)).report c.requires.report.0 c.requires.report.1 c.requires.report.2)
+    not_bad c.verify.result c.in-Err-BadLine.field-0-0 ((c.verify.ensures.read c.args.report.now (ap Some c.new-source.ensures)).report c.requires.report.0 c.requires.report.1 c.requires.report.2)
     (c.in-Err-BadLine.is ∙ ap Err c.in-Err-BadLine.field-0-is)
 
 pub unreachable-requires-in-Err-LineTooLong : goal.unreachable-requires-in-Err-LineTooLong
 unreachable-requires-in-Err-LineTooLong g c =
-    not_long c.verify.result c.in-Err-LineTooLong.field-0-0 ((c.verify.ensures.exactly c.requires.tells c.args.report.now (ap Some c.new-source.ensures)).report c.requires.report.0 c.requires.report.1 c.requires.report.2)
+    not_long c.verify.result c.in-Err-LineTooLong.field-0-0 ((c.verify.ensures.read c.args.report.now (ap Some c.new-source.ensures)).report c.requires.report.0 c.requires.report.1 c.requires.report.2)
     (c.in-Err-LineTooLong.is ∙ ap Err c.in-Err-LineTooLong.field-0-is)
 
 pub returns-in-Ok-clause-accepted : goal.returns-in-Ok-clause-accepted

@@ -10,32 +10,32 @@ use Rattle.aea_ledger.specs.Stops.{HasOpening, HasLedger}
 use Rattle.aea_cli.specs.declared.command.Command.{Command}
 use Rattle.aea_cli.specs.declared.command.Command.TheVariants as command
 use Rattle.aea_cli.specs.declared.command.Command.TheVariants.{Drill, Create, Stat, Put, Ingest, Get, Fence, Upgrade, Scrub, Repair, Explain, Verify, Rehearse}
-use Rattle.aea_cli.specs.declared.refusal.Refusal.{Refusal}
-use Rattle.aea_cli.specs.declared.refusal.Failure.TheVariants as failure
-use Rattle.aea_cli.specs.declared.status.Status.{Status}
-use Rattle.aea_cli.specs.Create.{CreateCauses, Creates, created_line}
-use Rattle.aea_cli.specs.Drill.{DamageCauses, Drills, IsOutcome}
-use Rattle.aea_cli.specs.Stat.{Stats, IsStatOf}
-use Rattle.aea_cli.specs.Scrub.{Scrubs, TellsIntact, scrub_text}
-use Rattle.aea_cli.specs.Adding.{FitsRecord}
-use Rattle.aea_cli.specs.Fence.{Fences, FenceCauses, next_fence, fence_line}
-use Rattle.aea_cli.specs.Upgrade.{Upgrades, UpgradeCauses, next_raise, upgraded_line}
-use Rattle.aea_cli.specs.Put.{greatest_sites, Puts, PutCauses, FitsPut, stored_line, object_of}
-use Rattle.aea_cli.specs.Ingest.{Ingests, IngestCauses, FitsIngest, frames_of, stored_lines, end_line}
+use Rattle.aea_command.specs.declared.refusal.Refusal.{Refusal}
+use Rattle.aea_command.specs.declared.refusal.Failure.TheVariants as failure
+use Rattle.aea_command.specs.declared.status.Status.{Status}
+use Rattle.aea_command_store.specs.Create.{CreateCauses, Creates, created_line}
+use Rattle.aea_command_loss.specs.Drill.{DamageCauses, Drills, IsOutcome}
+use Rattle.aea_command_read.specs.Stat.{Stats, IsStatOf}
+use Rattle.aea_command_read.specs.Scrub.{Scrubs, TellsIntact, scrub_text}
+use Rattle.aea_command_store.specs.Adding.{FitsRecord}
+use Rattle.aea_command_store.specs.Fence.{Fences, FenceCauses, next_fence, fence_line}
+use Rattle.aea_command_store.specs.Upgrade.{Upgrades, UpgradeCauses, next_raise, upgraded_line}
+use Rattle.aea_command.specs.Openings.{greatest_sites, OpeningCauses}
+use Rattle.aea_command_store.specs.Put.{Puts, PutCauses, FitsPut, stored_line, object_of}
+use Rattle.aea_command_store.specs.Ingest.{Ingests, IngestCauses, FitsIngest, frames_of, stored_lines, end_line}
 use Rattle.aea_archive.specs.Next.{NewObject}
 use Rattle.aea_catalog.specs.Catalogs.{Placed}
-use Rattle.aea_cli.specs.Get.{GetsNamed, GetCauses, HasObject, FitsBytes}
-use Rattle.aea_cli.specs.Listing.{Lists, IsListOf}
-use Rattle.aea_cli.specs.Repair.{Repairs, FitsRepair, IsSiteFile, IsRepairText, HasHonestSurvivors}
-use Rattle.aea_cli.specs.Explain.{ExplainsOrNot, ExplainCauses, IsExplanationText}
-use Rattle.aea_cli.specs.Verify.{Verifies, VerifyCauses, IsVerdictText}
+use Rattle.aea_command_read.specs.Get.{GetsNamed, GetCauses, HasObject, FitsBytes}
+use Rattle.aea_command_read.specs.List.{ListsObjects, IsListOf}
+use Rattle.aea_command_loss.specs.Repair.{RepairsArchive, FitsRepair, IsSiteFile, IsRepairText, HasHonestSurvivors}
+use Rattle.aea_command_loss.specs.Explain.{ExplainsOrNot, ExplainCauses, IsExplanationText}
+use Rattle.aea_command_loss.specs.Verify.{Verifies, VerifyCauses, IsVerdictText}
 use Rattle.aea_rehearse.specs.declared.rehearsal.Rehearsal.{Rehearsal}
-use Rattle.aea_cli.specs.Rehearse.{Rehearses, IsRehearsalOf, rehearsal_line}
-use Rattle.aea_cli.specs.Causes.{Refuses}
-use Rattle.aea_cli.specs.Failures.{Answer, NeverClashes}
-use Rattle.aea_cli.specs.Openings.{OpeningCauses}
-use Rattle.aea_cli.specs.Printed.{FitsText}
-use Rattle.aea_cli.specs.Worlds.{World}
+use Rattle.aea_command_loss.specs.Rehearse.{Rehearses, IsRehearsalOf, rehearsal_line}
+use Rattle.aea_command.specs.Causes.{Refuses}
+use Rattle.aea_command.specs.Failures.{Answer, NeverClashes}
+use Rattle.aea_command.specs.Printed.{FitsText}
+use Rattle.aea_command.specs.Worlds.{World}
 
 -- the command reads the input
 abbrev pub ReadsInput : Command → Type 0
@@ -156,14 +156,14 @@ abbrev pub Does : Command → World → World → Answer → Type 0
 Does (Drill l) old new answer = Drills l old.input new.input old.out new.out answer
 Does (Create shape) old new answer = Creates shape old.tells old.disk new.disk old.out new.out answer
 Does Stat old new answer = Stats old.tells old.disk new.disk old.out new.out answer
-Does command.List old new answer = Lists old.tells old.disk new.disk old.out new.out answer
+Does command.List old new answer = ListsObjects old.tells old.disk new.disk old.out new.out answer
 Does (Put name) old new answer = Puts name old.tells old.disk new.disk old.input.left new.input.left old.out new.out answer
 Does Ingest old new answer = Ingests old.tells old.disk new.disk old.input.left new.input.left old.out new.out answer
 Does (Get name) old new answer = GetsNamed name old.tells old.disk new.disk old.out new.out answer
 Does Fence old new answer = Fences old.tells old.disk new.disk old.out new.out answer
 Does Upgrade old new answer = Upgrades old.tells old.disk new.disk old.out new.out answer
 Does Scrub old new answer = Scrubs old.tells old.disk new.disk old.out new.out answer
-Does Repair old new answer = Repairs old.tells old.disk new.disk old.out new.out answer
+Does Repair old new answer = RepairsArchive old.tells old.disk new.disk old.out new.out answer
 Does (Explain word) old new answer = ExplainsOrNot word old.tells old.disk new.disk old.out new.out answer
 Does Verify old new answer = Verifies old.tells old.disk new.disk old.input new.input old.out new.out answer
 Does (Rehearse number nodes permille) old new answer = Rehearses number nodes permille old.out new.out answer

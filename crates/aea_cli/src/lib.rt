@@ -1,34 +1,24 @@
-//! The commands of the program, over any disk, input and output.
+//! The commands of the program, over any disk, input and output: their words, their table, and the top call `run`.
+//!
+//! Promises to the program `run`: `Ends`: there is an answer that has the status, what was done is told by the command that the
+//! words mean, and the line of a failure stands on `err`; when a fault is answered, what is flushed and what is not touched;
+//! `run_surely`: completeness; and `stops_keep_puts`, of many runs.
+//!
+//! Read first in `specs/`: `Ends`, then `Does` (the table: a line a command, and `Runs`) and `Words` (`Means`). What a command
+//! does stands in its room: `aea_command_store`, `aea_command_read` or `aea_command_loss`, over `aea_command`.
 #![tactic(auto)]
 
-mod archive;
 mod command;
-mod create;
-mod drill;
-mod explain;
-mod fence;
-mod get;
-mod going_on;
-mod ingest;
-mod list;
+mod create_words;
+mod drill_words;
 mod numbers;
 mod program;
-mod put;
-mod refusal;
-mod rehearse;
-mod repair;
-mod report;
-mod scrub;
-mod stat;
-mod status;
+mod rehearse_words;
 mod surely;
-mod upgrade;
-mod verify;
 mod words;
 
+pub use aea_command::{Refusal, Status};
+pub use aea_command_store::stops_keep_puts;
 pub use command::{Command, parse_words};
-pub use going_on::stops_keep_puts;
 pub use program::run;
-pub use refusal::Refusal;
-pub use status::Status;
 pub use surely::run_surely;

@@ -1,0 +1,43 @@
+-- What holds of a run of `list`.
+use Rattle.std.proofs.Common.{◌≡◌, ◌≢◌, ◌⊎◌, inl, inr, ℕ, List, refl, sym, ◌∙◌, ap, subst, Result, Ok, Err}
+use Rattle.std.specs.Prelude.{IfOk, IfErr, OnOk}
+use Rattle.aea_io.specs.Streams.{SourceState, SinkState}
+use Rattle.aea_disk.specs.State.{State}
+use Rattle.aea_disk.proofs.Moments.{where_none, where_kept, passes_none}
+use Rattle.aea_catalog.specs.Catalogs.{Objects}
+use Rattle.aea_records.specs.Catalogued.{objects_of}
+use Rattle.aea_records.specs.Format.{Record}
+use Rattle.aea_ledger.specs.declared.open.OpenFault.{OpenFault}
+use Rattle.aea_ledger.specs.Values.{Opened, HasRecords, IsThisOne}
+use Rattle.aea_cli.specs.declared.command.Command.TheVariants as command
+use Rattle.aea_command.specs.declared.refusal.Failure.{Failure}
+use Rattle.aea_command.specs.declared.refusal.Failure.TheVariants as failure
+use Rattle.aea_command.specs.declared.status.Status.TheVariants.{Done}
+use Rattle.aea_command.specs.Causes.{Refuses}
+use Rattle.aea_cli.specs.Does.{Runs}
+use Rattle.aea_command.specs.Failures.{Answer, opening_failure, NeverClashes}
+use Rattle.aea_command_read.specs.List.{list_text, ListsObjects, IsListOf}
+use Rattle.aea_command.specs.Openings.{OpeningCauses, Opens}
+use Rattle.aea_command.specs.Printed.{FitsText, PrintsText}
+use Rattle.aea_command.specs.Worlds.{world}
+use Rattle.aea_command.proofs.OpeningCases.{opening_more, opening_not_output}
+use Rattle.aea_command.proofs.Refusing.{refuses_told}
+use Rattle.aea_command_read.proofs.StatLemmas.{IsTelling}
+use Rattle.aea_command_read.proofs.ListLemmas.{IsListing, list_fits, list_disk, ok_on}
+
+-- what `list` did and when it is refused give what holds of its run
+pub list_runs : (tells : Type 0) (old new : State) (input : SourceState) (before after : SinkState) (answer : Answer)
+    → ListsObjects tells old new before after answer → Refuses tells (OpeningCauses (old.files 0)) answer
+    → NeverClashes answer
+    → Runs command.List (world tells old input before) (world tells new input after) answer
+list_runs tells old new input before after answer lists refuses honest =
+    let opens = lists.opens in
+    record {
+      does = lists;
+      refuses = λ early. refuses_told _ _ _ _ (λ told. told.disk tt) refuses;
+      disk_fits = λ room. list_disk answer before after lists.opening (opens.reads.sure room).0 lists.unopened (ok_on lists.opening (IsListing answer) lists.kinds);
+      output_fits = λ told fits. list_fits tells (old.files 0) before after answer lists.opening (told.disk tt) opens.this_one opens.kinds lists.unopened lists.prints fits;
+      honest = λ told is. honest;
+      stays = where_kept tells _ old old new (passes_none old) opens.reads.time opens.reads.crash opens.reads.contents (where_none tells _ old);
+      opens = λ told. opening_more old new _ _ (λ c stays f keep. stays f) (opens.stops told);
+    }

@@ -1,0 +1,73 @@
+-- What holds of a run of `put`.
+use Rattle.std.proofs.Common.{◌≡◌, ◌≢◌, inl, inr, List, [], ◌++◌, length, refl, sym, ◌∙◌, ap, subst, Option, Some, Result, Ok, Err, None, append-nil, arith, false, true, ℕ, ◌≤◌}
+use Rattle.aea_io.specs.Streams.{SourceState, SinkState}
+use Rattle.aea_disk.specs.State.{State}
+use Rattle.aea_cli.specs.declared.command.Command.TheVariants.{Put}
+use Rattle.aea_command.specs.Openings.{greatest_sites, Opens}
+use Rattle.aea_command_store.specs.Put.{stored_line, object_of, PutCauses, EndsStored, MayHavePut, Stores, IsStoredLine, KeepsOtherFiles, Puts}
+use Rattle.aea_command_store.proofs.Adding.{Agrees, agrees_failed}
+use Rattle.aea_command_store.proofs.Adding.Running.{agrees_printed}
+use Rattle.aea_command.specs.Failures.{Answer, NeverClashes}
+use Rattle.std.proofs.KnownBytes.{Consumes-nil}
+use Rattle.std.specs.Io.KnownBytes.{Consumes, IsAtEnd}
+use Rattle.aea_command.specs.declared.refusal.Failure.{Failure}
+use Rattle.aea_command.specs.declared.refusal.Failure.TheVariants as failure
+use Rattle.aea_disk.specs.Files.{Files, KeepsFiles}
+use Rattle.aea_ledger.specs.Stops.{StaysAll}
+use Rattle.aea_records.specs.Grammar.{IsLedger}
+use Rattle.aea_command_store.proofs.CreateLemmas.{IsPrinting, printing_done}
+use Rattle.std.specs.Prelude.{IsSome, unwrap_or}
+use Rattle.aea_command.specs.Printed.{PrintsText}
+use Rattle.aea_command.specs.Causes.{Refuses}
+use Rattle.aea_cli.specs.Does.{Runs}
+use Rattle.aea_command.specs.Worlds.{world}
+use Rattle.aea_lattice.specs.declared.shape.Shape.{Shape}
+use Rattle.std.proofs.lemmas.Bool.{false≢true}
+use Rattle.aea_command.proofs.OpeningCases.{opening_more, images_same, opening_not_output}
+use Rattle.aea_shelf.specs.Places.{padded_home}
+use Rattle.aea_disk.proofs.Moments.{passes_none, where_kept, where_none}
+use Rattle.aea_command.proofs.Refusing.{refuses_told, refuses_stopped}
+use Rattle.aea_command.proofs.Texts.{text_unused}
+use Rattle.aea_command_store.proofs.PutLemmas.Running.{puts_failed, whole_input, nothing_stores}
+
+pub put_runs : (name : List ℕ) (tells : Type 0) (old new : State) (input input_after : SourceState) (before after : SinkState) (answer : Answer)
+    → Puts name tells old new input.left input_after.left before after answer → Refuses (tells × IsSome input.left) (PutCauses name old.files (unwrap_or input.left [])) answer
+    → KeepsOtherFiles tells (answer ≡ Err failure.Disk) old new
+    → NeverClashes answer
+    → Runs (Put name) (world tells old input before) (world tells new input_after after) answer
+put_runs name tells old new input input_after before after answer puts refuses rest honest = record {
+  does = puts;
+  refuses = λ early. refuses_told _ _ _ _ (λ told. (told.disk tt, told.input tt)) refuses;
+  disk_fits = λ fits. (puts.stores.in_room fits).0;
+  output_fits = λ told fits e.
+      let line = puts.line (inr e) in
+      let ledger = puts.stores.archive (inr e) (told.disk tt) in
+      let has = subst (λ (n : ℕ). IsLedger (old.files 0) ledger.shape ledger.records n) ledger.ledger.place ledger.ledger in
+      let room = fits ledger.shape ledger.records has in
+      let given : unwrap_or input.left [] ≡ line.o.bytes = whole_input input.left input_after.left line.o.bytes (told.input tt) line.whole.taken line.whole.end in
+      let shape : line.shape ≡ ledger.shape = line.is_shape (told.disk tt) ledger.shape ledger.records has in
+      let same_line : puts.text ≡ stored_line ledger.shape (object_of name (unwrap_or input.left [])) =
+      line.line ∙ ap (λ (s : Shape). stored_line s line.o) shape
+      ∙ ap (λ (n : List ℕ). stored_line ledger.shape (object_of n line.o.bytes)) line.whole.name_is
+      ∙ sym (ap (λ (b : List ℕ). stored_line ledger.shape (object_of name b)) given) in
+      (puts.prints.in_room room.room room.told (subst (λ (l : List ℕ). length l ≤ room.room) (sym same_line) room.enough)).0 e;
+  honest = λ told is. honest;
+  stays = rest.others;
+  opens = rest.opens;
+}
+
+-- ---- memory was wanting for the words
+
+pub unparsed_runs : (name : List ℕ) (tells : Type 0) (s : State) (input : SourceState) (out : SinkState) → Runs (Put name) (world tells s input out) (world tells s input out) (Err failure.Memory)
+unparsed_runs name tells s input out =
+    put_runs name tells s s input input out out (Err failure.Memory)
+    (puts_failed name tells s s input.left input.left out failure.Memory (λ e. cc) (nothing_stores name tells s input.left))
+    (refuses_stopped _ _ (Err failure.Memory) (inr (inr refl)))
+    (record {
+      others = where_none tells _ s;
+      opens = λ told. inl (images_same s);
+      time = passes_none s;
+      kept = omega arith;
+      cause = λ is. let h : (let answer : Answer = Err failure.Memory in answer ≡ Err failure.Disk) = is in cc;
+    })
+    (λ b recorded computed e. let h : (let answer : Answer = Err failure.Memory in answer ≡ Err (failure.Clash b recorded computed)) = e in cc)

@@ -1,0 +1,34 @@
+-- What holds of a run of `upgrade`.
+use Rattle.std.proofs.Common.{◌≡◌, ◌≢◌, Ok, Err}
+use Rattle.aea_io.specs.Streams.{SourceState, SinkState}
+use Rattle.aea_disk.specs.State.{State}
+use Rattle.aea_cli.specs.declared.command.Command.TheVariants.{Upgrade}
+use Rattle.aea_command.specs.declared.refusal.Failure.{Failure}
+use Rattle.aea_command.specs.declared.refusal.Failure.TheVariants as failure
+use Rattle.aea_command_store.specs.Adding.{AddsRecord, KeepsTheRest}
+use Rattle.aea_command.specs.Causes.{Refuses}
+use Rattle.aea_cli.specs.Does.{Runs}
+use Rattle.aea_command.specs.Failures.{Answer, NeverClashes}
+use Rattle.aea_command.specs.Printed.{PrintsText}
+use Rattle.aea_command_store.specs.Upgrade.{next_raise, upgraded_line, UpgradeCauses, Upgrades}
+use Rattle.aea_command.specs.Worlds.{world}
+use Rattle.aea_command_store.proofs.Adding.{adds_as, agrees_failed}
+use Rattle.aea_command_store.proofs.Adding.Running.{agrees_printed, rest_stays, adds_opens}
+use Rattle.aea_command_store.proofs.CreateLemmas.{IsPrinting, printing_done}
+use Rattle.aea_command.proofs.Refusing.{refuses_told}
+use Rattle.aea_command.proofs.Texts.{text_unused}
+
+-- what `upgrade` did, when it is refused, and that it keeps each other file give what holds of its run
+pub upgrade_runs : (tells : Type 0) (old new : State) (input : SourceState) (before after : SinkState) (answer : Answer)
+    → Upgrades tells old new before after answer → Refuses tells (UpgradeCauses (old.files 0)) answer → KeepsTheRest tells (answer ≡ Err failure.Disk) old new
+    → NeverClashes answer
+    → Runs Upgrade (world tells old input before) (world tells new input after) answer
+upgrade_runs tells old new input before after answer upgrades refuses rest honest = record {
+  does = upgrades;
+  refuses = λ early. refuses_told _ _ _ _ (λ told. told.disk tt) refuses;
+  disk_fits = λ fits. (upgrades.adds.in_room fits).0;
+  output_fits = λ told fits. (upgrades.prints.in_room fits.room fits.told fits.enough).0;
+  honest = λ told is. honest;
+  stays = rest_stays tells _ old new rest;
+  opens = adds_opens next_raise tells old new answer upgrades.adds;
+}

@@ -1,0 +1,9 @@
+pub mod Refusing
+pub mod Texts
+pub mod FailureCases
+pub mod OpeningCases
+pub mod Behind
+pub mod Reading
+pub mod Opened
+pub mod Twice
+pub mod Listed

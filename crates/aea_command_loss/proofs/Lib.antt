@@ -1,0 +1,5 @@
+pub mod DrillLemmas
+pub mod RepairLemmas
+pub mod ExplainLemmas
+pub mod VerifyLemmas
+pub mod RehearseLemmas

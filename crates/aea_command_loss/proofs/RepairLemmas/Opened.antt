@@ -1,0 +1,196 @@
+-- A repair behind the opening, as a part of the whole run.
+use Rattle.std.proofs.Common.{◌≡◌, ◌≢◌, inl, inr, ℕ, zero, suc, ◌≤◌, List, length, refl, sym, ◌∙◌, ap, subst, arith, Bool, Some, Result, Ok, Err}
+use Rattle.std.specs.Prelude.{IsErr}
+use Rattle.std.proofs.lemmas.Bool.{cases_lt}
+use Rattle.std.proofs.lemmas.Bool.Decides.{nat_tests}
+use Rattle.aea_faults.specs.Faults.{Rose}
+use Rattle.aea_io.specs.Streams.{SinkState}
+use Rattle.aea_lattice.specs.declared.blocks.BlockId.{BlockId}
+use Rattle.aea_lattice.specs.declared.shape.Shape.{Shape}
+use Rattle.aea_lattice.specs.Blocks.{HasBlock}
+use Rattle.aea_disk.specs.Files.{Files, KeepsFiles}
+use Rattle.aea_disk.specs.Frames.{OnlyReads}
+use Rattle.aea_disk.specs.State.{State, Passes, During, AtEachMoment, IsSynced}
+use Rattle.aea_disk.proofs.Frames.{reads_as, writes_where}
+use Rattle.aea_disk.proofs.Moments.{passes_none, passes_both, where_none, where_both, where_kept}
+use Rattle.aea_shelf.specs.Intact.{IsHeldIn}
+use Rattle.aea_shelf.proofs.Runs.{synced_held}
+use Rattle.aea_records.specs.Format.{Record}
+use Rattle.aea_records.specs.Laws.{HasOneReading}
+use Rattle.aea_ledger.specs.Recorded.{AreRecordsOf}
+use Rattle.aea_ledger.specs.Values.{Opened, HasRecords}
+use Rattle.aea_archive.specs.Blocks.{recorded_in, IsIntactBy, IsHeldBy, TellsSurvivors}
+use Rattle.aea_archive.specs.Cells.{IsNoSite, ChangesArchive, HaveSitesRoom}
+use Rattle.aea_archive.specs.Data.{AreSurvivorsHonest, IsDamagePlain}
+use Rattle.aea_report.specs.declared.head.Head.{Head}
+use Rattle.aea_report.specs.declared.line.Line.{Line}
+use Rattle.aea_report.specs.Format.{report_bytes}
+use Rattle.aea_report.specs.Printed.{IsPrinted}
+use Rattle.aea_restore.specs.Drawn.{IsOtherDigest}
+use Rattle.aea_restore.specs.Laws.{IsRestorable}
+use Rattle.aea_restore.specs.Repairs.{IsLeft, WritesBlocks}
+use Rattle.aea_repair.specs.declared.fault.RepairFault.{RepairFault}
+use Rattle.aea_repair.specs.declared.fault.RepairFault.TheVariants as repair
+use Rattle.aea_repair.specs.declared.outcome.Outcome.{Outcome}
+use Rattle.aea_repair.specs.Repairs.{IsWritten, Restores}
+use Rattle.aea_repair.specs.Reports.{IsReportOf, HasReported}
+use Rattle.aea_command.specs.declared.refusal.Failure.{Failure}
+use Rattle.aea_command.specs.declared.refusal.Failure.TheVariants as failure
+use Rattle.aea_command.specs.Failures.{Answer}
+use Rattle.aea_command.specs.Openings.{Opens, KeepsAllBut}
+use Rattle.aea_command_loss.specs.Repair.{repair_answer, RepairsOpened, FitsRepair, IsSiteFile, RepairsArchive}
+use Rattle.aea_command.proofs.OpeningCases.{opening_more}
+use Rattle.aea_command.proofs.Opened.{opening_synced, image_is, opens_then, opening_then, untouched_by}
+use Rattle.aea_command.proofs.Reading.{has_ledger_of}
+use Rattle.aea_command_loss.proofs.RepairLemmas.Answering.{from_disk}
+use Rattle.aea_ledger.specs.Stops.{StaysAll}
+
+-- what the call that repairs gave, over these states of the disk and of the output
+pub record HasRepaired (tells : Type 0) (v : Opened) (mid new : State) (before after : SinkState) (result : Result Outcome RepairFault) : Type 0 where
+  pub restores : tells → (known : BlockId → Bool) → TellsSurvivors v.shape v.lattice.n v.digests mid.files known → Restores v known mid.files new.files result
+  pub durable : IsWritten result → tells → IsSynced new
+  pub alone : tells → (known : BlockId → Bool) → TellsSurvivors v.shape v.lattice.n v.digests mid.files known
+      → WritesBlocks tells v (IsLeft (IsRestorable v.lattice known)) (result ≡ Err repair.DiskFault) mid new
+  pub held : tells → (b : BlockId) → HasBlock v.lattice b → IsHeldBy v.shape v.digests mid b
+      → AtEachMoment mid new (IsHeldIn v.shape b (recorded_in v.shape v.digests b)) × IsHeldBy v.shape v.digests new b
+  pub reports : IsWritten result → HasReported tells v mid.files new.files before after result
+  pub unused : IsErr result → result ≢ Err repair.WriteFault → after ≡ before
+  pub clash : (b : BlockId) (told computed : List ℕ) → result ≡ Err (repair.Clash b told computed) → IsOtherDigest v b told computed
+  pub no_clash : tells → (records : List Record) (datas : List (List ℕ)) → HasRecords v records → AreRecordsOf v.shape records datas
+      → AreSurvivorsHonest v.shape v.lattice v.digests datas mid.files → (b : BlockId) (told computed : List ℕ) → result ≢ Err (repair.Clash b told computed)
+  pub memory : result ≡ Err repair.NoMemory → OnlyReads tells ⊥ mid new
+  pub writes : WritesBlocks tells v (IsLeft (HasBlock v.lattice)) (result ≡ Err repair.DiskFault) mid new
+  pub in_room : tells → (room : ℕ) (known : BlockId → Bool) (h : Head) (lines : List Line) → before.room ≡ Some room
+      → TellsSurvivors v.shape v.lattice.n v.digests mid.files known → IsPrinted v.lattice known (Some v.seal) h lines → length (report_bytes h lines) ≤ room
+      → (result ≢ Err repair.WriteFault) × (after.faults ≡ before.faults)
+
+-- a file of no site is the ledger, or besides the archive
+no_site : (shape : Shape) (f : ℕ) → (IsSiteFile f → ⊥) → IsNoSite shape f
+no_site shape zero past = inl refl
+no_site shape (suc f) past = elim (cases_lt shape.sites (suc f)) [
+  | inl less ↦ inr less
+  | inr few ↦ absurd (past (omega arith, (let h = shape.in_profile in grind (arith, nat_tests))))
+]
+
+module _ (tells : Type 0) (v : Opened) (old mid new : State) (opens : Opens tells old mid (Ok v)) where
+  -- the images behind the opening are of changes of the files as they read before
+  changed : (keep : BlockId → Type 0) (fault : Type 0) → WritesBlocks tells v keep fault mid new → tells → During mid new (ChangesArchive v.shape v.lattice.n keep (IsNoSite v.shape) old.files)
+  changed keep fault writes told t c from to here =
+      let was = writes.crash t c from to here in
+      subst (λ (d : Files). ChangesArchive v.shape v.lattice.n keep (IsNoSite v.shape) d c) (image_is tells v old mid new opens told was.0 was.1) was.2
+
+module _ (reading : HasOneReading) (tells : Type 0) (v : Opened) (old mid new : State) (before after : SinkState) (result : Result Outcome RepairFault) (opens : Opens tells old mid (Ok v)) (gave : HasRepaired tells v mid new before after result) where
+  same : tells → mid.files ≡ old.files
+  same told = opens.reads.contents told
+
+  survivors : tells → (known : BlockId → Bool) → TellsSurvivors v.shape v.lattice.n v.digests old.files known → TellsSurvivors v.shape v.lattice.n v.digests mid.files known
+  survivors told known is = subst (λ (c : Files). TellsSurvivors v.shape v.lattice.n v.digests c known) (sym (same told)) is
+
+  late : Passes mid new
+  late = gave.writes.time
+
+  report_of : (h : Head) (lines : List Line) → IsReportOf tells v mid.files h lines → IsReportOf tells v old.files h lines
+  report_of h lines report = record {
+    known = report.known;
+    survivors = λ told. subst (λ (c : Files). TellsSurvivors v.shape v.lattice.n v.digests c report.known) (same told) (report.survivors told);
+    printed = report.printed;
+    each = λ told test is. report.each told test (survivors told test is);
+  }
+
+  reported : HasReported tells v mid.files new.files before after result → HasReported tells v old.files new.files before after result
+  reported has = record {
+    head = has.head;
+    lines = has.lines;
+    report = report_of has.head has.lines has.report;
+    prints = has.prints;
+    numbers = has.numbers;
+    fits = λ told plain. has.fits told (subst (λ (c : Files). IsDamagePlain v.shape v.lattice v.digests c) (sym (same told)) plain);
+  }
+
+  repairs_opened : RepairsOpened tells v old new before after result
+  repairs_opened = record {
+    restores = λ told known is. subst (λ (c : Files). Restores v known c new.files result) (same told) (gave.restores told known (survivors told known is));
+    alone = λ told known is.
+        opens_then tells v old mid new opens told (λ opened end. During opened end (ChangesArchive v.shape v.lattice.n (IsLeft (IsRestorable v.lattice known)) (IsNoSite v.shape) old.files)) late
+        (changed tells v old mid new opens (IsLeft (IsRestorable v.lattice known)) (result ≡ Err repair.DiskFault) (gave.alone told known (survivors told known is)) told);
+    reads = λ told known is.
+        subst (λ (c : Files). ChangesArchive v.shape v.lattice.n (IsLeft (IsRestorable v.lattice known)) (IsNoSite v.shape) c new.files) (same told)
+        ((gave.alone told known (survivors told known is)).contents told);
+    held = λ told b inside intact.
+        let here : IsIntactBy v.shape v.digests mid.files b = subst (λ (c : Files). IsIntactBy v.shape v.digests c b) (sym (same told)) intact in
+        opens_then tells v old mid new opens told (λ opened end. AtEachMoment opened end (IsHeldIn v.shape b (recorded_in v.shape v.digests b))) late
+        ((gave.held told b inside (synced_held v.shape b (recorded_in v.shape v.digests b) mid (opening_synced tells v old mid new opens told) here)).0);
+    durable = gave.durable;
+    reports = λ written. reported (gave.reports written);
+    unused = gave.unused;
+    clash = gave.clash;
+    no_clash = λ told records datas has are honest.
+        gave.no_clash told records datas has are (subst (λ (c : Files). AreSurvivorsHonest v.shape v.lattice v.digests datas c) (sym (same told)) honest);
+    wanting = λ e. untouched_by tells v old mid new opens (gave.memory e);
+    in_room = λ told room known h lines fits is. gave.in_room told room known h lines fits (survivors told known is);
+  }
+
+  -- the room that the run asks for is that of the rows of the opened archive
+  room : FitsRepair tells old → HaveSitesRoom v.shape v.lattice.n mid
+  room fits f first last = opens.reads.time.room f _ (fits.sites v.shape v.lattice.n (λ told.
+      let one = opens.this_one told in
+      record {
+        records = one.records;
+        ledger = has_ledger_of reading v (old.files 0) one;
+        is = one.has.lattice.n;
+      }) f first last)
+
+  pub repairs_done : RepairsArchive tells old new before after (repair_answer result)
+  repairs_done = record {
+    opening = Ok v;
+    records = opens.records;
+    this_one = opens.this_one;
+    unopened = tt;
+    opened = (result, refl, repairs_opened);
+    in_room = λ fits.
+        let early = opens.reads.sure fits.some in
+        let rest = gave.writes.sure (room fits) in
+        (λ e. rest.0 (from_disk result e), rest.1 ∙ early.1);
+  }
+
+-- the files that a repair may not change, by its frame alone
+module _ (tells : Type 0) (v : Opened) (old mid new : State) (before after : SinkState) (result : Result Outcome RepairFault) (opens : Opens tells old mid (Ok v))
+    (writes : WritesBlocks tells v (IsLeft (HasBlock v.lattice)) (result ≡ Err repair.DiskFault) mid new) where
+  pub repairing_rest : KeepsAllBut IsSiteFile tells (repair_answer result ≡ Err failure.Disk) old new
+  repairing_rest = record {
+    others = where_both tells _ old mid new opens.reads.time writes.time
+        (where_kept tells _ old old mid (passes_none old) opens.reads.time opens.reads.crash opens.reads.contents (where_none tells _ old))
+        (writes_where tells _ _ (ChangesArchive v.shape v.lattice.n (IsLeft (HasBlock v.lattice)) (IsNoSite v.shape)) _ mid new (λ c d step f past. step.stay f (no_site v.shape f past)) writes);
+    opens = λ told.
+        opening_then tells v old mid new opens told (KeepsFiles (λ f. IsSiteFile f → ⊥) old.files) (λ c stays f past. stays f) writes.time
+        (λ t c from to here f past. (changed tells v old mid new opens (IsLeft (HasBlock v.lattice)) (result ≡ Err repair.DiskFault) writes told t c from to here).stay f (no_site v.shape f past));
+    time = passes_both old mid new opens.reads.time writes.time;
+    kept = let a = opens.reads.kept in let b = writes.kept in omega (arith, a, b);
+    cause = λ is. let rose : Rose mid.faults new.faults = writes.cause (from_disk result is) in omega (arith, opens.reads.kept, rose);
+  }
+
+-- the archive was not opened
+module _ (tells : Type 0) (old new : State) (out : SinkState) (f : Failure) (opens : Opens tells old new (Err f)) where
+  pub repairs_unopened : RepairsArchive tells old new out out (Err f)
+  repairs_unopened = record {
+    opening = Err f;
+    records = tt;
+    this_one = tt;
+    unopened = record {
+      is = refl;
+      why = opens.kinds;
+      unused = refl;
+      reads = reads_as tells _ _ old new (λ e. ap Err e) opens.reads;
+    };
+    opened = tt;
+    in_room = λ fits. let sure = opens.reads.sure fits.some in (λ e. sure.0 (let h : (let answer : Answer = Err f in answer ≡ Err failure.Disk) = e in cc), sure.1);
+  }
+
+  pub unopened_repair : KeepsAllBut IsSiteFile tells (let answer : Answer = Err f in answer ≡ Err failure.Disk) old new
+  unopened_repair = record {
+    others = where_kept tells _ old old new (passes_none old) opens.reads.time opens.reads.crash opens.reads.contents (where_none tells _ old);
+    opens = λ told. opening_more old new (StaysAll old.files) (KeepsFiles (λ g. IsSiteFile g → ⊥) old.files) (λ c stays g past. stays g) (opens.stops told);
+    time = opens.reads.time;
+    kept = opens.reads.kept;
+    cause = λ is. opens.reads.cause (let h : (let answer : Answer = Err f in answer ≡ Err failure.Disk) = is in cc);
+  }

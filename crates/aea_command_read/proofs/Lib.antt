@@ -1,0 +1,4 @@
+pub mod StatLemmas
+pub mod ScrubLemmas
+pub mod GetLemmas
+pub mod ListLemmas

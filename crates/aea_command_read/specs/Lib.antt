@@ -1,0 +1,4 @@
+pub mod Stat
+pub mod Scrub
+pub mod Get
+pub mod List

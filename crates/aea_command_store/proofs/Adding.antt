@@ -1,0 +1,245 @@
+-- What a run leaves that adds a record to the ledger, by where it ends.
+pub mod Running
+use Rattle.std.proofs.Common.{◌≡◌, ◌≢◌, ◌⊎◌, inl, inr, ℕ, ◌+◌, ◌≤◌, List, [], ◌∷◌, ◌++◌, length, refl, sym, ◌∙◌, ap, subst, arith, max, Result, Ok, Err}
+use Rattle.std.specs.Prelude.{IsOk, IsErrAnd}
+use Rattle.std.proofs.lemmas.Bool.{false≢true}
+use Rattle.aea_faults.specs.Faults.{Rose}
+use Rattle.aea_lattice.specs.declared.shape.Shape.{Shape}
+use Rattle.aea_disk.specs.Files.{Files, ChangesOnly}
+use Rattle.aea_disk.specs.Frames.{OnlyWrites}
+use Rattle.aea_disk.specs.State.{State, IsSynced, IsFixed, During, HasRoomTo}
+use Rattle.aea_disk.proofs.Frames.{writes_others}
+use Rattle.aea_disk.proofs.Moments.{passes_both, others_kept, others_both}
+use Rattle.aea_records.specs.Format.{Record, body, entry, spelled}
+use Rattle.aea_records.specs.Grammar.{IsNext, IsLedger, AreRecords}
+use Rattle.aea_records.specs.Laws.{IsSomeLedger, HasOneReading}
+use Rattle.aea_ledger.specs.Committing.{LeavesOldOrNew, HasCommitted}
+use Rattle.aea_ledger.specs.Next.{AreItsRecords}
+use Rattle.aea_ledger.specs.Recorded.{AreRecordsOf}
+use Rattle.aea_ledger.specs.Stops.{HasLedger, HasOldOrNew, StaysAll, committed}
+use Rattle.aea_ledger.specs.Values.{Opened, HasRecords, IsThisOne}
+use Rattle.aea_command.specs.declared.refusal.Refusal.{Refusal}
+use Rattle.aea_command.specs.declared.refusal.Failure.{Failure}
+use Rattle.aea_command.specs.declared.refusal.Failure.TheVariants as failure
+use Rattle.aea_command_store.specs.Adding.{HasAddedRecord, MayHaveAdded, WouldEndAt, FitsRecord, AddsRecord, KeepsTheRest}
+use Rattle.aea_command.specs.Openings.{IsUntouched, Opens}
+use Rattle.aea_command.proofs.OpeningCases.{opening_not_output, opened_more, opening_more, opened_then}
+use Rattle.aea_command.proofs.Behind.{some_ledger}
+
+err_same : {T : Type 0} (f g : Failure) → (let one : Result T Failure = Err f in one ≡ Err g) → f ≡ g
+err_same f g e = cc
+
+-- where every file is as it was, none was added
+may_stay : (adds : List Record → Record) (old c : Files) → ((f : ℕ) → c f ≡ old f) → MayHaveAdded adds old c
+may_stay adds old c same = record {
+  ledger = λ shape records has. inl (subst (λ (bytes : List ℕ). HasLedger shape records bytes) (sym (same 0)) has);
+  none = λ _. same 0;
+  others = λ f apart. same f;
+}
+
+-- the opening alone
+untouched : (tells : Type 0) (old new : State) (opening : Result Opened Failure) → Opens tells old new opening → opening ≢ Err failure.Disk → IsUntouched tells old new
+untouched tells old new opening opens differs = record {
+  images = opens.reads.crash;
+  files = opens.reads.contents;
+  synced = opens.synced differs;
+  sure = opens.opened differs;
+}
+
+-- how an answer tells what was done, and not what was printed
+pub record Agrees {T U : Type 0} (gave : Result T Failure) (answer : Result U Failure) : Type 0 where
+  pub well : IsOk answer ⊎ (answer ≡ Err failure.Output) → IsOk gave ⊎ (gave ≡ Err failure.Output)
+  pub done : IsOk gave ⊎ (gave ≡ Err failure.Output) → IsOk answer ⊎ (answer ≡ Err failure.Output)
+  pub there : (f : Failure) → f ≢ failure.Output → answer ≡ Err f → gave ≡ Err f
+  pub back : (f : Failure) → f ≢ failure.Output → gave ≡ Err f → answer ≡ Err f
+
+-- an answer with a failure agrees with a call that gave the same failure
+pub agrees_failed : {T U : Type 0} (f : Failure) → Agrees {T = T} {U = U} (Err f) (Err f)
+agrees_failed {T} {U} f = record {
+  well = λ e. elim e [ inl ok ↦ absurd (false≢true ok) | inr is ↦ inr (ap Err (err_same {T = U} f failure.Output is)) ];
+  done = λ e. elim e [ inl ok ↦ absurd (false≢true ok) | inr is ↦ inr (ap Err (err_same {T = T} f failure.Output is)) ];
+  there = λ g differs is. ap Err (err_same {T = U} f g is);
+  back = λ g differs is. ap Err (err_same {T = T} f g is);
+}
+
+-- a run that adds a record by what was given does so by each answer that agrees with it
+pub adds_as : {T U : Type 0} (adds : List Record → Record) (tells : Type 0) (old new : State) (gave : Result T Failure) (answer : Result U Failure) → Agrees gave answer → AddsRecord adds tells old new gave → AddsRecord adds tells old new answer
+adds_as {T} {U} adds tells old new gave answer agrees does = record {
+  stands = λ e. does.stands (agrees.well e);
+  refused = λ why is. does.refused why (agrees.there (failure.Refused why) (λ d. cc) is);
+  wanting = λ is. does.wanting (agrees.there failure.Memory (λ d. cc) is);
+  stops = does.stops;
+  opened = λ differs. does.opened (λ is. differs (agrees.back failure.Disk (λ d. cc) is));
+  reads = does.reads;
+  long = does.long;
+  in_room = λ fits. (λ is. (does.in_room fits).0 (agrees.there failure.Disk (λ d. cc) is), (does.in_room fits).1);
+}
+
+-- the archive was opened, or not, and then nothing was written
+pub adds_read : {T : Type 0} (adds : List Record → Record) (tells : Type 0) (old new : State) (opening : Result Opened Failure) (f : Failure) → Opens tells old new opening → f ≢ failure.Output
+    → (f ≡ failure.Disk → opening ≡ Err failure.Disk) → (opening ≡ Err failure.Disk → f ≡ failure.Disk) → AddsRecord {T = T} adds tells old new (Err f)
+adds_read {T} adds tells old new opening f opens output there back = record {
+  stands = λ e. elim e [ inl ok ↦ absurd (false≢true ok) | inr is ↦ absurd (output (err_same {T = T} f failure.Output is)) ];
+  refused = λ why is. untouched tells old new opening opens (λ d. let a = back d in let b = err_same {T = T} f (failure.Refused why) is in let c : failure.Disk ≡ failure.Refused why = sym a ∙ b in cc);
+  wanting = λ is. untouched tells old new opening opens (λ d. let a = back d in let b = err_same {T = T} f failure.Memory is in let c : failure.Disk ≡ failure.Memory = sym a ∙ b in cc);
+  stops = λ told. opening_more old new _ _ (λ c same. may_stay adds old.files c same) (opens.stops told);
+  opened = λ differs told. opened_more old new _ _ (λ c same. may_stay adds old.files c same) (opens.opened (λ d. differs (ap Err (back d))) told);
+  reads = λ told. may_stay adds old.files new.files (λ k. ap (λ (c : Files). c k) (opens.reads.contents told));
+  long = λ told shape records has. let same = ap (λ (c : Files). length (c 0)) (opens.reads.contents told) in omega arith;
+  in_room = λ fits. let sure = opens.reads.sure fits.some in (λ is. sure.0 (there (err_same {T = T} f failure.Disk is)), sure.1);
+}
+
+pub rest_read : {T : Type 0} (tells : Type 0) (old new : State) (opening : Result Opened Failure) (answer : Result T Failure) → Opens tells old new opening → (answer ≡ Err failure.Disk → opening ≡ Err failure.Disk) → KeepsTheRest tells (answer ≡ Err failure.Disk) old new
+rest_read tells old new opening answer opens there = record {
+  others = others_kept tells 0 old new opens.reads.crash opens.reads.contents;
+  time = opens.reads.time;
+  kept = opens.reads.kept;
+  cause = λ is. opens.reads.cause (there is);
+}
+
+-- the archive was not opened
+pub adds_opening : {T : Type 0} (adds : List Record → Record) (tells : Type 0) (old new : State) (f : Failure) → Opens tells old new (Err f) → AddsRecord {T = T} adds tells old new (Err f)
+adds_opening adds tells old new f opens =
+    adds_read adds tells old new (Err f) f opens (λ e. let kind = opens.kinds in opening_not_output kind.0 (sym kind.1 ∙ e)) (λ e. ap Err e) (λ e. err_same {T = Opened} f failure.Disk e)
+
+-- the record r, which is the one to be added, was committed to the opened archive v, or the disk failed at that
+pub record IsCommitting (adds : List Record → Record) (tells : Type 0) (v : Opened) (r : Record) (fault : Type 0) (old mid new : State) : Type 0 where
+  pub opens : Opens tells old mid (Ok v)
+  pub is : (records : List Record) → HasRecords v records → adds records ≡ r
+  pub next : (records : List Record) → HasRecords v records → IsNext v.shape records r
+  pub leaves : LeavesOldOrNew tells v r mid new
+  pub writes : OnlyWrites tells (HasRoomTo mid 0 (v.end + length (entry r) + 1)) fault (ChangesOnly 0) mid new
+
+opened_not : (v : Opened) (f : Failure) → Ok v ≡ Err f → ⊥
+opened_not v f e = cc
+
+-- the records of what was opened are those of the bytes, before the commit too
+pub its_records : (tells : Type 0) (old mid : State) (v : Opened) → Opens tells old mid (Ok v) → tells → (one : IsThisOne v (old.files 0)) → AreItsRecords v one.records (mid.files 0)
+its_records tells old mid v opens told one = record {
+  has = one.has;
+  ledger = subst (λ (c : Files). IsLedger (c 0) v.shape one.records v.end) (sym (opens.reads.contents told)) one.ledger;
+}
+
+-- what is left of files in which the old ledger stood, or the new one
+may_add : HasOneReading → (adds : List Record → Record) (v : Opened) (r : Record) (old c : Files) (one : IsThisOne v (old 0)) → adds one.records ≡ r → HasOldOrNew v.shape one.records r (c 0) → ChangesOnly 0 old c → MayHaveAdded adds old c
+may_add reading adds v r old c one is either others = record {
+  ledger = λ shape records has.
+      let same = reading (old 0) v.shape shape one.records records v.end (length (spelled shape records)) one.ledger has in
+      let e : r ≡ adds records = sym is ∙ ap adds same.1.0 in
+      let one_shape = subst (λ (s : Shape). HasOldOrNew s one.records r (c 0)) same.0 either in
+      let one_list = subst (λ (l : List Record). HasOldOrNew shape l r (c 0)) same.1.0 one_shape in
+      subst (λ (q : Record). HasOldOrNew shape records q (c 0)) e one_list;
+  none = λ never. absurd (never (record { shape = v.shape; records = one.records; end = v.end; ledger = one.ledger }));
+  others = others;
+}
+
+-- each image of the commit
+adds_during : HasOneReading → (adds : List Record → Record) (tells : Type 0) (v : Opened) (r : Record) (fault : Type 0) (old mid new : State) → IsCommitting adds tells v r fault old mid new → tells → During mid new (MayHaveAdded adds old.files)
+adds_during reading adds tells v r fault old mid new does told t c from to here =
+    let opens = does.opens in
+    let one = opens.this_one told in
+    let was = does.writes.crash t c from to here in
+    may_add reading adds v r old.files c one (does.is one.records one.has)
+    (does.leaves.any_moment told one.records (its_records tells old mid v opens told one) t c from to here)
+    (λ k apart. was.2 k apart ∙ opens.synced (opened_not v failure.Disk) told was.0 was.1 k ∙ ap (λ (d : Files). d k) (opens.reads.contents told))
+
+adds_reads : HasOneReading → (adds : List Record → Record) (tells : Type 0) (v : Opened) (r : Record) (fault : Type 0) (old mid new : State) → IsCommitting adds tells v r fault old mid new → tells → MayHaveAdded adds old.files new.files
+adds_reads reading adds tells v r fault old mid new does told =
+    let opens = does.opens in
+    let one = opens.this_one told in
+    may_add reading adds v r old.files new.files one (does.is one.records one.has)
+    (does.leaves.reads told one.records (its_records tells old mid v opens told one))
+    (λ k apart. does.writes.contents told k apart ∙ ap (λ (d : Files). d k) (opens.reads.contents told))
+
+adds_long : HasOneReading → (adds : List Record → Record) (tells : Type 0) (v : Opened) (r : Record) (fault : Type 0) (old mid new : State) → IsCommitting adds tells v r fault old mid new → tells
+    → (shape : Shape) (records : List Record) → HasLedger shape records (old.files 0) → length (new.files 0) ≤ max (length (old.files 0)) (length (spelled shape records) + length (entry (adds records)) + 1)
+adds_long reading adds tells v r fault old mid new does told shape records has =
+    let opens = does.opens in
+    let one = opens.this_one told in
+    let same = reading (old.files 0) v.shape shape one.records records v.end (length (spelled shape records)) one.ledger has in
+    let long = does.leaves.long told in
+    let before : length (mid.files 0) ≡ length (old.files 0) = ap (λ (c : Files). length (c 0)) (opens.reads.contents told) in
+    let e : length (entry (adds records)) ≡ length (entry r) = ap (λ (q : Record). length (entry q)) (ap adds (sym same.1.0) ∙ does.is one.records one.has) in
+    let end : v.end ≡ length (spelled shape records) = same.1.1 in
+    rw (← before, e, ← end) long
+
+-- the commit fits where the record fits
+fits_commit : (adds : List Record → Record) (tells : Type 0) (v : Opened) (r : Record) (fault : Type 0) (old mid new : State) → IsCommitting adds tells v r fault old mid new → FitsRecord adds tells old → HasRoomTo mid 0 (v.end + length (entry r) + 1)
+fits_commit adds tells v r fault old mid new does fits =
+    let opens = does.opens in
+    opens.reads.time.room 0 (v.end + length (entry r) + 1) (fits.behind (v.end + length (entry r)) (λ told.
+    let one = opens.this_one told in
+    let is = does.is one.records one.has in
+    record {
+      shape = v.shape;
+      records = one.records;
+      ledger = subst (λ (n : ℕ). IsLedger (old.files 0) v.shape one.records n) one.has.end one.ledger;
+      next = subst (λ (q : Record). IsNext v.shape one.records q) (sym is) (does.next one.records one.has);
+      place = ap (λ (n : ℕ). n + length (entry r)) one.has.end ∙ ap (λ (q : Record). length (spelled v.shape one.records) + length (entry q)) (sym is);
+    }))
+
+-- within the room neither the opening nor the commit fails
+commit_sure : (adds : List Record → Record) (tells : Type 0) (v : Opened) (r : Record) (fault : Type 0) (old mid new : State) → IsCommitting adds tells v r fault old mid new → FitsRecord adds tells old → (fault → ⊥) × (new.faults ≡ old.faults)
+commit_sure adds tells v r fault old mid new does fits =
+    let then = does.writes.sure (fits_commit adds tells v r fault old mid new does fits) in
+    (then.0, then.1 ∙ (does.opens.reads.sure fits.some).1)
+
+-- the disk failed at the commit
+pub adds_failed : {T : Type 0} → HasOneReading → (adds : List Record → Record) (tells : Type 0) (v : Opened) (r : Record) (fault : Type 0) (old mid new : State) → IsCommitting adds tells v r fault old mid new → fault → AddsRecord {T = T} adds tells old new (Err failure.Disk)
+adds_failed {T} reading adds tells v r fault old mid new does failed = record {
+  stands = λ e. elim e [ inl ok ↦ absurd (false≢true ok) | inr is ↦ let h = err_same {T = T} failure.Disk failure.Output is in cc ];
+  refused = λ why is. let h = err_same {T = T} failure.Disk (failure.Refused why) is in cc;
+  wanting = λ is. let h = err_same {T = T} failure.Disk failure.Memory is in cc;
+  stops = λ told. inr (opened_then old mid new _ _ does.opens.reads.time does.writes.time (λ c same. may_stay adds old.files c same) (adds_during reading adds tells v r fault old mid new does told) (does.opens.opened (opened_not v failure.Disk) told));
+  opened = λ differs. absurd (differs refl);
+  reads = adds_reads reading adds tells v r fault old mid new does;
+  long = adds_long reading adds tells v r fault old mid new does;
+  in_room = λ fits. absurd ((commit_sure adds tells v r fault old mid new does fits).0 failed);
+}
+
+-- what the ledger records, it records with the record behind it
+abbrev pub KeepsRecorded : (List Record → Record) → Type 0
+KeepsRecorded adds =
+    (shape : Shape) (records : List Record) (datas : List (List ℕ)) → AreRecords shape (records ++ adds records ∷ []) → AreRecordsOf shape records datas → AreRecordsOf shape (records ++ adds records ∷ []) datas
+
+-- the record was committed
+pub adds_done : {T : Type 0} → HasOneReading → (adds : List Record → Record) → KeepsRecorded adds → (tells : Type 0) (v w : Opened) (r : Record) (fault : Type 0) (old mid new : State) (value : T) → IsCommitting adds tells v r fault old mid new → HasCommitted tells v w r mid new
+    → AddsRecord adds tells old new (Ok value)
+adds_done {T} reading adds keeps tells v w r fault old mid new value does done = record {
+  stands = λ e told.
+      let one = does.opens.this_one told in
+      let is = does.is one.records one.has in
+      let same = does.opens.reads.contents told in
+      let its = its_records tells old mid v does.opens told one in
+      let after = subst (λ (q : Record). HasLedger v.shape (one.records ++ q ∷ []) (new.files 0)) (sym is) (done.appended told one.records its) in (
+        record {
+          shape = v.shape;
+          records = one.records;
+          before = subst (λ (n : ℕ). IsLedger (old.files 0) v.shape one.records n) one.has.end one.ledger;
+          after = after;
+          exactly = done.exactly told ∙ ap (λ (c : Files). committed (c 0) v.end (body r ++ 0 ∷ [])) same ∙ ap (λ (n : ℕ). committed (old.files 0) n (body r ++ 0 ∷ [])) one.has.end
+              ∙ ap (λ (q : Record). committed (old.files 0) (length (spelled v.shape one.records)) (body q ++ 0 ∷ [])) (sym is);
+          recorded = λ datas. keeps v.shape one.records datas after.valid;
+        },
+        done.durable told,
+      );
+  refused = λ why is. let h : Ok value ≡ Err (failure.Refused why) = is in cc;
+  wanting = λ is. let h : Ok value ≡ Err failure.Memory = is in cc;
+  stops = λ told. inr (opened_then old mid new _ _ does.opens.reads.time does.writes.time (λ c same. may_stay adds old.files c same) (adds_during reading adds tells v r fault old mid new does told) (does.opens.opened (opened_not v failure.Disk) told));
+  opened = λ differs told. opened_then old mid new _ _ does.opens.reads.time does.writes.time (λ c same. may_stay adds old.files c same) (adds_during reading adds tells v r fault old mid new does told) (does.opens.opened (opened_not v failure.Disk) told);
+  reads = adds_reads reading adds tells v r fault old mid new does;
+  long = adds_long reading adds tells v r fault old mid new does;
+  in_room = λ fits. (λ is. let h : Ok value ≡ Err failure.Disk = is in cc, (commit_sure adds tells v r fault old mid new does fits).1);
+}
+
+-- where a record was committed, or the disk failed at that, each other file stays, and a fault of the answer has
+-- its cause if it is one of the commit
+pub rest_committed : (adds : List Record → Record) (tells : Type 0) (v : Opened) (r : Record) (fault other : Type 0) (old mid new : State) → IsCommitting adds tells v r fault old mid new → (other → fault) → KeepsTheRest tells other old new
+rest_committed adds tells v r fault other old mid new does so = record {
+  others = others_both tells 0 old mid new does.opens.reads.time does.writes.time
+      (others_kept tells 0 old mid does.opens.reads.crash does.opens.reads.contents)
+      (writes_others tells _ fault (ChangesOnly 0) 0 mid new (λ c d keeps. keeps) does.writes);
+  time = passes_both old mid new does.opens.reads.time does.writes.time;
+  kept = omega (arith, does.opens.reads.kept, does.writes.kept);
+  cause = λ is. let rose : Rose mid.faults new.faults = does.writes.cause (so is) in omega (arith, does.opens.reads.kept, rose);
+}

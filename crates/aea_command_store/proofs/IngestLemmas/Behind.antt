@@ -1,0 +1,290 @@
+-- What a run leaves that stores the frames of a stream, its opening included.
+use Rattle.std.proofs.Common.{◌≡◌, ◌⊎◌, inl, inr, ℕ, ◌+◌, ◌*◌, ◌≤◌, List, [], ◌++◌, length, refl, sym, ◌∙◌, ap, subst, arith, Option, Some, Result, Ok, Err, length-append}
+use Rattle.std.specs.Prelude.{IsSome, unwrap_or}
+use Rattle.std.specs.Io.KnownBytes.{Consumes}
+use Rattle.std.specs.List.{flat_map}
+use Rattle.std.proofs.lemmas.List.Concat.{flat_map-append}
+use Rattle.std.proofs.KnownBytes.{Consumes-nil}
+use Rattle.std.proofs.lemmas.Bool.{cases_lt, false≢true}
+use Rattle.aea_faults.specs.Faults.{Rose}
+use Rattle.aea_io.specs.Streams.{SinkState}
+use Rattle.aea_lattice.specs.declared.shape.Shape.{Shape}
+use Rattle.aea_disk.specs.Files.{Files, KeepsFiles}
+use Rattle.aea_disk.specs.Frames.{OnlyWrites}
+use Rattle.aea_disk.specs.State.{State}
+use Rattle.aea_disk.proofs.Frames.{writes_where}
+use Rattle.aea_disk.proofs.Moments.{passes_both, passes_none, where_both, where_kept, where_none}
+use Rattle.aea_shelf.specs.Places.{site_bytes}
+use Rattle.aea_records.specs.Format.{Record, limit_when, limit_of, nodes_for, nodes_of, spelled, digests_of, header, entry}
+use Rattle.aea_records.specs.Laws.{HasOneReading, IsSomeLedger}
+use Rattle.aea_ledger.specs.Stops.{HasLedger}
+use Rattle.aea_ledger.specs.Values.{Opened, HasRecords}
+use Rattle.aea_archive.specs.Cells.{IsBesides}
+use Rattle.aea_archive.specs.Data.{AreSurvivorsHonest, IsDamagePlain}
+use Rattle.aea_archive.specs.Lasts.{AreLastsAtHome, AreLastsHonest}
+use Rattle.aea_archive.specs.Next.{NewObject}
+use Rattle.aea_archive.proofs.Stretches.{nodes_of-append}
+use Rattle.aea_append.specs.Causes.{next_end}
+use Rattle.aea_command.specs.declared.refusal.Refusal.{Refusal}
+use Rattle.aea_command.specs.declared.refusal.Refusal.TheVariants.{NoArchive, LedgerBad, BadName, NameTaken, CatalogFull, HeadDamaged, Full, BadStream, Occupied}
+use Rattle.aea_command.specs.declared.refusal.Failure.{Failure}
+use Rattle.aea_command.specs.declared.refusal.Failure.TheVariants as failure
+use Rattle.aea_command.specs.Causes.{Refuses, IsFirst, place_of}
+use Rattle.aea_command.specs.declared.status.Status.{Status}
+use Rattle.aea_command.specs.Failures.{Answer}
+use Rattle.aea_command.specs.Openings.{opened_at, OpensThen, OpeningCauses, Opens, greatest_sites}
+use Rattle.aea_command_store.specs.Growing.{LeavesArchive, Grows, HasGrown}
+use Rattle.aea_command_store.specs.Ingest.{OpenedCauses, IngestCauses, IsRefusedAt, EndCauses, IsNotOpened, FitsIngest, FitsFrames, GrowsSurely, MayBeLast, IngestsOpened, Ingests}
+use Rattle.aea_command_store.specs.Put.{EndsStored, KeepsOtherFiles}
+use Rattle.aea_command_store.proofs.Adding.{its_records}
+use Rattle.aea_command.proofs.Behind.{AreBehindOpening, some_ledger, unopened_refuses, opened_no_opening}
+use Rattle.aea_command_store.proofs.PutLemmas.Opening.{changes, adds_at, changed}
+use Rattle.aea_command.proofs.Opened.{opens_then, opening_then}
+use Rattle.aea_command.proofs.Reading.{has_ledger_of, by_reading}
+use Rattle.aea_command_store.proofs.PutLemmas.Running.{unopened_not_output}
+use Rattle.aea_command_store.proofs.PutLemmas.Storing.{sites_most}
+use Rattle.aea_command.proofs.Refusing.{refuses_told}
+use Rattle.aea_command.proofs.OpeningCases.{opening_not_input}
+
+-- ---- a stretch from the end of the opening, as one of the whole run
+
+grows_at : (shape : Shape) (records : List Record) (objects : List NewObject) (old mid new : State) → mid.files ≡ old.files → Grows shape records objects mid new → Grows shape records objects (opened_at old new mid.moment) new
+grows_at shape records objects old mid new same grows = record {
+  lattice = grows.lattice;
+  is_lattice = grows.is_lattice;
+  longer = grows.longer;
+  payload = grows.payload;
+  homes = λ some. subst (λ (c : Files). AreLastsAtHome shape grows.lattice grows.payload c) same (grows.homes some);
+  lasts_wide = grows.lasts_wide;
+  bytes = grows.bytes;
+  added = grows.added;
+  next = grows.next;
+  adds = adds_at shape records grows.added grows.payload old mid new grows.adds;
+  leaves = λ t c from to here. subst (λ (d : Files). LeavesArchive shape records d c) same (grows.leaves t c from to here);
+  reads = subst (λ (d : Files). LeavesArchive shape records d new.files) same grows.reads;
+  records_more = λ datas valid recorded honest. grows.records_more datas valid recorded (subst (λ (c : Files). AreLastsHonest shape grows.lattice (digests_of records) datas c) (sym same) honest);
+}
+
+grown_at : (shape : Shape) (records : List Record) (objects : List NewObject) (old mid new : State) → mid.files ≡ old.files → HasGrown shape records objects mid new → HasGrown shape records objects (opened_at old new mid.moment) new
+unfolding grows_at
+grown_at shape records objects old mid new same grown = record {
+  grows = grows_at shape records objects old mid new same grown.grows;
+  all = grown.all;
+  lasts = grown.lasts;
+  wide = grown.wide;
+  cells = grown.cells;
+  honest = λ datas recorded honest plain.
+      grown.honest datas recorded
+      (subst (λ (c : Files). AreSurvivorsHonest shape grown.grows.lattice (digests_of records) datas c) (sym same) honest)
+      (subst (λ (c : Files). IsDamagePlain shape grown.grows.lattice (digests_of records) c) (sym same) plain);
+}
+
+surely_at : (shape : Shape) (records : List Record) (objects : List NewObject) (k : ℕ) (old mid new : State) → mid.files ≡ old.files → GrowsSurely shape records objects k mid new → GrowsSurely shape records objects k (opened_at old new mid.moment) new
+unfolding grows_at
+surely_at shape records objects k old mid new same surely = record { grows = grows_at shape records objects old mid new same surely.grows; first = surely.first; reads = surely.reads }
+
+-- ---- two lists of records that an opened ledger has
+
+-- they have as many nodes, and are as long, with others behind them
+same_nodes : (v : Opened) (one two added : List Record) → HasRecords v one → HasRecords v two → (size : ℕ) → nodes_of (two ++ added) + nodes_for v.shape size ≤ limit_of two → nodes_of (one ++ added) + nodes_for v.shape size ≤ limit_of one
+same_nodes v one two added has other size few =
+    omega (arith, few, nodes_of-append one added, nodes_of-append two added, has.lattice.n, other.lattice.n, ap limit_when (sym has.raised ∙ other.raised))
+
+spelled_long : (shape : Shape) (records added : List Record) → length (spelled shape (records ++ added)) ≡ length (spelled shape records) + length (flat_map entry added)
+spelled_long shape records added =
+    ap (λ (l : List ℕ). length (header shape ++ l)) (flat_map-append entry records added)
+    ∙ omega (arith, length-append (header shape) (flat_map entry records ++ flat_map entry added), length-append (flat_map entry records) (flat_map entry added), length-append (header shape) (flat_map entry records))
+
+same_length : (v : Opened) (one two added : List Record) → HasRecords v one → HasRecords v two → length (spelled v.shape (two ++ added)) ≡ length (spelled v.shape (one ++ added))
+same_length v one two added has other = omega (arith, has.end, other.end, spelled_long v.shape one added, spelled_long v.shape two added)
+
+-- ---- behind the opening
+
+module _ (reading : HasOneReading) (tells : Type 0) (v : Opened) (left rest : Option (List ℕ)) (old mid new : State) (before after : SinkState) (answer : Answer)
+    (opens : Opens tells old mid (Ok v)) (writes : OnlyWrites tells (FitsFrames v left mid) (answer ≡ Err failure.Disk) (changes v) mid new) where
+  -- the room of the disk is the room that the frames need
+  fits_frames : FitsIngest tells left old → FitsFrames v left mid
+  fits_frames fits = record {
+    sites = λ f some within.
+        opens.reads.time.room f (site_bytes v.shape (limit_when v.raised)) (fits.sites v.shape (limit_when v.raised)
+        (λ told. let one = opens.this_one told in record { records = one.records; ledger = has_ledger_of reading v (old.files 0) one; is = ap limit_when one.has.raised }) f some within);
+    ledger = λ records has objects added name size rest' are framed few.
+        let end : ℕ = next_end (length (spelled v.shape (records ++ added))) (length name) (nodes_for v.shape size * (1 + v.shape.alpha)) in
+        opens.reads.time.room 0 (end + 1) (fits.behind end (λ told.
+        let one = opens.this_one told in
+        record {
+          shape = v.shape;
+          records = one.records;
+          ledger = has_ledger_of reading v (old.files 0) one;
+          objects = objects;
+          added = added;
+          are = are;
+          name = name;
+          size = size;
+          rest = rest';
+          framed = framed;
+          fits = same_nodes v one.records records added one.has has size few;
+          place = ap (λ (n : ℕ). next_end n (length name) (nodes_for v.shape size * (1 + v.shape.alpha))) (same_length v one.records records added one.has has);
+        }));
+  }
+
+  -- what the run leaves, from what it left behind its opening
+  pub ingests_behind : IngestsOpened tells v mid new left rest before after answer → Ingests tells old new left rest before after answer
+  ingests_behind does = record {
+    done = does.done;
+    printed = does.printed;
+    more = does.more;
+    stores = record {
+      framed = does.stores.framed;
+      most = does.stores.most;
+      whole = does.stores.whole;
+      archive = λ stored told. let one = opens.this_one told in record { shape = v.shape; records = one.records; end = v.end; ledger = one.ledger };
+      stands = λ stored told.
+          let one = opens.this_one told in
+          by_reading reading v (old.files 0) one (λ shape records. OpensThen old new (HasGrown shape records (does.printed ++ does.more)))
+          (opens_then tells v old mid new opens told (HasGrown v.shape one.records (does.printed ++ does.more)) writes.time
+          (grown_at v.shape one.records (does.printed ++ does.more) old mid new (opens.reads.contents told) (does.stores.stands stored told one.records (its_records tells old mid v opens told one))));
+      stops = λ told.
+          let one = opens.this_one told in
+          by_reading reading v (old.files 0) one
+          (λ shape records. (last : List NewObject) × MayBeLast left does.printed answer last
+          × (IsNotOpened old new (does.printed ++ does.more) answer ⊎ OpensThen old new (GrowsSurely shape records ((does.printed ++ does.more) ++ last) (length (does.printed ++ does.more)))))
+          (let stops = does.stores.stops told one.records (its_records tells old mid v opens told one) in (
+            stops.0,
+            stops.1,
+            inr (opens_then tells v old mid new opens told (GrowsSurely v.shape one.records ((does.printed ++ does.more) ++ stops.0) (length (does.printed ++ does.more))) writes.time
+                (surely_at v.shape one.records ((does.printed ++ does.more) ++ stops.0) (length (does.printed ++ does.more)) old mid new (opens.reads.contents told) stops.2)),
+          ));
+      none = λ told never. let one = opens.this_one told in absurd (never (record { shape = v.shape; records = one.records; end = v.end; ledger = one.ledger }));
+      in_room = λ fits. let sure = writes.sure (fits_frames fits) in (sure.0, sure.1 ∙ (opens.reads.sure fits.some).1);
+    };
+    early = record {
+      refused = λ told input is why e. subst (λ (c : Files). EndCauses c input does.printed why) (opens.reads.contents told) (does.early.refused told input is why e);
+      unread = does.early.unread;
+      closed = does.early.closed;
+    };
+    prints = inr (v.shape, (λ told. by_reading reading v (old.files 0) (opens.this_one told) (λ shape list. v.shape ≡ shape) refl), does.prints);
+  }
+
+  -- the other files stay
+  few_sites : (f : ℕ) → (f ≤ greatest_sites → ⊥) → IsBesides v.shape f
+  few_sites f past = elim (cases_lt v.shape.sites f) [ inl besides ↦ besides | inr within ↦ absurd (past (let few = sites_most v.shape in omega (arith, within, few))) ]
+
+  pub ingests_rest : KeepsOtherFiles tells (answer ≡ Err failure.Disk) old new
+  ingests_rest = record {
+    others = where_both tells _ old mid new opens.reads.time writes.time
+        (where_kept tells _ old old mid (passes_none old) opens.reads.time opens.reads.crash opens.reads.contents (where_none tells _ old))
+        (writes_where tells _ _ (changes v) _ mid new (λ c d step f past. step.stay f (few_sites f past)) writes);
+    opens = λ told.
+        opening_then tells v old mid new opens told (KeepsFiles (λ file. file ≤ greatest_sites → ⊥) old.files) (λ c stays f past. stays f) writes.time
+        (λ t c from to here f past. (changed tells v old mid new opens told _ _ writes t c from to here).stay f (few_sites f past));
+    time = passes_both old mid new opens.reads.time writes.time;
+    kept = let a = opens.reads.kept in let b = writes.kept in omega (arith, a, b);
+    cause = λ is. let rose : Rose mid.faults new.faults = writes.cause is in omega (arith, opens.reads.kept, rose);
+  }
+
+  -- the causes of its refusals are those behind the opening
+  pub ingests_refuse : Refuses (tells × IsSome left) (OpenedCauses mid.files (unwrap_or left [])) answer → Refuses (tells × IsSome left) (IngestCauses old.files (unwrap_or left [])) answer
+  ingests_refuse refuses = record {
+    only = λ why is told.
+        let first = subst (λ (c : Files). IsFirst (OpenedCauses c (unwrap_or left [])) why) (opens.reads.contents told.0) (refuses.only why is told) in record {
+          stands = wider why first.stands;
+          none = λ other earlier cause. first.none other earlier (narrower told.0 other cause);
+        };
+    always = λ why told first.
+        refuses.always why told (subst (λ (c : Files). IsFirst (OpenedCauses c (unwrap_or left [])) why) (sym (opens.reads.contents told.0))
+        (record { stands = narrower told.0 why first.stands; none = λ other earlier cause. first.none other earlier (wider other cause) }));
+  }
+    where
+      wider : (why : Refusal) → OpenedCauses old.files (unwrap_or left []) why → IngestCauses old.files (unwrap_or left []) why
+      wider NoArchive cause = absurd cause
+      wider (LedgerBad at) cause = absurd cause
+      wider why cause = cause
+
+      narrower : tells → (why : Refusal) → IngestCauses old.files (unwrap_or left []) why → OpenedCauses old.files (unwrap_or left []) why
+      narrower told NoArchive cause = opened_no_opening tells old mid v opens told NoArchive cause
+      narrower told (LedgerBad at) cause = opened_no_opening tells old mid v opens told (LedgerBad at) cause
+      narrower told why cause = cause
+
+-- ---- the archive was not opened
+
+pub ingests_unopened : (tells : Type 0) (old new : State) (left : Option (List ℕ)) (out : SinkState) (f : Failure) → Opens tells old new (Err f) → Ingests tells old new left left out out (Err f)
+ingests_unopened tells old new left out f opens = record {
+  done = tt;
+  printed = [];
+  more = [];
+  stores = record {
+    framed = (left, Consumes-nil left);
+    most = inl refl;
+    whole = λ ok. absurd (false≢true ok);
+    archive = λ stored. absurd (not_stored stored);
+    stands = λ stored. absurd (not_stored stored);
+    stops = λ told shape records ledger. ([], inl refl, inl (record { by = not_opened told shape records ledger; none = refl; images = opens.reads.crash; reads = opens.reads.contents told }));
+    none = λ told never. (opens.reads.crash, opens.reads.contents told);
+    in_room = λ fits. let sure = opens.reads.sure fits.some in (λ is. sure.0 (let same = same_failure failure.Disk is in ap Err same), sure.1);
+  };
+  early = record {
+    refused = λ told input is why e. at_opening input why (opens.refuses.only why (let same = same_failure (failure.Refused why) e in ap Err same) told).stands;
+    unread = λ input is e. record {
+      stream = input;
+      framed = refl;
+      part = [];
+      taken = subst (λ (rest : Option (List ℕ)). Consumes (Some input) rest []) (sym is) (Consumes-nil (Some input));
+      short = λ head. omega arith;
+    };
+    closed = λ why opening e. refl;
+  };
+  prints = inl (record { failed = refl; by = λ is. unopened_not_output tells old new f opens (same_failure failure.Output is); no_lines = refl; no_more = refl; unused = refl });
+}
+  where
+    same_failure : (g : Failure) → (let one : Answer = Err f in one ≡ Err g) → f ≡ g
+    same_failure g e = cc
+
+    fault_is : (g : Failure) → (let one : Result Opened Failure = Err f in one ≡ Err g) → f ≡ g
+    fault_is g e = cc
+
+    -- a ledger is not opened only by a fault of the disk and for want of memory
+    not_opened : tells → (shape : Shape) (records : List Record) → HasLedger shape records (old.files 0) → (let one : Answer = Err f in (one ≡ Err failure.Disk) ⊎ (one ≡ Err failure.Memory))
+    not_opened told shape records ledger = elim (opens.complete told (some_ledger (old.files 0) shape records ledger)) [
+      | inl ok ↦ absurd (false≢true ok)
+      | inr (inl e) ↦ inl (ap Err (fault_is failure.Disk e))
+      | inr (inr (inl e)) ↦ absurd (let kind = opens.kinds in opening_not_input kind.0 (sym kind.1 ∙ fault_is failure.Input e))
+      | inr (inr (inr e)) ↦ inr (ap Err (fault_is failure.Memory e))
+    ]
+
+    at_opening : (input : List ℕ) (why : Refusal) → OpeningCauses (old.files 0) why → EndCauses old.files input [] why
+    at_opening input NoArchive cause = cause
+    at_opening input (LedgerBad at) cause = cause
+    at_opening input why cause = absurd cause
+
+    not_stored : (let one : Answer = Err f in EndsStored one) → ⊥
+    not_stored (inl ok) = false≢true ok
+    not_stored (inr e) = unopened_not_output tells old new f opens (same_failure failure.Output e)
+
+-- the causes are those of the opening, and others at what is a ledger
+ingest_behind_opening : (files : Files) (input : List ℕ) → AreBehindOpening (files 0) (IngestCauses files input)
+ingest_behind_opening files input = record { from = λ why cause. from_opening why cause; back = λ why cause. back_to why cause }
+  where
+    from_opening : (why : Refusal) → OpeningCauses (files 0) why → IngestCauses files input why
+    from_opening NoArchive cause = cause
+    from_opening (LedgerBad at) cause = cause
+    from_opening why cause = absurd cause
+
+    later : (why : Refusal) → IsRefusedAt files input why → IsSomeLedger (files 0)
+    later why cause = some_ledger (files 0) cause.1.shape cause.1.records cause.1.ledger
+
+    back_to : (why : Refusal) → IngestCauses files input why → OpeningCauses (files 0) why ⊎ (IsSomeLedger (files 0) × (place_of Occupied ≤ place_of why))
+    back_to NoArchive cause = inl cause
+    back_to (LedgerBad at) cause = inl cause
+    back_to BadName cause = inr (later BadName cause, omega arith)
+    back_to NameTaken cause = inr (later NameTaken cause, omega arith)
+    back_to CatalogFull cause = inr (later CatalogFull cause, omega arith)
+    back_to (HeadDamaged block) cause = inr (later (HeadDamaged block) cause, omega arith)
+    back_to (Full nodes) cause = inr (later (Full nodes) cause, omega arith)
+    back_to (BadStream at) cause = inr (later (BadStream at) cause, omega arith)
+    back_to why cause = absurd cause.1.cause
+
+pub unopened_ingest : (tells : Type 0) (old new : State) (left : Option (List ℕ)) (f : Failure) → Opens tells old new (Err f) → Refuses {T = Status} (tells × IsSome left) (IngestCauses old.files (unwrap_or left [])) (Err f)
+unopened_ingest tells old new left f opens =
+    refuses_told {T = Status} tells (tells × IsSome left) (IngestCauses old.files (unwrap_or left [])) (Err f) (λ told. told.0)
+    (unopened_refuses tells old new f (IngestCauses old.files (unwrap_or left [])) (ingest_behind_opening old.files (unwrap_or left [])) opens)

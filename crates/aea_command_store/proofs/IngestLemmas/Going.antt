@@ -1,0 +1,274 @@
+-- Frames that were stored one after the other: what one more leaves.
+use Rattle.std.proofs.Common.{◌≡◌, ◌≢◌, ◌⊎◌, inl, inr, ⊎_elim, ℕ, suc, ◌+◌, ◌*◌, ◌≤◌, Bool, true, List, [], ◌∷◌, ◌++◌, length, refl, sym, ◌∙◌, ap, subst, arith, Option, Ok, append_assoc}
+use Rattle.std.specs.List.{list_any}
+use Rattle.std.specs.Io.KnownBytes.{Consumes}
+use Rattle.std.proofs.KnownBytes.{Consumes-trans, Consumes-nil}
+use Rattle.std.proofs.lemmas.List.{append-nil}
+use Rattle.std.proofs.lemmas.List.Concat.{flat_map-append}
+use Rattle.aea_io.specs.declared.traits.WriteFault.{WriteFault}
+use Rattle.aea_io.specs.Pages.{Prints}
+use Rattle.aea_io.specs.Streams.{SinkState}
+use Rattle.aea_io.proofs.Printing.{prints_then, prints_none}
+use Rattle.aea_lattice.specs.declared.shape.Shape.{Shape}
+use Rattle.aea_envelope.specs.Facts.{CellsHaveLengths, CellsHaveParts}
+use Rattle.aea_disk.specs.Files.{Files}
+use Rattle.aea_disk.specs.Frames.{OnlyWrites}
+use Rattle.aea_disk.specs.State.{State, Passes, IsSynced, HasRoomTo}
+use Rattle.aea_shelf.specs.Writes.{KeepsShelf}
+use Rattle.aea_disk.proofs.Frames.{writes_none, writes_both, writes_as}
+use Rattle.aea_records.specs.Format.{Record, Object, nodes_for, nodes_of, limit_of, limit_when, spelled, is_raise}
+use Rattle.aea_records.specs.Grammar.{IsLedger}
+use Rattle.aea_records.specs.Laws.{HasOneReading, DigestsAreCounted}
+use Rattle.aea_ledger.specs.Next.{AreItsRecords}
+use Rattle.aea_ledger.specs.Stops.{HasLedger}
+use Rattle.aea_ledger.specs.Values.{Opened, HasRecords, HasSomeRecords, IsThisOne}
+use Rattle.aea_ledger.proofs.Records.{raised_stays}
+use Rattle.aea_archive.specs.Blocks.{IsBlockIn}
+use Rattle.aea_archive.specs.Cells.{IsBesides, ChangesArchive, HaveSitesRoom}
+use Rattle.aea_archive.specs.Laws.{LastsAreValues, ObjectsRecordMore}
+use Rattle.aea_archive.specs.Next.{NewObject}
+use Rattle.aea_archive.proofs.Cells.{changes_none, changes_both, changes_less, changes_shelf, room_later}
+use Rattle.aea_archive.proofs.Stretches.{nodes_of-append}
+use Rattle.aea_append.specs.Causes.{next_end}
+use Rattle.aea_append.specs.Frames.{frame_head, frame_of, IsFramed, HasFrameRoom}
+use Rattle.aea_append.specs.Puts.{HasStored}
+use Rattle.aea_append.specs.declared.store.StoredObject.{StoredObject}
+use Rattle.aea_command_store.specs.Growing.{Grows, HasGrown}
+use Rattle.aea_command_store.specs.Ingest.{GrowsSurely, frames_of, stored_lines, IsOfObject, AreOfObjects, FitsFrames}
+use Rattle.aea_command_store.specs.Put.{stored_line, stored_text}
+use Rattle.aea_command_store.proofs.Growing.{grows_both, first_of_both, grown_both, grown_added}
+use Rattle.aea_command_store.proofs.PutLemmas.Opening.{changes}
+use Rattle.aea_command_store.proofs.IngestLemmas.One.{grown_by_one}
+use Rattle.sha2.specs.Sha256.{sha256}
+
+-- ---- lists
+
+-- the frames, and the lines, of objects and of one more
+pub frames_more : (objects : List NewObject) (o : NewObject) → frames_of objects ++ frame_of o ≡ frames_of (objects ++ o ∷ [])
+frames_more objects o = ap (λ (l : List ℕ). frames_of objects ++ l) (sym (append-nil (frame_of o))) ∙ sym (flat_map-append frame_of objects (o ∷ []))
+
+lines_more : (shape : Shape) (objects : List NewObject) (o : NewObject) → stored_lines shape objects ++ stored_line shape o ≡ stored_lines shape (objects ++ o ∷ [])
+lines_more shape objects o = ap (λ (l : List ℕ). stored_lines shape objects ++ l) (sym (append-nil (stored_line shape o))) ∙ sym (flat_map-append (stored_line shape) objects (o ∷ []))
+
+-- the records of objects, and of one more
+are_more : (shape : Shape) (objects : List NewObject) (added : List Record) (o : NewObject) (r : Record) → AreOfObjects shape objects added → IsOfObject shape o r → AreOfObjects shape (objects ++ o ∷ []) (added ++ r ∷ [])
+are_more shape [] [] o r are is = (is, tt)
+are_more shape [] (q ∷ added) o r none is = absurd none
+are_more shape (x ∷ objects) [] o r none is = absurd none
+are_more shape (x ∷ objects) (q ∷ added) o r are is = (are.0, are_more shape objects added o r are.1 is)
+
+-- as many
+pub are_many : (shape : Shape) (objects : List NewObject) (added : List Record) → AreOfObjects shape objects added → length added ≡ length objects
+are_many shape [] [] are = refl
+are_many shape [] (q ∷ added) none = absurd none
+are_many shape (x ∷ objects) [] none = absurd none
+are_many shape (x ∷ objects) (q ∷ added) are = ap suc (are_many shape objects added are.1)
+
+-- none of them raises the limit
+no_raise : (shape : Shape) (records : List Record) (objects : List NewObject) (added : List Record) → AreOfObjects shape objects added → list_any is_raise (records ++ added) ≡ list_any is_raise records
+no_raise shape records [] [] are = ap (list_any is_raise) (append-nil records)
+no_raise shape records [] (q ∷ added) none = absurd none
+no_raise shape records (x ∷ objects) [] none = absurd none
+no_raise shape records (x ∷ objects) (q ∷ added) are =
+    sym (ap (list_any is_raise) (append_assoc records (q ∷ []) added)) ∙ no_raise shape (records ++ q ∷ []) objects added are.1 ∙ raised_stays records q (ap is_raise are.0.1)
+
+-- ---- what stands
+
+-- the archive grew by the objects, by these records; or there is none, and the disk is the same
+abbrev pub IsGone : Type 0 → Shape → List Record → State → State → List NewObject → List Record → Type 0
+IsGone same shape records old now objects added =
+    ((objects ≡ []) × (added ≡ []) × same) ⊎ ((objects ≢ []) × ((g : HasGrown shape records objects old now) × (g.grows.added ≡ added)))
+
+-- Of a run that stored the objects of the first frames, one after the other, and printed their lines: the opened ledger at
+-- its beginning and now, the input, the disk and the output.
+pub record HasGone (tells same : Type 0) (v w : Opened) (left rest : Option (List ℕ)) (old now : State) (before after : SinkState) (objects : List NewObject) : Type 0 where
+  pub framed : Consumes left rest (frames_of objects)
+  pub added : List Record
+  pub are : AreOfObjects v.shape objects added
+  pub same_shape : w.shape ≡ v.shape
+  pub has : (records : List Record) → HasRecords v records → HasRecords w (records ++ added)
+  pub live : w.live ≡ true
+  pub its : tells → (records : List Record) → AreItsRecords v records (old.files 0) → AreItsRecords w (records ++ added) (now.files 0)
+  pub synced : tells → IsSynced now
+  pub writes : OnlyWrites tells (FitsFrames v left old) ⊥ (changes v) old now
+  pub grew : tells → (records : List Record) → AreItsRecords v records (old.files 0) → IsGone same v.shape records old now objects added
+  pub printed : Prints {T = Unit {0}} {E = WriteFault} before [] after [] (Ok tt) (stored_lines v.shape objects)
+
+-- before the first frame
+pub gone_none : (tells same : Type 0) (is : same) (v : Opened) (left : Option (List ℕ)) (s : State) (out : SinkState) → v.live ≡ true → (tells → IsSynced s) → HasGone tells same v v left left s s out out []
+gone_none tells same is v left s out live synced = record {
+  framed = Consumes-nil left;
+  added = [];
+  are = tt;
+  same_shape = refl;
+  has = λ records has. subst (HasRecords v) (sym (append-nil records)) has;
+  live = live;
+  its = λ told records its. subst (λ (rs : List Record). AreItsRecords v rs (s.files 0)) (sym (append-nil records)) its;
+  synced = synced;
+  writes = writes_none tells (FitsFrames v left s) (changes v) s (λ c. changes_none v.shape (limit_when v.raised) (IsBlockIn v.shape v.lattice.n) (IsBesides v.shape) c);
+  grew = λ told records its. inl (refl, refl, is);
+  printed = prints_none out [] tt;
+}
+
+module _ (tells same : Type 0) (v w : Opened) (some : HasSomeRecords v) (left rest : Option (List ℕ)) (old now : State) (before after : SinkState) (objects : List NewObject)
+    (gone : HasGone tells same v w left rest old now before after objects) (still : same → now ≡ old) (is_this : tells → IsThisOne v (old.files 0)) where
+  abbrev records : List Record
+  records = some.0
+
+  start : HasRecords v some.0
+  start = some.1
+
+  has_now : HasRecords w (some.0 ++ gone.added)
+  has_now = gone.has some.0 some.1
+
+  -- the limit is the same, and there are no fewer nodes
+  same_raised : w.raised ≡ v.raised
+  same_raised = has_now.raised ∙ no_raise v.shape records objects gone.added gone.are ∙ sym start.raised
+
+  no_fewer : v.lattice.n ≤ w.lattice.n
+  no_fewer = omega (arith, start.lattice.n, has_now.lattice.n, nodes_of-append records gone.added)
+
+  -- a change that leaves the archive as it is now leaves the one at the beginning
+  narrow : (c d : Files) → changes w c d → changes v c d
+  narrow c d step =
+      let as_shape = subst (λ (s : Shape). ChangesArchive s (limit_when w.raised) (IsBlockIn s w.lattice.n) (IsBesides s) c d) gone.same_shape step in
+      let as_limit = subst (λ (b : Bool). ChangesArchive v.shape (limit_when b) (IsBlockIn v.shape w.lattice.n) (IsBesides v.shape) c d) same_raised as_shape in
+      changes_less v.shape (limit_when v.raised) (IsBlockIn v.shape w.lattice.n) (IsBlockIn v.shape v.lattice.n) (IsBesides v.shape) (IsBesides v.shape) c d
+      (λ a on. record { after = on.after; most = (let m = on.most in let n = no_fewer in omega (arith, m, n)); used = on.used }) (λ f past. past) as_limit
+
+  -- the room of a frame is within that of all
+  room_of_frame : FitsFrames v left old → Passes old now → HasFrameRoom w rest now
+  room_of_frame fits time = record {
+    sites = subst (λ (b : Bool). HaveSitesRoom w.shape (limit_when b) now) (sym same_raised)
+        (subst (λ (s : Shape). HaveSitesRoom s (limit_when v.raised) now) (sym gone.same_shape) (room_later v.shape (limit_when v.raised) old now time fits.sites));
+    ledger = λ name size begins.
+        subst (λ (s : Shape). w.lattice.n + nodes_for s size ≤ limit_when w.raised → HasRoomTo now 0 (next_end w.end (length name) (nodes_for s size * (1 + s.alpha)) + 1)) (sym gone.same_shape)
+        (λ few.
+        let all : Consumes left begins.0 (frames_of objects ++ frame_head name size) = Consumes-trans left rest begins.0 (frames_of objects) (frame_head name size) gone.framed begins.1 in
+        let end : w.end ≡ length (spelled v.shape (records ++ gone.added)) = has_now.end ∙ ap (λ (s : Shape). length (spelled s (records ++ gone.added))) gone.same_shape in
+        let limit : limit_when w.raised ≡ limit_of records = ap limit_when (same_raised ∙ start.raised) in
+        let there = time.room 0 (next_end (length (spelled v.shape (records ++ gone.added))) (length name) (nodes_for v.shape size * (1 + v.shape.alpha)) + 1)
+        (fits.ledger some.0 start objects gone.added name size begins.0 gone.are all (omega (arith, few, limit, has_now.lattice.n))) in
+        subst (λ (e : ℕ). HasRoomTo now 0 (next_end e (length name) (nodes_for v.shape size * (1 + v.shape.alpha)) + 1)) (sym end) there);
+  }
+
+  -- all the writes up to the end of one more call
+  pub writes_more : (fault : Type 0) (next : State) → OnlyWrites tells (HasFrameRoom w rest now) fault (changes w) now next → OnlyWrites tells (FitsFrames v left old) fault (changes v) old next
+  writes_more fault next writes =
+      writes_both tells (FitsFrames v left old) (FitsFrames v left old) (HasFrameRoom w rest now) ⊥ fault (changes v) (changes w) (changes v) old now next
+      (λ c d step. step)
+      (λ c d e one two. changes_both v.shape (limit_when v.raised) (IsBlockIn v.shape v.lattice.n) (IsBesides v.shape) c d e one (narrow d e two))
+      (λ fits. fits) room_of_frame gone.writes writes
+
+  -- the line of what was stored
+  pub line_of_stored : (w2 : Opened) (o : NewObject) (next : State) (stored : StoredObject) (name : List ℕ) → o.name ≡ name → HasStored tells w w2 o now next stored → stored_text stored.nodes stored.length stored.digest name ≡ stored_line v.shape o
+  line_of_stored w2 o next stored name named has =
+      ap (λ (n : ℕ). stored_text n stored.length stored.digest name) has.count
+      ∙ ap (λ (n : ℕ). stored_text (nodes_for w.shape (length o.bytes)) n stored.digest name) has.size
+      ∙ ap (λ (d : List ℕ). stored_text (nodes_for w.shape (length o.bytes)) (length o.bytes) d name) has.digest
+      ∙ ap (λ (n : List ℕ). stored_text (nodes_for w.shape (length o.bytes)) (length o.bytes) (sha256 o.bytes) n) (sym named)
+      ∙ ap (λ (s : Shape). stored_text (nodes_for s (length o.bytes)) (length o.bytes) (sha256 o.bytes) o.name) gone.same_shape
+
+  -- ---- a stretch behind what was stored
+
+  module _ (reading : HasOneReading) (lengths : CellsHaveLengths) (parts : CellsHaveParts) (values : LastsAreValues) (record_more : ObjectsRecordMore) (counts : DigestsAreCounted)
+      (next : State) (fault : Type 0) (writes : OnlyWrites tells (HasFrameRoom w rest now) fault (changes w) now next) where
+    -- a stretch that grows by some objects behind those that stand: these stand in every image, whatever becomes of the others
+    pub surely : tells → (list : List Record) → AreItsRecords v list (old.files 0) → (ys : List NewObject) → Grows w.shape (list ++ gone.added) ys now next → GrowsSurely v.shape list (objects ++ ys) (length objects) old next
+    surely told list its ys second = ⊎_elim
+        (λ none.
+        let nil : list ++ gone.added ≡ list = ap (λ (l : List Record). list ++ l) none.1 ∙ append-nil list in
+        let late : Grows v.shape list ys old next =
+        subst (λ (s : State). Grows v.shape list ys s next) (still none.2)
+        (subst (λ (rs : List Record). Grows v.shape rs ys now next) nil (subst (λ (s : Shape). Grows s (list ++ gone.added) ys now next) gone.same_shape second)) in
+        let time : Passes old next = subst (λ (s : State). Passes s next) (still none.2) writes.time in
+        subst (λ (xs : List NewObject). GrowsSurely v.shape list (xs ++ ys) (length xs) old next) (sym none.0)
+        (record {
+          grows = late;
+          first = λ c here. late.adds.prefix next.moment c time.later (omega arith) here;
+          reads = late.adds.reads;
+        }))
+        (λ some.
+        let first = some.1.0 in
+        let is = some.1.1 in
+        let late : Grows v.shape (list ++ first.grows.added) ys now next =
+        subst (λ (l : List Record). Grows v.shape (list ++ l) ys now next) (sym is) (subst (λ (s : Shape). Grows s (list ++ gone.added) ys now next) gone.same_shape second) in
+        let nodes : w.lattice.n ≡ nodes_of (list ++ first.grows.added) = (gone.its told list its).has.lattice.n ∙ ap (λ (l : List Record). nodes_of (list ++ l)) (sym is) in
+        let shelf = subst (λ (n : ℕ). KeepsShelf tells v.shape (IsBlockIn v.shape n) now next) nodes
+        (subst (λ (s : Shape). KeepsShelf tells s (IsBlockIn s w.lattice.n) now next) gone.same_shape (changes_shelf tells (HasFrameRoom w rest now) fault w.shape (limit_when w.raised) (IsBlockIn w.shape w.lattice.n) (IsBesides w.shape) now next writes)) in
+        let few : length objects ≤ length first.grows.added = (let n = are_many v.shape objects gone.added gone.are in omega (arith, n, ap length is)) in
+        record {
+          grows = grows_both reading lengths parts values record_more counts tells v.shape list objects ys some.0 old now next gone.writes.time writes.time gone.writes.earlier first late shelf;
+          first = λ c here.
+              first_of_both reading lengths parts values record_more counts tells v.shape list objects ys some.0 old now next gone.writes.time writes.time gone.writes.earlier first late shelf
+              (length objects) (c 0) few (late.adds.prefix next.moment c writes.time.later (omega arith) here);
+          reads = first_of_both reading lengths parts values record_more counts tells v.shape list objects ys some.0 old now next gone.writes.time writes.time gone.writes.earlier first late shelf
+              (length objects) (next.files 0) few late.adds.reads;
+        })
+        (gone.grew told list its)
+
+  -- ---- one more object
+
+  module _ (reading : HasOneReading) (lengths : CellsHaveLengths) (parts : CellsHaveParts) (values : LastsAreValues) (record_more : ObjectsRecordMore) (counts : DigestsAreCounted)
+      (w2 : Opened) (o : NewObject) (next : State) (stored : StoredObject) (has : HasStored tells w w2 o now next stored) (fault : Type 0) (writes : OnlyWrites tells (HasFrameRoom w rest now) fault (changes w) now next) where
+    -- the stretch of this frame
+    second : (told : tells) (list : List Record) → AreItsRecords v list (old.files 0) → (g : HasGrown v.shape (list ++ gone.added) (o ∷ []) now next) × (g.grows.added ≡ Object has.r ∷ [])
+    second told list its =
+        subst (λ (s : Shape). (g : HasGrown s (list ++ gone.added) (o ∷ []) now next) × (g.grows.added ≡ Object has.r ∷ [])) gone.same_shape
+        (grown_by_one tells told w (list ++ gone.added) now next (gone.its told list its) (gone.synced told) (HasFrameRoom w rest now) fault writes w2 o stored has)
+
+    pub grew_more : (told : tells) (list : List Record) → AreItsRecords v list (old.files 0) → (g : HasGrown v.shape list (objects ++ o ∷ []) old next) × (g.grows.added ≡ gone.added ++ Object has.r ∷ [])
+    grew_more told list its = ⊎_elim
+        (λ none.
+        let nil : list ++ gone.added ≡ list = ap (λ (l : List Record). list ++ l) none.1 ∙ append-nil list in
+        let as_objects : o ∷ [] ≡ objects ++ o ∷ [] = ap (λ (l : List NewObject). l ++ o ∷ []) (sym none.0) in
+        let as_added : Object has.r ∷ [] ≡ gone.added ++ Object has.r ∷ [] = ap (λ (l : List Record). l ++ Object has.r ∷ []) (sym none.1) in
+        subst (λ (l : List Record). (g : HasGrown v.shape list (objects ++ o ∷ []) old next) × (g.grows.added ≡ l)) as_added
+        (subst (λ (xs : List NewObject). (g : HasGrown v.shape list xs old next) × (g.grows.added ≡ Object has.r ∷ [])) as_objects
+        (subst (λ (s : State). (g : HasGrown v.shape list (o ∷ []) s next) × (g.grows.added ≡ Object has.r ∷ [])) (still none.2)
+        (subst (λ (rs : List Record). (g : HasGrown v.shape rs (o ∷ []) now next) × (g.grows.added ≡ Object has.r ∷ [])) nil (second told list its)))))
+        (λ some.
+        let first = some.1.0 in
+        let is = some.1.1 in
+        let late = subst (λ (l : List Record). (g : HasGrown v.shape (list ++ l) (o ∷ []) now next) × (g.grows.added ≡ Object has.r ∷ [])) (sym is) (second told list its) in
+        let nodes : w.lattice.n ≡ nodes_of (list ++ first.grows.added) = (gone.its told list its).has.lattice.n ∙ ap (λ (l : List Record). nodes_of (list ++ l)) (sym is) in
+        let shelf = subst (λ (n : ℕ). KeepsShelf tells v.shape (IsBlockIn v.shape n) now next) nodes
+        (subst (λ (s : Shape). KeepsShelf tells s (IsBlockIn s w.lattice.n) now next) gone.same_shape (changes_shelf tells (HasFrameRoom w rest now) fault w.shape (limit_when w.raised) (IsBlockIn w.shape w.lattice.n) (IsBesides w.shape) now next writes)) in (
+          grown_both reading lengths parts values record_more counts tells told v.shape list objects (o ∷ []) some.0 old now next gone.writes.time writes.time gone.writes.earlier first late.0 shelf,
+          grown_added reading lengths parts values record_more counts tells told v.shape list objects (o ∷ []) some.0 old now next gone.writes.time writes.time gone.writes.earlier first late.0 shelf
+              ∙ ap (λ (l : List Record). first.grows.added ++ l) late.1 ∙ ap (λ (l : List Record). l ++ Object has.r ∷ []) is,
+        ))
+        (gone.grew told list its)
+
+    synced_more : tells → IsSynced next
+    synced_more told = (let one = is_this told in (has.added told (one.records ++ gone.added) (gone.its told one.records (record { has = one.has; ledger = one.ledger }))).synced)
+
+    some_more : (xs : List NewObject) → xs ++ o ∷ [] ≢ []
+    some_more [] e = let h : o ∷ [] ≡ [] = e in cc
+    some_more (x ∷ xs) e = let h : x ∷ (xs ++ o ∷ []) ≡ [] = e in cc
+
+    -- with its line
+    pub gone_more : (other : Type 0) (rest2 : Option (List ℕ)) (after2 : SinkState) → IsFramed rest rest2 o → (fault → ⊥) → Prints {T = Unit {0}} {E = WriteFault} after [] after2 [] (Ok tt) (stored_line v.shape o)
+        → HasGone tells other v w2 left rest2 old next before after2 (objects ++ o ∷ [])
+    gone_more other rest2 after2 framed fine line =
+        let behind : (list : List Record) → (list ++ gone.added) ++ Object has.r ∷ [] ≡ list ++ (gone.added ++ Object has.r ∷ []) = λ list. append_assoc list gone.added (Object has.r ∷ []) in
+        let now_has : (list : List Record) → HasRecords v list → HasRecords w2 (list ++ (gone.added ++ Object has.r ∷ [])) =
+        λ list had. subst (HasRecords w2) (behind list) (has.value (list ++ gone.added) (gone.has list had)) in
+        record {
+          framed = subst (Consumes left rest2) (frames_more objects o) (Consumes-trans left rest rest2 (frames_of objects) (frame_of o) gone.framed framed);
+          added = gone.added ++ Object has.r ∷ [];
+          are = are_more v.shape objects gone.added o (Object has.r) gone.are (has.r, refl, has.next.name_is, has.next.size, has.next.count ∙ ap (λ (s : Shape). nodes_for s (length o.bytes)) gone.same_shape);
+          same_shape = has.same_shape ∙ gone.same_shape;
+          has = now_has;
+          live = has.live;
+          its = λ told list its.
+              let all = now_has list its.has in
+              let ledger = (has.added told (list ++ gone.added) (gone.its told list its)).ledger in
+              let as_records = subst (λ (rs : List Record). HasLedger w.shape rs (next.files 0)) (behind list) ledger in
+              let as_shape = subst (λ (s : Shape). HasLedger s (list ++ (gone.added ++ Object has.r ∷ [])) (next.files 0)) (sym has.same_shape) as_records in
+              record { has = all; ledger = subst (λ (n : ℕ). IsLedger (next.files 0) w2.shape (list ++ (gone.added ++ Object has.r ∷ [])) n) (sym all.end) as_shape };
+          synced = λ told. synced_more told;
+          writes = writes_as tells (FitsFrames v left old) fault ⊥ (changes v) old next (λ none. absurd none) (writes_more fault next writes);
+          grew = λ told list its. inr (some_more objects, grew_more told list its);
+          printed = subst (λ (l : List ℕ). Prints {T = Unit {0}} {E = WriteFault} before [] after2 [] (Ok tt) l) (lines_more v.shape objects o) (prints_then gone.printed line);
+        }

@@ -1,0 +1,117 @@
+-- One frame behind others: what the call that takes it leaves of the archive, from where nothing is pending.
+use Rattle.std.proofs.Common.{◌≡◌, ℕ, List, [], ◌∷◌, ◌++◌, sym, subst, arith, refl}
+use Rattle.std.proofs.lemmas.List.{append-nil}
+use Rattle.std.proofs.lemmas.List.Elements.{All-cons}
+use Rattle.aea_lattice.specs.declared.shape.Shape.{Shape}
+use Rattle.aea_disk.specs.Files.{Files}
+use Rattle.aea_disk.specs.Frames.{OnlyWrites}
+use Rattle.aea_disk.specs.State.{State, During, IsSynced}
+use Rattle.aea_disk.proofs.Moments.{during_more}
+use Rattle.aea_records.specs.Format.{Record, Object, digests_of}
+use Rattle.aea_records.specs.Laws.{HasOneReading}
+use Rattle.aea_records.specs.TableLaws.{AreBytes}
+use Rattle.aea_ledger.specs.Next.{AreItsRecords}
+use Rattle.aea_ledger.specs.Stops.{HasLedger}
+use Rattle.aea_ledger.specs.Values.{Opened}
+use Rattle.aea_archive.specs.Data.{RecordsMore, AreSurvivorsHonest, IsDamagePlain}
+use Rattle.aea_archive.specs.Lasts.{AreLastsRecorded, AreLastsHonest}
+use Rattle.aea_archive.specs.Next.{NewObject, object_blocks}
+use Rattle.aea_archive.proofs.Stretches.{has_ledger, adds_nothing}
+use Rattle.aea_append.specs.Puts.{HasStored, MayHaveStored, LeavesLedger}
+use Rattle.aea_append.specs.declared.store.StoredObject.{StoredObject}
+use Rattle.aea_command_store.specs.Growing.{LeavesArchive, Grows, HasGrown}
+use Rattle.aea_command_store.proofs.PutLemmas.Opening.{changes, leaves_is, none_more}
+
+module _ (tells : Type 0) (told : tells) (w : Opened) (rs : List Record) (now next : State) (its : AreItsRecords w rs (now.files 0)) (synced : IsSynced now)
+    (fits fault : Type 0) (writes : OnlyWrites tells fits fault (changes w) now next) where
+  -- an image of now is the files as they read
+  image_now : (d : Files) → now.image now.moment d → d ≡ now.files
+  image_now d here = λ i f. synced d here f i
+
+  pub leaves_from : During now next (LeavesArchive w.shape rs now.files)
+  leaves_from t c from to here =
+      let was = writes.crash t c from to here in
+      leaves_is w rs its.has now.files c (subst (λ (d : Files). changes w d c) (image_now was.0 was.1) was.2)
+
+  pub reads_from : LeavesArchive w.shape rs now.files next.files
+  reads_from = leaves_is w rs its.has now.files next.files (writes.contents told)
+
+  -- nothing was stored
+  unfoldable pub grows_no_more : HasOneReading → LeavesLedger now next → Grows w.shape rs [] now next
+  grows_no_more reading leaves =
+      let ledger = has_ledger w rs (now.files 0) its in
+      record {
+        lattice = w.lattice;
+        is_lattice = its.has.lattice;
+        longer = w.lattice;
+        payload = λ b. [];
+        homes = λ some. absurd (some refl);
+        lasts_wide = λ some. absurd (some refl);
+        bytes = λ k d inside. absurd (omega (arith, inside));
+        added = [];
+        next = refl;
+        adds = adds_nothing reading w.shape rs [] (λ b. []) now next writes.earlier
+            (during_more now next (λ c. c 0 ≡ now.files 0) (λ c. HasLedger w.shape rs (c 0)) (λ c same. subst (HasLedger w.shape rs) (sym same) ledger) leaves.images)
+            (subst (HasLedger w.shape rs) (sym leaves.reads) ledger);
+        leaves = leaves_from;
+        reads = reads_from;
+        records_more = λ datas valid recorded honest. none_more w.shape rs datas w.lattice (λ b. []) recorded;
+      }
+
+  -- an object was stored, or none
+  pub grows_maybe : (Fits : NewObject → Type 0) (may : MayHaveStored w Fits now next) → Grows w.shape rs may.objects now next
+  grows_maybe Fits may = record {
+    lattice = w.lattice;
+    is_lattice = its.has.lattice;
+    longer = may.lattice;
+    payload = may.payload;
+    homes = may.homes;
+    lasts_wide = may.lasts_wide;
+    bytes = may.bytes;
+    added = may.added;
+    next = may.next;
+    adds = may.adds rs its;
+    leaves = leaves_from;
+    reads = reads_from;
+    records_more = λ datas valid recorded honest.
+        may.records_more rs datas its.has valid recorded (subst (λ (ds : List (List ℕ)). AreLastsHonest w.shape w.lattice ds datas now.files) (sym its.has.digests) honest);
+  }
+
+  -- it was
+  pub grown_by_one : (w2 : Opened) (o : NewObject) (stored : StoredObject) (has : HasStored tells w w2 o now next stored) → (g : HasGrown w.shape rs (o ∷ []) now next) × (g.grows.added ≡ Object has.r ∷ [])
+  grown_by_one w2 o stored has =
+      let blocks = object_blocks w.shape o.bytes in
+      let alone : blocks ≡ blocks ++ [] = sym (append-nil blocks) in
+      let then = has.value rs its.has in (
+        record {
+          grows = record {
+            lattice = w.lattice;
+            is_lattice = its.has.lattice;
+            longer = w2.lattice;
+            payload = has.payload;
+            homes = λ some. has.homes told;
+            lasts_wide = λ some. has.lasts_wide;
+            bytes = All-cons (λ q. AreBytes q.bytes) o [] has.bytes (λ k d inside. absurd (omega (arith, inside)));
+            added = Object has.r ∷ [];
+            next = (w2.lattice, has.r, refl, has.next, refl);
+            adds = has.adds told rs its;
+            leaves = leaves_from;
+            reads = reads_from;
+            records_more = λ datas valid recorded honest.
+                subst (λ (more : List (List ℕ)). RecordsMore w.shape rs (Object has.r ∷ []) datas more w.lattice w2.lattice has.payload) alone
+                (has.records_more told rs datas its.has recorded (subst (λ (ds : List (List ℕ)). AreLastsHonest w.shape w.lattice ds datas now.files) (sym its.has.digests) honest));
+          };
+          all = has.added told rs its;
+          lasts = λ some. subst (λ (ds : List (List ℕ)). AreLastsRecorded w.shape w.lattice ds has.payload) its.has.digests has.lasts;
+          wide = has.wide;
+          cells = has.cells told;
+          honest = λ datas recorded honest plain.
+              let early = subst (λ (ds : List (List ℕ)). AreSurvivorsHonest w.shape w.lattice ds datas now.files) (sym its.has.digests) honest in
+              let damage = subst (λ (ds : List (List ℕ)). IsDamagePlain w.shape w.lattice ds now.files) (sym its.has.digests) plain in
+              let late = has.honest told rs datas its.has recorded early damage in
+              let as_shape = subst (λ (s : Shape). AreSurvivorsHonest s w2.lattice w2.digests (datas ++ blocks) next.files × IsDamagePlain s w2.lattice w2.digests next.files) has.same_shape late in
+              let as_digests = subst (λ (ds : List (List ℕ)). AreSurvivorsHonest w.shape w2.lattice ds (datas ++ blocks) next.files × IsDamagePlain w.shape w2.lattice ds next.files) then.digests as_shape in
+              subst (λ (more : List (List ℕ)). AreSurvivorsHonest w.shape w2.lattice (digests_of (rs ++ Object has.r ∷ [])) (datas ++ more) next.files × IsDamagePlain w.shape w2.lattice (digests_of (rs ++ Object has.r ∷ [])) next.files) alone as_digests;
+        },
+        refl,
+      )

@@ -1,0 +1,43 @@
+-- Where an archive was not opened into which an object was to be put.
+use Rattle.std.proofs.Common.{inl, inr, ℕ, List, arith, Option, Err, ◌≤◌, ◌⊎◌}
+use Rattle.std.specs.Prelude.{IsSome, unwrap_or, []}
+use Rattle.aea_disk.specs.Files.{Files}
+use Rattle.aea_disk.specs.State.{State}
+use Rattle.aea_command.specs.declared.refusal.Refusal.{Refusal}
+use Rattle.aea_command.specs.declared.refusal.Refusal.TheVariants.{NoArchive, LedgerBad, BadName, NameTaken, CatalogFull, HeadDamaged, Full, Occupied}
+use Rattle.aea_command.specs.declared.refusal.Failure.{Failure}
+use Rattle.aea_command.specs.Causes.{Refuses, place_of}
+use Rattle.aea_command.specs.Openings.{OpeningCauses, Opens}
+use Rattle.aea_command_store.specs.Put.{PutCauses}
+use Rattle.aea_command.proofs.Behind.{AreBehindOpening, some_ledger, unopened_refuses}
+use Rattle.aea_command.proofs.Refusing.{refuses_told}
+use Rattle.aea_records.specs.Laws.{IsSomeLedger}
+
+-- the causes of a put are those of the opening, and others at what is a ledger
+put_behind : (name : List ℕ) (files : Files) (input : List ℕ) → AreBehindOpening (files 0) (PutCauses name files input)
+put_behind name files input = record {
+  from = λ why cause. from_opening why cause;
+  back = λ why cause. back_to why cause;
+}
+  where
+    from_opening : (why : Refusal) → OpeningCauses (files 0) why → PutCauses name files input why
+    from_opening NoArchive cause = cause
+    from_opening (LedgerBad at) cause = cause
+    from_opening why cause = absurd cause
+
+    back_to : (why : Refusal) → PutCauses name files input why → OpeningCauses (files 0) why ⊎ (IsSomeLedger (files 0) × (place_of Occupied ≤ place_of why))
+    back_to NoArchive cause = inl cause
+    back_to (LedgerBad at) cause = inl cause
+    back_to BadName cause = inr (cause.0, omega arith)
+    back_to NameTaken cause = inr (some_ledger (files 0) cause.shape cause.records cause.ledger, omega arith)
+    back_to CatalogFull cause = inr (some_ledger (files 0) cause.shape cause.records cause.ledger, omega arith)
+    back_to (HeadDamaged block) cause = inr (some_ledger (files 0) cause.shape cause.records cause.ledger, omega arith)
+    back_to (Full nodes) cause = inr (some_ledger (files 0) cause.shape cause.records cause.ledger, omega arith)
+    back_to why cause = absurd cause
+
+-- an archive that was not opened tells why
+pub unopened_put : {T : Type 0} (name : List ℕ) (tells : Type 0) (old new : State) (left : Option (List ℕ)) (f : Failure) → Opens tells old new (Err f)
+    → Refuses {T = T} (tells × IsSome left) (PutCauses name old.files (unwrap_or left [])) (Err f)
+unopened_put {T} name tells old new left f opens =
+    refuses_told {T = T} tells (tells × IsSome left) (PutCauses name old.files (unwrap_or left [])) (Err f) (λ told. told.0)
+    (unopened_refuses tells old new f (PutCauses name old.files (unwrap_or left [])) (put_behind name old.files (unwrap_or left [])) opens)

@@ -1,0 +1,267 @@
+-- What the call that puts gave behind the opening, and how it tells why it is refused.
+use Rattle.std.proofs.Common.{◌≡◌, ◌≢◌, ◌⊎◌, inl, inr, ◌↔◌, ℕ, suc, ◌+◌, ◌<◌, Bool, true, false, List, [], length, refl, sym, ◌∙◌, ap, subst, arith, Option, None, Some, Result, Ok, Err}
+use Rattle.std.specs.Prelude.{IsErr, IfOk, IsSome, unwrap_or}
+use Rattle.std.specs.FinMap.{get, len}
+use Rattle.aea_io.specs.Taken.{TakesAtMost}
+use Rattle.aea_lattice.specs.declared.blocks.BlockId.{BlockId}
+use Rattle.aea_lattice.specs.Facts.{NumbersTellBlocks}
+use Rattle.aea_disk.specs.Files.{Files}
+use Rattle.aea_disk.specs.Frames.{OnlyReads, OnlyWrites}
+use Rattle.aea_disk.specs.State.{State}
+use Rattle.aea_catalog.specs.Names.{IsName, is_name}
+use Rattle.aea_shelf.specs.Writes.{KeepsPadded}
+use Rattle.aea_records.specs.Format.{greatest_objects, nodes_for, limit_when}
+use Rattle.aea_records.specs.Laws.{HasOneReading, ObjectsAreCounted, NewNamesAreFree}
+use Rattle.aea_ledger.specs.Values.{Opened, IsThisOne}
+use Rattle.aea_archive.specs.Blocks.{IsBlockIn}
+use Rattle.aea_archive.specs.Lasts.{IsLastParity, IsDamagedLast, IsFirstDamagedLast}
+use Rattle.aea_append.specs.declared.fault.PutFault.{PutFault}
+use Rattle.aea_append.specs.declared.store.StoredObject.{StoredObject}
+use Rattle.aea_append.specs.Causes.{IsTaken, MayEnter, IsHeadRefused, HasPutRoom}
+use Rattle.aea_append.specs.Puts.{IsWhole, HasPut, MayHaveStored, LeavesLedger}
+use Rattle.aea_append.specs.Taking.{HasPassedRoom, room_left}
+use Rattle.aea_command.specs.declared.refusal.Refusal.{Refusal}
+use Rattle.aea_command.specs.declared.refusal.Refusal.TheVariants.{NoArchive, LedgerBad, BadName, NameTaken, CatalogFull, HeadDamaged, Full, Occupied}
+use Rattle.aea_command.specs.declared.refusal.Failure.{Failure}
+use Rattle.aea_command.specs.Causes.{place_of, IsFirst, IsStopped, Refuses}
+use Rattle.aea_command.specs.Failures.{put_failure}
+use Rattle.aea_command.specs.Openings.{Opens}
+use Rattle.aea_command_store.specs.Put.{PutCauses, HasDamagedHead}
+use Rattle.aea_command.proofs.Behind.{opened_no_opening, some_ledger}
+use Rattle.aea_command_store.proofs.PutLemmas.Opening.{changes}
+use Rattle.aea_command_store.proofs.PutLemmas.Reading.{taken_there, taken_here, many_there, many_here, full_there, full_here, head_there, head_here, one_head, passed_full}
+use Rattle.aea_command.proofs.Reading.{has_ledger_of}
+use Rattle.aea_append.specs.declared.fault.PutFault.TheVariants as put
+use Rattle.aea_append.specs.Causes as causes
+use Rattle.aea_command.specs.declared.refusal.Failure.TheVariants as failure
+
+-- The clauses of the call that puts, behind the opening: the opened ledger before and after it, the name, what the source had
+-- and has left, the disk at the entry, behind the opening, and at the end, and the answer.
+pub record HasPutting (tells : Type 0) (v w : Opened) (name : List ℕ) (left rest : Option (List ℕ)) (old mid new : State) (r : Result StoredObject PutFault) : Type 1 where
+  pub opens : Opens tells old mid (Ok v)
+  pub stored : IfOk r (HasPut tells v w name left rest mid new)
+  pub bad_name : (r ≡ Err put.BadName) ↔ (IsName name → ⊥)
+  pub taken : (r ≡ Err put.NameTaken) ↔ (IsName name × IsTaken v name)
+  pub many : (r ≡ Err put.CatalogFull) ↔ (IsName name × (IsTaken v name → ⊥) × (len v.objects ≡ greatest_objects))
+  pub early : causes.IsEarly r → (new ≡ mid) × (rest ≡ left)
+  pub head : (b : BlockId) → r ≡ Err (put.HeadDamaged b) → IsLastParity v.lattice b × (tells → IsFirstDamagedLast v.shape v.lattice v.digests mid.files b)
+  pub head_leaves : (b : BlockId) → r ≡ Err (put.HeadDamaged b) → (rest ≡ left) × OnlyReads tells ⊥ mid new
+  pub head_refused : tells → MayEnter v name → (a : BlockId) → IsDamagedLast v.shape v.lattice v.digests mid.files a → IsHeadRefused r
+  pub full : (nodes : ℕ) → r ≡ Err (put.Full nodes) → (nodes ≡ v.lattice.n) × HasPassedRoom v left rest
+  pub full_intact : (nodes : ℕ) → r ≡ Err (put.Full nodes) → tells → (a : BlockId) → IsDamagedLast v.shape v.lattice v.digests mid.files a → ⊥
+  pub full_refused : (bytes : List ℕ) → left ≡ Some bytes → MayEnter v name → limit_when v.raised < v.lattice.n + nodes_for v.shape (length bytes)
+      → (r ≡ Err (put.Full v.lattice.n)) ⊎ ((r ≡ Err put.ReadFault) ⊎ IsHeadRefused r)
+  pub leaves : IsErr r → r ≢ Err put.DiskFault → tells → LeavesLedger mid new
+  pub stopped : r ≡ Err put.DiskFault → tells → MayHaveStored v (IsWhole name left rest) mid new
+  pub writes : OnlyWrites tells (HasPutRoom v name left rest mid) (r ≡ Err put.DiskFault) (changes v) mid new
+  pub padded : r ≢ Err put.DiskFault → tells → KeepsPadded v.shape (IsBlockIn v.shape v.lattice.n) mid.files new.files
+  pub reads : TakesAtMost left rest (room_left v + 1)
+
+-- what the run answers by it
+abbrev pub answer_of : {T : Type 0} → Result T PutFault → Result T Failure
+answer_of (Ok v) = Ok v
+answer_of (Err fault) = Err (put_failure fault)
+
+-- a test of bytes is one or the other
+name_or_not : (b : Bool) → (b ≡ true) ⊎ (b ≡ true → ⊥)
+name_or_not true = inl refl
+name_or_not false = inr (λ e. let h : false ≡ true = e in cc)
+
+none_or_some : {A : Type 0} → (o : Option A) → (o ≡ None) ⊎ (o ≢ None)
+none_or_some None = inl refl
+none_or_some (Some x) = inr (λ e. let h : Some x ≡ None = e in cc)
+
+err_inside : (f g : PutFault) → (let one : Result StoredObject PutFault = Err f in one ≡ Err g) → f ≡ g
+err_inside f g e = cc
+
+module _ (reading : HasOneReading) (count : ObjectsAreCounted) (free : NewNamesAreFree) (tell : NumbersTellBlocks)
+    (tells : Type 0) (v w : Opened) (name : List ℕ) (left rest : Option (List ℕ)) (old mid new : State) (r : Result StoredObject PutFault)
+    (gave : HasPutting tells v w name left rest old mid new r) where
+  abbrev told_causes : Refusal → Type 0
+  told_causes = PutCauses name old.files (unwrap_or left [])
+
+  -- the name and the number of objects do not stand against it
+  enters : r ≢ Err put.BadName → r ≢ Err put.NameTaken → r ≢ Err put.CatalogFull → MayEnter v name
+  enters good fresh few =
+      let named : IsName name = elim (name_or_not (is_name name)) [ inl is ↦ is | inr never ↦ absurd (good (gave.bad_name.1 never)) ] in
+      let absent : get v.objects name ≡ None = elim (none_or_some (get v.objects name)) [ inl none ↦ none | inr some ↦ absurd (fresh (gave.taken.1 (named, some))) ] in
+      record { named = named; free = absent; few = λ most. few (gave.many.1 (named, (λ some. some absent), most)) }
+
+  module _ (told : tells) where
+    one : IsThisOne v (old.files 0)
+    one = gave.opens.this_one told
+
+    same_files : mid.files ≡ old.files
+    same_files = gave.opens.reads.contents told
+
+    -- no cause of the opening stands
+    none_of_opening : (why : Refusal) → place_of why < place_of Occupied → told_causes why → ⊥
+    none_of_opening NoArchive before cause = opened_no_opening tells old mid v gave.opens told NoArchive cause
+    none_of_opening (LedgerBad at) before cause = opened_no_opening tells old mid v gave.opens told (LedgerBad at) cause
+    none_of_opening BadName before cause = omega arith
+    none_of_opening NameTaken before cause = omega arith
+    none_of_opening CatalogFull before cause = omega arith
+    none_of_opening (HeadDamaged b) before cause = omega arith
+    none_of_opening (Full n) before cause = omega arith
+    none_of_opening why before cause = cause
+
+    -- nor of the name
+    none_of_name : IsName name → (why : Refusal) → place_of why < place_of NameTaken → told_causes why → ⊥
+    none_of_name named NoArchive before cause = none_of_opening NoArchive (omega arith) cause
+    none_of_name named (LedgerBad at) before cause = none_of_opening (LedgerBad at) (omega arith) cause
+    none_of_name named BadName before cause = cause.1 named
+    none_of_name named NameTaken before cause = omega arith
+    none_of_name named CatalogFull before cause = omega arith
+    none_of_name named (HeadDamaged b) before cause = omega arith
+    none_of_name named (Full n) before cause = omega arith
+    none_of_name named why before cause = cause
+
+    none_of_taken : IsName name → (IsTaken v name → ⊥) → (why : Refusal) → place_of why < place_of CatalogFull → told_causes why → ⊥
+    none_of_taken named fresh NameTaken before cause = fresh (taken_there reading v (old.files 0) one free name cause)
+    none_of_taken named fresh CatalogFull before cause = omega arith
+    none_of_taken named fresh (HeadDamaged b) before cause = omega arith
+    none_of_taken named fresh (Full n) before cause = omega arith
+    none_of_taken named fresh NoArchive before cause = none_of_opening NoArchive (omega arith) cause
+    none_of_taken named fresh (LedgerBad at) before cause = none_of_opening (LedgerBad at) (omega arith) cause
+    none_of_taken named fresh BadName before cause = cause.1 named
+    none_of_taken named fresh why before cause = cause
+
+    -- nor of the number of objects
+    none_of_entry : MayEnter v name → (why : Refusal) → place_of why < suc (place_of CatalogFull) → told_causes why → ⊥
+    none_of_entry may CatalogFull before cause = may.few (many_there reading v (old.files 0) one count cause)
+    none_of_entry may (HeadDamaged b) before cause = omega arith
+    none_of_entry may (Full n) before cause = omega arith
+    none_of_entry may NameTaken before cause = (taken_there reading v (old.files 0) one free name cause) may.free
+    none_of_entry may NoArchive before cause = none_of_opening NoArchive (omega arith) cause
+    none_of_entry may (LedgerBad at) before cause = none_of_opening (LedgerBad at) (omega arith) cause
+    none_of_entry may BadName before cause = cause.1 may.named
+    none_of_entry may why before cause = cause
+
+    -- the damaged last parity of the files at the entry is that behind the opening
+    first_there : (b : BlockId) → HasDamagedHead old.files b → IsFirstDamagedLast v.shape v.lattice v.digests mid.files b
+    first_there b cause = subst (λ (c : Files). IsFirstDamagedLast v.shape v.lattice v.digests c b) (sym same_files) (head_there reading v old.files one b cause)
+
+    first_here : (b : BlockId) → IsFirstDamagedLast v.shape v.lattice v.digests mid.files b → HasDamagedHead old.files b
+    first_here b first = head_here reading v old.files one b (subst (λ (c : Files). IsFirstDamagedLast v.shape v.lattice v.digests c b) same_files first)
+
+    -- nor of the heads
+    none_of_heads : MayEnter v name → ((a : BlockId) → IsDamagedLast v.shape v.lattice v.digests mid.files a → ⊥) → (why : Refusal) → place_of why < place_of (Full 0) → told_causes why → ⊥
+    none_of_heads may intact (HeadDamaged b) before cause = intact b (first_there b cause).damaged
+    none_of_heads may intact (Full n) before cause = omega arith
+    none_of_heads may intact CatalogFull before cause = none_of_entry may CatalogFull (omega arith) cause
+    none_of_heads may intact NameTaken before cause = none_of_entry may NameTaken (omega arith) cause
+    none_of_heads may intact NoArchive before cause = none_of_opening NoArchive (omega arith) cause
+    none_of_heads may intact (LedgerBad at) before cause = none_of_opening (LedgerBad at) (omega arith) cause
+    none_of_heads may intact BadName before cause = cause.1 may.named
+    none_of_heads may intact why before cause = cause
+
+    -- the name is one where that is no cause
+    named_by : (why : Refusal) → place_of BadName < place_of why → IsFirst told_causes why → IsName name
+    named_by why late first = elim (name_or_not (is_name name)) [
+      | inl is ↦ is
+      | inr never ↦ absurd (first.none BadName late (some_ledger (old.files 0) v.shape one.records (has_ledger_of reading v (old.files 0) one), never))
+    ]
+
+    -- no object has it where that is no cause
+    absent_by : (why : Refusal) → place_of NameTaken < place_of why → IsFirst told_causes why → get v.objects name ≡ None
+    absent_by why late first = elim (none_or_some (get v.objects name)) [
+      | inl none ↦ none
+      | inr some ↦ absurd (first.none NameTaken late (taken_here reading v (old.files 0) one free name some))
+    ]
+
+    enters_by : (why : Refusal) → place_of CatalogFull < place_of why → IsFirst told_causes why → MayEnter v name
+    enters_by why late first = record {
+      named = named_by why (omega (arith, late)) first;
+      free = absent_by why (omega (arith, late)) first;
+      few = λ most. first.none CatalogFull late (many_here reading v (old.files 0) one count most);
+    }
+
+    outside : (r ≡ Err put.DiskFault) ⊎ (r ≡ Err put.NoMemory) → IsStopped (answer_of r)
+    outside (inl e) = inl (ap answer_of e)
+    outside (inr e) = inr (inr (ap answer_of e))
+
+    -- where a cause is the first that stands it is the answer, but for faults and want of memory
+    always_is : (xs : List ℕ) → left ≡ Some xs → (why : Refusal) → IsFirst told_causes why → (answer_of r ≡ Err (failure.Refused why)) ⊎ IsStopped (answer_of r)
+    always_is xs is NoArchive first = absurd (none_of_opening NoArchive (omega arith) first.stands)
+    always_is xs is (LedgerBad at) first = absurd (none_of_opening (LedgerBad at) (omega arith) first.stands)
+    always_is xs is BadName first = inl (ap answer_of (gave.bad_name.1 first.stands.1))
+    always_is xs is NameTaken first =
+        inl (ap answer_of (gave.taken.1 (named_by NameTaken (omega arith) first, taken_there reading v (old.files 0) one free name first.stands)))
+    always_is xs is CatalogFull first =
+        inl (ap answer_of (gave.many.1 (named_by CatalogFull (omega arith) first, (λ some. some (absent_by CatalogFull (omega arith) first)), many_there reading v (old.files 0) one count first.stands)))
+    always_is xs is (HeadDamaged b) first =
+        let here = first_there b first.stands in
+        elim (gave.head_refused told (enters_by (HeadDamaged b) (omega arith) first) b here.damaged) [
+          | inl found ↦
+              let same : found.0 ≡ b = one_head tell v.shape v.lattice v.digests mid.files found.0 b one.has.lattice.alpha ((gave.head found.0 found.1).1 told) here in
+              inl (ap answer_of (found.1 ∙ ap (λ (a : BlockId). Err (put.HeadDamaged a)) same))
+          | inr out ↦ inr (outside out)
+        ]
+    always_is xs is (Full n) first =
+        let given : unwrap_or left [] ≡ xs = ap (λ (l : Option (List ℕ)). unwrap_or l []) is in
+        let there = full_there reading v (old.files 0) one (unwrap_or left []) n first.stands in
+        let past : limit_when v.raised < v.lattice.n + nodes_for v.shape (length xs) = subst (λ (l : List ℕ). limit_when v.raised < v.lattice.n + nodes_for v.shape (length l)) given there.1 in
+        elim (gave.full_refused xs is (enters_by (Full n) (omega arith) first) past) [
+          | inl e ↦ inl (ap answer_of (e ∙ ap (λ (k : ℕ). Err (put.Full k)) (sym there.0)))
+          | inr (inl e) ↦ inr (inr (inl (ap answer_of e)))
+          | inr (inr (inl found)) ↦ absurd (first.none (HeadDamaged found.0) (omega arith) (first_here found.0 ((gave.head found.0 found.1).1 told)))
+          | inr (inr (inr out)) ↦ inr (outside out)
+        ]
+    always_is xs is why first = absurd first.stands
+
+    -- the causes of the refusals
+    first_as : (one_why why : Refusal) → (let a : Result StoredObject Failure = Err (failure.Refused one_why) in a ≡ Err (failure.Refused why)) → IsFirst told_causes one_why → IsFirst told_causes why
+    first_as one_why why e first = let same : one_why ≡ why = cc in subst (λ (x : Refusal). IsFirst told_causes x) same first
+
+    not_fault : (f g : PutFault) → r ≡ Err f → (f ≡ g → ⊥) → r ≢ Err g
+    not_fault f g is differs e = differs (err_inside f g (sym is ∙ e))
+
+    only_is : (xs : List ℕ) → left ≡ Some xs → (q : Result StoredObject PutFault) → r ≡ q → (why : Refusal) → answer_of q ≡ Err (failure.Refused why) → IsFirst told_causes why
+    only_is xs is (Ok s) same why e = let h : Ok s ≡ Err (failure.Refused why) = e in cc
+    only_is xs is (Err put.BadName) same why e =
+        first_as BadName why e (record {
+          stands = (some_ledger (old.files 0) v.shape one.records (has_ledger_of reading v (old.files 0) one), gave.bad_name.0 same);
+          none = λ other before cause. none_of_bad other before cause;
+        })
+      where
+        none_of_bad : (other : Refusal) → place_of other < place_of BadName → told_causes other → ⊥
+        none_of_bad NoArchive before cause = none_of_opening NoArchive (omega arith) cause
+        none_of_bad (LedgerBad at) before cause = none_of_opening (LedgerBad at) (omega arith) cause
+        none_of_bad BadName before cause = omega arith
+        none_of_bad NameTaken before cause = omega arith
+        none_of_bad CatalogFull before cause = omega arith
+        none_of_bad (HeadDamaged b) before cause = omega arith
+        none_of_bad (Full n) before cause = omega arith
+        none_of_bad other before cause = cause
+    only_is xs is (Err put.NameTaken) same why e =
+        let both = gave.taken.0 same in
+        first_as NameTaken why e (record { stands = taken_here reading v (old.files 0) one free name both.1; none = none_of_name both.0 })
+    only_is xs is (Err put.CatalogFull) same why e =
+        let all = gave.many.0 same in
+        first_as CatalogFull why e (record { stands = many_here reading v (old.files 0) one count all.2; none = none_of_taken all.0 all.1 })
+    only_is xs is (Err (put.HeadDamaged b)) same why e =
+        let may = enters (not_fault (put.HeadDamaged b) put.BadName same (λ d. cc)) (not_fault (put.HeadDamaged b) put.NameTaken same (λ d. cc)) (not_fault (put.HeadDamaged b) put.CatalogFull same (λ d. cc)) in
+        first_as (HeadDamaged b) why e (record { stands = first_here b ((gave.head b same).1 told); none = none_of_entry may })
+    only_is xs is (Err (put.Full n)) same why e =
+        let may = enters (not_fault (put.Full n) put.BadName same (λ d. cc)) (not_fault (put.Full n) put.NameTaken same (λ d. cc)) (not_fault (put.Full n) put.CatalogFull same (λ d. cc)) in
+        let full = gave.full n same in
+        let passed = passed_full v xs rest (subst (λ (l : Option (List ℕ)). HasPassedRoom v l rest) is full.1) in
+        let given : xs ≡ unwrap_or left [] = sym (ap (λ (l : Option (List ℕ)). unwrap_or l []) is) in
+        first_as (Full n) why e (record {
+          stands = full_here reading v (old.files 0) one (unwrap_or left []) n full.0 (subst (λ (l : List ℕ). limit_when v.raised < v.lattice.n + nodes_for v.shape (length l)) given passed);
+          none = none_of_heads may (gave.full_intact n same told);
+        })
+    only_is xs is (Err put.ReadFault) same why e = let h : Err failure.Input ≡ Err (failure.Refused why) = e in cc
+    only_is xs is (Err put.DiskFault) same why e = let h : Err failure.Disk ≡ Err (failure.Refused why) = e in cc
+    only_is xs is (Err put.NoMemory) same why e = let h : Err failure.Memory ≡ Err (failure.Refused why) = e in cc
+
+  told_input : (l : Option (List ℕ)) → IsSome l → (xs : List ℕ) × (l ≡ Some xs)
+  told_input None some = let h : false ≡ true = some in cc
+  told_input (Some xs) some = (xs, refl)
+
+  -- how the run tells why it is refused
+  pub putting_refuses : Refuses (tells × IsSome left) (PutCauses name old.files (unwrap_or left [])) (answer_of r)
+  putting_refuses = record {
+    only = λ why is told. let input = told_input left told.1 in only_is told.0 input.0 input.1 r refl why is;
+    always = λ why told first. let input = told_input left told.1 in always_is told.0 input.0 input.1 why first;
+  }

@@ -1,0 +1,140 @@
+-- What holds of a run of `put`, from what its calls ensure.
+use Rattle.std.proofs.Common.{◌≡◌, ◌≢◌, inl, inr, List, [], ◌++◌, length, refl, sym, ◌∙◌, ap, subst, Option, Some, Result, Ok, Err, None, append-nil, arith, false, true, ℕ, ◌≤◌}
+use Rattle.aea_io.specs.Streams.{SourceState, SinkState}
+use Rattle.aea_disk.specs.State.{State}
+use Rattle.aea_command.specs.Openings.{greatest_sites, Opens}
+use Rattle.aea_command_store.specs.Put.{stored_line, object_of, PutCauses, EndsStored, MayHavePut, Stores, IsStoredLine, KeepsOtherFiles, Puts}
+use Rattle.aea_command_store.proofs.Adding.{Agrees, agrees_failed}
+use Rattle.aea_command_store.proofs.Adding.Running.{agrees_printed}
+use Rattle.aea_command.specs.Failures.{Answer, NeverClashes}
+use Rattle.std.proofs.KnownBytes.{Consumes-nil}
+use Rattle.std.specs.Io.KnownBytes.{Consumes, IsAtEnd}
+use Rattle.aea_command.specs.declared.refusal.Failure.{Failure}
+use Rattle.aea_command.specs.declared.refusal.Failure.TheVariants as failure
+use Rattle.aea_disk.specs.Files.{Files, KeepsFiles}
+use Rattle.aea_ledger.specs.Stops.{StaysAll}
+use Rattle.aea_records.specs.Grammar.{IsLedger}
+use Rattle.aea_command_store.proofs.CreateLemmas.{IsPrinting, printing_done}
+use Rattle.std.specs.Prelude.{IsSome, unwrap_or}
+use Rattle.aea_command.specs.Printed.{PrintsText}
+use Rattle.aea_command.specs.Causes.{Refuses}
+use Rattle.aea_lattice.specs.declared.shape.Shape.{Shape}
+use Rattle.std.proofs.lemmas.Bool.{false≢true}
+use Rattle.aea_command.proofs.OpeningCases.{opening_more, images_same, opening_not_output}
+use Rattle.aea_shelf.specs.Places.{padded_home}
+use Rattle.aea_disk.proofs.Moments.{passes_none, where_kept, where_none}
+use Rattle.aea_command.proofs.Refusing.{refuses_told, refuses_stopped}
+use Rattle.aea_command.proofs.Texts.{text_unused}
+
+-- a failure is no object that is stored, but for one of the output
+pub never_stored : {T : Type 0} (f : Failure) → f ≢ failure.Output → EndsStored {T = T} (Err f) → ⊥
+never_stored f output (inl ok) = false≢true ok
+never_stored {T} f output (inr e) = let h : (let one : Result T Failure = Err f in one ≡ Err failure.Output) = e in output cc
+
+-- ---- the archive was not opened
+
+pub unopened_not_output : (tells : Type 0) (old new : State) (f : Failure) → Opens tells old new (Err f) → f ≢ failure.Output
+unopened_not_output tells old new f opens e = let kind = opens.kinds in opening_not_output kind.0 (sym kind.1 ∙ e)
+
+module _ {T : Type 0} (name : List ℕ) (tells : Type 0) (old new : State) (left : Option (List ℕ)) (f : Failure) (opens : Opens tells old new (Err f)) where
+  same_failure : (g : Failure) → (let one : Result T Failure = Err f in one ≡ Err g) → f ≡ g
+  same_failure g e = cc
+
+  not_stored : EndsStored {T = T} (Err f) → ⊥
+  not_stored = never_stored f (unopened_not_output tells old new f opens)
+
+  pub unopened_stores : Stores {T = T} name tells old new left left (Err f)
+  unopened_stores = record {
+    archive = λ stored. absurd (not_stored stored);
+    stands = λ stored. absurd (not_stored stored);
+    stops = λ told shape records ledger. ([], inl refl, inl (opens.reads.crash, opens.reads.contents told));
+    untouched = λ why early is.
+        let differs : f ≢ failure.Disk = λ d. (let h : failure.Refused why ≡ failure.Disk = sym (same_failure (failure.Refused why) is) ∙ d in cc) in (
+          record {
+            images = opens.reads.crash;
+            files = opens.reads.contents;
+            synced = opens.synced (λ e. differs (let h : Err f ≡ Err failure.Disk = e in cc));
+            sure = opens.opened (λ e. differs (let h : Err f ≡ Err failure.Disk = e in cc));
+          },
+          refl,
+        );
+    leaves = λ g disk output is told. (inl opens.reads.crash, ap (λ (c : Files). c 0) (opens.reads.contents told));
+    none = λ told never. (opens.reads.crash, opens.reads.contents told);
+    padded = λ differs told shape records ledger a on keep. ap (λ (c : Files). padded_home shape a c) (opens.reads.contents told);
+    takes = λ told shape records ledger. ([], Consumes-nil left, omega arith);
+    in_room = λ fits. let sure = opens.reads.sure fits.some in (λ is. sure.0 (let same = same_failure failure.Disk is in ap Err same), sure.1);
+  }
+
+  pub unopened_rest : KeepsOtherFiles tells (let answer : Result T Failure = Err f in answer ≡ Err failure.Disk) old new
+  unopened_rest = record {
+    others = where_kept tells _ old old new (passes_none old) opens.reads.time opens.reads.crash opens.reads.contents (where_none tells _ old);
+    opens = λ told. opening_more old new (StaysAll old.files) (KeepsFiles (λ file. file ≤ greatest_sites → ⊥) old.files) (λ c stays g keep. stays g) (opens.stops told);
+    time = opens.reads.time;
+    kept = opens.reads.kept;
+    cause = λ is. opens.reads.cause (ap Err (same_failure failure.Disk is));
+  }
+
+-- ---- another answer to what is left
+
+pub stores_as : {T U : Type 0} (name : List ℕ) (tells : Type 0) (old new : State) (left rest : Option (List ℕ)) (gave : Result T Failure) (answer : Result U Failure) → Agrees gave answer → Stores name tells old new left rest gave → Stores name tells old new left rest answer
+stores_as {T} {U} name tells old new left rest gave answer agrees does = record {
+  archive = λ stored. does.archive (agrees.well stored);
+  stands = λ stored. does.stands (agrees.well stored);
+  stops = λ told shape records ledger.
+      let was = does.stops told shape records ledger in
+      let may : MayHavePut name left rest answer was.0 = elim was.1 [
+        | inl none ↦ inl none
+        | inr (inl stored, some) ↦ inr (inl (agrees.done stored), some)
+        | inr (inr disk, some) ↦ inr (inr (agrees.back failure.Disk (λ d. cc) disk), some)
+      ] in
+      (was.0, may, was.2);
+  untouched = λ why early is. does.untouched why early (agrees.there (failure.Refused why) (λ d. cc) is);
+  leaves = λ f disk output is. does.leaves f disk output (agrees.there f output is);
+  none = does.none;
+  padded = λ differs. does.padded (λ is. differs (agrees.back failure.Disk (λ d. cc) is));
+  takes = does.takes;
+  in_room = λ fits. (λ is. (does.in_room fits).0 (agrees.there failure.Disk (λ d. cc) is), (does.in_room fits).1);
+}
+
+-- nothing was stored
+pub puts_failed : {T : Type 0} (name : List ℕ) (tells : Type 0) (old new : State) (left rest : Option (List ℕ)) (out : SinkState) (f : Failure) → f ≢ failure.Output → Stores {T = T} name tells old new left rest (Err f) → Puts name tells old new left rest out out (Err f)
+puts_failed {T} name tells old new left rest out f output stores = record {
+  done = tt;
+  stores = stores_as name tells old new left rest (Err f) (Err f) (agrees_failed f) stores;
+  text = [];
+  line = λ stored. absurd (never_stored f output stored);
+  prints = text_unused out f [] output;
+}
+
+-- the object was stored, and then its line was printed, or the output failed
+pub puts_stored : {T : Type 0} (name : List ℕ) (tells : Type 0) (old new : State) (left rest : Option (List ℕ)) (before after : SinkState) (value : T) (answer : Answer) (text : List ℕ) → IsPrinting answer
+    → Stores name tells old new left rest (Ok value) → IsStoredLine name tells (old.files 0) left rest text → PrintsText before after answer text → Puts name tells old new left rest before after answer
+puts_stored name tells old new left rest before after value answer text printing stores line prints = record {
+  done = printing_done answer printing;
+  stores = stores_as name tells old new left rest (Ok value) answer (agrees_printed value answer printing) stores;
+  text = text;
+  line = λ _. line;
+  prints = prints;
+}
+
+-- ---- the run
+
+-- the input of which all was taken is the object's bytes
+pub whole_input : (left rest : Option (List ℕ)) (bytes : List ℕ) → IsSome left → Consumes left rest bytes → IsAtEnd rest → unwrap_or left [] ≡ bytes
+whole_input None rest bytes some taken end = let h : false ≡ true = some in cc
+whole_input (Some xs) None bytes some taken end = absurd taken
+whole_input (Some xs) (Some ys) bytes some taken end = taken ∙ ap (λ (l : List ℕ). bytes ++ l) end ∙ append-nil bytes
+
+-- nothing was stored, and no call was made
+pub nothing_stores : (name : List ℕ) (tells : Type 0) (s : State) (left : Option (List ℕ)) → Stores name tells s s left left (let answer : Answer = Err failure.Memory in answer)
+nothing_stores name tells s left = record {
+  archive = λ stored. absurd (never_stored failure.Memory (λ e. cc) stored);
+  stands = λ stored. absurd (never_stored failure.Memory (λ e. cc) stored);
+  stops = λ told shape records ledger. ([], inl refl, inl (images_same s, refl));
+  untouched = λ why early is. let h : Err failure.Memory ≡ Err (failure.Refused why) = is in cc;
+  leaves = λ f disk output is told. (inl (images_same s), refl);
+  none = λ told never. (images_same s, refl);
+  padded = λ differs told shape records ledger a on keep. refl;
+  takes = λ told shape records ledger. ([], Consumes-nil left, omega arith);
+  in_room = λ fits. (λ is. let h : Err failure.Memory ≡ Err failure.Disk = is in cc, refl);
+}

@@ -1,0 +1,279 @@
+-- What becomes of the archive in a run that puts, by what its calls gave.
+use Rattle.std.proofs.Common.{◌≡◌, ◌≢◌, inl, inr, ℕ, ◌+◌, ◌-◌, ◌*◌, ◌≤◌, List, [], ◌∷◌, length, refl, sym, ◌∙◌, ap, subst, arith, Option, Result, Ok, Err, IfOk, IsErr}
+use Rattle.aea_command.specs.Openings.{greatest_sites, OpensThen, OpensOr, IsUntouched}
+use Rattle.aea_command_store.specs.Put.{stored_text, FitsPut, IsEarly, EndsStored, MayHavePut, Stores, IsStoredLine, KeepsOtherFiles}
+use Rattle.aea_command.specs.declared.refusal.Refusal.TheVariants.{BadName, NameTaken, CatalogFull, HeadDamaged, Full}
+use Rattle.aea_command.specs.declared.refusal.Failure.{Failure}
+use Rattle.aea_command.specs.declared.refusal.Failure.TheVariants as failure
+use Rattle.aea_disk.specs.Files.{Files, KeepsFiles}
+use Rattle.aea_command_store.specs.Growing.{Grows, HasGrown}
+use Rattle.aea_ledger.specs.Stops.{HasLedger, HasOpening}
+use Rattle.aea_records.specs.Laws.{HasOneReading}
+use Rattle.aea_append.specs.Puts.{IsWhole, HasPut}
+use Rattle.aea_append.specs.Causes.{HasPutRoom, next_end}
+use Rattle.aea_append.specs.Causes as causes
+use Rattle.aea_command_store.proofs.PutLemmas.Causing.{HasPutting, answer_of}
+use Rattle.aea_command_store.proofs.PutLemmas.Opening.{changes, ledger_left, changed, grows_none, grows_may, grows_stored}
+use Rattle.aea_command.proofs.Opened.{opens_then, opening_then, untouched_by}
+use Rattle.aea_append.specs.declared.fault.PutFault.TheVariants as put
+use Rattle.aea_archive.specs.Cells.{IsBesides}
+use Rattle.aea_archive.specs.Blocks.{IsBlockIn}
+use Rattle.std.specs.Prelude.{IsOk}
+use Rattle.aea_shelf.specs.Writes.{KeepsPadded}
+use Rattle.aea_archive.specs.Next.{NewObject}
+use Rattle.aea_disk.specs.Frames.{OnlyReads}
+use Rattle.aea_ledger.specs.Values.{Opened}
+use Rattle.aea_disk.specs.State.{Passes, State}
+use Rattle.aea_append.specs.declared.fault.PutFault.{PutFault}
+use Rattle.aea_records.specs.Format.{Record, limit_of, limit_when, nodes_for, nodes_of}
+use Rattle.aea_command.specs.declared.refusal.Refusal.{Refusal}
+use Rattle.aea_faults.specs.Faults.{Rose}
+use Rattle.aea_lattice.specs.declared.shape.Shape.{Shape}
+use Rattle.aea_append.specs.declared.store.StoredObject.{StoredObject}
+use Rattle.aea_io.specs.Taken.{TakesAtMost}
+use Rattle.std.proofs.lemmas.Bool.{cases_lt, false≢true}
+use Rattle.aea_command.proofs.Reading.{has_ledger_of, by_reading}
+use Rattle.std.proofs.lemmas.Bool.Decides.{nat_tests}
+use Rattle.aea_disk.proofs.Moments.{passes_both, passes_none, where_both, where_kept, where_none}
+use Rattle.aea_command.specs.Failures.{put_failure}
+use Rattle.aea_disk.proofs.Frames.{reads_none, writes_where}
+use Rattle.aea_shelf.specs.Places.{site_bytes}
+use Rattle.sha2.specs.Sha256.{sha256}
+
+same_fault : {T : Type 0} (f g : Failure) → (let one : Result T Failure = Err f in one ≡ Err g) → f ≡ g
+same_fault f g e = cc
+
+-- a put fails neither by the output nor by words
+pub put_not_output : (fault : PutFault) → put_failure fault ≡ failure.Output → ⊥
+put_not_output put.BadName e = let h : failure.Refused BadName ≡ failure.Output = e in cc
+put_not_output put.NameTaken e = let h : failure.Refused NameTaken ≡ failure.Output = e in cc
+put_not_output put.CatalogFull e = let h : failure.Refused CatalogFull ≡ failure.Output = e in cc
+put_not_output (put.HeadDamaged b) e = let h : failure.Refused (HeadDamaged b) ≡ failure.Output = e in cc
+put_not_output (put.Full n) e = let h : failure.Refused (Full n) ≡ failure.Output = e in cc
+put_not_output put.ReadFault e = cc
+put_not_output put.DiskFault e = cc
+put_not_output put.NoMemory e = cc
+
+pub put_not_words : (fault : PutFault) → put_failure fault ≡ failure.Words → ⊥
+put_not_words put.BadName e = let h : failure.Refused BadName ≡ failure.Words = e in cc
+put_not_words put.NameTaken e = let h : failure.Refused NameTaken ≡ failure.Words = e in cc
+put_not_words put.CatalogFull e = let h : failure.Refused CatalogFull ≡ failure.Words = e in cc
+put_not_words (put.HeadDamaged b) e = let h : failure.Refused (HeadDamaged b) ≡ failure.Words = e in cc
+put_not_words (put.Full n) e = let h : failure.Refused (Full n) ≡ failure.Words = e in cc
+put_not_words put.ReadFault e = cc
+put_not_words put.DiskFault e = cc
+put_not_words put.NoMemory e = cc
+
+-- by the disk only where its disk failed, by the input only where its source did
+pub put_disk : (fault : PutFault) → put_failure fault ≡ failure.Disk → fault ≡ put.DiskFault
+put_disk put.BadName e = let h : failure.Refused BadName ≡ failure.Disk = e in cc
+put_disk put.NameTaken e = let h : failure.Refused NameTaken ≡ failure.Disk = e in cc
+put_disk put.CatalogFull e = let h : failure.Refused CatalogFull ≡ failure.Disk = e in cc
+put_disk (put.HeadDamaged b) e = let h : failure.Refused (HeadDamaged b) ≡ failure.Disk = e in cc
+put_disk (put.Full n) e = let h : failure.Refused (Full n) ≡ failure.Disk = e in cc
+put_disk put.ReadFault e = let h : failure.Input ≡ failure.Disk = e in cc
+put_disk put.DiskFault e = refl
+put_disk put.NoMemory e = let h : failure.Memory ≡ failure.Disk = e in cc
+
+pub put_input : (fault : PutFault) → put_failure fault ≡ failure.Input → fault ≡ put.ReadFault
+put_input put.BadName e = let h : failure.Refused BadName ≡ failure.Input = e in cc
+put_input put.NameTaken e = let h : failure.Refused NameTaken ≡ failure.Input = e in cc
+put_input put.CatalogFull e = let h : failure.Refused CatalogFull ≡ failure.Input = e in cc
+put_input (put.HeadDamaged b) e = let h : failure.Refused (HeadDamaged b) ≡ failure.Input = e in cc
+put_input (put.Full n) e = let h : failure.Refused (Full n) ≡ failure.Input = e in cc
+put_input put.ReadFault e = refl
+put_input put.DiskFault e = let h : failure.Disk ≡ failure.Input = e in cc
+put_input put.NoMemory e = let h : failure.Memory ≡ failure.Input = e in cc
+
+-- the answer is a fault of the disk exactly where the put's is
+answer_disk : {T : Type 0} (r : Result T PutFault) → answer_of r ≡ Err failure.Disk → r ≡ Err put.DiskFault
+answer_disk (Ok s) e = let h : Ok s ≡ Err failure.Disk = e in cc
+answer_disk {T} (Err fault) e = ap Err (put_disk fault (same_fault {T = T} (put_failure fault) failure.Disk e))
+
+-- it is an object that is stored only where the put stored one
+answer_stored : {T : Type 0} (r : Result T PutFault) → EndsStored (answer_of r) → IsOk r
+answer_stored (Ok s) e = refl
+answer_stored (Err fault) (inl ok) = absurd (false≢true ok)
+answer_stored {T} (Err fault) (inr e) = absurd (put_not_output fault (same_fault {T = T} (put_failure fault) failure.Output e))
+
+fault_inside : (f g : PutFault) → (let one : Result StoredObject PutFault = Err f in one ≡ Err g) → f ≡ g
+fault_inside f g e = cc
+
+-- an archive has not more than the most sites
+pub sites_most : (shape : Shape) → shape.sites ≤ greatest_sites
+sites_most shape = let h = shape.in_profile in grind (arith, nat_tests)
+
+not_early : (n : ℕ) → IsEarly (Full n) → ⊥
+not_early n early = omega (arith, early)
+
+module _ (reading : HasOneReading) (tells : Type 0) (v w : Opened) (name : List ℕ) (left rest : Option (List ℕ)) (old mid new : State) (r : Result StoredObject PutFault)
+    (gave : HasPutting tells v w name left rest old mid new r) where
+  late : Passes mid new
+  late = gave.writes.time
+
+  -- where the object was stored
+  stored_one : (q : Result StoredObject PutFault) → r ≡ q → IsOk q → (s : StoredObject) × (r ≡ Ok s)
+  stored_one (Ok s) is ok = (s, is)
+  stored_one (Err fault) is ok = absurd (false≢true ok)
+
+  put_of : (s : StoredObject) → r ≡ Ok s → HasPut tells v w name left rest mid new s
+  put_of s is = subst (λ (q : Result StoredObject PutFault). IfOk q (HasPut tells v w name left rest mid new)) is gave.stored
+
+  has_stands : EndsStored (answer_of r) → tells → (shape : Shape) (records : List Record) → HasLedger shape records (old.files 0)
+      → (o : NewObject) × IsWhole name left rest o × OpensThen old new (HasGrown shape records (o ∷ []))
+  has_stands stored told =
+      let s = stored_one r refl (answer_stored r stored) in
+      let has = put_of s.0 s.1 in
+      by_reading reading v (old.files 0) (gave.opens.this_one told)
+      (λ shape records. (o : NewObject) × IsWhole name left rest o × OpensThen old new (HasGrown shape records (o ∷ []))) (
+        has.0,
+        has.1,
+        opens_then tells v old mid new gave.opens told (HasGrown v.shape (gave.opens.this_one told).records (has.0 ∷ [])) late
+            (grows_stored tells v old mid new gave.opens told _ _ gave.writes w has.0 s.0 (gave.opens.this_one told) has.2),
+      )
+
+  -- what a stop leaves, by the answer
+  stops_by : (told : tells) (q : Result StoredObject PutFault) → r ≡ q → (objects : List NewObject) × MayHavePut name left rest (answer_of q) objects × OpensOr old new (Grows v.shape (gave.opens.this_one told).records objects)
+  stops_by told (Ok s) is =
+      let has = put_of s is in
+      let one = gave.opens.this_one told in (
+        has.0 ∷ [],
+        inr (inl (inl refl), (has.0, has.1, refl)),
+        inr (opens_then tells v old mid new gave.opens told (Grows v.shape one.records (has.0 ∷ [])) late
+            (grows_stored tells v old mid new gave.opens told _ _ gave.writes w has.0 s one has.2).grows),
+      )
+  stops_by told (Err put.DiskFault) is =
+      let may = gave.stopped is told in
+      let one = gave.opens.this_one told in
+      let most : MayHavePut name left rest (let a : Result StoredObject Failure = Err failure.Disk in a) may.objects = elim may.most [
+        | inl none ↦ inl none
+        | inr some ↦ inr (inr refl, some)
+      ] in (
+        may.objects,
+        most,
+        inr (opens_then tells v old mid new gave.opens told (Grows v.shape one.records may.objects) late
+            (grows_may tells v old mid new gave.opens told _ _ gave.writes one (IsWhole name left rest) may)),
+      )
+  stops_by told (Err fault) is =
+      let one = gave.opens.this_one told in
+      let differs : r ≢ Err put.DiskFault = λ e. let h : Err fault ≡ Err put.DiskFault = sym is ∙ e in cc in (
+        [],
+        inl refl,
+        inr (opens_then tells v old mid new gave.opens told (Grows v.shape one.records []) late
+            (grows_none tells v old mid new gave.opens told _ _ gave.writes reading one (gave.leaves (subst IsErr (sym is) refl) differs told))),
+      )
+
+  -- refusals before the input is read
+  untouched_early : causes.IsEarly r → IsUntouched tells old new × (rest ≡ left)
+  untouched_early early =
+      let same = gave.early early in (
+        untouched_by tells v old mid new gave.opens (subst (λ (s : State). OnlyReads tells ⊥ mid s) (sym same.0) (reads_none tells ⊥ mid (λ none. none))),
+        same.1,
+      )
+
+  untouched_is : (q : Result StoredObject PutFault) → r ≡ q → (why : Refusal) → IsEarly why → answer_of q ≡ Err (failure.Refused why) → IsUntouched tells old new × (rest ≡ left)
+  untouched_is (Ok s) is why early e = let h : Ok s ≡ Err (failure.Refused why) = e in cc
+  untouched_is (Err put.BadName) is why early e = untouched_early (inl is)
+  untouched_is (Err put.NameTaken) is why early e = untouched_early (inr (inl is))
+  untouched_is (Err put.CatalogFull) is why early e = untouched_early (inr (inr is))
+  untouched_is (Err (put.HeadDamaged b)) is why early e =
+      let leaves = gave.head_leaves b is in (untouched_by tells v old mid new gave.opens leaves.1, leaves.0)
+  untouched_is (Err (put.Full n)) is why early e =
+      let h : Err (failure.Refused (Full n)) ≡ Err (failure.Refused why) = e in
+      let same : Full n ≡ why = cc in
+      absurd (not_early n (subst IsEarly (sym same) early))
+  untouched_is (Err put.ReadFault) is why early e = let h : Err failure.Input ≡ Err (failure.Refused why) = e in cc
+  untouched_is (Err put.DiskFault) is why early e = let h : Err failure.Disk ≡ Err (failure.Refused why) = e in cc
+  untouched_is (Err put.NoMemory) is why early e = let h : Err failure.Memory ≡ Err (failure.Refused why) = e in cc
+
+  -- other failures than of the disk leave the ledger
+  leaves_is_kept : (q : Result StoredObject PutFault) → r ≡ q → (f : Failure) → f ≢ failure.Disk → answer_of q ≡ Err f → tells → HasOpening old new (λ c. c 0 ≡ old.files 0) × (new.files 0 ≡ old.files 0)
+  leaves_is_kept (Ok s) is f differs e told = let h : Ok s ≡ Err f = e in cc
+  leaves_is_kept (Err fault) is f differs e told =
+      let apart : r ≢ Err put.DiskFault = λ d. (
+      let same : fault ≡ put.DiskFault = fault_inside fault put.DiskFault (sym is ∙ d) in
+      differs (sym (same_fault {T = StoredObject} (put_failure fault) f e) ∙ ap put_failure same)
+      ) in
+      ledger_left tells v old mid new gave.opens told late (gave.leaves (subst IsErr (sym is) refl) apart told)
+
+  -- the room of the disk is the room that the put needs
+  fits_rest : FitsPut name tells left old → HasPutRoom v name left rest mid
+  fits_rest fits = record {
+    sites = λ f some within.
+        gave.opens.reads.time.room f (site_bytes v.shape (limit_when v.raised)) (fits.sites v.shape (limit_when v.raised)
+        (λ told. let one = gave.opens.this_one told in record { records = one.records; ledger = has_ledger_of reading v (old.files 0) one; is = ap limit_when one.has.raised }) f some within);
+    ledger = λ bytes taken few.
+        let end : ℕ = next_end v.end (length name) (nodes_for v.shape (length bytes) * (1 + v.shape.alpha)) in
+        gave.opens.reads.time.room 0 (end + 1) (fits.behind end (λ told.
+        let one = gave.opens.this_one told in
+        record {
+          shape = v.shape;
+          records = one.records;
+          ledger = has_ledger_of reading v (old.files 0) one;
+          rest = rest;
+          taken = bytes;
+          takes = taken;
+          fits = omega (arith, few, one.has.lattice.n, ap limit_when one.has.raised);
+          place = omega (arith, one.has.end);
+        }));
+  }
+
+  -- what becomes of the archive
+  pub putting_stores : Stores name tells old new left rest (answer_of r)
+  putting_stores = record {
+    archive = λ stored told. let one = gave.opens.this_one told in record { shape = v.shape; records = one.records; end = v.end; ledger = one.ledger };
+    stands = has_stands;
+    stops = λ told.
+        by_reading reading v (old.files 0) (gave.opens.this_one told)
+        (λ shape records. (objects : List NewObject) × MayHavePut name left rest (answer_of r) objects × OpensOr old new (Grows shape records objects))
+        (stops_by told r refl);
+    untouched = λ why early is. untouched_is r refl why early is;
+    leaves = λ f disk output is told. leaves_is_kept r refl f disk is told;
+    none = λ told never. let one = gave.opens.this_one told in absurd (never (record { shape = v.shape; records = one.records; end = v.end; ledger = one.ledger }));
+    padded = λ differs told.
+        let one = gave.opens.this_one told in
+        by_reading reading v (old.files 0) one (λ shape records. KeepsPadded shape (IsBlockIn shape (nodes_of records)) old.files new.files)
+        (subst (λ (n : ℕ). KeepsPadded v.shape (IsBlockIn v.shape n) old.files new.files) one.has.lattice.n
+        (subst (λ (c : Files). KeepsPadded v.shape (IsBlockIn v.shape v.lattice.n) c new.files) (gave.opens.reads.contents told) (gave.padded (λ e. differs (ap answer_of e)) told)));
+    takes = λ told.
+        let one = gave.opens.this_one told in
+        by_reading reading v (old.files 0) one (λ shape records. TakesAtMost left rest ((limit_of records - nodes_of records) * shape.block + 1))
+        (subst (λ (n : ℕ). TakesAtMost left rest ((limit_of one.records - n) * v.shape.block + 1)) one.has.lattice.n
+        (subst (λ (n : ℕ). TakesAtMost left rest ((n - v.lattice.n) * v.shape.block + 1)) (ap limit_when one.has.raised) gave.reads));
+    in_room = λ fits.
+        let sure = gave.writes.sure (fits_rest fits) in
+        (λ is. sure.0 (answer_disk r is), sure.1 ∙ (gave.opens.reads.sure fits.some).1);
+  }
+
+  -- the other files stay
+  sites_few : (f : ℕ) → (f ≤ greatest_sites → ⊥) → IsBesides v.shape f
+  sites_few f past = elim (cases_lt v.shape.sites f) [ inl besides ↦ besides | inr within ↦ absurd (past (let few = sites_most v.shape in omega (arith, within, few))) ]
+
+  pub putting_rest : KeepsOtherFiles tells (answer_of r ≡ Err failure.Disk) old new
+  putting_rest = record {
+    others = where_both tells _ old mid new gave.opens.reads.time late
+        (where_kept tells _ old old mid (passes_none old) gave.opens.reads.time gave.opens.reads.crash gave.opens.reads.contents (where_none tells _ old))
+        (writes_where tells _ _ (changes v) _ mid new (λ c d step f past. step.stay f (sites_few f past)) gave.writes);
+    opens = λ told.
+        opening_then tells v old mid new gave.opens told (KeepsFiles (λ file. file ≤ greatest_sites → ⊥) old.files) (λ c stays f past. stays f) late
+        (λ t c from to here f past. (changed tells v old mid new gave.opens told _ _ gave.writes t c from to here).stay f (sites_few f past));
+    time = passes_both old mid new gave.opens.reads.time late;
+    kept = let a = gave.opens.reads.kept in let b = gave.writes.kept in omega (arith, a, b);
+    cause = λ is. let rose : Rose mid.faults new.faults = gave.writes.cause (answer_disk r is) in omega (arith, gave.opens.reads.kept, rose);
+  }
+
+  -- the line of the object that was stored
+  pub putting_line : (s : StoredObject) → r ≡ Ok s → IsStoredLine name tells (old.files 0) left rest (stored_text s.nodes s.length s.digest name)
+  putting_line s is =
+      let has = put_of s is in
+      let o = has.0 in
+      record {
+        shape = v.shape;
+        o = o;
+        whole = has.1;
+        line = ap (λ (n : ℕ). stored_text n s.length s.digest name) has.2.count
+            ∙ ap (λ (n : ℕ). stored_text (nodes_for v.shape (length o.bytes)) n s.digest name) has.2.size
+            ∙ ap (λ (d : List ℕ). stored_text (nodes_for v.shape (length o.bytes)) (length o.bytes) d name) has.2.digest
+            ∙ ap (λ (n : List ℕ). stored_text (nodes_for v.shape (length o.bytes)) (length o.bytes) (sha256 o.bytes) n) (sym has.1.name_is);
+        is_shape = λ told other records ledger. by_reading reading v (old.files 0) (gave.opens.this_one told) (λ shape list. v.shape ≡ shape) refl other records ledger;
+      }

@@ -1,0 +1,33 @@
+-- What holds of a run of `upgrade`, from what its calls ensure.
+use Rattle.std.proofs.Common.{◌≡◌, ◌≢◌, Ok, Err}
+use Rattle.aea_io.specs.Streams.{SourceState, SinkState}
+use Rattle.aea_disk.specs.State.{State}
+use Rattle.aea_command.specs.declared.refusal.Failure.{Failure}
+use Rattle.aea_command.specs.declared.refusal.Failure.TheVariants as failure
+use Rattle.aea_command_store.specs.Adding.{AddsRecord, KeepsTheRest}
+use Rattle.aea_command.specs.Causes.{Refuses}
+use Rattle.aea_command.specs.Failures.{Answer, NeverClashes}
+use Rattle.aea_command.specs.Printed.{PrintsText}
+use Rattle.aea_command_store.specs.Upgrade.{next_raise, upgraded_line, UpgradeCauses, Upgrades}
+use Rattle.aea_command_store.proofs.Adding.{adds_as, agrees_failed}
+use Rattle.aea_command_store.proofs.Adding.Running.{agrees_printed, rest_stays, adds_opens}
+use Rattle.aea_command_store.proofs.CreateLemmas.{IsPrinting, printing_done}
+use Rattle.aea_command.proofs.Refusing.{refuses_told}
+use Rattle.aea_command.proofs.Texts.{text_unused}
+
+-- the limit was not raised
+pub upgrades_failed : {T : Type 0} (tells : Type 0) (old new : State) (out : SinkState) (f : Failure) → f ≢ failure.Output → AddsRecord {T = T} next_raise tells old new (Err f) → Upgrades tells old new out out (Err f)
+upgrades_failed {T} tells old new out f output adds = record {
+  done = tt;
+  adds = adds_as next_raise tells old new (Err f) (Err f) (agrees_failed f) adds;
+  prints = text_unused out f upgraded_line output;
+}
+
+-- it was, and then the line was printed, or the output failed
+pub upgrades_added : {T : Type 0} (tells : Type 0) (old new : State) (before after : SinkState) (value : T) (answer : Answer) → IsPrinting answer
+    → AddsRecord next_raise tells old new (Ok value) → PrintsText before after answer upgraded_line → Upgrades tells old new before after answer
+upgrades_added tells old new before after value answer printing adds prints = record {
+  done = printing_done answer printing;
+  adds = adds_as next_raise tells old new (Ok value) answer (agrees_printed value answer printing) adds;
+  prints = prints;
+}

@@ -1,0 +1,133 @@
+use Rattle.std.proofs.Common.{◌≡◌, inl, inr, Result, Ok, Err, ap, refl, sym, ◌∙◌}
+use Rattle.aea_ledger.specs.declared.create.CreateFault.{CreateFault}
+use Rattle.aea_ledger.specs.declared.create.CreateFault.TheVariants as creation
+use Rattle.aea_command.specs.declared.refusal.Failure.TheVariants as failure
+use Rattle.aea_command.specs.declared.status.Status.TheVariants.{Done}
+use Rattle.aea_disk.specs.Files.{ChangesOnly}
+use Rattle.aea_disk.specs.State.{HasRoomTo}
+use Rattle.aea_disk.proofs.Frames.{writes_none, writes_as}
+use Rattle.aea_command.specs.Failures.{Answer, creation_failure}
+use Rattle.aea_command.proofs.OpeningCases.{err_with}
+use Rattle.aea_command.proofs.Refusing.{refuses_stopped}
+use Rattle.aea_command.proofs.Texts.{text_printed, text_broken}
+use Rattle.aea_command_store.proofs.CreateLemmas.{IsUnmade, IsMade, creates_nothing, creates_failed, creates_made, create_refuses, made_refuses}
+use Rattle.aea_command_store.proofs.create.create.Goals as goal
+
+ok_not_err : {T : Type 0} (v : T) (fault : CreateFault) → Ok v ≡ Err fault → ⊥
+ok_not_err v fault e = cc
+
+fault_same : (fault other : CreateFault) → (let one : Result (Unit {0}) CreateFault = Err fault in one ≡ Err other) → fault ≡ other
+fault_same fault other e = cc
+
+occupied_not_disk : (fault : CreateFault) → fault ≡ creation.Occupied → fault ≡ creation.DiskFault → ⊥
+occupied_not_disk fault one two = let h : creation.Occupied ≡ creation.DiskFault = sym one ∙ two in cc
+
+memory_not_disk : (answer : Answer) → answer ≡ Err failure.Memory → answer ≡ Err failure.Disk → ⊥
+memory_not_disk answer one two = let h : Err failure.Memory ≡ Err failure.Disk = sym one ∙ two in cc
+
+pub returns-in_err-line-clause-writes : goal.returns-in_err-line-clause-writes
+returns-in_err-line-clause-writes g c =
+    let s = g.D.Disk.state c.args.disk.now in
+    writes_as g.D.Disk.tells (HasRoomTo s 0 18) ⊥ _ (ChangesOnly 0) s s
+    (memory_not_disk c.from_residual.result (err_with c.from_residual.result failure.Memory c.from_residual.ensures.1))
+    (writes_none g.D.Disk.tells (HasRoomTo s 0 18) (ChangesOnly 0) s (λ files f keep. refl))
+
+pub returns-in_err-line-clause-creates : goal.returns-in_err-line-clause-creates
+returns-in_err-line-clause-creates g c =
+    rw (err_with c.from_residual.result failure.Memory c.from_residual.ensures.1)
+    (creates_nothing c.args.shape.now g.D.Disk.tells (g.D.Disk.state c.args.disk.now) (g.O.Sink.state c.args.out.now))
+
+pub returns-in_err-line-clause-refuses : goal.returns-in_err-line-clause-refuses
+returns-in_err-line-clause-refuses g c =
+    refuses_stopped _ _ _ (inr (inr (err_with c.from_residual.result failure.Memory c.from_residual.ensures.1)))
+
+pub returns-in_err-create_ledger-clause-creates : goal.returns-in_err-create_ledger-clause-creates
+returns-in_err-create_ledger-clause-creates g c =
+    let old = g.D.Disk.state c.args.disk.now in
+    let new = g.D.Disk.state c.create_ledger.new.disk in
+    let fault = c.in_err-create_ledger.field-0.0 in
+    let gave = c.in_err-create_ledger.ensures in
+    let unmade : IsUnmade c.args.shape.now g.D.Disk.tells old new fault = record {
+      occupied = λ e. gave.occupied (ap Err e);
+      kept = λ e. gave.untouched (ap Err e);
+      stops = gave.stops;
+      reads = gave.reads;
+      long = gave.length;
+      opened = λ e told.
+          let other : Err fault ≡ Err creation.DiskFault → ⊥ = λ d. occupied_not_disk fault e (fault_same fault creation.DiskFault d) in
+          (gave.opened other told, gave.durable other told);
+      sure = λ room. (λ e. (gave.writes.sure room).0 (ap Err e), (gave.writes.sure room).1);
+      refused = λ told header room. let r = gave.refused told header room in let h = r.0 in (cc, r.1);
+    } in
+    rw (err_with c.from_residual-in_err-create_ledger.result (creation_failure fault) c.from_residual-in_err-create_ledger.ensures.1)
+    (creates_failed c.args.shape.now g.D.Disk.tells old new (g.O.Sink.state c.args.out.now) fault unmade)
+
+pub returns-in_err-create_ledger-clause-refuses : goal.returns-in_err-create_ledger-clause-refuses
+returns-in_err-create_ledger-clause-refuses g c =
+    let fault = c.in_err-create_ledger.field-0.0 in
+    rw (err_with c.from_residual-in_err-create_ledger.result (creation_failure fault) c.from_residual-in_err-create_ledger.ensures.1)
+    (create_refuses g.D.Disk.tells _ fault (λ e. c.in_err-create_ledger.ensures.occupied (ap Err e)))
+
+pub returns-in_err-put_text-clause-creates : goal.returns-in_err-put_text-clause-creates
+returns-in_err-put_text-clause-creates g c =
+    let old = g.D.Disk.state c.args.disk.now in
+    let new = g.D.Disk.state c.create_ledger.new.disk in
+    let gave = c.in_ok-create_ledger.ensures in
+    let made : IsMade c.args.shape.now g.D.Disk.tells old new = record {
+      stands = λ told. record { free = gave.free told; empty = gave.created told; durable = gave.durable (ok_not_err c.in_ok-create_ledger.field-0 creation.DiskFault) told };
+      stops = gave.stops;
+      opened = λ told. (gave.opened (ok_not_err c.in_ok-create_ledger.field-0 creation.DiskFault) told, gave.durable (ok_not_err c.in_ok-create_ledger.field-0 creation.DiskFault) told);
+      reads = gave.reads;
+      long = gave.length;
+      sure = λ room. (gave.writes.sure room).1;
+    } in
+    rw (err_with c.from_residual-in_err-put_text.result failure.Output c.from_residual-in_err-put_text.ensures.1)
+    (creates_made c.args.shape.now g.D.Disk.tells old new (g.O.Sink.state c.args.out.now) (g.O.Sink.state c.put_text.new.out) (Err failure.Output) (inr refl) made
+    (text_broken (rw (c.as_bytes.ensures.value ∙ c.in_ok-line.ensures) at c.in_err-put_text.ensures.prints)))
+
+pub returns-in_err-put_text-clause-refuses : goal.returns-in_err-put_text-clause-refuses
+returns-in_err-put_text-clause-refuses g c =
+    let old = g.D.Disk.state c.args.disk.now in
+    let new = g.D.Disk.state c.create_ledger.new.disk in
+    let gave = c.in_ok-create_ledger.ensures in
+    let made : IsMade c.args.shape.now g.D.Disk.tells old new = record {
+      stands = λ told. record { free = gave.free told; empty = gave.created told; durable = gave.durable (ok_not_err c.in_ok-create_ledger.field-0 creation.DiskFault) told };
+      stops = gave.stops;
+      opened = λ told. (gave.opened (ok_not_err c.in_ok-create_ledger.field-0 creation.DiskFault) told, gave.durable (ok_not_err c.in_ok-create_ledger.field-0 creation.DiskFault) told);
+      reads = gave.reads;
+      long = gave.length;
+      sure = λ room. (gave.writes.sure room).1;
+    } in
+    rw (err_with c.from_residual-in_err-put_text.result failure.Output c.from_residual-in_err-put_text.ensures.1)
+    (made_refuses c.args.shape.now g.D.Disk.tells old new (Err failure.Output) (inr refl) made)
+
+pub returns-clause-creates : goal.returns-clause-creates
+returns-clause-creates g c =
+    let old = g.D.Disk.state c.args.disk.now in
+    let new = g.D.Disk.state c.create_ledger.new.disk in
+    let gave = c.in_ok-create_ledger.ensures in
+    let made : IsMade c.args.shape.now g.D.Disk.tells old new = record {
+      stands = λ told. record { free = gave.free told; empty = gave.created told; durable = gave.durable (ok_not_err c.in_ok-create_ledger.field-0 creation.DiskFault) told };
+      stops = gave.stops;
+      opened = λ told. (gave.opened (ok_not_err c.in_ok-create_ledger.field-0 creation.DiskFault) told, gave.durable (ok_not_err c.in_ok-create_ledger.field-0 creation.DiskFault) told);
+      reads = gave.reads;
+      long = gave.length;
+      sure = λ room. (gave.writes.sure room).1;
+    } in
+    creates_made c.args.shape.now g.D.Disk.tells old new (g.O.Sink.state c.args.out.now) (g.O.Sink.state c.put_text.new.out) (Ok Done) (inl refl) made
+    (text_printed Done (rw (c.as_bytes.ensures.value ∙ c.in_ok-line.ensures) at c.in_ok-put_text.ensures.prints))
+
+pub returns-clause-refuses : goal.returns-clause-refuses
+returns-clause-refuses g c =
+    let old = g.D.Disk.state c.args.disk.now in
+    let new = g.D.Disk.state c.create_ledger.new.disk in
+    let gave = c.in_ok-create_ledger.ensures in
+    let made : IsMade c.args.shape.now g.D.Disk.tells old new = record {
+      stands = λ told. record { free = gave.free told; empty = gave.created told; durable = gave.durable (ok_not_err c.in_ok-create_ledger.field-0 creation.DiskFault) told };
+      stops = gave.stops;
+      opened = λ told. (gave.opened (ok_not_err c.in_ok-create_ledger.field-0 creation.DiskFault) told, gave.durable (ok_not_err c.in_ok-create_ledger.field-0 creation.DiskFault) told);
+      reads = gave.reads;
+      long = gave.length;
+      sure = λ room. (gave.writes.sure room).1;
+    } in
+    made_refuses c.args.shape.now g.D.Disk.tells old new (Ok Done) (inl refl) made

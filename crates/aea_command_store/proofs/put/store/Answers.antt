@@ -1,0 +1,253 @@
+use Rattle.std.proofs.Common.{Ok, Err, ap, refl}
+use Rattle.aea_command.specs.Failures.{put_failure}
+use Rattle.aea_command.proofs.OpeningCases.{err_with}
+use Rattle.aea_command_store.proofs.PutLemmas.Behind.{unopened_put}
+use Rattle.aea_command_store.proofs.PutLemmas.Causing.{HasPutting, putting_refuses}
+use Rattle.aea_command_store.proofs.PutLemmas.Running.{unopened_stores, unopened_rest}
+use Rattle.aea_command_store.proofs.PutLemmas.Storing.{putting_stores, putting_rest, putting_line}
+use Rattle.aea_command_store.proofs.put.store.Goals as goal
+
+pub returns-in_err-ledger-clause-stores : goal.returns-in_err-ledger-clause-stores
+returns-in_err-ledger-clause-stores g c =
+    let f = c.in_err-ledger.field-0.0 in
+    rw (err_with c.from_residual.result f c.from_residual.ensures.1)
+    (unopened_stores c.args.name.now g.D.Disk.tells (g.D.Disk.state c.args.disk.now) (g.D.Disk.state c.open.new.disk) (g.S.Source.state c.args.input.now).left f c.in_err-ledger.ensures)
+
+pub returns-in_err-ledger-clause-refuses : goal.returns-in_err-ledger-clause-refuses
+returns-in_err-ledger-clause-refuses g c =
+    let f = c.in_err-ledger.field-0.0 in
+    rw (err_with c.from_residual.result f c.from_residual.ensures.1)
+    (unopened_put c.args.name.now g.D.Disk.tells (g.D.Disk.state c.args.disk.now) (g.D.Disk.state c.open.new.disk) (g.S.Source.state c.args.input.now).left f c.in_err-ledger.ensures)
+
+pub returns-in_err-ledger-clause-rest : goal.returns-in_err-ledger-clause-rest
+returns-in_err-ledger-clause-rest g c =
+    let f = c.in_err-ledger.field-0.0 in
+    rw (err_with c.from_residual.result f c.from_residual.ensures.1)
+    (unopened_rest c.args.name.now g.D.Disk.tells (g.D.Disk.state c.args.disk.now) (g.D.Disk.state c.open.new.disk) (g.S.Source.state c.args.input.now).left f c.in_err-ledger.ensures)
+
+pub returns-in_err-put-clause-stores : goal.returns-in_err-put-clause-stores
+returns-in_err-put-clause-stores g c =
+    let old = g.D.Disk.state c.args.disk.now in
+    let mid = g.D.Disk.state c.open.new.disk in
+    let new = g.D.Disk.state c.put.new.disk in
+    let v = c.in_ok-ledger.ledger in
+    let w = c.put.new.ledger in
+    let left = (g.S.Source.state c.args.input.now).left in
+    let rest = (g.S.Source.state c.put.new.source).left in
+    let fault = c.in_err-put.field-0.0 in
+    let gave = c.in_err-put.ensures in
+    let putting : HasPutting g.D.Disk.tells v w c.args.name.now left rest old mid new (Err fault) = record {
+      opens = c.in_ok-ledger.ensures;
+      stored = gave.stored;
+      bad_name = gave.bad_name;
+      taken = gave.taken;
+      many = gave.many;
+      early = λ e. let same = gave.early e in (ap g.D.Disk.state same.0, ap (λ s. (g.S.Source.state s).left) same.1);
+      head = gave.head;
+      head_leaves = λ b e. let leaves = gave.head_leaves b e in (ap (λ s. (g.S.Source.state s).left) leaves.0, leaves.1);
+      head_refused = gave.head_refused;
+      full = λ n e. let is = gave.full n e in (is.0, is.1.0);
+      full_intact = λ n e told a damaged. damaged.damaged ((gave.full n e).1.1 told a damaged.last);
+      full_refused = gave.full_refused;
+      leaves = gave.refused_leaves;
+      stopped = gave.stopped;
+      writes = gave.writes;
+      padded = gave.padded;
+      reads = gave.reads;
+    } in
+    rw (err_with c.from_residual-in_err-put.result (put_failure fault) c.from_residual-in_err-put.ensures.1)
+    (putting_stores c.ledgers_have_one_reading.ensures g.D.Disk.tells v w c.args.name.now left rest old mid new (Err fault) putting)
+
+pub returns-in_err-put-clause-refuses : goal.returns-in_err-put-clause-refuses
+returns-in_err-put-clause-refuses g c =
+    let old = g.D.Disk.state c.args.disk.now in
+    let mid = g.D.Disk.state c.open.new.disk in
+    let new = g.D.Disk.state c.put.new.disk in
+    let v = c.in_ok-ledger.ledger in
+    let w = c.put.new.ledger in
+    let left = (g.S.Source.state c.args.input.now).left in
+    let rest = (g.S.Source.state c.put.new.source).left in
+    let fault = c.in_err-put.field-0.0 in
+    let gave = c.in_err-put.ensures in
+    let putting : HasPutting g.D.Disk.tells v w c.args.name.now left rest old mid new (Err fault) = record {
+      opens = c.in_ok-ledger.ensures;
+      stored = gave.stored;
+      bad_name = gave.bad_name;
+      taken = gave.taken;
+      many = gave.many;
+      early = λ e. let same = gave.early e in (ap g.D.Disk.state same.0, ap (λ s. (g.S.Source.state s).left) same.1);
+      head = gave.head;
+      head_leaves = λ b e. let leaves = gave.head_leaves b e in (ap (λ s. (g.S.Source.state s).left) leaves.0, leaves.1);
+      head_refused = gave.head_refused;
+      full = λ n e. let is = gave.full n e in (is.0, is.1.0);
+      full_intact = λ n e told a damaged. damaged.damaged ((gave.full n e).1.1 told a damaged.last);
+      full_refused = gave.full_refused;
+      leaves = gave.refused_leaves;
+      stopped = gave.stopped;
+      writes = gave.writes;
+      padded = gave.padded;
+      reads = gave.reads;
+    } in
+    rw (err_with c.from_residual-in_err-put.result (put_failure fault) c.from_residual-in_err-put.ensures.1)
+    (putting_refuses c.ledgers_have_one_reading.ensures c.objects_are_counted.ensures c.new_names_are_free.ensures c.numbers_tell_blocks.ensures g.D.Disk.tells v w c.args.name.now left rest old mid new (Err fault) putting)
+
+pub returns-in_err-put-clause-rest : goal.returns-in_err-put-clause-rest
+returns-in_err-put-clause-rest g c =
+    let old = g.D.Disk.state c.args.disk.now in
+    let mid = g.D.Disk.state c.open.new.disk in
+    let new = g.D.Disk.state c.put.new.disk in
+    let v = c.in_ok-ledger.ledger in
+    let w = c.put.new.ledger in
+    let left = (g.S.Source.state c.args.input.now).left in
+    let rest = (g.S.Source.state c.put.new.source).left in
+    let fault = c.in_err-put.field-0.0 in
+    let gave = c.in_err-put.ensures in
+    let putting : HasPutting g.D.Disk.tells v w c.args.name.now left rest old mid new (Err fault) = record {
+      opens = c.in_ok-ledger.ensures;
+      stored = gave.stored;
+      bad_name = gave.bad_name;
+      taken = gave.taken;
+      many = gave.many;
+      early = λ e. let same = gave.early e in (ap g.D.Disk.state same.0, ap (λ s. (g.S.Source.state s).left) same.1);
+      head = gave.head;
+      head_leaves = λ b e. let leaves = gave.head_leaves b e in (ap (λ s. (g.S.Source.state s).left) leaves.0, leaves.1);
+      head_refused = gave.head_refused;
+      full = λ n e. let is = gave.full n e in (is.0, is.1.0);
+      full_intact = λ n e told a damaged. damaged.damaged ((gave.full n e).1.1 told a damaged.last);
+      full_refused = gave.full_refused;
+      leaves = gave.refused_leaves;
+      stopped = gave.stopped;
+      writes = gave.writes;
+      padded = gave.padded;
+      reads = gave.reads;
+    } in
+    rw (err_with c.from_residual-in_err-put.result (put_failure fault) c.from_residual-in_err-put.ensures.1)
+    (putting_rest c.ledgers_have_one_reading.ensures g.D.Disk.tells v w c.args.name.now left rest old mid new (Err fault) putting)
+
+pub returns-clause-stores : goal.returns-clause-stores
+returns-clause-stores g c =
+    let old = g.D.Disk.state c.args.disk.now in
+    let mid = g.D.Disk.state c.open.new.disk in
+    let new = g.D.Disk.state c.put.new.disk in
+    let v = c.in_ok-ledger.ledger in
+    let w = c.put.new.ledger in
+    let left = (g.S.Source.state c.args.input.now).left in
+    let rest = (g.S.Source.state c.put.new.source).left in
+    let value = c.in_ok-put.field-0 in
+    let gave = c.in_ok-put.ensures in
+    let putting : HasPutting g.D.Disk.tells v w c.args.name.now left rest old mid new (Ok value) = record {
+      opens = c.in_ok-ledger.ensures;
+      stored = gave.stored;
+      bad_name = gave.bad_name;
+      taken = gave.taken;
+      many = gave.many;
+      early = λ e. let same = gave.early e in (ap g.D.Disk.state same.0, ap (λ s. (g.S.Source.state s).left) same.1);
+      head = gave.head;
+      head_leaves = λ b e. let leaves = gave.head_leaves b e in (ap (λ s. (g.S.Source.state s).left) leaves.0, leaves.1);
+      head_refused = gave.head_refused;
+      full = λ n e. let is = gave.full n e in (is.0, is.1.0);
+      full_intact = λ n e told a damaged. damaged.damaged ((gave.full n e).1.1 told a damaged.last);
+      full_refused = gave.full_refused;
+      leaves = gave.refused_leaves;
+      stopped = gave.stopped;
+      writes = gave.writes;
+      padded = gave.padded;
+      reads = gave.reads;
+    } in
+    putting_stores c.ledgers_have_one_reading.ensures g.D.Disk.tells v w c.args.name.now left rest old mid new (Ok value) putting
+
+pub returns-clause-line : goal.returns-clause-line
+returns-clause-line g c =
+    let old = g.D.Disk.state c.args.disk.now in
+    let mid = g.D.Disk.state c.open.new.disk in
+    let new = g.D.Disk.state c.put.new.disk in
+    let v = c.in_ok-ledger.ledger in
+    let w = c.put.new.ledger in
+    let left = (g.S.Source.state c.args.input.now).left in
+    let rest = (g.S.Source.state c.put.new.source).left in
+    let value = c.in_ok-put.field-0 in
+    let gave = c.in_ok-put.ensures in
+    let putting : HasPutting g.D.Disk.tells v w c.args.name.now left rest old mid new (Ok value) = record {
+      opens = c.in_ok-ledger.ensures;
+      stored = gave.stored;
+      bad_name = gave.bad_name;
+      taken = gave.taken;
+      many = gave.many;
+      early = λ e. let same = gave.early e in (ap g.D.Disk.state same.0, ap (λ s. (g.S.Source.state s).left) same.1);
+      head = gave.head;
+      head_leaves = λ b e. let leaves = gave.head_leaves b e in (ap (λ s. (g.S.Source.state s).left) leaves.0, leaves.1);
+      head_refused = gave.head_refused;
+      full = λ n e. let is = gave.full n e in (is.0, is.1.0);
+      full_intact = λ n e told a damaged. damaged.damaged ((gave.full n e).1.1 told a damaged.last);
+      full_refused = gave.full_refused;
+      leaves = gave.refused_leaves;
+      stopped = gave.stopped;
+      writes = gave.writes;
+      padded = gave.padded;
+      reads = gave.reads;
+    } in
+    putting_line c.ledgers_have_one_reading.ensures g.D.Disk.tells v w c.args.name.now left rest old mid new (Ok value) putting value refl
+
+pub returns-clause-refuses : goal.returns-clause-refuses
+returns-clause-refuses g c =
+    let old = g.D.Disk.state c.args.disk.now in
+    let mid = g.D.Disk.state c.open.new.disk in
+    let new = g.D.Disk.state c.put.new.disk in
+    let v = c.in_ok-ledger.ledger in
+    let w = c.put.new.ledger in
+    let left = (g.S.Source.state c.args.input.now).left in
+    let rest = (g.S.Source.state c.put.new.source).left in
+    let value = c.in_ok-put.field-0 in
+    let gave = c.in_ok-put.ensures in
+    let putting : HasPutting g.D.Disk.tells v w c.args.name.now left rest old mid new (Ok value) = record {
+      opens = c.in_ok-ledger.ensures;
+      stored = gave.stored;
+      bad_name = gave.bad_name;
+      taken = gave.taken;
+      many = gave.many;
+      early = λ e. let same = gave.early e in (ap g.D.Disk.state same.0, ap (λ s. (g.S.Source.state s).left) same.1);
+      head = gave.head;
+      head_leaves = λ b e. let leaves = gave.head_leaves b e in (ap (λ s. (g.S.Source.state s).left) leaves.0, leaves.1);
+      head_refused = gave.head_refused;
+      full = λ n e. let is = gave.full n e in (is.0, is.1.0);
+      full_intact = λ n e told a damaged. damaged.damaged ((gave.full n e).1.1 told a damaged.last);
+      full_refused = gave.full_refused;
+      leaves = gave.refused_leaves;
+      stopped = gave.stopped;
+      writes = gave.writes;
+      padded = gave.padded;
+      reads = gave.reads;
+    } in
+    putting_refuses c.ledgers_have_one_reading.ensures c.objects_are_counted.ensures c.new_names_are_free.ensures c.numbers_tell_blocks.ensures g.D.Disk.tells v w c.args.name.now left rest old mid new (Ok value) putting
+
+pub returns-clause-rest : goal.returns-clause-rest
+returns-clause-rest g c =
+    let old = g.D.Disk.state c.args.disk.now in
+    let mid = g.D.Disk.state c.open.new.disk in
+    let new = g.D.Disk.state c.put.new.disk in
+    let v = c.in_ok-ledger.ledger in
+    let w = c.put.new.ledger in
+    let left = (g.S.Source.state c.args.input.now).left in
+    let rest = (g.S.Source.state c.put.new.source).left in
+    let value = c.in_ok-put.field-0 in
+    let gave = c.in_ok-put.ensures in
+    let putting : HasPutting g.D.Disk.tells v w c.args.name.now left rest old mid new (Ok value) = record {
+      opens = c.in_ok-ledger.ensures;
+      stored = gave.stored;
+      bad_name = gave.bad_name;
+      taken = gave.taken;
+      many = gave.many;
+      early = λ e. let same = gave.early e in (ap g.D.Disk.state same.0, ap (λ s. (g.S.Source.state s).left) same.1);
+      head = gave.head;
+      head_leaves = λ b e. let leaves = gave.head_leaves b e in (ap (λ s. (g.S.Source.state s).left) leaves.0, leaves.1);
+      head_refused = gave.head_refused;
+      full = λ n e. let is = gave.full n e in (is.0, is.1.0);
+      full_intact = λ n e told a damaged. damaged.damaged ((gave.full n e).1.1 told a damaged.last);
+      full_refused = gave.full_refused;
+      leaves = gave.refused_leaves;
+      stopped = gave.stopped;
+      writes = gave.writes;
+      padded = gave.padded;
+      reads = gave.reads;
+    } in
+    putting_rest c.ledgers_have_one_reading.ensures g.D.Disk.tells v w c.args.name.now left rest old mid new (Ok value) putting

@@ -1,0 +1,121 @@
+//! `ingest`: the objects of a stream of frames that are stored, one after the other.
+
+ghost use Rattle.std.specs.Prelude.{◌≡◌, ◌≢◌, ◌≤◌, ◌++◌, codes, decimal, IsSome, OnOk, unwrap_or, [], true};
+ghost use Rattle.aea_faults.specs.Faults.{Rose};
+ghost use Rattle.aea_io.specs.Pages.{Prints};
+ghost use Rattle.aea_io.specs.Written.{IsFlushed};
+ghost use Rattle.aea_disk.specs.State.{IsSynced};
+ghost use Rattle.aea_disk.specs.Frames.{OnlyWrites};
+ghost use Rattle.aea_records.specs.Format.{limit_when};
+ghost use Rattle.aea_ledger.specs.Values.{HasSomeRecords, IsThisOne};
+ghost use Rattle.aea_archive.specs.Blocks.{IsBlockIn};
+ghost use Rattle.aea_archive.specs.Cells.{IsBesides, ChangesArchive};
+ghost use Rattle.aea_command.specs.Causes.{Refuses};
+ghost use Rattle.aea_command.specs.Failures.{NeverClashes};
+ghost use Rattle.aea_command_store.specs.Ingest.{OpenedCauses, IngestCauses, FitsFrames, IngestsOpened, Ingests, end_line};
+ghost use Rattle.aea_command_store.specs.Put.{KeepsOtherFiles};
+
+use crate::put::put_line;
+use aea_append::{Ingest, ingest_one};
+use aea_archive::{lasts_are_values, objects_record_more};
+use aea_command::{Failure, Status, open};
+use aea_disk::Disk;
+use aea_envelope::{cells_have_lengths, cells_have_parts};
+use aea_io::{Page, Sink, Source, WriteFault, finish, print, print_number};
+use aea_lattice::numbers_tell_blocks;
+use aea_ledger::Ledger;
+use aea_records::{
+    digests_are_counted, ledgers_have_one_reading, new_names_are_free, objects_are_counted,
+};
+use std::alloc::Global;
+
+// Prints `end K`.
+fn print_end<O: Sink>(out: &mut O, page: &mut Page, count: u32) -> Result<(), WriteFault>
+    ensures { Prints (O.state out.old) page.old (O.state out.new) page.new result (end_line count) }
+{
+    print_number(out, page, b"end ", u64::from(count))?;
+    print(out, page, b"\n")
+}
+
+// Puts that line, and flushes it.
+fn put_end<O: Sink>(out: &mut O, count: u32) -> Result<(), WriteFault>
+    ensures flushed { OnOk result (IsFlushed (O.state out.new)) }
+    ensures prints { Prints (O.state out.old) [] (O.state out.new) [] result (end_line count) }
+{
+    let mut page = Page::new();
+    print_end(out, &mut page, count)?;
+    finish(out, &mut page)?;
+    Ok(())
+}
+
+// Stores the frames of the input into the opened archive, and puts the line of each object behind its commit, and the last
+// line.
+fn store_frames<D: Disk, S: Source, O: Sink>(
+    alloc: Global,
+    ledger: &mut Ledger,
+    disk: &mut D,
+    input: &mut S,
+    out: &mut O,
+) -> Result<Status, Failure>
+    requires opened { HasSomeRecords ledger.old }
+    requires live { ledger.old.live ≡ true }
+    requires this { D.tells → IsThisOne ledger.old ((D.state disk.old).files 0) }
+    requires synced { D.tells → IsSynced (D.state disk.old) }
+    ensures ingests { IngestsOpened D.tells ledger.old (D.state disk.old) (D.state disk.new) (S.state input.old).left (S.state input.new).left (O.state out.old) (O.state out.new) result }
+    ensures refuses { result ≢ Err Failure.Output → Refuses (D.tells × IsSome (S.state input.old).left) (OpenedCauses (D.state disk.old).files (unwrap_or (S.state input.old).left [])) result }
+    ensures words { result ≢ Err Failure.Words }
+    ensures clash { NeverClashes result }
+    ensures flushed { OnOk result (IsFlushed (O.state out.new)) }
+
+    // The disk and the streams in any case.
+    ensures writes { OnlyWrites D.tells (FitsFrames ledger.old (S.state input.old).left (D.state disk.old)) (result ≡ Err Failure.Disk) (ChangesArchive ledger.old.shape (limit_when ledger.old.raised) (IsBlockIn ledger.old.shape ledger.old.lattice.n) (IsBesides ledger.old.shape)) (D.state disk.old) (D.state disk.new) }
+    ensures input_kept { (S.state input.old).faults ≤ (S.state input.new).faults }
+    ensures input_cause { result ≡ Err Failure.Input → Rose (S.state input.old).faults (S.state input.new).faults }
+    ensures out_kept { (O.state out.old).faults ≤ (O.state out.new).faults }
+    ensures out_cause { result ≡ Err Failure.Output → Rose (O.state out.old).faults (O.state out.new).faults }
+{
+    ledgers_have_one_reading();
+    objects_are_counted();
+    new_names_are_free();
+    numbers_tell_blocks();
+    digests_are_counted();
+    cells_have_lengths();
+    cells_have_parts();
+    lasts_are_values();
+    objects_record_more();
+    let mut at: u64 = 0;
+    let mut count: u32 = 0;
+    while let Ingest::Stored { name, stored } = ingest_one(alloc, ledger, disk, input, &mut at)? {
+        put_line(out, &stored, name.bytes())?;
+        count += 1;
+    }
+    put_end(out, count)?;
+    Ok(Status::Done)
+}
+
+/// Stores the objects of the input, a stream of frames, one after the other. It prints `stored NODES LENGTH DIGEST NAME` for
+/// each as soon as its record is committed, and then `end K` with K their number. It takes the memory of `put` for each
+/// object, and gives it back.
+pub fn ingest<D: Disk, S: Source, O: Sink>(
+    alloc: Global,
+    disk: &mut D,
+    input: &mut S,
+    out: &mut O,
+) -> Result<Status, Failure>
+    ensures ingests { Ingests D.tells (D.state disk.old) (D.state disk.new) (S.state input.old).left (S.state input.new).left (O.state out.old) (O.state out.new) result }
+    ensures refuses { result ≢ Err Failure.Output → Refuses (D.tells × IsSome (S.state input.old).left) (IngestCauses (D.state disk.old).files (unwrap_or (S.state input.old).left [])) result }
+    ensures words { result ≢ Err Failure.Words }
+    ensures clash { NeverClashes result }
+    ensures flushed { OnOk result (IsFlushed (O.state out.new)) }
+
+    // The disk and the streams in any case.
+    ensures rest { KeepsOtherFiles D.tells (result ≡ Err Failure.Disk) (D.state disk.old) (D.state disk.new) }
+    ensures input_kept { (S.state input.old).faults ≤ (S.state input.new).faults }
+    ensures input_cause { result ≡ Err Failure.Input → Rose (S.state input.old).faults (S.state input.new).faults }
+    ensures out_kept { (O.state out.old).faults ≤ (O.state out.new).faults }
+    ensures out_cause { result ≡ Err Failure.Output → Rose (O.state out.old).faults (O.state out.new).faults }
+{
+    ledgers_have_one_reading();
+    let mut ledger = open(alloc, disk)?;
+    store_frames(alloc, &mut ledger, disk, input, out)
+}

@@ -1,8 +1,15 @@
 //! Objects that are put into an archive: woven of what a source has, their cells written, and their record committed.
 //!
+//! Promises to the commands above that `put` stores all that a source has as one object, and `ingest_one` one that it
+//! takes from a stream, or says why not; and that whatever it answers, in every image of every moment the ledger is the
+//! old one or has the record, and then the cells of its blocks (`HasPut`, `HasStored`, `MayHaveStored`).
+//!
 //! `specs/Loading.antt` says what of the last parities is loaded, `specs/Weaving.antt` what was woven behind the nodes of a
 //! lattice, `specs/Taking.antt` what of a source was taken and woven, `specs/Causes.antt` why an object is not stored,
 //! `specs/Puts.antt` what is left where one was stored, or may have been, and `specs/Frames.antt` what a stream of objects is.
+//!
+//! Read `Puts` first. It rests on `Ledger::append` of `aea_ledger`, `write_cell` of `aea_shelf`, `Heads` of
+//! `aea_weave`, and on `read_block` and the definitions of `aea_archive`.
 #![tactic(auto)]
 
 mod commit;

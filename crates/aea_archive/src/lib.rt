@@ -1,5 +1,11 @@
 //! The archive: what its ledger and its cells are together.
 //!
+//! Promises to the calls above that `read_block` is Intact exactly where the block is, by the digest that the ledger
+//! keeps, over a disk that tells its contents; that where the last parities have the payloads of a recorded data list,
+//! the records with the next one record that list and the blocks of its object (`next_records_more`); and that some
+//! test tells the intact blocks, whatever the files are (`survivors_are_told`). Read `Blocks` (`IsIntactBy`) and
+//! `Stretches` (`Adds`) first. It rests on `aea_ledger`, `aea_shelf` and `aea_weave`.
+//!
 //! `specs/Blocks.antt` says which digest the ledger keeps of a block and which blocks are intact by it, `specs/Lasts.antt`
 //! what the last parities are that enter the next node, `specs/Next.antt` what the next record of an object is, told by
 //! the payloads of blocks, `specs/Cells.antt` what changes of the files leave of the blocks, `specs/Stretches.antt` what a

@@ -1,5 +1,5 @@
 -- What `explain` does: how the other intact blocks determine a block, or why they do not; and why it is refused.
-use Rattle.std.specs.Prelude.{◌≡◌, ◌≢◌, ◌⊎◌, ◌↔◌, ℕ, Bool, cond, List, ◌++◌, codes, decimal, Result, Ok, Err, IsOk, IfOk, IfErr}
+use Rattle.std.specs.Prelude.{◌≡◌, ◌≢◌, ◌⊎◌, ◌↔◌, ℕ, Bool, cond, List, ◌++◌, codes, Result, Ok, Err, IsOk, IfOk, IfErr}
 use Rattle.std.specs.List.{flat_map}
 use Rattle.aea_io.specs.Streams.{SinkState}
 use Rattle.aea_lattice.specs.declared.blocks.BlockId.{BlockId}

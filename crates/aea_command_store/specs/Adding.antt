@@ -3,12 +3,12 @@ use Rattle.std.specs.Prelude.{◌≡◌, ◌≢◌, ◌⊎◌, ◌≤◌, ◌+�
 use Rattle.aea_lattice.specs.declared.shape.Shape.{Shape}
 use Rattle.aea_disk.specs.Files.{Files, ChangesOnly}
 use Rattle.aea_faults.specs.Faults.{Rose}
-use Rattle.aea_disk.specs.State.{State, Passes, KeepsImages, KeepsOthers, IsSynced, HasRoom, HasRoomTo, NeverFails}
+use Rattle.aea_disk.specs.State.{State, Passes, KeepsOthers, IsSynced, HasRoom, HasRoomTo, NeverFails}
 use Rattle.aea_records.specs.Format.{Record, body, entry, spelled}
 use Rattle.aea_records.specs.Grammar.{IsNext}
 use Rattle.aea_records.specs.Laws.{IsSomeLedger}
 use Rattle.aea_ledger.specs.Recorded.{AreRecordsOf}
-use Rattle.aea_ledger.specs.Stops.{HasLedger, HasOldOrNew, IsOpened, HasOpening, StaysAll, committed}
+use Rattle.aea_ledger.specs.Stops.{HasLedger, HasOldOrNew, IsOpened, HasOpening, committed}
 use Rattle.aea_command.specs.Openings.{IsUntouched}
 use Rattle.aea_command.specs.declared.refusal.Refusal.{Refusal}
 use Rattle.aea_command.specs.declared.refusal.Failure.{Failure}

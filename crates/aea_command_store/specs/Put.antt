@@ -8,9 +8,8 @@ use Rattle.aea_io.specs.Taken.{TakesAtMost}
 use Rattle.aea_lattice.specs.declared.blocks.BlockId.{BlockId}
 use Rattle.aea_lattice.specs.declared.grid.Lattice.{Lattice}
 use Rattle.aea_lattice.specs.declared.shape.Shape.{Shape}
-use Rattle.aea_faults.specs.Faults.{Rose}
-use Rattle.aea_disk.specs.Files.{Files, KeepsFiles}
-use Rattle.aea_disk.specs.State.{State, Passes, KeepsImages, KeepsWhere, HasRoom, HasRoomTo, NeverFails}
+use Rattle.aea_disk.specs.Files.{Files}
+use Rattle.aea_disk.specs.State.{State, KeepsImages, HasRoom, HasRoomTo, NeverFails}
 use Rattle.aea_catalog.specs.Names.{IsName}
 use Rattle.aea_shelf.specs.Writes.{KeepsPadded}
 use Rattle.aea_records.specs.Faults.{IsNoArchive, IsBadAt}

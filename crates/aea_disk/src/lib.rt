@@ -1,5 +1,10 @@
 //! The disk: 67 files, what a crash may leave of them, and who keeps them.
 //!
+//! Promises to the layers above, by the trait `Disk`, of each call: how the files read after it, what a crash may leave
+//! at each moment of it, that a fault comes only where the count rose, and that none comes within the room. `SureDisk`,
+//! `MemDisk`, `FailDisk` and `DirDisk` are such disks. Read first in `specs/`: `Files`, `State`, and `Frames`
+//! (`OnlyReads`, `OnlyWrites`). It rests on `aea_faults`.
+//!
 //! A function over any disk gets its clauses from those of its calls by these lemmas of
 //! `Rattle.aea_disk.proofs.Moments`. Each takes the states before, between and after the calls.
 //!

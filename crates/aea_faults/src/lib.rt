@@ -1,5 +1,8 @@
 //! Counts of faults: a source, a sink or a disk counts each call of it that failed, and answers a fault only
 //! where that count rose.
+//!
+//! Promises to streams and disks one function, `risen`: the count after one more fault, which never falls and stops at
+//! the greatest u64. Read in `specs/`: `Faults` (`Rose`, `HasCause`). It rests on no other crate.
 #![tactic(auto)]
 
 ghost use Rattle.std.specs.Prelude.{◌≡◌, ◌+◌, ◌-◌, ◌^◌, ◌≤◌, min};

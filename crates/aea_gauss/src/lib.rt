@@ -1,5 +1,12 @@
 //! Elimination over the field of two elements: what becomes of each block that is not known, as a sum of equations or
 //! as a codeword.
+//!
+//! Promises to the layers above that `solve` gives each block that is not marked its fate, in number order: the listed
+//! equations, which add up to it and marked blocks, or the listed nodes, whose codeword contains it and no marked block
+//! (`AreFates`); and that the list of fates is the only one (`fates_are_one`).
+//!
+//! Read in `specs/`: `Fates`; the others are of the way it is computed. It rests on `aea_fates` for what a fate is, on
+//! `aea_readings`, and on `eliminate` of `aea_gauss_words`.
 #![tactic(auto)]
 
 mod buckets;

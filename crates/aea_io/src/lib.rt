@@ -1,5 +1,13 @@
 //! Sources and sinks of bytes that count their faults: the traits, those in memory, and those over std's
 //! readers and writers.
+//!
+//! Promises to the layers above what each call takes, appends and flushes, and that a fault comes only where the count
+//! rose (`Source`, `Sink`); that `put_all` appends all bytes, or a first part of them on a fault; that `read_whole`
+//! reads to the end, or to one byte past a limit; and that what is printed through a page stands on the sink and the
+//! page together (`print`, `finish`).
+//!
+//! Read first in `specs/`: `Streams` (`SourceState`, `SinkState`), then `Written` (`PutsAll`) and `Pages` (`Prints`).
+//! It rests on `aea_faults`, and on `itoa` for numbers.
 #![tactic(auto)]
 
 mod fails;

@@ -3,8 +3,15 @@
 //! Miller, Felber, Pâris, DSN 2018); the strands as residues, and so the tables of neighbours, are this project's
 //! own.
 //!
+//! Promises to the layers above the neighbours of a node on its strands (`Lattice::input`, `Lattice::next`), equations,
+//! numbers and texts of blocks as they are defined, lattices that are made exactly within the profile, and facts of the
+//! definitions, as `codewords_are_even`.
+//!
 //! The definitions that the whole archive stands on are in `specs/`: `Profile`, `Blocks`, `Strands`,
 //! `Fences`, `Equations`, `Lists`, `Data`, `Closure`, `Texts`, `Facts`, `Ends`, `Growth` and `Shapes`.
+//!
+//! Read first `Profile`, `Blocks`, `Strands` and `Equations`, then `Data` (`Determines`) and `Closure`. It rests on no
+//! other crate but `itoa`.
 #![tactic(auto)]
 
 pub mod blocks;

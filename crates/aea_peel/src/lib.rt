@@ -2,7 +2,10 @@
 //! Peeling decoders are known from erasure codes on sparse graphs (Luby, Mitzenmacher, Shokrollahi, Spielman,
 //! "Efficient Erasure Correcting Codes", 2001); what they leave is the greatest stopping set of the absent blocks.
 //!
-//! What a plan is stands in `specs/Plans.antt`.
+//! Promises to plans above steps that give exactly what the closure adds to the known blocks, each once and each by
+//! blocks that are known or given before (`peel`, `peel_marks`: `IsPlan`), and the marks of the closure (`AreReached`).
+//! What a plan is stands in `specs/Plans.antt`; `specs/Queue.antt` is of the loop alone. It rests on `aea_lattice` and
+//! `aea_view`.
 #![tactic(auto)]
 
 pub mod plan;

@@ -1,8 +1,15 @@
 //! Plans: what becomes of each block of a lattice that is not known. It is peeled, solved or lost, and the loss report says
 //! so of each.
 //!
+//! Promises to drills and repairs that `Plan::new` has, for any known blocks, the steps that peel, the marks of their
+//! closure and the fates of all other blocks; and that `print_report` prints the one report for these blocks through a
+//! page, and takes no memory.
+//!
 //! The definitions are in `specs/`: `Verdicts` (the lines of what becomes of each block), `Plans` (what a plan has), `Walks`
 //! and `Texts` (how its report is printed) and `Laws`.
+//!
+//! Read `Plans` (`IsPlanOf`) first, and `Printed` of `aea_report`. It rests on `aea_peel`, `aea_gauss` and
+//! `aea_report`.
 #![tactic(auto)]
 
 mod counts;

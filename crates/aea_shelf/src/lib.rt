@@ -1,6 +1,11 @@
 //! The shelf: the cells of an archive's blocks on its disk. Each cell is read and written at the block's home by one
 //! call of the disk, in a buffer that the caller lends.
 //!
+//! Promises to the archive above, over a disk that tells its contents, that `read_cell` is Intact exactly where the
+//! block is; that `write_cell` leaves the block's cell at its home, and every other home, intact block and file as it
+//! was, as the disk reads and in every image; and over any disk that a read changes nothing, and that a fault comes
+//! only where its count rose. Read `Places` and `Intact` first. It rests on `aea_disk`, `aea_envelope` and `aea_place`.
+//!
 //! `specs/Places.antt` has the homes on the disk, `specs/Intact.antt` says when a block is intact and when it is held,
 //! `specs/Honest.antt` when intact blocks are honest and damage is plain, and `specs/Writes.antt` what writes leave of
 //! the other blocks.

@@ -1,25 +1,17 @@
 -- What holds of a run of `fence`.
-use Rattle.std.proofs.Common.{◌≡◌, ◌≢◌, ℕ, ◌≤◌, List, subst, arith, inr, Ok, Err}
+use Rattle.std.proofs.Common.{◌≡◌, inr, Err}
 use Rattle.aea_io.specs.Streams.{SourceState, SinkState}
-use Rattle.aea_lattice.specs.declared.shape.Shape.{Shape}
 use Rattle.aea_disk.specs.State.{State}
-use Rattle.aea_records.specs.Format.{Record, nodes_of, raised_limit}
-use Rattle.aea_ledger.specs.Stops.{HasLedger}
 use Rattle.aea_cli.specs.declared.command.Command.TheVariants.{Fence}
-use Rattle.aea_command.specs.declared.refusal.Failure.{Failure}
 use Rattle.aea_command.specs.declared.refusal.Failure.TheVariants as failure
-use Rattle.aea_command_store.specs.Adding.{AddsRecord, KeepsTheRest}
+use Rattle.aea_command_store.specs.Adding.{KeepsTheRest}
 use Rattle.aea_command.specs.Causes.{Refuses}
 use Rattle.aea_cli.specs.Does.{Runs}
 use Rattle.aea_command.specs.Failures.{Answer, NeverClashes}
-use Rattle.aea_command_store.specs.Fence.{fence_line, next_fence, FenceCauses, Fences}
-use Rattle.aea_command.specs.Printed.{PrintsText}
+use Rattle.aea_command_store.specs.Fence.{next_fence, FenceCauses, Fences}
 use Rattle.aea_command.specs.Worlds.{world}
-use Rattle.aea_command_store.proofs.Adding.{adds_as, agrees_failed}
-use Rattle.aea_command_store.proofs.Adding.Running.{agrees_printed, rest_stays, adds_opens}
-use Rattle.aea_command_store.proofs.CreateLemmas.{IsPrinting, printing_done}
+use Rattle.aea_command_store.proofs.Adding.Running.{rest_stays, adds_opens}
 use Rattle.aea_command.proofs.Refusing.{refuses_told}
-use Rattle.aea_command.proofs.Texts.{text_unused}
 
 -- what `fence` did, when it is refused, and that it keeps each other file give what holds of its run
 pub fence_runs : (tells : Type 0) (old new : State) (input : SourceState) (before after : SinkState) (answer : Answer)

@@ -1,28 +1,16 @@
 -- What holds of a run of `list`.
-use Rattle.std.proofs.Common.{◌≡◌, ◌≢◌, ◌⊎◌, inl, inr, ℕ, List, refl, sym, ◌∙◌, ap, subst, Result, Ok, Err}
-use Rattle.std.specs.Prelude.{IfOk, IfErr, OnOk}
 use Rattle.aea_io.specs.Streams.{SourceState, SinkState}
 use Rattle.aea_disk.specs.State.{State}
 use Rattle.aea_disk.proofs.Moments.{where_none, where_kept, passes_none}
-use Rattle.aea_catalog.specs.Catalogs.{Objects}
-use Rattle.aea_records.specs.Catalogued.{objects_of}
-use Rattle.aea_records.specs.Format.{Record}
-use Rattle.aea_ledger.specs.declared.open.OpenFault.{OpenFault}
-use Rattle.aea_ledger.specs.Values.{Opened, HasRecords, IsThisOne}
 use Rattle.aea_cli.specs.declared.command.Command.TheVariants as command
-use Rattle.aea_command.specs.declared.refusal.Failure.{Failure}
-use Rattle.aea_command.specs.declared.refusal.Failure.TheVariants as failure
-use Rattle.aea_command.specs.declared.status.Status.TheVariants.{Done}
 use Rattle.aea_command.specs.Causes.{Refuses}
 use Rattle.aea_cli.specs.Does.{Runs}
-use Rattle.aea_command.specs.Failures.{Answer, opening_failure, NeverClashes}
-use Rattle.aea_command_read.specs.List.{list_text, ListsObjects, IsListOf}
-use Rattle.aea_command.specs.Openings.{OpeningCauses, Opens}
-use Rattle.aea_command.specs.Printed.{FitsText, PrintsText}
+use Rattle.aea_command.specs.Failures.{Answer, NeverClashes}
+use Rattle.aea_command_read.specs.List.{ListsObjects}
+use Rattle.aea_command.specs.Openings.{OpeningCauses}
 use Rattle.aea_command.specs.Worlds.{world}
-use Rattle.aea_command.proofs.OpeningCases.{opening_more, opening_not_output}
+use Rattle.aea_command.proofs.OpeningCases.{opening_more}
 use Rattle.aea_command.proofs.Refusing.{refuses_told}
-use Rattle.aea_command_read.proofs.StatLemmas.{IsTelling}
 use Rattle.aea_command_read.proofs.ListLemmas.{IsListing, list_fits, list_disk, ok_on}
 
 -- what `list` did and when it is refused give what holds of its run

@@ -1,33 +1,20 @@
 -- What holds of a run of `put`.
-use Rattle.std.proofs.Common.{◌≡◌, ◌≢◌, inl, inr, List, [], ◌++◌, length, refl, sym, ◌∙◌, ap, subst, Option, Some, Result, Ok, Err, None, append-nil, arith, false, true, ℕ, ◌≤◌}
+use Rattle.std.proofs.Common.{◌≡◌, inl, inr, List, [], length, refl, sym, ◌∙◌, ap, subst, Err, arith, ℕ, ◌≤◌}
 use Rattle.aea_io.specs.Streams.{SourceState, SinkState}
 use Rattle.aea_disk.specs.State.{State}
 use Rattle.aea_cli.specs.declared.command.Command.TheVariants.{Put}
-use Rattle.aea_command.specs.Openings.{greatest_sites, Opens}
-use Rattle.aea_command_store.specs.Put.{stored_line, object_of, PutCauses, EndsStored, MayHavePut, Stores, IsStoredLine, KeepsOtherFiles, Puts}
-use Rattle.aea_command_store.proofs.Adding.{Agrees, agrees_failed}
-use Rattle.aea_command_store.proofs.Adding.Running.{agrees_printed}
+use Rattle.aea_command_store.specs.Put.{stored_line, object_of, PutCauses, KeepsOtherFiles, Puts}
 use Rattle.aea_command.specs.Failures.{Answer, NeverClashes}
-use Rattle.std.proofs.KnownBytes.{Consumes-nil}
-use Rattle.std.specs.Io.KnownBytes.{Consumes, IsAtEnd}
-use Rattle.aea_command.specs.declared.refusal.Failure.{Failure}
 use Rattle.aea_command.specs.declared.refusal.Failure.TheVariants as failure
-use Rattle.aea_disk.specs.Files.{Files, KeepsFiles}
-use Rattle.aea_ledger.specs.Stops.{StaysAll}
 use Rattle.aea_records.specs.Grammar.{IsLedger}
-use Rattle.aea_command_store.proofs.CreateLemmas.{IsPrinting, printing_done}
 use Rattle.std.specs.Prelude.{IsSome, unwrap_or}
-use Rattle.aea_command.specs.Printed.{PrintsText}
 use Rattle.aea_command.specs.Causes.{Refuses}
 use Rattle.aea_cli.specs.Does.{Runs}
 use Rattle.aea_command.specs.Worlds.{world}
 use Rattle.aea_lattice.specs.declared.shape.Shape.{Shape}
-use Rattle.std.proofs.lemmas.Bool.{false≢true}
-use Rattle.aea_command.proofs.OpeningCases.{opening_more, images_same, opening_not_output}
-use Rattle.aea_shelf.specs.Places.{padded_home}
-use Rattle.aea_disk.proofs.Moments.{passes_none, where_kept, where_none}
+use Rattle.aea_command.proofs.OpeningCases.{images_same}
+use Rattle.aea_disk.proofs.Moments.{passes_none, where_none}
 use Rattle.aea_command.proofs.Refusing.{refuses_told, refuses_stopped}
-use Rattle.aea_command.proofs.Texts.{text_unused}
 use Rattle.aea_command_store.proofs.PutLemmas.Running.{puts_failed, whole_input, nothing_stores}
 
 pub put_runs : (name : List ℕ) (tells : Type 0) (old new : State) (input input_after : SourceState) (before after : SinkState) (answer : Answer)

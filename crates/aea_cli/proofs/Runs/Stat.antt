@@ -5,7 +5,6 @@ use Rattle.aea_io.specs.Streams.{SourceState, SinkState}
 use Rattle.aea_disk.specs.State.{State}
 use Rattle.aea_disk.proofs.Moments.{where_none, where_kept, passes_none}
 use Rattle.aea_ledger.specs.declared.open.OpenFault.{OpenFault}
-use Rattle.aea_ledger.specs.declared.open.OpenFault.TheVariants as opening
 use Rattle.aea_records.specs.Format.{Record, stored_of, nodes_of}
 use Rattle.aea_ledger.specs.Values.{Opened, HasRecords, IsThisOne}
 use Rattle.aea_cli.specs.declared.command.Command.TheVariants.{Stat}

@@ -1,22 +1,17 @@
 -- What holds of a run of `upgrade`.
-use Rattle.std.proofs.Common.{◌≡◌, ◌≢◌, Ok, Err}
+use Rattle.std.proofs.Common.{◌≡◌, Err}
 use Rattle.aea_io.specs.Streams.{SourceState, SinkState}
 use Rattle.aea_disk.specs.State.{State}
 use Rattle.aea_cli.specs.declared.command.Command.TheVariants.{Upgrade}
-use Rattle.aea_command.specs.declared.refusal.Failure.{Failure}
 use Rattle.aea_command.specs.declared.refusal.Failure.TheVariants as failure
-use Rattle.aea_command_store.specs.Adding.{AddsRecord, KeepsTheRest}
+use Rattle.aea_command_store.specs.Adding.{KeepsTheRest}
 use Rattle.aea_command.specs.Causes.{Refuses}
 use Rattle.aea_cli.specs.Does.{Runs}
 use Rattle.aea_command.specs.Failures.{Answer, NeverClashes}
-use Rattle.aea_command.specs.Printed.{PrintsText}
-use Rattle.aea_command_store.specs.Upgrade.{next_raise, upgraded_line, UpgradeCauses, Upgrades}
+use Rattle.aea_command_store.specs.Upgrade.{next_raise, UpgradeCauses, Upgrades}
 use Rattle.aea_command.specs.Worlds.{world}
-use Rattle.aea_command_store.proofs.Adding.{adds_as, agrees_failed}
-use Rattle.aea_command_store.proofs.Adding.Running.{agrees_printed, rest_stays, adds_opens}
-use Rattle.aea_command_store.proofs.CreateLemmas.{IsPrinting, printing_done}
+use Rattle.aea_command_store.proofs.Adding.Running.{rest_stays, adds_opens}
 use Rattle.aea_command.proofs.Refusing.{refuses_told}
-use Rattle.aea_command.proofs.Texts.{text_unused}
 
 -- what `upgrade` did, when it is refused, and that it keeps each other file give what holds of its run
 pub upgrade_runs : (tells : Type 0) (old new : State) (input : SourceState) (before after : SinkState) (answer : Answer)

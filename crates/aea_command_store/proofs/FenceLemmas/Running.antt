@@ -1,21 +1,19 @@
 -- What holds of a run of `fence`, from what its calls ensure.
-use Rattle.std.proofs.Common.{◌≡◌, ◌≢◌, ℕ, ◌≤◌, List, subst, arith, inr, Ok, Err}
-use Rattle.aea_io.specs.Streams.{SourceState, SinkState}
+use Rattle.std.proofs.Common.{◌≡◌, ◌≢◌, ℕ, ◌≤◌, List, subst, arith, Ok, Err}
+use Rattle.aea_io.specs.Streams.{SinkState}
 use Rattle.aea_lattice.specs.declared.shape.Shape.{Shape}
 use Rattle.aea_disk.specs.State.{State}
 use Rattle.aea_records.specs.Format.{Record, nodes_of, raised_limit}
 use Rattle.aea_ledger.specs.Stops.{HasLedger}
 use Rattle.aea_command.specs.declared.refusal.Failure.{Failure}
 use Rattle.aea_command.specs.declared.refusal.Failure.TheVariants as failure
-use Rattle.aea_command_store.specs.Adding.{AddsRecord, KeepsTheRest}
-use Rattle.aea_command.specs.Causes.{Refuses}
-use Rattle.aea_command.specs.Failures.{Answer, NeverClashes}
-use Rattle.aea_command_store.specs.Fence.{fence_line, next_fence, FenceCauses, Fences}
+use Rattle.aea_command_store.specs.Adding.{AddsRecord}
+use Rattle.aea_command.specs.Failures.{Answer}
+use Rattle.aea_command_store.specs.Fence.{fence_line, next_fence, Fences}
 use Rattle.aea_command.specs.Printed.{PrintsText}
 use Rattle.aea_command_store.proofs.Adding.{adds_as, agrees_failed}
-use Rattle.aea_command_store.proofs.Adding.Running.{agrees_printed, rest_stays, adds_opens}
+use Rattle.aea_command_store.proofs.Adding.Running.{agrees_printed}
 use Rattle.aea_command_store.proofs.CreateLemmas.{IsPrinting, printing_done}
-use Rattle.aea_command.proofs.Refusing.{refuses_told}
 use Rattle.aea_command.proofs.Texts.{text_unused}
 
 -- no fence was added

@@ -1,18 +1,16 @@
 -- What holds of a run of `upgrade`, from what its calls ensure.
-use Rattle.std.proofs.Common.{◌≡◌, ◌≢◌, Ok, Err}
-use Rattle.aea_io.specs.Streams.{SourceState, SinkState}
+use Rattle.std.proofs.Common.{◌≢◌, Ok, Err}
+use Rattle.aea_io.specs.Streams.{SinkState}
 use Rattle.aea_disk.specs.State.{State}
 use Rattle.aea_command.specs.declared.refusal.Failure.{Failure}
 use Rattle.aea_command.specs.declared.refusal.Failure.TheVariants as failure
-use Rattle.aea_command_store.specs.Adding.{AddsRecord, KeepsTheRest}
-use Rattle.aea_command.specs.Causes.{Refuses}
-use Rattle.aea_command.specs.Failures.{Answer, NeverClashes}
+use Rattle.aea_command_store.specs.Adding.{AddsRecord}
+use Rattle.aea_command.specs.Failures.{Answer}
 use Rattle.aea_command.specs.Printed.{PrintsText}
-use Rattle.aea_command_store.specs.Upgrade.{next_raise, upgraded_line, UpgradeCauses, Upgrades}
+use Rattle.aea_command_store.specs.Upgrade.{next_raise, upgraded_line, Upgrades}
 use Rattle.aea_command_store.proofs.Adding.{adds_as, agrees_failed}
-use Rattle.aea_command_store.proofs.Adding.Running.{agrees_printed, rest_stays, adds_opens}
+use Rattle.aea_command_store.proofs.Adding.Running.{agrees_printed}
 use Rattle.aea_command_store.proofs.CreateLemmas.{IsPrinting, printing_done}
-use Rattle.aea_command.proofs.Refusing.{refuses_told}
 use Rattle.aea_command.proofs.Texts.{text_unused}
 
 -- the limit was not raised

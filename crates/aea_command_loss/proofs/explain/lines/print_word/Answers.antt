@@ -1,5 +1,4 @@
 use Rattle.std.proofs.Common.{◌++◌}
-use Rattle.std.specs.List.{flat_map}
 use Rattle.aea_io.proofs.Printing.{prints_then, prints_stopped}
 use Rattle.aea_report.specs.Format.{numbers_text}
 use Rattle.aea_command.specs.Lines.{newline}

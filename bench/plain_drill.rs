@@ -5,66 +5,36 @@
 //! `plain_drill make SEED A N PERMILLE` prints a damage list: each block of a lattice with A parities a node and N
 //! nodes stands on it with a chance of PERMILLE in a thousand, by a linear congruential generator.
 
+mod plain_archive;
+
+use plain_archive::{LETTERS, Lattice};
 use std::io::{self, Read, Write};
 
-struct Lattice {
-    alpha: usize,
-    s: usize,
-    p: usize,
+/// The first n nodes of a lattice.
+struct Prefix {
+    lattice: Lattice,
     n: usize,
 }
 
-impl Lattice {
-    fn width(&self) -> usize {
-        1 + self.alpha
-    }
-
+impl Prefix {
     /// The node before `node` on its strand of the class, 0 where the strand begins here.
     fn input(&self, node: usize, class: usize) -> usize {
-        let (s, p) = (self.s, self.p);
-        let row = (node - 1) % s;
-        let back = match class {
-            1 => s,
-            2 if row == 0 => s * p + 1 - s * s,
-            2 => s + 1,
-            _ if row == s - 1 => s * p - (s - 1) * (s - 1),
-            _ => s - 1,
-        };
-        node.saturating_sub(back)
+        node.saturating_sub(self.lattice.back(node, class))
     }
 
-    /// The node behind `node` on its strand of the class, 0 where the lattice has none.
+    /// The node behind `node` on its strand of the class, 0 where there is none.
     fn next(&self, node: usize, class: usize) -> usize {
-        let (s, p) = (self.s, self.p);
-        let row = (node - 1) % s;
-        let ahead = match class {
-            1 => s,
-            2 if row == s - 1 => s * p + 1 - s * s,
-            2 => s + 1,
-            _ if row == 0 => s * p - (s - 1) * (s - 1),
-            _ => s - 1,
-        };
-        if node + ahead <= self.n { node + ahead } else { 0 }
+        let next = node + self.lattice.ahead(node, class);
+        if next <= self.n { next } else { 0 }
     }
 
     fn number(&self, node: usize, class: usize) -> usize {
-        (node - 1) * self.width() + class
+        self.lattice.number(node, class)
     }
 
-    fn block(&self, line: &[u8]) -> Option<usize> {
-        let (letter, digits) = line.split_first()?;
-        let class = b"dhrl".iter().position(|x| x == letter)?;
-        if digits.is_empty() || digits[0] == b'0' || digits.len() > 10 {
-            return None;
-        }
-        let mut node = 0usize;
-        for d in digits {
-            if !d.is_ascii_digit() {
-                return None;
-            }
-            node = node * 10 + (d - b'0') as usize;
-        }
-        (node <= self.n && class <= self.alpha).then(|| self.number(node, class))
+    /// How many blocks there are.
+    fn blocks(&self) -> usize {
+        self.n * self.lattice.classes()
     }
 
     /// The only block of the equation that is not there, if it is one.
@@ -82,9 +52,9 @@ impl Lattice {
     }
 
     fn peel(&self, there: &mut [bool]) {
-        let mut waiting = Vec::with_capacity(self.n * self.alpha);
+        let mut waiting = Vec::with_capacity(self.n * self.lattice.alpha);
         for node in 1..=self.n {
-            for class in 1..=self.alpha {
+            for class in 1..=self.lattice.alpha {
                 waiting.push((node as u32, class as u8));
             }
         }
@@ -93,9 +63,9 @@ impl Lattice {
                 continue;
             };
             there[block] = true;
-            let (node, class) = (block / self.width() + 1, block % self.width());
+            let (node, class) = self.lattice.node_and_class(block);
             if class == 0 {
-                for class in 1..=self.alpha {
+                for class in 1..=self.lattice.alpha {
                     waiting.push((node as u32, class as u8));
                 }
             } else {
@@ -110,14 +80,14 @@ impl Lattice {
 }
 
 /// A damage list: for each block whether it is there, or nothing where a line names no block.
-fn read_list(lattice: &Lattice) -> io::Result<Option<Vec<bool>>> {
+fn read_list(prefix: &Prefix) -> io::Result<Option<Vec<bool>>> {
     let mut list = Vec::new();
     io::stdin().lock().take(4_194_305).read_to_end(&mut list)?;
-    let mut there = vec![true; lattice.n * lattice.width()];
+    let mut there = vec![true; prefix.blocks()];
     let mut rest = &list[..];
     while !rest.is_empty() {
         let end = rest.iter().position(|x| *x == b'\n').unwrap_or(rest.len());
-        match lattice.block(&rest[..end]) {
+        match prefix.lattice.block(&rest[..end], prefix.n) {
             Some(block) => there[block] = false,
             None => return Ok(None),
         }
@@ -128,7 +98,7 @@ fn read_list(lattice: &Lattice) -> io::Result<Option<Vec<bool>>> {
 
 /// What becomes of the blocks that are not there: for each, in number order, the nodes by which it is lost, or none where the
 /// others determine it. Rows of bits, one for each equation, are reduced until the first bit of each is in no other.
-fn solve(lattice: &Lattice, there: &[bool]) -> Vec<Option<Vec<usize>>> {
+fn solve(prefix: &Prefix, there: &[bool]) -> Vec<Option<Vec<usize>>> {
     let unknown: Vec<usize> = (0..there.len()).filter(|b| !there[*b]).collect();
     if unknown.is_empty() {
         return Vec::new();
@@ -136,12 +106,12 @@ fn solve(lattice: &Lattice, there: &[bool]) -> Vec<Option<Vec<usize>>> {
     let words = unknown.len().div_ceil(64);
     let has = |row: &[u64], k: usize| row[k / 64] >> (k % 64) & 1 == 1;
     let mut rows: Vec<Vec<u64>> = Vec::new();
-    for node in 1..=lattice.n {
-        for class in 1..=lattice.alpha {
-            let before = lattice.input(node, class);
-            let mut blocks = vec![lattice.number(node, 0), lattice.number(node, class)];
+    for node in 1..=prefix.n {
+        for class in 1..=prefix.lattice.alpha {
+            let before = prefix.input(node, class);
+            let mut blocks = vec![prefix.number(node, 0), prefix.number(node, class)];
             if before != 0 {
-                blocks.push(lattice.number(before, class));
+                blocks.push(prefix.number(before, class));
             }
             let mut row = vec![0u64; words];
             for k in blocks.iter().filter_map(|b| unknown.binary_search(b).ok()) {
@@ -168,10 +138,11 @@ fn solve(lattice: &Lattice, there: &[bool]) -> Vec<Option<Vec<usize>>> {
         *lead = Some(used);
         used += 1;
     }
+    let classes = prefix.lattice.classes();
     let nodes_of = |end: usize| {
         let stands = |k: usize| leads[k].map_or(k == end, |r| has(&rows[r], end));
-        let datum = |k: &usize| unknown[*k] % lattice.width() == 0 && stands(*k);
-        (0..unknown.len()).filter(datum).map(|k| unknown[k] / lattice.width() + 1).collect()
+        let datum = |k: &usize| unknown[*k] % classes == 0 && stands(*k);
+        (0..unknown.len()).filter(datum).map(|k| unknown[k] / classes + 1).collect()
     };
     (0..unknown.len())
         .map(|k| match leads[k] {
@@ -181,35 +152,29 @@ fn solve(lattice: &Lattice, there: &[bool]) -> Vec<Option<Vec<usize>>> {
         .collect()
 }
 
-/// The text of a block.
-fn name(lattice: &Lattice, block: usize) -> String {
-    format!("{}{}", b"dhrl"[block % lattice.width()] as char, block / lattice.width() + 1)
-}
-
-fn drill(lattice: &Lattice) -> io::Result<i32> {
-    let Some(known) = read_list(lattice)? else {
+fn drill(prefix: &Prefix) -> io::Result<i32> {
+    let Some(known) = read_list(prefix)? else {
         return Ok(3);
     };
     let mut there = known.clone();
-    lattice.peel(&mut there);
-    let fates = solve(lattice, &there);
+    prefix.peel(&mut there);
+    let fates = solve(prefix, &there);
     let damaged = known.iter().filter(|x| !**x).count();
     let lost = fates.iter().filter(|x| x.is_some()).count();
     let mut out = io::BufWriter::with_capacity(8192, io::stdout().lock());
-    let Lattice { alpha, s, p, n } = lattice;
+    let (Lattice { alpha, s, p }, n) = (prefix.lattice, prefix.n);
     writeln!(out, "aea-report 1\nlattice {alpha} {s} {p} {n}\nledger none")?;
     writeln!(out, "counts {damaged} {} {} {lost}", damaged - fates.len(), fates.len() - lost)?;
     let mut fates = fates.iter();
     for block in (0..known.len()).filter(|b| !known[*b]) {
         if there[block] {
-            let (node, class) = (block / lattice.width() + 1, block % lattice.width());
-            writeln!(out, "peeled {}{node}", b"dhrl"[class] as char)?;
+            writeln!(out, "peeled {}", prefix.lattice.text(block))?;
             continue;
         }
         match fates.next().unwrap() {
-            None => writeln!(out, "solved {}", name(lattice, block))?,
+            None => writeln!(out, "solved {}", prefix.lattice.text(block))?,
             Some(nodes) => {
-                write!(out, "lost {} by", name(lattice, block))?;
+                write!(out, "lost {} by", prefix.lattice.text(block))?;
                 for node in nodes {
                     write!(out, " {node}")?;
                 }
@@ -222,14 +187,14 @@ fn drill(lattice: &Lattice) -> io::Result<i32> {
 }
 
 /// Prints the listed blocks that single equations do not give.
-fn left(lattice: &Lattice) -> io::Result<i32> {
-    let Some(mut there) = read_list(lattice)? else {
+fn left(prefix: &Prefix) -> io::Result<i32> {
+    let Some(mut there) = read_list(prefix)? else {
         return Ok(3);
     };
-    lattice.peel(&mut there);
+    prefix.peel(&mut there);
     let mut out = io::BufWriter::new(io::stdout().lock());
     for block in (0..there.len()).filter(|b| !there[*b]) {
-        writeln!(out, "{}", name(lattice, block))?;
+        writeln!(out, "{}", prefix.lattice.text(block))?;
     }
     out.flush()?;
     Ok(0)
@@ -238,10 +203,10 @@ fn left(lattice: &Lattice) -> io::Result<i32> {
 fn make(mut x: u64, alpha: usize, n: usize, permille: u64) -> io::Result<i32> {
     let mut out = io::BufWriter::new(io::stdout().lock());
     for node in 1..=n {
-        for class in 0..=alpha {
+        for letter in &LETTERS[..=alpha] {
             x = x.wrapping_mul(6364136223846793005).wrapping_add(1442695040888963407);
             if (x >> 33) % 1000 < permille {
-                writeln!(out, "{}{node}", b"dhrl"[class] as char)?;
+                writeln!(out, "{letter}{node}")?;
             }
         }
     }
@@ -252,15 +217,10 @@ fn make(mut x: u64, alpha: usize, n: usize, permille: u64) -> io::Result<i32> {
 fn main() -> io::Result<()> {
     let words: Vec<String> = std::env::args().skip(1).collect();
     let number = |k: usize| words[k].parse::<usize>().unwrap();
-    let lattice = || Lattice {
-        alpha: number(1),
-        s: number(2),
-        p: number(3),
-        n: number(4),
-    };
+    let prefix = || Prefix { lattice: Lattice { alpha: number(1), s: number(2), p: number(3) }, n: number(4) };
     let status = match words[0].as_str() {
-        "drill" => drill(&lattice())?,
-        "left" => left(&lattice())?,
+        "drill" => drill(&prefix())?,
+        "left" => left(&prefix())?,
         _ => make(number(1) as u64, number(2), number(3), number(4) as u64)?,
     };
     std::process::exit(status)

@@ -2,6 +2,9 @@
 //! rustc makes lanes of, again and again; `plain_gauss site SITES NODES`: the blocks of a lattice of three
 //! classes on the first of so many sites, a line each.
 
+mod plain_archive;
+
+use plain_archive::{Lattice, home};
 use std::hint::black_box;
 use std::io::Write;
 
@@ -47,10 +50,6 @@ fn bytes_line(count: usize, rounds: usize) -> u64 {
     first.iter().fold(0, |sum: u64, byte| sum.wrapping_mul(31).wrapping_add(u64::from(*byte)))
 }
 
-fn names() -> [char; 4] {
-    ['d', 'h', 'r', 'l']
-}
-
 fn main() {
     let words: Vec<String> = std::env::args().skip(1).collect();
     let number = |k: usize| words[k].parse::<usize>().unwrap();
@@ -59,12 +58,10 @@ fn main() {
         "words" => writeln!(out, "{}", words_line(number(1), number(2))).unwrap(),
         "bytes" => writeln!(out, "{}", bytes_line(number(1), number(2))).unwrap(),
         "site" => {
-            // Block number k of row k div SITES is on site (k + row) mod SITES.
-            let sites = number(1);
-            for k in 0..4 * number(2) {
-                if (k + k / sites) % sites == 0 {
-                    writeln!(out, "{}{}", names()[k % 4], k / 4 + 1).unwrap();
-                }
+            // the texts of AE(3,s,p) are the same for all s and p
+            let lattice = Lattice { alpha: 3, s: 2, p: 5 };
+            for block in (0..4 * number(2)).filter(|block| home(*block, number(1), 1).0 == 0) {
+                writeln!(out, "{}", lattice.text(block)).unwrap();
             }
         }
         _ => std::process::exit(2),

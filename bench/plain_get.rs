@@ -6,9 +6,11 @@
 //! the payloads, cut to LENGTH bytes, in pieces of 65,536 bytes. A is the number of parities of a node. It reads no ledger, so the
 //! digest is that of the cell itself. Its status is 1 where a cell is damaged.
 
+mod plain_archive;
 mod plain_sha256;
 
-use plain_sha256::Sha256;
+use plain_archive::{head, home, site_file};
+use plain_sha256::digest;
 use std::fs::File;
 use std::io::{Result, Write, stdout};
 use std::os::fd::AsFd;
@@ -20,21 +22,18 @@ const PIECE: usize = 65536;
 
 struct Archive {
     files: Vec<File>,
-    classes: u64,
+    classes: usize,
     block: usize,
-    nodes: u64,
+    nodes: usize,
 }
 
 impl Archive {
     /// Reads the cell of a node's datum, and whether it is intact.
-    fn read(&self, node: u64, cell: &mut [u8]) -> Result<bool> {
-        let sites = self.files.len() as u64;
-        let number = (node - 1) * self.classes;
-        let (row, column) = (number / sites, number % sites);
-        self.files[((column + row) % sites) as usize].read_exact_at(cell, row * cell.len() as u64)?;
-        let mut hash = Sha256::new();
-        hash.update(&cell[..16 + self.block]);
-        Ok(cell[8..16] == node.to_be_bytes() && hash.finish() == cell[16 + self.block..])
+    fn read(&self, node: usize, cell: &mut [u8]) -> Result<bool> {
+        let (site, place) = home((node - 1) * self.classes, self.files.len(), cell.len());
+        self.files[site].read_exact_at(cell, place)?;
+        let (body, behind) = cell.split_at(16 + self.block);
+        Ok(body[..16] == head(node, 0) && digest(body) == behind)
     }
 
     /// Whether all data are intact; the payloads are written.
@@ -71,9 +70,9 @@ fn main() -> Result<()> {
     let number = |k: usize| words[k].parse::<usize>().unwrap();
     let (block, length) = (number(2), number(4));
     let mut files = Vec::new();
-    for site in 1..=number(3) {
-        files.push(File::open(format!("{}/site-{site:02}/blocks.aea", words[0]))?);
+    for site in 0..number(3) {
+        files.push(File::open(site_file(&words[0], site))?);
     }
-    let archive = Archive { files, classes: 1 + number(1) as u64, block, nodes: length.div_ceil(block) as u64 };
+    let archive = Archive { files, classes: 1 + number(1), block, nodes: length.div_ceil(block) };
     exit(!archive.get(length)? as i32)
 }

@@ -1,26 +1,17 @@
 //! The ledger of the plain programs: of an archive without fences, each of whose objects takes nodes of its own.
 
-use crate::plain_sha256::Sha256;
+use crate::plain_archive::{Lattice, head};
+use crate::plain_sha256::{digest, hex};
 use std::fs::read;
 use std::io::{Error, ErrorKind, Result};
-
-pub type Digest = [u8; 32];
-
-pub fn digest(bytes: &[u8]) -> Digest {
-    let mut hash = Sha256::new();
-    hash.update(bytes);
-    hash.finish()
-}
 
 pub fn wrong(what: &str) -> Error {
     Error::new(ErrorKind::InvalidData, what)
 }
 
-/// The shape of an archive, the digests of its blocks in number order, and its seal in digits.
+/// The lattice of an archive, its sites and the bytes of its blocks, their digests in number order, and its seal in digits.
 pub struct Ledger {
-    pub alpha: usize,
-    pub s: usize,
-    pub p: usize,
+    pub lattice: Lattice,
     pub sites: usize,
     pub block: usize,
     pub digests: Vec<u8>,
@@ -48,13 +39,11 @@ impl Ledger {
             gate = end;
         }
         Ok(Ledger {
-            alpha: bytes[9] as usize,
-            s: bytes[10] as usize,
-            p: bytes[11] as usize,
+            lattice: Lattice { alpha: bytes[9] as usize, s: bytes[10] as usize, p: bytes[11] as usize },
             sites: bytes[12] as usize,
             block: number(13, 4),
             digests,
-            seal: digest(&bytes[..gate]).iter().map(|byte| format!("{byte:02x}")).collect(),
+            seal: hex(digest(&bytes[..gate])),
         })
     }
 
@@ -62,11 +51,27 @@ impl Ledger {
         self.digests.len() / 32
     }
 
-    pub fn classes(&self) -> usize {
-        1 + self.alpha
+    pub fn nodes(&self) -> usize {
+        self.blocks() / self.lattice.classes()
     }
 
-    pub fn nodes(&self) -> usize {
-        self.blocks() / self.classes()
+    /// The bytes of a cell: its head, the payload and the digest.
+    pub fn size(&self) -> usize {
+        self.block + 48
+    }
+
+    pub fn head(&self, number: usize) -> [u8; 16] {
+        let (node, class) = self.lattice.node_and_class(number);
+        head(node, class)
+    }
+
+    pub fn recorded(&self, number: usize) -> &[u8] {
+        &self.digests[32 * number..32 * number + 32]
+    }
+
+    /// Whether a cell is that of the block: it has its head, and the digest that is recorded.
+    pub fn is_cell(&self, number: usize, cell: &[u8]) -> bool {
+        let (body, behind) = cell.split_at(16 + self.block);
+        body[..16] == self.head(number) && behind == self.recorded(number) && digest(body) == behind
     }
 }

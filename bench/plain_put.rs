@@ -6,9 +6,11 @@
 //! `plain_put frames FOLDER A S P B M` does what `aea create A S P B M` and then `aea ingest` do: it stores the objects of a
 //! stream of frames, with the heads kept from one to the next, and prints the same lines.
 
+mod plain_archive;
 mod plain_sha256;
 
-use plain_sha256::Sha256;
+use plain_archive::{Lattice, head, home, site_file, site_folder};
+use plain_sha256::{Digest, Sha256, digest, hex};
 use std::fs::{File, OpenOptions, create_dir_all};
 use std::io::{ErrorKind, Read, Result, Write, stdin, stdout};
 use std::os::unix::fs::FileExt;
@@ -25,38 +27,9 @@ fn fill(input: &mut impl Read, block: &mut [u8]) -> Result<usize> {
 }
 
 struct Shape {
-    alpha: usize,
-    s: usize,
-    p: usize,
+    lattice: Lattice,
     block: usize,
     sites: usize,
-}
-
-impl Shape {
-    /// The place of the strand of a node on a class among all strands.
-    fn strand(&self, node: usize, class: usize) -> usize {
-        let (column, row) = ((node - 1) / self.s, (node - 1) % self.s);
-        match class {
-            1 => row,
-            2 => self.s + (column + self.p - row) % self.p,
-            _ => self.s + self.p + (column + row) % self.p,
-        }
-    }
-}
-
-/// Writes a cell to its home, and gives its digest.
-fn write_cell(shape: &Shape, files: &[File], cell: &mut [u8], class: usize, node: usize) -> Result<[u8; 32]> {
-    cell[..4].copy_from_slice(b"AEB1");
-    cell[4..8].copy_from_slice(&[class as u8, 0, 0, 0]);
-    cell[8..16].copy_from_slice(&(node as u64).to_be_bytes());
-    let mut hash = Sha256::new();
-    hash.update(&cell[..16 + shape.block]);
-    let digest = hash.finish();
-    cell[16 + shape.block..].copy_from_slice(&digest);
-    let number = (node - 1) * (1 + shape.alpha) + class;
-    let (row, column) = (number / shape.sites, number % shape.sites);
-    files[(column + row) % shape.sites].write_all_at(cell, (row * cell.len()) as u64)?;
-    Ok(digest)
 }
 
 /// An archive under way: the files of its sites, and of each strand what a next node adds its data to.
@@ -76,30 +49,32 @@ struct Woven {
     first: usize,
     nodes: usize,
     length: u64,
-    digest: [u8; 32],
-    digests: Vec<[u8; 32]>,
+    digest: Digest,
+    digests: Vec<Digest>,
 }
 
 impl Archive {
     fn new(folder: &str, shape: Shape) -> Result<Archive> {
         let mut files = Vec::new();
-        for site in 1..=shape.sites {
-            create_dir_all(format!("{folder}/site-{site:02}"))?;
-            let path = format!("{folder}/site-{site:02}/blocks.aea");
-            files.push(OpenOptions::new().write(true).create(true).truncate(true).open(path)?);
+        for site in 0..shape.sites {
+            create_dir_all(site_folder(folder, site))?;
+            files.push(OpenOptions::new().write(true).create(true).truncate(true).open(site_file(folder, site))?);
         }
-        let strands = shape.s + shape.p * (shape.alpha - 1);
-        let (changed, heads) = (vec![false; files.len()], vec![0; strands * shape.block]);
+        let (changed, heads) = (vec![false; files.len()], vec![0; shape.lattice.strands() * shape.block]);
         let (block, cell) = (vec![0; shape.block], vec![0; shape.block + 48]);
         Ok(Archive { shape, files, changed, heads, block, cell, nodes: 0 })
     }
 
-    /// Writes the cell of a block that stands in the buffer, and keeps its digest.
-    fn write(&mut self, class: usize, digests: &mut Vec<[u8; 32]>) -> Result<()> {
-        let number = (self.nodes - 1) * (1 + self.shape.alpha) + class;
-        self.changed[(number % self.shape.sites + number / self.shape.sites) % self.shape.sites] = true;
-        digests.push(write_cell(&self.shape, &self.files, &mut self.cell, class, self.nodes)?);
-        Ok(())
+    /// Writes the cell of a block of the last node, whose payload stands in the buffer, and keeps its digest.
+    fn write(&mut self, class: usize, digests: &mut Vec<Digest>) -> Result<()> {
+        let (body, behind) = self.cell.split_at_mut(16 + self.shape.block);
+        body[..16].copy_from_slice(&head(self.nodes, class));
+        let digest = digest(body);
+        behind.copy_from_slice(&digest);
+        digests.push(digest);
+        let (site, place) = home(self.shape.lattice.number(self.nodes, class), self.shape.sites, self.cell.len());
+        self.changed[site] = true;
+        self.files[site].write_all_at(&self.cell, place)
     }
 
     /// Weaves all that the input has, and writes its cells.
@@ -116,8 +91,8 @@ impl Archive {
             (self.nodes, length) = (self.nodes + 1, length + count as u64);
             self.cell[16..16 + size].copy_from_slice(&self.block);
             self.write(0, &mut digests)?;
-            for class in 1..=self.shape.alpha {
-                let from = self.shape.strand(self.nodes, class) * size;
+            for class in 1..=self.shape.lattice.alpha {
+                let from = self.shape.lattice.strand(self.nodes, class) * size;
                 let head = &mut self.heads[from..from + size];
                 for (byte, other) in head.iter_mut().zip(&self.block) {
                     *byte ^= other;
@@ -145,7 +120,8 @@ impl Archive {
     /// The ledger before its first gate.
     fn header(&self) -> Vec<u8> {
         let mut ledger = b"\x01AEALEDG1".to_vec();
-        ledger.extend([self.shape.alpha as u8, self.shape.s as u8, self.shape.p as u8, self.shape.sites as u8]);
+        let Lattice { alpha, s, p } = self.shape.lattice;
+        ledger.extend([alpha as u8, s as u8, p as u8, self.shape.sites as u8]);
         ledger.extend((self.shape.block as u32).to_be_bytes());
         ledger
     }
@@ -166,8 +142,8 @@ fn record(name: &[u8], woven: &Woven) -> Vec<u8> {
 
 /// Makes the folders of the sites sure.
 fn sync_folders(folder: &str, shape: &Shape) -> Result<()> {
-    for site in 1..=shape.sites {
-        File::open(format!("{folder}/site-{site:02}"))?.sync_all()?;
+    for site in 0..shape.sites {
+        File::open(site_folder(folder, site))?.sync_all()?;
     }
     Ok(())
 }
@@ -223,11 +199,7 @@ fn ingest(folder: &str, shape: Shape) -> Result<()> {
         ledger.write_all_at(&[1], gate)?;
         ledger.sync_all()?;
         gate += bytes.len() as u64;
-        write!(out, "stored {} {} ", woven.nodes, woven.length)?;
-        for byte in woven.digest {
-            write!(out, "{byte:02x}")?;
-        }
-        writeln!(out, " {}", String::from_utf8_lossy(&name))?;
+        writeln!(out, "stored {} {} {} {}", woven.nodes, woven.length, hex(woven.digest), String::from_utf8_lossy(&name))?;
         out.flush()?;
         count += 1;
     }
@@ -245,14 +217,12 @@ fn main() -> Result<()> {
                 break;
             }
         }
-        for byte in hash.finish() {
-            print!("{byte:02x}");
-        }
-        println!();
+        println!("{}", hex(hash.finish()));
         return Ok(());
     }
     let number = |k: usize| words[k].parse::<usize>().unwrap();
-    let shape = Shape { alpha: number(2), s: number(3), p: number(4), block: number(5), sites: number(6) };
+    let lattice = Lattice { alpha: number(2), s: number(3), p: number(4) };
+    let shape = Shape { lattice, block: number(5), sites: number(6) };
     if words[0] == "frames" {
         return ingest(&words[1], shape);
     }

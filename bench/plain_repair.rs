@@ -10,49 +10,24 @@
 //! missing. It prints the lines of the loss report. It knows one segment of a lattice alone, and no fence; and its status is 1
 //! where a block is left that no single equation brings back.
 
+mod plain_archive;
 mod plain_ledger;
 mod plain_sha256;
 
-use plain_ledger::{Ledger, digest, wrong};
+use plain_archive::{Lattice, home, site_file, site_folder};
+use plain_ledger::{Ledger, wrong};
+use plain_sha256::digest;
 use std::fs::{File, OpenOptions, create_dir_all};
 use std::io::{BufWriter, ErrorKind, Result, Write, stdout};
 use std::os::unix::fs::FileExt;
 use std::process::exit;
 
-/// The letters of the classes in the texts of blocks.
-const LETTERS: [char; 4] = ['d', 'h', 'r', 'l'];
-
 impl Ledger {
-    /// How far the node before on a strand is, by docs/FORMATS.md; the strand begins where that is no node.
-    fn back(&self, node: usize, class: usize) -> usize {
-        let (s, p, row) = (self.s, self.p, (node - 1) % self.s);
-        match class {
-            1 => s,
-            2 if row == 0 => s * p + 1 - s * s,
-            2 => s + 1,
-            _ if row + 1 == s => s * p - (s - 1) * (s - 1),
-            _ => s - 1,
-        }
-    }
-
-    /// How far the next node on a strand is.
-    fn ahead(&self, node: usize, class: usize) -> usize {
-        let (s, p, row) = (self.s, self.p, (node - 1) % self.s);
-        match class {
-            1 => s,
-            2 if row + 1 == s => s * p + 1 - s * s,
-            2 => s + 1,
-            _ if row == 0 => s * p - (s - 1) * (s - 1),
-            _ => s - 1,
-        }
-    }
-
     /// The numbers of the blocks of the equation of a node's parity: datum, parity, and the parity before it, where there is one.
     fn equation(&self, node: usize, class: usize) -> ([usize; 3], usize) {
-        let datum = (node - 1) * self.classes();
-        let back = self.back(node, class);
+        let (datum, back) = (self.lattice.number(node, 0), self.lattice.back(node, class));
         if node > back {
-            ([datum, datum + class, datum - back * self.classes() + class], 3)
+            ([datum, datum + class, self.lattice.number(node - back, class)], 3)
         } else {
             ([datum, datum + class, 0], 2)
         }
@@ -73,14 +48,14 @@ impl Archive {
     fn open(folder: &str) -> Result<Archive> {
         let ledger = Ledger::open(&format!("{folder}/ledger.aea"))?;
         let mut files = Vec::new();
-        for site in 1..=ledger.sites {
-            files.push(match OpenOptions::new().read(true).write(true).open(format!("{folder}/site-{site:02}/blocks.aea")) {
+        for site in 0..ledger.sites {
+            files.push(match OpenOptions::new().read(true).write(true).open(site_file(folder, site)) {
                 Ok(file) => Some(file),
                 Err(error) if error.kind() == ErrorKind::NotFound => None,
                 Err(error) => return Err(error),
             });
         }
-        let (size, sites) = (ledger.block + 48, ledger.sites);
+        let (size, sites) = (ledger.size(), ledger.sites);
         Ok(Archive {
             ledger,
             folder: folder.to_string(),
@@ -92,22 +67,9 @@ impl Archive {
         })
     }
 
-    /// The file of a block's home, counted from 0, and the place in it.
+    /// The site of a block's home, counted from 0, and the place in its file.
     fn home(&self, number: usize) -> (usize, u64) {
-        let (row, column) = (number / self.ledger.sites, number % self.ledger.sites);
-        ((column + row) % self.ledger.sites, (row * (self.ledger.block + 48)) as u64)
-    }
-
-    fn head(&self, number: usize) -> [u8; 16] {
-        let mut head = [0; 16];
-        head[..4].copy_from_slice(b"AEB1");
-        head[4] = (number % self.ledger.classes()) as u8;
-        head[8..].copy_from_slice(&((number / self.ledger.classes() + 1) as u64).to_be_bytes());
-        head
-    }
-
-    fn recorded(&self, number: usize) -> &[u8] {
-        &self.ledger.digests[32 * number..32 * number + 32]
+        home(number, self.ledger.sites, self.ledger.size())
     }
 
     /// Reads the cell of a block, and whether it is intact.
@@ -121,15 +83,13 @@ impl Archive {
             Err(error) if error.kind() == ErrorKind::UnexpectedEof => return Ok(false),
             Err(error) => return Err(error),
         }
-        let (body, behind) = self.read.split_at(16 + self.ledger.block);
-        Ok(body[..16] == self.head(number) && behind == self.recorded(number) && digest(body) == behind)
+        Ok(self.ledger.is_cell(number, &self.read))
     }
 
     /// Computes a block from others, and writes its cell.
     fn rebuild(&mut self, number: usize, others: &[usize]) -> Result<()> {
         let block = self.ledger.block;
-        let head = self.head(number);
-        self.write[..16].copy_from_slice(&head);
+        self.write[..16].copy_from_slice(&self.ledger.head(number));
         self.write[16..16 + block].fill(0);
         for other in others {
             if !self.read(*other)? {
@@ -140,15 +100,14 @@ impl Archive {
             }
         }
         let told = digest(&self.write[..16 + block]);
-        if told != self.recorded(number) {
+        if told != self.ledger.recorded(number) {
             return Err(wrong("a sum has another digest"));
         }
         self.write[16 + block..].copy_from_slice(&told);
         let (site, place) = self.home(number);
         if self.files[site].is_none() {
-            let folder = format!("{}/site-{:02}", self.folder, site + 1);
-            create_dir_all(&folder)?;
-            let path = format!("{folder}/blocks.aea");
+            create_dir_all(site_folder(&self.folder, site))?;
+            let path = site_file(&self.folder, site);
             self.files[site] = Some(OpenOptions::new().read(true).write(true).create_new(true).open(path)?);
             self.made[site] = true;
         }
@@ -159,11 +118,11 @@ impl Archive {
     /// The first equation of a block whose other blocks are there.
     fn others(&self, number: usize, is_there: &[bool]) -> Option<([usize; 3], usize)> {
         let ledger = &self.ledger;
-        let (node, class) = (number / ledger.classes() + 1, number % ledger.classes());
+        let (node, class) = ledger.lattice.node_and_class(number);
         let first = if class == 0 { 1 } else { class };
-        let last = if class == 0 { ledger.alpha } else { class };
+        let last = if class == 0 { ledger.lattice.alpha } else { class };
         let own = (first..=last).map(|c| (node, c));
-        let next = if class == 0 { ledger.nodes() + 1 } else { node + ledger.ahead(node, class) };
+        let next = if class == 0 { ledger.nodes() + 1 } else { node + ledger.lattice.ahead(node, class) };
         for (node, class) in own.chain((next <= ledger.nodes()).then_some((next, class))) {
             let (blocks, count) = ledger.equation(node, class);
             let mut others = [0; 3];
@@ -187,9 +146,9 @@ impl Archive {
                 file.sync_all()?;
             }
         }
-        for (site, made) in (1..).zip(&self.made) {
+        for (site, made) in self.made.iter().enumerate() {
             if *made {
-                File::open(format!("{}/site-{site:02}", self.folder))?.sync_all()?;
+                File::open(site_folder(&self.folder, site))?.sync_all()?;
                 File::open(&self.folder)?.sync_all()?;
             }
         }
@@ -199,11 +158,11 @@ impl Archive {
     fn print(&self, damaged: &[usize]) -> Result<()> {
         let ledger = &self.ledger;
         let mut out = BufWriter::new(stdout().lock());
-        let Ledger { alpha, s, p, seal, .. } = ledger;
-        writeln!(out, "aea-report 1\nlattice {alpha} {s} {p} {}\nledger {seal}", ledger.nodes())?;
+        let Lattice { alpha, s, p } = ledger.lattice;
+        writeln!(out, "aea-report 1\nlattice {alpha} {s} {p} {}\nledger {}", ledger.nodes(), ledger.seal)?;
         writeln!(out, "counts {0} {0} 0 0", damaged.len())?;
         for number in damaged {
-            writeln!(out, "peeled {}{}", LETTERS[number % ledger.classes()], number / ledger.classes() + 1)?;
+            writeln!(out, "peeled {}", ledger.lattice.text(*number))?;
         }
         out.flush()
     }

@@ -5,9 +5,11 @@
 //! them. It prints `total CELLS damaged K`, and its status is 1 where a cell is damaged. It reads no ledger, so it does not ask
 //! which block a cell is of. `plain_scrub hash B CELLS` hashes as many bytes in memory, and reads nothing.
 
+mod plain_archive;
 mod plain_sha256;
 
-use plain_sha256::Sha256;
+use plain_archive::site_file;
+use plain_sha256::digest;
 use std::fs::File;
 use std::io::{Read, Result};
 use std::process::exit;
@@ -15,19 +17,13 @@ use std::process::exit;
 /// The most bytes of cells that are read at a time, where a cell is no longer.
 const PIECE: usize = 65536;
 
-fn digest(bytes: &[u8]) -> [u8; 32] {
-    let mut hash = Sha256::new();
-    hash.update(bytes);
-    hash.finish()
-}
-
 /// How many cells the files have, and how many of them are damaged.
 fn read(folder: &str, block: usize, sites: usize) -> Result<(usize, usize)> {
     let size = block + 48;
     let mut piece = Vec::with_capacity((PIECE / size).max(1) * size);
     let (mut cells, mut damaged) = (0, 0);
-    for site in 1..=sites {
-        let mut file = File::open(format!("{folder}/site-{site:02}/blocks.aea"))?;
+    for site in 0..sites {
+        let mut file = File::open(site_file(folder, site))?;
         loop {
             piece.clear();
             let most = piece.capacity() / size * size;

@@ -1,6 +1,21 @@
-//! The SHA-256 of the plain programs.
+//! The SHA-256 of the plain programs. Each of them uses a part of it.
+#![allow(dead_code)]
 
 use std::convert::TryInto;
+
+pub type Digest = [u8; 32];
+
+/// The digest of these bytes.
+pub fn digest(bytes: &[u8]) -> Digest {
+    let mut hash = Sha256::new();
+    hash.update(bytes);
+    hash.finish()
+}
+
+/// A digest in digits.
+pub fn hex(digest: Digest) -> String {
+    digest.iter().flat_map(|byte| [byte >> 4, byte & 15]).map(|digit| char::from(b"0123456789abcdef"[digit as usize])).collect()
+}
 
 const ROUND: [u32; 64] = [
     0x428a2f98, 0x71374491, 0xb5c0fbcf, 0xe9b5dba5, 0x3956c25b, 0x59f111f1, 0x923f82a4, 0xab1c5ed5, 0xd807aa98, 0x12835b01,
@@ -87,7 +102,7 @@ impl Sha256 {
         self.filled = left.len();
     }
 
-    pub fn finish(mut self) -> [u8; 32] {
+    pub fn finish(mut self) -> Digest {
         let bits = self.length * 8;
         self.update(&[0x80]);
         while self.filled != 56 {

@@ -7,63 +7,39 @@
 //! block's nodes is walked from the first of them to where no strand has an odd number of them. It prints `accepted`, or
 //! `rejected LINE WHY`, with status 1; and where the text is no report, or a line is too long, the first bad line, with status 3.
 
+mod plain_archive;
 mod plain_ledger;
 mod plain_sha256;
 
-use plain_ledger::{Ledger, digest};
+use plain_archive::{Lattice, site_file};
+use plain_ledger::Ledger;
 use std::convert::TryInto;
 use std::fs::File;
 use std::io::{BufRead, ErrorKind, Read, Result, stdin};
 use std::os::unix::fs::FileExt;
 use std::process::exit;
 
-const LETTERS: &[u8; 4] = b"dhrl";
 const LONGEST_LINE: u64 = 16_777_216;
 
 impl Ledger {
-    /// The strand of a node, counted over all classes: of class 1 there are s, and of each other one p.
-    fn strand(&self, node: usize, class: usize) -> usize {
-        let (column, row) = ((node - 1) / self.s, (node - 1) % self.s);
-        match class {
-            1 => row,
-            2 => self.s + (column + self.p * self.s - row) % self.p,
-            _ => self.s + self.p + (column + row) % self.p,
-        }
-    }
-
-    fn text(&self, number: usize) -> String {
-        format!("{}{}", LETTERS[number % self.classes()] as char, number / self.classes() + 1)
-    }
-
     /// Which blocks are intact, by their numbers. The cells are read a site at a time, forward.
     fn scan(&self, folder: &str) -> Result<Vec<bool>> {
         let mut intact = vec![false; self.blocks()];
-        let size = self.block + 48;
-        let mut cell = vec![0; size];
+        let mut cell = vec![0; self.size()];
         for site in 0..self.sites {
-            let file = match File::open(format!("{folder}/site-{:02}/blocks.aea", site + 1)) {
+            let file = match File::open(site_file(folder, site)) {
                 Ok(file) => file,
                 Err(error) if error.kind() == ErrorKind::NotFound => continue,
                 Err(error) => return Err(error),
             };
             for row in 0..self.blocks().div_ceil(self.sites) {
                 let number = row * self.sites + (site + self.sites - row % self.sites) % self.sites;
-                if number < self.blocks() && file.read_exact_at(&mut cell, (row * size) as u64).is_ok() {
+                if number < self.blocks() && file.read_exact_at(&mut cell, (row * self.size()) as u64).is_ok() {
                     intact[number] = self.is_cell(number, &cell);
                 }
             }
         }
         Ok(intact)
-    }
-
-    fn is_cell(&self, number: usize, cell: &[u8]) -> bool {
-        let (body, told) = cell.split_at(16 + self.block);
-        let node = (number / self.classes() + 1) as u64;
-        told == &self.digests[32 * number..32 * number + 32]
-            && body[..4] == *b"AEB1"
-            && body[4] as usize == number % self.classes()
-            && body[8..16] == node.to_be_bytes()
-            && digest(body) == told
     }
 }
 
@@ -76,21 +52,21 @@ struct Walk<'a> {
 
 impl Walk<'_> {
     fn new(ledger: &Ledger) -> Walk<'_> {
-        Walk { ledger, odd: vec![false; ledger.s + 2 * ledger.p], open: 0 }
+        Walk { ledger, odd: vec![false; ledger.lattice.strands()], open: 0 }
     }
 
     /// Whether the codeword of the nodes contains the block of this number, and the least intact block that it contains.
     fn judge(&mut self, nodes: &[usize], number: usize, intact: &[bool]) -> (bool, Option<usize>) {
-        let (ledger, mut touched, mut contains) = (self.ledger, None, false);
+        let (ledger, lattice, mut touched, mut contains) = (self.ledger, self.ledger.lattice, None, false);
         let mut rest = nodes.iter().peekable();
         for node in nodes[0]..=ledger.nodes() {
             let is_listed = rest.next_if(|next| **next == node).is_some();
-            let datum = (node - 1) * ledger.classes();
+            let datum = lattice.number(node, 0);
             if is_listed {
                 self.meet(datum, number, intact, &mut contains, &mut touched);
             }
-            for class in 1..=ledger.alpha {
-                let strand = ledger.strand(node, class);
+            for class in 1..=lattice.alpha {
+                let strand = lattice.strand(node, class);
                 if is_listed {
                     self.odd[strand] = !self.odd[strand];
                     self.open = if self.odd[strand] { self.open + 1 } else { self.open - 1 };
@@ -125,13 +101,6 @@ fn number(text: &[u8]) -> Option<usize> {
     (value <= u32::MAX as usize).then_some(value)
 }
 
-fn block_number(ledger: &Ledger, text: &[u8]) -> Option<usize> {
-    let (letter, digits) = text.split_first()?;
-    let class = LETTERS[..ledger.classes()].iter().position(|it| it == letter)?;
-    let node = number(digits)?;
-    (1 <= node && node <= ledger.nodes()).then(|| (node - 1) * ledger.classes() + class)
-}
-
 /// The judge of a report.
 struct Judge<'a> {
     ledger: &'a Ledger,
@@ -153,7 +122,7 @@ impl Judge<'_> {
         let space = line.iter().position(|byte| *byte == b' ')?;
         let (word, rest) = (&line[..space], &line[space + 1..]);
         let end = rest.iter().position(|byte| *byte == b' ').unwrap_or(rest.len());
-        let block = block_number(self.ledger, &rest[..end])?;
+        let block = self.ledger.lattice.block(&rest[..end], self.ledger.nodes())?;
         let kind = [&b"peeled"[..], b"solved", b"lost"].iter().position(|it| *it == word)?;
         self.nodes.clear();
         if kind == 2 {
@@ -178,7 +147,7 @@ impl Judge<'_> {
     }
 
     fn judge(&mut self, block: usize, kind: usize) -> Option<String> {
-        let text = |number| self.ledger.text(number);
+        let text = |number| self.ledger.lattice.text(number);
         if let Some(other) = self.missing(block) {
             return Some(format!("missing {}", text(other)));
         }
@@ -190,15 +159,15 @@ impl Judge<'_> {
         }
         let (contains, touched) = self.walk.judge(&self.nodes, block, self.intact);
         if !contains {
-            return Some(format!("word-misses {}", self.ledger.text(block)));
+            return Some(format!("word-misses {}", self.ledger.lattice.text(block)));
         }
-        touched.map(|other| format!("word-touches {}", self.ledger.text(other)))
+        touched.map(|other| format!("word-touches {}", self.ledger.lattice.text(other)))
     }
 
     /// The verdict behind the last line, whose number is one less than this.
     fn verdict(mut self, at: usize, told: [usize; 4]) -> String {
         if self.wrong.is_none() {
-            self.wrong = self.missing(self.ledger.blocks()).map(|other| (at, format!("missing {}", self.ledger.text(other))));
+            self.wrong = self.missing(self.ledger.blocks()).map(|other| (at, format!("missing {}", self.ledger.lattice.text(other))));
         }
         let [peeled, solved, lost] = self.counts;
         if self.wrong.is_none() && told != [peeled + solved + lost, peeled, solved, lost] {
@@ -245,7 +214,8 @@ fn head(ledger: &Ledger, at: usize, line: &[u8]) -> Option<bool> {
         2 => {
             let numbers: Option<Vec<usize>> = line.strip_prefix(b"lattice ")?.split(|byte| *byte == b' ').map(number).collect();
             let numbers = numbers.filter(|it| it.len() == 4)?;
-            Some(numbers == [ledger.alpha, ledger.s, ledger.p, ledger.nodes()])
+            let Lattice { alpha, s, p } = ledger.lattice;
+            Some(numbers == [alpha, s, p, ledger.nodes()])
         }
         _ => {
             let seal = line.strip_prefix(b"ledger ")?;

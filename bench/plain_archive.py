@@ -1,6 +1,7 @@
 """A plain archive, written from docs/FORMATS.md alone: its ledger, its cells and where they stand, the lattice, what the known
-blocks determine and by what, and what is told of a loss report. `bench/torture` compares the program with it. It is no program
-by itself; SHA-256 is that of hashlib, and sets of blocks and of equations are numbers whose bits are theirs."""
+blocks determine and by what, and what is told of a loss report. `bench/torture` compares the program with it, and the other
+scripts take from it what stands in files. It is no program by itself; SHA-256 is that of hashlib, and sets of blocks and of
+equations are numbers whose bits are theirs."""
 
 import hashlib
 import re
@@ -29,6 +30,87 @@ def is_shape(alpha, s, p):
     return (s, p) == (1, 0) if alpha == 1 else alpha in (2, 3) and 2 <= s <= 16 and s <= p <= 64
 
 
+def name_by_chance(chance):
+    """A name: 1 to 255 bytes of UTF-8 without control characters."""
+    letters = ["a", "b", "z", "A", "0", " ", "/", ".", "~", "\u0080", "\u00e4", "\u4e2d", "\U0001f600", "\uffff"]
+    return "".join(chance.choice(letters) for _ in range(chance.choice([1, 2, 3, 8, 300]))).encode()[:255].decode(errors="ignore").encode()
+
+
+# of ledgers
+
+
+def ledger_head(shape):
+    """What stands in a ledger before its first gate."""
+    alpha, s, p, block, sites = shape
+    return b"\x01AEALEDG1" + bytes([alpha, s, p, sites]) + number(4, block)
+
+
+def record(kind, rest):
+    """An open gate and a record of this kind behind it."""
+    return b"\x01" + bytes([kind]) + number(4, len(rest)) + rest
+
+
+def object_record(name, length, digest, first, count, digests):
+    """The record of an object that has so many nodes of its own, from this one on, with the digests of their blocks."""
+    return record(1, number(2, len(name)) + name + number(8, length) + digest + number(4, first) + number(4, count) + digests)
+
+
+def parts_record(name, content, nodes, parts):
+    """The record of an object in parts of the nodes that are there, each a first node and a number of nodes."""
+    rest = number(2, len(name)) + name + number(8, len(content)) + hashlib.sha256(content).digest()
+    rest += number(4, nodes + 1) + number(4, 0) + number(4, len(parts))
+    return record(3, rest + b"".join(number(4, it) for part in parts for it in part))
+
+
+def fence_record(node):
+    return record(2, number(4, node))
+
+
+RAISE = record(4, number(4, RAISED))
+
+
+# of blocks, their cells and the files of sites
+
+
+def text_of(k, classes):
+    """The text of a block, by its number."""
+    return f"{LETTERS[k % classes]}{k // classes + 1}"
+
+
+def home_of(k, sites, size):
+    """The site of a block's home, and its place in the file of the site, for cells of this size."""
+    row, column = divmod(k, sites)
+    return 1 + (column + row) % sites, row * size
+
+
+def site_file(site):
+    return f"site-{site:02}/blocks.aea"
+
+
+def cell_head(kind, node):
+    """The head of the cell of a node's block of this class."""
+    return b"AEB1" + bytes([kind, 0, 0, 0]) + number(8, node)
+
+
+def strand_of(node, kind, s, p):
+    """The strand of a node on a class of parities."""
+    column, row = divmod(node - 1, s)
+    return kind, (row, (column - row) % (p or 1), (column + row) % (p or 1))[kind - 1]
+
+
+# of what is read and printed
+
+
+def frame(name, length, content):
+    """The frame of an object in a stream, or of so many bytes the first ones."""
+    return number(2, len(name)) + name + number(8, length) + content
+
+
+def frames(objects):
+    """The stream of these objects, names and bytes."""
+    return b"".join(frame(name, len(content), content) for name, content in objects)
+
+
 def stored_line(name, content, block):
     return f"stored {-(-len(content) // block)} {len(content)} {hashlib.sha256(content).hexdigest()} ".encode() + name + b"\n"
 
@@ -49,10 +131,10 @@ class Plain:
     places: list = field(default_factory=list)
 
     def __post_init__(self):
-        alpha, s, p, block, sites = self.shape
+        alpha, _, _, block, sites = self.shape
         self.classes, self.block, self.sites, self.size = 1 + alpha, block, sites, block + 48
         if not self.ledger:
-            self.ledger = b"\x01AEALEDG1" + bytes([alpha, s, p, sites]) + number(4, block)
+            self.ledger = ledger_head(self.shape)
 
     def copy(self):
         return Plain(self.shape, self.ledger, dict(self.objects), list(self.cells), list(self.equations), dict(self.heads),
@@ -72,7 +154,7 @@ class Plain:
     # texts and places
 
     def text(self, k):
-        return f"{LETTERS[k % self.classes]}{k // self.classes + 1}"
+        return text_of(k, self.classes)
 
     def number_of(self, text):
         """The number of the block with this text, or none."""
@@ -84,13 +166,10 @@ class Plain:
 
     def home(self, k):
         """The site of a block's home, and its place in the file of the site."""
-        row, column = divmod(k, self.sites)
-        return 1 + (column + row) % self.sites, row * self.size
+        return home_of(k, self.sites, self.size)
 
     def strand(self, node, kind):
-        column, row = divmod(node - 1, self.shape[1])
-        p = self.shape[2] or 1
-        return kind, (row, (column - row) % p, (column + row) % p)[kind - 1]
+        return strand_of(node, kind, self.shape[1], self.shape[2])
 
     # what the commands add
 
@@ -100,10 +179,8 @@ class Plain:
         digests = b""
         for k in range(count):
             digests += self.weave(content[k * self.block:(k + 1) * self.block].ljust(self.block, b"\x00"))
-        rest = number(2, len(name)) + name + number(8, len(content)) + hashlib.sha256(content).digest() + number(4, first) + number(4, count)
-        self.ledger += b"\x01\x01" + number(4, len(rest + digests)) + rest
-        self.places += range(len(self.ledger), len(self.ledger + digests), 32)
-        self.ledger += digests
+        self.ledger += object_record(name, len(content), hashlib.sha256(content).digest(), first, count, digests)
+        self.places += range(len(self.ledger) - len(digests), len(self.ledger), 32)
         self.objects[name] = content, list(range(first, first + count))
 
     def weave(self, payload):
@@ -121,28 +198,26 @@ class Plain:
             self.heads[strand] = datum + kind
             sums.append(total.to_bytes(self.block, "big"))
         for kind, total in enumerate(sums):
-            body = b"AEB1" + bytes([kind, 0, 0, 0]) + number(8, node) + total
+            body = cell_head(kind, node) + total
             digest = hashlib.sha256(body).digest()
             self.cells.append(body + digest)
             digests += digest
         return digests
 
     def add_fence(self):
-        self.ledger += b"\x01\x02" + number(4, 4) + number(4, self.nodes)
+        self.ledger += fence_record(self.nodes)
         self.fences.append(self.nodes)
         self.heads = {}
 
     def add_raise(self):
-        self.ledger += b"\x01\x04" + number(4, 4) + number(4, RAISED)
+        self.ledger += RAISE
         self.raised = True
 
     def add_in_parts(self, name, parts):
         """Adds an object of nodes that are there, in parts, each a first node and a number of nodes."""
         places = [node for first, count in parts for node in range(first, first + count)]
         content = b"".join(self.cells[(node - 1) * self.classes][16:-32] for node in places)
-        rest = number(2, len(name)) + name + number(8, len(content)) + hashlib.sha256(content).digest()
-        rest += number(4, self.nodes + 1) + number(4, 0) + number(4, len(parts)) + b"".join(number(4, it) for part in parts for it in part)
-        self.ledger += b"\x01\x03" + number(4, len(rest)) + rest
+        self.ledger += parts_record(name, content, self.nodes, parts)
         self.objects[name] = content, places
 
     # what a command is refused for

@@ -35,7 +35,9 @@ fn main() {
         let time = |t: [i64; 2]| t[0] as f64 + t[1] as f64 / 1e6;
         seconds = seconds.min(time(usage.user) + time(usage.system));
         memory = memory.max(usage.most_memory);
-        greatest = greatest.max(status >> 8);
+        // a run that was ended by a signal has the status that a shell gives it
+        let signal = status & 127;
+        greatest = greatest.max(if signal == 0 { status >> 8 } else { 128 + signal });
     }
     println!("{seconds} {memory} {greatest}");
 }

@@ -1,0 +1,279 @@
+"""What `bench/powercut` and `bench/images` share: archives by chance with runs of each command that writes, what has to stand where
+one of them was cut by a power cut, and that it goes on from there; and how such a script is called. It is no program by itself."""
+
+import collections
+import hashlib
+import os
+import random
+import shutil
+import signal
+import subprocess
+import sys
+import tempfile
+import time
+import traceback
+from dataclasses import dataclass, field
+from pathlib import Path
+
+from judging import LEDGER, Archive, Wrong, frame
+from plain_archive import Plain, stored_line
+
+TOP = Path(__file__).resolve().parent.parent
+# what is in each archive besides its create and its first put, in an order by chance
+RUNS = ["put", "ingest", "fence", "upgrade", "repair", "put", "repair"]
+SHAPES = [(1, 1, 0), (2, 2, 2), (2, 2, 3), (3, 2, 2), (3, 2, 5), (3, 3, 4)]
+
+
+@dataclass
+class Run:
+    """A run of a command that writes: what it has to tell, and what may stand where it is stopped. Behind the first state, `first`
+    are of a run of the same command before it that was killed, and of them it acknowledged `sure`."""
+
+    words: list
+    source: bytes = b""
+    wanted: tuple = ()
+    states: list = field(default_factory=list)
+    lines: list = field(default_factory=list)
+    objects: list = field(default_factory=list)
+    report: bytes = b""
+    restored: set = field(default_factory=set)
+    first: int = 0
+    sure: int = 0
+
+
+class Story(Archive):
+    """An archive by chance that commands write to, and what it has to hold after a power cut in one of them. Where `asks` is off, the
+    files alone are judged, and no program is run for it."""
+
+    def __init__(self, folder, program, seed, counts):
+        chance = random.Random(f"shape {seed}")
+        shape = (*chance.choice(SHAPES), chance.choice([16, 17, 64, 300, 1000, 5000]), chance.choice([1, 2, 3, 4, 5, 6, 11]))
+        super().__init__(folder, program, shape, counts)
+        self.seed, self.asks = seed, True
+
+    def told(self, words, wanted, source=b""):
+        if self.asks:
+            super().told(words, wanted, source)
+
+    def again_in(self, folder):
+        """The same archive where its files stand in another folder, or will."""
+        other = object.__new__(Story)
+        other.__dict__ |= self.__dict__
+        other.folder, other.files, other.log = folder, dict(self.files), []
+        return other
+
+    # the runs
+
+    def plan(self, what, chance):
+        """The next run of this command."""
+        if what == "create":
+            return Run(["create", *map(str, self.shape)], wanted=(0, self.made(), b""))
+        if what == "repair":
+            report, restored, counts = self.plain.report(self.damaged())
+            return Run(["repair"], wanted=(1 if counts[2] else 0, report, b""), report=report, restored=restored)
+        objects = []
+        for _ in range({"put": 1, "ingest": chance.randrange(1, 4)}.get(what, 0)):
+            length = chance.choice([0, 1, self.plain.block, chance.randrange(3 * self.plain.block + 2)])
+            objects.append((self.fresh_name(chance, [name for name, _ in objects]), chance.randbytes(length)))
+        return self.plan_of(what, objects)
+
+    def plan_of(self, what, objects):
+        """The run that adds these objects, a fence or a raise to the archive as it stands."""
+        if what == "ingest":
+            source, states, lines = b"", [self.plain], []
+            head = self.plain.head_damaged(set(range(len(self.plain.cells))) - self.damaged()) if objects else None
+            for name, content in objects:
+                source += frame(name, len(content), content)
+                if head is None:
+                    states.append(states[-1].copy())
+                    states[-1].add(name, content)
+                    lines.append(stored_line(name, content, self.plain.block))
+            status, out, err = (0, f"end {len(lines)}\n".encode(), b"") if head is None else self.refused(f"head damaged {self.plain.text(head)}")
+            return Run(["ingest"], source, (status, b"".join(lines) + out, err), states, lines, objects)
+        if what == "put":
+            wanted, after = self.expected_put(*objects[0])
+            words, source = ["put", objects[0][0]], objects[0][1]
+        else:
+            wanted, after = self.expected_fence() if what == "fence" else self.expected_upgrade()
+            words, source = [what], b""
+        return Run(words, source, wanted, [self.plain, after] if after else [self.plain], [wanted[1]] if after else [], objects)
+
+    def plan_again(self, run, told):
+        """The run of the same command where this one was killed and had printed this, and the files are as it left them: what was
+        under way may stand there, and is not sure yet."""
+        now = self.again_in(self.folder)
+        now.judge(run, told)
+        if run.words[0] == "create":
+            return Run(run.words, wanted=(0, self.made(), b"") if now.plain is None else self.refused("occupied"))
+        if run.words[0] == "repair":
+            again = now.plan("repair", None)
+            return Run(run.words, wanted=again.wanted, report=again.report, restored=run.restored)
+        at = next(k for k, it in enumerate(run.states) if it.ledger == now.plain.ledger)
+        again = now.plan_of(run.words[0], run.objects[at:] if run.words[0] == "ingest" else run.objects)
+        again.states, again.first, again.sure = [*run.states[:at], *again.states], at, sum(told[1].count(line) for line in run.lines)
+        return again
+
+    def damage(self, chance):
+        """Takes away and changes some of the files of the sites, and says which folders were changed."""
+        for _ in range(chance.choice([1, 1, 2])):
+            site = chance.choice(list(self.files))
+            content, folder = self.files[site], self.site(site).parent
+            what = chance.choice(["gone", "gone", "cut", "rot", "rot"])
+            if what == "gone" or not content:
+                self.lay(site, None)
+                if folder.is_dir() and not folder.is_symlink() and chance.random() < 0.5:
+                    shutil.rmtree(folder)
+            elif what == "cut":
+                self.lay(site, content[:chance.randrange(len(content))])
+            else:
+                content = bytearray(content)
+                for place in range(chance.randrange(self.plain.size), len(content), self.plain.size * chance.choice([1, 1, 2])):
+                    content[place] ^= chance.randrange(1, 256)
+                self.lay(site, bytes(content))
+
+    # what has to stand
+
+    def judge(self, run, told, how="cut"):
+        """Judges what stands where this run printed this and was stopped; its status is none where it had not ended."""
+        if told[0] is not None:
+            self.compare(run.words, told, run.wanted)
+        if run.words[0] == "create":
+            if not self.made_or_not(told, how, run.wanted[2]) and told[0] is not None:
+                raise Wrong(f"{run.words} has ended, and there is no archive")
+        elif run.words[0] == "repair":
+            self.mended_or_not(told, run.report, run.restored, how, torn=True)
+            self.stat_and_list()
+        else:
+            self.first_part(run.words, told, run.wanted, how)
+            self.land(run.words, told, run.states, run.lines, how, run.first, run.sure)
+
+    def finish(self, run, told):
+        """Judges what a whole run left, as it reads, and takes it."""
+        whole = self.with_cells(self.plain, run.restored) if run.restored else None
+        self.judge(run, told, "whole")
+        self.files = whole or self.files
+        self.look()
+
+    def go_on(self, run):
+        """The command goes on from what stands, and then the archive has to hold all of it, and to grow."""
+        what = run.words[0]
+        if what == "create":
+            again = Run(run.words, wanted=(0, self.made(), b"") if self.plain is None else self.refused("occupied"))
+            self.plain = self.plain or Plain(self.shape)
+            self.told(again.words, again.wanted)
+            self.ledger = self.plain.ledger + b"\x00"
+        elif what == "repair":
+            self.repaired()
+        else:
+            standing = len(self.plain.objects) - len(run.states[0].objects)
+            again = self.plan_of(what, run.objects[standing:] if what == "ingest" else run.objects)
+            self.told(again.words, again.wanted, again.source)
+            self.commit(again.states[-1])
+        self.look()
+        wanted, after = self.expected_put(b"behind the cut", b"it grows")
+        self.told(["put", b"behind the cut"], wanted, b"it grows")
+        if after:
+            self.commit(after)
+        self.look()
+        self.scrubbed()
+        damaged = self.damaged()
+        for name in sorted(self.plain.objects):
+            self.got(name, damaged)
+        self.look()
+
+
+# how the scripts are called
+
+class Bench:
+    """A script that tries archives for some minutes, each with a seed of its own, by `tried(bench, seed)`."""
+
+    def __init__(self, name, program, room):
+        self.name, self.program, self.room = name, program, room
+        self.counts, self.failures = collections.Counter(), 0
+
+    def failed(self, what, wrong):
+        self.failures += 1
+        print(f"FAILED {what}: {wrong}")
+        if not isinstance(wrong, Wrong):
+            traceback.print_exception(wrong, file=sys.stdout)
+        sys.stdout.flush()
+
+    def keep(self, folder, seed):
+        """Keeps the folder of a failure, where it is among the first ones."""
+        kept = Path("/tmp") / f"{self.name}-{seed}-{self.failures}"
+        if self.failures <= 10:
+            shutil.rmtree(kept, ignore_errors=True)
+            shutil.copytree(folder, kept, ignore_dangling_symlinks=True)
+            print(f"  its folder: {kept}", flush=True)
+
+    def show(self, minutes):
+        print(f"\n{minutes:.1f} minutes, kernel {os.uname().release}\n\n| what | how often |\n|---|---|")
+        for what in sorted(self.counts):
+            print(f"| {what} | {self.counts[what]} |")
+        print(f"\n{self.failures} failures", flush=True)
+
+
+def lacks(tools):
+    """Says what is missing, and ends with status 77, where this machine can't run the script."""
+    missing = [tool for tool in tools if shutil.which(tool) is None]
+    if sys.platform != "linux":
+        missing.append("Linux")
+    elif os.geteuid() != 0:
+        missing.append("to be root")
+    if missing:
+        print(f"not tried: needs {', '.join(missing)}")
+        sys.exit(77)
+
+
+def in_a_room_of_its_own():
+    """Begins the script once more where its mounts are its own, so that they go with it however it ends."""
+    if sys.argv[1:2] != ["--inside"]:
+        os.execvp("unshare", ["unshare", "--mount", "--propagation", "private", sys.executable, sys.argv[0], "--inside", *sys.argv[1:]])
+    del sys.argv[1]
+
+
+def main(name, begin, tried, control):
+    """`begin(bench)` makes ready, `control(bench)` shows that the script can fail, and `tried(bench, seed)` tries an archive. All of it
+    is in a folder in memory, which no other process sees."""
+    words = sys.argv[1:]
+    one = words[:1] == ["--one"]
+    if one:
+        words = ["0", *words[1:]]
+        if len(words) < 2:
+            sys.exit("which seed?")
+    minutes = float(words[0]) if words else 1
+    first = words[1] if len(words) > 1 else os.urandom(4).hex()
+    program = Path(words[2]).resolve() if len(words) > 2 else TOP / "out/aea"
+    signal.signal(signal.SIGTERM, lambda *_: sys.exit(143))
+    room = Path(tempfile.mkdtemp(prefix=f"{name}-"))
+    try:
+        subprocess.run(["mount", "-t", "tmpfs", "-o", "size=75%", "none", room], check=True)
+        bench = Bench(name, program, room)
+        begin(bench)
+        if len(words) < 3:
+            subprocess.run([TOP / "bin/prove"], check=True)
+        began, k = time.monotonic(), 0
+        print(f"seed {first}", flush=True)
+        try:
+            if not one:
+                control(bench)
+        except Exception as wrong:
+            bench.failed("the control", wrong)
+        while one or k == 0 or time.monotonic() - began < 60 * minutes:
+            seed = first if one else hashlib.sha256(f"{first} {k}".encode()).hexdigest()[:12]
+            before = bench.failures
+            try:
+                tried(bench, seed)
+            except Exception as wrong:
+                bench.failed(f"seed {seed}", wrong)
+            if bench.failures > before:
+                print(f"  bench/{name} --one {seed} {program}", flush=True)
+            bench.counts["archives"] += 1
+            k += 1
+            if one:
+                break
+        bench.show((time.monotonic() - began) / 60)
+    finally:
+        subprocess.run(["umount", "-l", "-R", room], check=False)
+        room.rmdir()
+    sys.exit(1 if bench.failures else 0)

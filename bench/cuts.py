@@ -220,6 +220,8 @@ def lacks(tools):
         missing.append("Linux")
     elif os.geteuid() != 0:
         missing.append("to be root")
+    elif not missing and subprocess.run(["unshare", "--mount", "mount", "-t", "tmpfs", "none", "/tmp"], capture_output=True).returncode != 0:
+        missing.append("the right to mount")
     if missing:
         print(f"not tried: needs {', '.join(missing)}")
         sys.exit(77)
@@ -244,7 +246,8 @@ def main(name, begin, tried, control):
     minutes = float(words[0]) if words else 1
     first = words[1] if len(words) > 1 else os.urandom(4).hex()
     program = Path(words[2]).resolve() if len(words) > 2 else TOP / "out/aea"
-    signal.signal(signal.SIGTERM, lambda *_: sys.exit(143))
+    for it in (signal.SIGTERM, signal.SIGINT, signal.SIGHUP):
+        signal.signal(it, lambda number, _: sys.exit(128 + number))
     room = Path(tempfile.mkdtemp(prefix=f"{name}-"))
     try:
         subprocess.run(["mount", "-t", "tmpfs", "-o", "size=75%", "none", room], check=True)

@@ -15,12 +15,14 @@ import traceback
 from dataclasses import dataclass, field
 from pathlib import Path
 
-from judging import LEDGER, Archive, Wrong, frame
+from judging import Archive, Wrong, frame, shortened
 from plain_archive import Plain, stored_line
 
 TOP = Path(__file__).resolve().parent.parent
 # what is in each archive besides its create and its first put, in an order by chance
 RUNS = ["put", "ingest", "fence", "upgrade", "repair", "put", "repair"]
+# of so many failures the folders are kept, and so many are printed
+KEPT, PRINTED = 10, 200
 SHAPES = [(1, 1, 0), (2, 2, 2), (2, 2, 3), (3, 2, 2), (3, 2, 5), (3, 3, 4)]
 
 
@@ -39,6 +41,9 @@ class Run:
     restored: set = field(default_factory=set)
     first: int = 0
     sure: int = 0
+
+    def briefly(self):
+        return f"{self.words[0]} {shortened(b' '.join(it.encode() if isinstance(it, str) else it for it in self.words[1:]), 20)!r}"
 
 
 class Story(Archive):
@@ -193,6 +198,8 @@ class Bench:
 
     def failed(self, what, wrong):
         self.failures += 1
+        if self.failures > PRINTED:
+            return
         print(f"FAILED {what}: {wrong}")
         if not isinstance(wrong, Wrong):
             traceback.print_exception(wrong, file=sys.stdout)
@@ -201,7 +208,7 @@ class Bench:
     def keep(self, folder, seed):
         """Keeps the folder of a failure, where it is among the first ones."""
         kept = Path("/tmp") / f"{self.name}-{seed}-{self.failures}"
-        if self.failures <= 10:
+        if self.failures <= KEPT:
             shutil.rmtree(kept, ignore_errors=True)
             shutil.copytree(folder, kept, ignore_dangling_symlinks=True)
             print(f"  its folder: {kept}", flush=True)

@@ -28,8 +28,8 @@ def frame(name, length, content):
     return number(2, len(name)) + name + number(8, length) + content
 
 
-def shortened(text):
-    return text if len(text) < 600 else text[:300] + b" .. " + text[-300:]
+def shortened(text, most=300):
+    return text if len(text) < 2 * most else text[:most] + b" .. " + text[-most:]
 
 
 class Archive:

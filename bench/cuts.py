@@ -21,8 +21,8 @@ from plain_archive import Plain, stored_line
 TOP = Path(__file__).resolve().parent.parent
 # what is in each archive besides its create and its first put, in an order by chance
 RUNS = ["put", "ingest", "fence", "upgrade", "repair", "put", "repair"]
-# of so many failures the folders are kept, and so many are printed
-KEPT, PRINTED = 10, 200
+# of so many failures the folders are kept, so many are printed, and a line is printed after so many minutes
+KEPT, PRINTED, EACH = 10, 200, 10
 SHAPES = [(1, 1, 0), (2, 2, 2), (2, 2, 3), (3, 2, 2), (3, 2, 5), (3, 3, 4)]
 
 
@@ -241,48 +241,63 @@ def in_a_room_of_its_own():
     del sys.argv[1]
 
 
-def main(name, begin, tried, control):
-    """`begin(bench)` makes ready, `control(bench)` shows that the script can fail, and `tried(bench, seed)` tries an archive. All of it
-    is in a folder in memory, which no other process sees."""
+def called():
+    """The words of the call: whether one seed is to be tried, the minutes, the seed, and the program or none."""
     words = sys.argv[1:]
     one = words[:1] == ["--one"]
     if one:
         words = ["0", *words[1:]]
         if len(words) < 2:
             sys.exit("which seed?")
-    minutes = float(words[0]) if words else 1
-    first = words[1] if len(words) > 1 else os.urandom(4).hex()
-    program = Path(words[2]).resolve() if len(words) > 2 else TOP / "out/aea"
+    return one, float(words[0]) if words else 1, words[1] if len(words) > 1 else os.urandom(4).hex(), words[2] if len(words) > 2 else None
+
+
+def try_seeds(bench, one, minutes, first, tried):
+    """Tries the archives of one seed after the other, until the minutes are over."""
+    began, told, k = time.monotonic(), EACH, 0
+    while k == 0 or not one and time.monotonic() - began < 60 * minutes:
+        seed = first if one else hashlib.sha256(f"{first} {k}".encode()).hexdigest()[:12]
+        before = bench.failures
+        try:
+            tried(bench, seed)
+        except Exception as wrong:
+            bench.failed(f"seed {seed}", wrong)
+        if bench.failures > before:
+            print(f"  bench/{bench.name} --one {seed} {bench.program}", flush=True)
+        k += 1
+        bench.counts["seeds"] = k
+        if time.monotonic() - began > 60 * told:
+            print(f"{told} minutes: {k} seeds, {bench.counts['runs']} runs, {bench.failures} failures", flush=True)
+            told += EACH
+
+
+def main(name, begin, tried, control):
+    """`begin(bench)` makes ready, `control(bench)` shows that the script can fail, and `tried(bench, seed)` tries the archives of a seed.
+    All of it is in a folder in memory, which no other process sees."""
+    one, minutes, first, program = called()
     for it in (signal.SIGTERM, signal.SIGINT, signal.SIGHUP):
         signal.signal(it, lambda number, _: sys.exit(128 + number))
     room = Path(tempfile.mkdtemp(prefix=f"{name}-"))
     try:
         subprocess.run(["mount", "-t", "tmpfs", "-o", "size=75%", "none", room], check=True)
-        bench = Bench(name, program, room)
+        bench = Bench(name, Path(program).resolve() if program else TOP / "out/aea", room)
         begin(bench)
-        if len(words) < 3:
+        if not program:
             subprocess.run([TOP / "bin/prove"], check=True)
-        began, k = time.monotonic(), 0
+        began = time.monotonic()
         print(f"seed {first}", flush=True)
         try:
             if not one:
                 control(bench)
         except Exception as wrong:
             bench.failed("the control", wrong)
-        while one or k == 0 or time.monotonic() - began < 60 * minutes:
-            seed = first if one else hashlib.sha256(f"{first} {k}".encode()).hexdigest()[:12]
-            before = bench.failures
-            try:
-                tried(bench, seed)
-            except Exception as wrong:
-                bench.failed(f"seed {seed}", wrong)
-            if bench.failures > before:
-                print(f"  bench/{name} --one {seed} {program}", flush=True)
-            bench.counts["archives"] += 1
-            k += 1
-            if one:
-                break
-        bench.show((time.monotonic() - began) / 60)
+        try:
+            try_seeds(bench, one, minutes - (time.monotonic() - began) / 60, first, tried)
+        except SystemExit:
+            print("stopped by a signal", flush=True)
+            raise
+        finally:
+            bench.show((time.monotonic() - began) / 60)
     finally:
         subprocess.run(["umount", "-l", "-R", room], check=False)
         room.rmdir()

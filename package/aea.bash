@@ -1,0 +1,12 @@
+# Completion for bash of the words of aea: its commands, and of a put the name of a file, which is often the object's name.
+_aea() {
+    local word=${COMP_WORDS[COMP_CWORD]}
+    COMPREPLY=()
+    if [ "$COMP_CWORD" -eq 1 ]; then
+        mapfile -t COMPREPLY < <(compgen -W 'create put ingest get list stat scrub repair verify explain fence upgrade drill rehearse' -- "$word")
+    elif [ "$COMP_CWORD" -eq 2 ] && [ "${COMP_WORDS[1]}" = put ]; then
+        compopt -o filenames
+        mapfile -t COMPREPLY < <(compgen -f -- "$word")
+    fi
+}
+complete -F _aea aea

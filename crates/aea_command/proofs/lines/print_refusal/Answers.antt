@@ -40,6 +40,7 @@ returns-in-TooManyMessages g c = rw c.in-TooManyMessages.is c.print-in-TooManyMe
 
 pub returns-in-CopiesAreOn : goal.returns-in-CopiesAreOn
 returns-in-CopiesAreOn g c = rw c.in-CopiesAreOn.is c.print-in-CopiesAreOn.ensures
+
 pub returns-in_err-print_number-in-Full : goal.returns-in_err-print_number-in-Full
 returns-in_err-print_number-in-Full g c =
     rw c.in-Full.is (prints_stopped (codes " nodes\n") c.from_residual.ensures.0 (rw c.from-in-Full.ensures at c.in_err-print_number-in-Full.ensures))

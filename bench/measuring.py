@@ -142,16 +142,17 @@ class Programs:
         """The least processor seconds of so many runs, and their most memory in KiB."""
         return self.measured(words, folder, stdin, stdout, runs, most_status)[:2]
 
-    def make_archive(self, folder, shape, nodes=0):
-        """Makes a folder and an archive of this shape in it, with a raise of the limit where so many nodes need one."""
+    def make_archive(self, folder, shape, raised=False):
+        """Makes a folder and an archive of this shape in it, with a raise of the limit or without."""
         folder.mkdir()
         self.run([self.aea, "create", *map(str, shape)], folder)
-        if nodes > LIMIT:
+        if raised:
             self.run([self.aea, "upgrade"], folder)
 
-    def make_filled_archive(self, folder, shape, size):
-        """Makes an archive with one object by chance, of so many bytes; the file with these is given, and stands in its folder."""
-        self.make_archive(folder, shape, -(-size // shape[3]))
+    def make_filled_archive(self, folder, shape, size, raised=False):
+        """Makes an archive with one object by chance, of so many bytes, with a raise of the limit also where it needs one. The file
+        with these bytes is given, and stands in its folder."""
+        self.make_archive(folder, shape, raised or -(-size // shape[3]) > LIMIT)
         source = folder / "source"
         fill(source, size)
         self.run([self.aea, "put", "object"], folder, source)

@@ -2,7 +2,7 @@
 //! their cells stand. Each of the programs uses a part of it.
 #![allow(dead_code)]
 
-use std::fmt::{Display, Formatter, Result};
+use std::fmt::{Display, Formatter, Result, Write};
 
 /// The letters of the classes in the texts of blocks.
 pub const LETTERS: [char; 4] = ['d', 'h', 'r', 'l'];
@@ -15,7 +15,8 @@ pub struct Text {
 
 impl Display for Text {
     fn fmt(&self, to: &mut Formatter) -> Result {
-        write!(to, "{}{}", self.letter, self.node)
+        to.write_char(self.letter)?;
+        self.node.fmt(to)
     }
 }
 
@@ -88,9 +89,17 @@ impl Lattice {
     pub fn block(&self, text: &[u8], nodes: usize) -> Option<usize> {
         let (letter, digits) = text.split_first()?;
         let class = LETTERS[..self.classes()].iter().position(|it| *it as u8 == *letter)?;
-        let is_number = digits.iter().all(u8::is_ascii_digit) && digits.len() <= 10 && *digits.first()? != b'0';
-        let node = digits.iter().fold(0, |sum, digit| 10 * sum + usize::from(digit.wrapping_sub(b'0')));
-        (is_number && node <= nodes).then(|| self.number(node, class))
+        if digits.is_empty() || digits[0] == b'0' || digits.len() > 10 {
+            return None;
+        }
+        let mut node = 0;
+        for digit in digits {
+            if !digit.is_ascii_digit() {
+                return None;
+            }
+            node = 10 * node + usize::from(digit - b'0');
+        }
+        (node <= nodes).then(|| self.number(node, class))
     }
 }
 

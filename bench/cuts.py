@@ -194,9 +194,19 @@ class Bench:
 
     def __init__(self, name, program, room):
         self.name, self.program, self.room = name, program, room
-        self.counts, self.failures = collections.Counter(), 0
+        self.counts, self.failures, self.stopped = collections.Counter(), 0, 0
+        for it in (signal.SIGTERM, signal.SIGINT, signal.SIGHUP):
+            signal.signal(it, self.stop)
+
+    def stop(self, number, _):
+        """Ends the script at a signal."""
+        self.stopped = number
+        sys.exit(128 + number)
 
     def failed(self, what, wrong):
+        if self.stopped:
+            # an end in the middle of a call may come here as another exception
+            sys.exit(128 + self.stopped)
         self.failures += 1
         if self.failures > PRINTED:
             return

@@ -32,9 +32,8 @@ bytes_then a b c p q r (Ok v) x y one two = gathers_then a b c p q r x y one two
 bytes_then a b c p q r (Err e) x y one two =
     rw (← regroup p q x y one.0 one.2) (AppendsPart-then a.written b.written c.written one.0 (q ++ y) one.1 two)
 
-cause_then : {T E : Type 0} (a b c : ℕ) (result : Result T E) → a ≤ b → HasCause b c result → HasCause a c result
-cause_then a b c (Ok v) le cause = let k = cause.kept in record { kept = omega arith; rose = tt }
-cause_then a b c (Err e) le cause = let k = cause.kept in let r : Rose b c = cause.rose in record { kept = omega arith; rose = omega arith }
+cause_then : {T E : Type 0} (a b c : ℕ) (result : Result T E) → b ≡ a → HasCause b c result → HasCause a c result
+cause_then a b c result same cause = subst (λ (n : ℕ). HasCause n c result) same cause
 
 -- a piece, and then another, is both
 pub prints_then : {T U E F : Type 0} {a b c : SinkState} {p q r : List ℕ} {one : T} {result : Result U E} {x y : List ℕ} → Prints {E = F} a p b q (Ok one) x → Prints b q c r result y → Prints a p c r result (x ++ y)
@@ -49,7 +48,7 @@ prints_then {a} {b} {c} {p} {q} {r} {result} {x} {y} first second =
           let m = second.left l.0 l.1 (omega arith) in let me = m.2 in
           (m.0, m.1, omega arith);
       steady = λ room told enough. let l = first.left room told (omega arith) in let le = l.2 in second.steady l.0 l.1 (omega arith) ∙ first.steady room told (omega arith);
-      cause = cause_then a.faults b.faults c.faults result first.cause.kept second.cause;
+      cause = cause_then a.faults b.faults c.faults result first.cause.still second.cause;
     }
 
 -- nothing more is printed
@@ -62,9 +61,9 @@ stopped_bytes : {T E : Type 0} (a b : SinkState) (p q : List ℕ) (result : Resu
 stopped_bytes a b p q (Ok v) x y stopped part = absurd (false≢true stopped)
 stopped_bytes a b p q (Err f) x y stopped part = rw (← append_assoc p x y) (AppendsPart-first a.written b.written (p ++ x) y part)
 
-stopped_cause : {T E : Type 0} (a b : ℕ) (result : Result T E) → a ≤ b → Rose a b → HasCause a b result
-stopped_cause a b (Ok v) kept rose = record { kept = kept; rose = tt }
-stopped_cause a b (Err f) kept rose = record { kept = kept; rose = rose }
+stopped_cause : {T E : Type 0} (a b : ℕ) (result : Result T E) → IsErr result → a ≤ b → Rose a b → HasCause a b result
+stopped_cause a b (Ok v) stopped kept rose = absurd (false≢true stopped)
+stopped_cause a b (Err f) stopped kept rose = record { kept = kept; rose = rose; still = tt }
 
 -- a write failed before a further piece
 pub prints_stopped : {T U E F : Type 0} {a b : SinkState} {p q : List ℕ} {e : E} {result : Result U F} {x : List ℕ} (y : List ℕ) → IsErr result → Prints {T = T} a p b q (Err e) x → Prints a p b q result (x ++ y)
@@ -75,7 +74,7 @@ prints_stopped {a} {b} {p} {q} {result} {x} y stopped first =
       fits = λ room told enough. absurd (false≢true (first.fits room told (omega arith)));
       left = λ room told enough. absurd (false≢true (first.fits room told (omega arith)));
       steady = λ room told enough. absurd (false≢true (first.fits room told (omega arith)));
-      cause = stopped_cause a.faults b.faults result first.cause.kept first.cause.rose;
+      cause = stopped_cause a.faults b.faults result stopped first.cause.kept first.cause.rose;
     }
 
 failed_bytes : {T E : Type 0} (a b : SinkState) (p q : List ℕ) (result : Result T E) (x : List ℕ) → IsErr result → AppendsPart a.written b.written (p ++ x)
@@ -91,12 +90,12 @@ prints_failed {a} {b} {p} {r} {result} {x} failed first =
       fits = λ room told enough. absurd (false≢true (first.fits room told enough));
       left = λ room told enough. absurd (false≢true (first.fits room told enough));
       steady = λ room told enough. absurd (false≢true (first.fits room told enough));
-      cause = stopped_cause a.faults b.faults result first.cause.kept first.cause.rose;
+      cause = stopped_cause a.faults b.faults result failed first.cause.kept first.cause.rose;
     }
 
 -- another answer with what is printed
 pub prints_as : {T U E F : Type 0} {a b : SinkState} {p q : List ℕ} {v : T} {x : List ℕ} (u : U) → Prints {E = E} a p b q (Ok v) x → Prints {E = F} a p b q (Ok u) x
-prints_as u first = record { bytes = first.bytes; fits = λ room told enough. refl; left = first.left; steady = first.steady; cause = record { kept = first.cause.kept; rose = tt } }
+prints_as u first = record { bytes = first.bytes; fits = λ room told enough. refl; left = first.left; steady = first.steady; cause = record { kept = first.cause.kept; rose = tt; still = first.cause.still } }
 
 -- nothing is printed
 pub prints_none : {T E : Type 0} (a : SinkState) (p : List ℕ) (v : T) → Prints {E = E} a p a p (Ok v) []
@@ -107,7 +106,7 @@ prints_none a p v =
       fits = λ room told enough. refl;
       left = λ room told enough. (room, told, omega arith);
       steady = λ room told enough. refl;
-      cause = record { kept = omega arith; rose = tt };
+      cause = record { kept = omega arith; rose = tt; still = refl };
     }
 
 -- all of the page is written

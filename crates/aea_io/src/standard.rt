@@ -12,13 +12,13 @@ use std::io::{ErrorKind, Read, Write};
 // How often a call that was interrupted is made again.
 const RETRIES: u32 = 100;
 
-/// A source over a reader of std. It tells what the reader tells, and counts each Err of the reader. A read that was
-/// interrupted is made again, 100 times at most.
+/// A source over a reader of std. It tells what the reader tells, and counts each read that answers a fault. A read that was
+/// interrupted is made again, 100 times at most, and is a fault only where it is interrupted once more.
 #[derive(Drop)]
 pub struct StdSource<R> {
     /// The reader.
     pub reader: R,
-    /// How often the reader answered Err. The count stops at the greatest u64.
+    /// How often a read answered a fault. The count stops at the greatest u64.
     pub faults: u64,
 }
 
@@ -35,17 +35,22 @@ impl<R: Read> StdSource<R> {
     fn read_once(&mut self, buf: &mut [u8]) -> Result<usize, ErrorKind>
         ensures bound { ReadsAtMost result buf.new }
         ensures bytes { ReadConsumes (R.remaining self.old.reader) (R.remaining self.new.reader) result buf.new }
-        ensures steady { OnOk result (self.new.faults ≡ self.old.faults) }
-        ensures counted { OnErr result (self.new.faults ≡ min (self.old.faults + 1) (2 ^ 64 - 1)) }
-        ensures cause { HasCause self.old.faults self.new.faults result }
+        ensures steady { self.new.faults ≡ self.old.faults }
     {
         match self.reader.read(buf) {
-            Ok(count) => Ok(count),
-            Err(error) => {
-                self.faults = risen(self.faults);
-                Err(error.kind())
-            }
+            Ok(taken) => Ok(taken),
+            Err(error) => Err(error.kind()),
         }
+    }
+
+    // Counts a fault, and gives it.
+    fn fault(&mut self) -> ReadFault
+        ensures counted { self.new.faults ≡ min (self.old.faults + 1) (2 ^ 64 - 1) }
+        ensures kept { self.old.faults ≤ self.new.faults }
+        ensures reader { self.new.reader ≡ self.old.reader }
+    {
+        self.faults = risen(self.faults);
+        ReadFault
     }
 }
 
@@ -57,21 +62,25 @@ impl<R: Read> Source for StdSource<R> {
             match self.read_once(buf) {
                 Ok(count) => return Ok(count),
                 Err(ErrorKind::Interrupted) => {}
-                Err(_) => return Err(ReadFault),
+                Err(_) => return Err(self.fault()),
             }
         }
-        self.read_once(buf).map_err(|_| ReadFault)
+        match self.read_once(buf) {
+            Ok(count) => Ok(count),
+            Err(_) => Err(self.fault()),
+        }
     }
 }
 
-/// A sink over a writer of std. It tells what the writer tells, holds no bytes of its own, and counts each Err of the
-/// writer, and each write in which the writer takes nothing of a piece that is not empty. A write that was interrupted
-/// is made again, 100 times at most; an interrupted flush is a fault.
+/// A sink over a writer of std. It tells what the writer tells, holds no bytes of its own, and counts each write and flush
+/// that answers a fault. A write in which the writer takes nothing of a piece that is not empty is a fault. One that was
+/// interrupted is made again, 100 times at most, and is a fault only where it is interrupted once more; an interrupted
+/// flush is a fault.
 #[derive(Drop)]
 pub struct StdSink<W> {
     /// The writer.
     pub writer: W,
-    /// How often the writer answered Err or took nothing. The count stops at the greatest u64.
+    /// How often a write or a flush answered a fault. The count stops at the greatest u64.
     pub faults: u64,
 }
 
@@ -89,17 +98,23 @@ impl<W: Write> StdSink<W> {
         ensures bound { WritesAtMost result bytes.now }
         ensures progress { IfOk result (λ k. 0 < length bytes.now → 0 < k) }
         ensures bytes { WriteAppends (W.contents self.old.writer) (W.contents self.new.writer) result bytes.now }
-        ensures steady { OnOk result (self.new.faults ≡ self.old.faults) }
-        ensures counted { OnErr result (self.new.faults ≡ min (self.old.faults + 1) (2 ^ 64 - 1)) }
-        ensures cause { HasCause self.old.faults self.new.faults result }
+        ensures steady { self.new.faults ≡ self.old.faults }
     {
-        let kind = match self.writer.write(bytes) {
-            Ok(count) if count > 0 || bytes.is_empty() => return Ok(count),
-            Ok(_) => ErrorKind::WriteZero,
-            Err(error) => error.kind(),
-        };
+        match self.writer.write(bytes) {
+            Ok(count) if count > 0 || bytes.is_empty() => Ok(count),
+            Ok(_) => Err(ErrorKind::WriteZero),
+            Err(error) => Err(error.kind()),
+        }
+    }
+
+    // Counts a fault, and gives it.
+    fn fault(&mut self) -> WriteFault
+        ensures counted { self.new.faults ≡ min (self.old.faults + 1) (2 ^ 64 - 1) }
+        ensures kept { self.old.faults ≤ self.new.faults }
+        ensures writer { self.new.writer ≡ self.old.writer }
+    {
         self.faults = risen(self.faults);
-        Err(kind)
+        WriteFault
     }
 
     // One flush of the writer.
@@ -111,10 +126,7 @@ impl<W: Write> StdSink<W> {
     {
         match self.writer.flush() {
             Ok(()) => Ok(()),
-            Err(_) => {
-                self.faults = risen(self.faults);
-                Err(WriteFault)
-            }
+            Err(_) => Err(self.fault()),
         }
     }
 }
@@ -127,10 +139,13 @@ impl<W: Write> Sink for StdSink<W> {
             match self.write_once(bytes) {
                 Ok(count) => return Ok(count),
                 Err(ErrorKind::Interrupted) => {}
-                Err(_) => return Err(WriteFault),
+                Err(_) => return Err(self.fault()),
             }
         }
-        self.write_once(bytes).map_err(|_| WriteFault)
+        match self.write_once(bytes) {
+            Ok(count) => Ok(count),
+            Err(_) => Err(self.fault()),
+        }
     }
 
     fn flush(&mut self) -> Result<(), WriteFault> {

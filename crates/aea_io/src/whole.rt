@@ -1,6 +1,6 @@
 //! Inputs that are read whole.
 
-ghost use Rattle.std.specs.Prelude.{◌≡◌, ◌+◌, ◌++◌, ◌<◌, ◌≤◌, length, IfOk, OnOk, vec_len};
+ghost use Rattle.std.specs.Prelude.{◌≢◌, ◌≡◌, ◌+◌, ◌++◌, ◌<◌, ◌≤◌, length, IfOk, OnOk, vec_len};
 ghost use Rattle.std.specs.Io.KnownBytes.{Consumes, IsAtEnd};
 ghost use Rattle.aea_faults.specs.Faults.{Rose};
 ghost use Rattle.aea_io.specs.Taken.{TakesAtMost};
@@ -46,6 +46,7 @@ pub fn read_whole<S: Source>(
     ensures most { TakesAtMost (S.state input.old).left (S.state input.new).left (limit + 1) }
     ensures kept { (S.state input.old).faults ≤ (S.state input.new).faults }
     ensures cause { result ≡ Err WholeFault.ReadFault → Rose (S.state input.old).faults (S.state input.new).faults }
+    ensures still { result ≢ Err WholeFault.ReadFault → (S.state input.new).faults ≡ (S.state input.old).faults }
 {
     let mut whole = Vec::new(alloc);
     let mut buf = [0; PIECE];

@@ -1,4 +1,4 @@
-use Rattle.std.proofs.Common.{rules, length, ◌≡◌, ◌-◌, ◌≤◌, take, drop, sym, ◌∙◌, subst, arith}
+use Rattle.std.proofs.Common.{length, ◌≡◌, ◌-◌, ◌≤◌, take, drop, sym, ◌∙◌, subst, arith}
 use Rattle.std.proofs.lemmas.List.{length-drop, length-take-le}
 use Rattle.std.specs.Io.KnownBytes.{Consumes}
 use Rattle.std.proofs.KnownBytes.{Consumes-trans}
@@ -20,5 +20,5 @@ loop-done-preserved g c =
       within = omega arith;
       taken = subst (Consumes old new) (sym (filled-more s.buf c.read.new.buf s.done rest c.in_ok-count.count s.invariant.within few))
           (Consumes-trans old _ new _ _ s.invariant.taken c.in_ok-count.ensures.bytes.0);
-      kept = search rules;
+      still = c.in_ok-count.ensures.cause.still ∙ s.invariant.still;
     }

@@ -23,8 +23,5 @@ loop-done-preserved g c =
           let before = c.loop-done.invariant.left room e in
           let after = c.in_ok-done.ensures.in_room.left (room - c.loop-done.done) before.1 in
           (omega (arith, before.0, after.0), after.1 ∙ ap Some (omega (arith, before.0, after.0)));
-      steady = λ room e.
-          let before = c.loop-done.invariant.left room e in
-          c.in_ok-done.ensures.in_room.steady (room - c.loop-done.done) before.1 ∙ c.loop-done.invariant.steady room e;
-      counted = search rules;
+      still = c.in_ok-done.ensures.cause.still ∙ c.loop-done.invariant.still;
     }

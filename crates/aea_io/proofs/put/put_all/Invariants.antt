@@ -9,8 +9,7 @@ invariant-loop-done g l = record {
   appended : Appends (g.O.Sink.state l.fn.sink).written (g.O.Sink.state l.sink).written (take l.done l.bytes);
   flushed : StaysFlushed (g.O.Sink.state l.fn.sink) (g.O.Sink.state l.sink);
   left : (room : ℕ) → (g.O.Sink.state l.fn.sink).room ≡ Some room → (l.done ≤ room) × ((g.O.Sink.state l.sink).room ≡ Some (room - l.done));
-  steady : (room : ℕ) → (g.O.Sink.state l.fn.sink).room ≡ Some room → (g.O.Sink.state l.sink).faults ≡ (g.O.Sink.state l.fn.sink).faults;
-  counted : (g.O.Sink.state l.fn.sink).faults ≤ (g.O.Sink.state l.sink).faults;
+  still : (g.O.Sink.state l.sink).faults ≡ (g.O.Sink.state l.fn.sink).faults;
 }
 
 abbrev pub decreases-loop-done : goal.decreases-loop-done

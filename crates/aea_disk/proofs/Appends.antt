@@ -86,6 +86,9 @@ lists_time old new call more logged lists =
           let same = goes_images (events_of old.calls old.bytes) (events_of new.calls new.bytes) (length old.calls) (event_of new.bytes call) goes t early in
           (λ here. (early, subst (λ (P : Files → Type 0). P c) same here.1), λ here. (omega (arith, size), subst (λ (P : Files → Type 0). P c) (sym same) here.1));
       room = λ f n has. has;
+      beneath = omega (arith, lists.faults);
+      syncs = λ b has. has;
+      free = λ is. is;
     }
 
 pub lists_settled : (old new : Log) (call : Call) (more : List ℕ) → Lists old new call more → Settles (log_state old) (log_state new)

@@ -1,11 +1,41 @@
 -- How frames of calls go together: calls that only read, and calls that change the files by one step.
-use Rattle.std.proofs.Common.{◌≡◌, ◌≢◌, ℕ, ◌+◌, ◌≤◌, List, length, Result, Ok, Err, IsErr, OnOk, OnErr, refl, sym, ap, subst, ◌∙◌, inl, inr, arith}
+use Rattle.std.proofs.Common.{◌≡◌, ◌≢◌, ◌⊎◌, ⊎_elim, ℕ, ◌+◌, ◌-◌, ◌^◌, ◌<◌, ◌≤◌, min, List, length, Result, Ok, Err, IsOk, IsErr, OnOk, OnErr, refl, sym, ap, subst, ◌∙◌, inl, inr, arith}
+use Rattle.std.proofs.lemmas.Bool.{cases_lt}
 use Rattle.aea_faults.specs.Faults.{Rose, HasCause}
 use Rattle.aea_disk.specs.Files.{Files, ChangesFile, Holds, Torn, IsCut, MayBeCut, KeepsFiles}
 use Rattle.aea_disk.specs.Steps.{holds_torn, changes_wider}
-use Rattle.aea_disk.specs.State.{State, Passes, Follows, KeepsImages, Settles, HasEarlier, HasRoom, HasRoomTo, NeverFails, IsSure, IsSynced, KeepsOthers, KeepsWhere}
+use Rattle.aea_disk.specs.State.{State, Passes, Follows, KeepsImages, Settles, IsReady, IsRoomy, KeepsTaking, IsSure, IsSynced, KeepsOthers, KeepsWhere}
 use Rattle.aea_disk.specs.Frames.{OnlyReads, OnlyWrites}
-use Rattle.aea_disk.proofs.Moments.{passes_none, passes_both, during_none, during_both, during_kept, during_end, during_then_kept, earlier_none, earlier_step, earlier_kept, earlier_both}
+use Rattle.aea_disk.proofs.Moments.{passes_none, passes_both, during_none, during_both, during_then_kept, earlier_none, earlier_step, earlier_kept, earlier_both}
+
+-- what is taken, where the calls did not fail and left the files
+pub ready_later : (old mid : State) → mid.files ≡ old.files → KeepsTaking old mid → IsReady old → IsReady mid
+ready_later old mid same goes ready = (ready.0, subst (λ (c : Files). mid.takes 0 (c 0) ready.0) (sym same) (goes 0 (old.files 0) ready.0 ready.1))
+
+-- and the room
+pub roomy_later : (old mid : State) → mid.files ≡ old.files → Passes old mid → IsRoomy old → IsRoomy mid
+roomy_later old mid same time roomy = record {
+  some = (roomy.some.0, roomy.some.1, time.room roomy.some.0 roomy.some.1 roomy.some.2);
+  sync = subst (λ (c : Files). mid.keeps (c 0)) (sym same) (time.syncs (old.files 0) roomy.sync);
+}
+
+-- the count beneath rose in the first calls or in the later ones, or in neither
+rose_later : (a b c : ℕ) → a ≤ b → Rose b c → Rose a c
+rose_later a b c le rose = omega (arith, le, rose)
+
+rose_sooner : (a b c : ℕ) → Rose a b → b ≤ c → Rose a c
+rose_sooner a b c rose le = omega (arith, rose, le)
+
+-- the count rose, or not
+rose_or_not : (a b : ℕ) → Rose a b ⊎ (Rose a b → ⊥)
+rose_or_not a b = ⊎_elim (λ (less : b < min (a + 1) (2 ^ 64 - 1)). inr (λ (rose : Rose a b). absurd (omega (arith, less, rose)))) (λ (rose : min (a + 1) (2 ^ 64 - 1) ≤ b). inl rose) (cases_lt b (min (a + 1) (2 ^ 64 - 1)))
+
+-- where it did not rise in all, it rose neither before nor after
+not_before : (a b c : ℕ) → b ≤ c → (Rose a c → ⊥) → Rose a b → ⊥
+not_before a b c le still rose = still (rose_sooner a b c rose le)
+
+not_after : (a b c : ℕ) → a ≤ b → (Rose a c → ⊥) → Rose b c → ⊥
+not_after a b c le still rose = still (rose_later a b c le rose)
 
 -- no call, and no fault
 pub reads_none : (tells fault : Type 0) (s : State) → (fault → ⊥) → OnlyReads tells fault s s
@@ -16,23 +46,14 @@ reads_none tells fault s fine = record {
   earlier = earlier_none s;
   kept = omega arith;
   cause = λ is. absurd (fine is);
-  sure = λ room. (fine, refl);
-}
-
--- one call that did not fail
-pub reads_ok : (tells : Type 0) (old new : State) → (tells → new.files ≡ old.files) → KeepsImages old new → Settles old new → Passes old new → old.faults ≤ new.faults → (HasRoom old → new.faults ≡ old.faults) → OnlyReads tells ⊥ old new
-reads_ok tells old new contents crash settled time kept sure = record {
-  contents = contents;
-  crash = crash;
-  time = time;
-  earlier = earlier_kept old new crash settled time;
-  kept = kept;
-  cause = λ none. absurd none;
-  sure = λ room. (λ none. none, sure room);
+  still = λ _. refl;
+  sure = λ tell ready room. (fine, refl);
+  beneath = λ tell ready is. absurd (fine is);
+  goes = λ tell ready how file b at has. has;
 }
 
 -- one call, by the clauses of the disk
-pub reads_one : {T E : Type 0} (tells : Type 0) (old new : State) (result : Result T E) → (tells → new.files ≡ old.files) → KeepsImages old new → Settles old new → Passes old new → HasCause old.faults new.faults result → IsSure (HasRoom old) old new result → OnlyReads tells (IsErr result) old new
+pub reads_one : {T E : Type 0} (tells : Type 0) (old new : State) (result : Result T E) → (tells → new.files ≡ old.files) → KeepsImages old new → Settles old new → Passes old new → HasCause old.faults new.faults result → IsSure (tells × IsReady old) (IsRoomy old) old new result → OnlyReads tells (IsErr result) old new
 reads_one tells old new (Ok v) contents crash settled time cause sure = record {
   contents = contents;
   crash = crash;
@@ -40,7 +61,10 @@ reads_one tells old new (Ok v) contents crash settled time cause sure = record {
   earlier = earlier_kept old new crash settled time;
   kept = cause.kept;
   cause = λ none. absurd (cc);
-  sure = λ room. (λ none. cc, (sure room).1);
+  still = λ _. cause.still;
+  sure = λ tell ready room. (λ none. cc, (sure.sure (tell, ready) room).1);
+  beneath = λ tell ready none. absurd (cc);
+  goes = λ tell ready how. sure.goes;
 }
 reads_one tells old new (Err e) contents crash settled time cause sure = record {
   contents = contents;
@@ -49,62 +73,86 @@ reads_one tells old new (Err e) contents crash settled time cause sure = record 
   earlier = earlier_kept old new crash settled time;
   kept = cause.kept;
   cause = λ is. cause.rose;
-  sure = λ room. (λ is. let ok = (sure room).0 in cc, (sure room).1);
+  still = λ fine. absurd (fine refl);
+  sure = λ tell ready room. (λ is. let ok = (sure.sure (tell, ready) room).0 in cc, (sure.sure (tell, ready) room).1);
+  beneath = λ tell ready is. sure.beneath (tell, ready);
+  goes = λ tell ready how.
+      ⊎_elim
+      (λ (room : IsRoomy old). let ok = (sure.sure (tell, ready) room).0 in absurd (cc))
+      (λ (still : Rose old.beneath new.beneath → ⊥). absurd (still (sure.beneath (tell, ready)))) how;
 }
 
--- one call that failed, whatever is then answered
-pub reads_failed : {T E : Type 0} (tells fault : Type 0) (old new : State) (result : Result T E) → IsErr result → (tells → new.files ≡ old.files) → KeepsImages old new → Settles old new → Passes old new → HasCause old.faults new.faults result → IsSure (HasRoom old) old new result → OnlyReads tells fault old new
-reads_failed tells fault old new (Ok v) failed contents crash settled time cause sure = absurd (cc)
-reads_failed tells fault old new (Err e) failed contents crash settled time cause sure = record {
-  contents = contents;
-  crash = crash;
-  time = time;
-  earlier = earlier_kept old new crash settled time;
-  kept = cause.kept;
-  cause = λ is. cause.rose;
-  sure = λ room. (λ is. let ok = (sure room).0 in cc, (sure room).1);
-}
-
--- one call that did not fail, where no fault is answered
-pub reads_made : {T E : Type 0} (tells fault : Type 0) (old new : State) (result : Result T E) → (fault → ⊥) → (tells → new.files ≡ old.files) → KeepsImages old new → Settles old new → Passes old new → HasCause old.faults new.faults result → IsSure (HasRoom old) old new result → OnlyReads tells fault old new
-reads_made tells fault old new result fine contents crash settled time cause sure = record {
-  contents = contents;
-  crash = crash;
-  time = time;
-  earlier = earlier_kept old new crash settled time;
-  kept = cause.kept;
-  cause = λ is. absurd (fine is);
-  sure = λ room. (fine, (sure room).1);
-}
-
--- another name for the fault
-pub reads_as : (tells fault other : Type 0) (old new : State) → (other → fault) → OnlyReads tells fault old new → OnlyReads tells other old new
-reads_as tells fault other old new so reads = record {
+-- another name for the fault: it is answered where the calls failed, and only there
+pub reads_as : (tells fault other : Type 0) (old new : State) → (other → fault) → (fault → other) → OnlyReads tells fault old new → OnlyReads tells other old new
+reads_as tells fault other old new so back reads = record {
   contents = reads.contents;
   crash = reads.crash;
   time = reads.time;
   earlier = reads.earlier;
   kept = reads.kept;
   cause = λ is. reads.cause (so is);
-  sure = λ room. (λ is. (reads.sure room).0 (so is), (reads.sure room).1);
+  still = λ fine. reads.still (λ is. fine (back is));
+  sure = λ tell ready room. (λ is. (reads.sure tell ready room).0 (so is), (reads.sure tell ready room).1);
+  beneath = λ tell ready is. reads.beneath tell ready (so is);
+  goes = reads.goes;
 }
 
--- a fault, whatever is then answered
-pub reads_faulted : (tells fault other : Type 0) (old new : State) → OnlyReads tells fault old new → fault → OnlyReads tells other old new
-reads_faulted tells fault other old new reads is = reads_as tells fault other old new (λ _. is) reads
+-- what is Ok is no error
+pub ok_not_err : {T E : Type 0} (result : Result T E) → IsOk result → IsErr result → ⊥
+ok_not_err (Ok v) ok failed = absurd (cc)
+ok_not_err (Err e) ok failed = absurd (cc)
+
+-- and so is a result of which one knows that it is Ok
+pub ok_fine : {T E : Type 0} {result : Result T E} {v : T} → result ≡ Ok v → IsErr result → ⊥
+ok_fine {T} {E} {result} {v} ok failed = ok_not_err {E = E} (Ok v) refl (subst IsErr ok failed)
+
+-- one call that did not fail, where no fault is answered
+pub reads_made : {T E : Type 0} (tells fault : Type 0) (old new : State) (result : Result T E) → IsOk result → (fault → ⊥) → (tells → new.files ≡ old.files) → KeepsImages old new → Settles old new → Passes old new → HasCause old.faults new.faults result → IsSure (tells × IsReady old) (IsRoomy old) old new result → OnlyReads tells fault old new
+reads_made tells fault old new result ok fine contents crash settled time cause sure =
+    reads_as tells (IsErr result) fault old new (λ is. absurd (fine is)) (λ failed. absurd (ok_not_err result ok failed)) (reads_one tells old new result contents crash settled time cause sure)
+
+-- a fault, and another that is answered
+pub reads_faulted : (tells fault other : Type 0) (old new : State) → OnlyReads tells fault old new → fault → other → OnlyReads tells other old new
+reads_faulted tells fault other old new reads is also = reads_as tells fault other old new (λ _. is) (λ _. also) reads
+
+-- one call that failed, and a fault that is answered
+pub reads_failed : {T E : Type 0} (tells fault : Type 0) (old new : State) (result : Result T E) → IsErr result → fault → (tells → new.files ≡ old.files) → KeepsImages old new → Settles old new → Passes old new → HasCause old.faults new.faults result → IsSure (tells × IsReady old) (IsRoomy old) old new result → OnlyReads tells fault old new
+reads_failed tells fault old new result failed is contents crash settled time cause sure =
+    reads_as tells (IsErr result) fault old new (λ _. failed) (λ _. is) (reads_one tells old new result contents crash settled time cause sure)
+
+-- a call that fits, or after which the count beneath stands, did not fail
+made_goes : {T E : Type 0} (taken fits : Type 0) (old new : State) (result : Result T E) → IsSure taken fits old new result → taken → fits ⊎ (Rose old.beneath new.beneath → ⊥) → KeepsTaking old new
+made_goes taken fits old new (Ok v) sure is how = sure.goes
+made_goes taken fits old new (Err e) sure is how =
+    ⊎_elim
+    (λ (fit : fits). let ok = (sure.sure is fit).0 in absurd (cc))
+    (λ (still : Rose old.beneath new.beneath → ⊥). absurd (still (sure.beneath is))) how
 
 -- calls without a fault, and others
-pub reads_both : (tells first second : Type 0) (old mid new : State) → OnlyReads tells first old mid → OnlyReads tells second mid new → OnlyReads tells second old new
-reads_both tells first second old mid new early late = record {
+pub reads_both : (tells first second : Type 0) (old mid new : State) → (first → ⊥) → OnlyReads tells first old mid → OnlyReads tells second mid new → OnlyReads tells second old new
+reads_both tells first second old mid new fine early late = record {
   contents = λ tell. late.contents tell ∙ early.contents tell;
   crash = during_then_kept old mid new (old.image old.moment) early.time late.time late.crash early.crash;
   time = passes_both old mid new early.time late.time;
   earlier = earlier_both old mid new early.time late.time early.earlier late.earlier;
   kept = omega (arith, early.kept, late.kept);
   cause = λ is. let rose : Rose mid.faults new.faults = late.cause is in omega (arith, early.kept, rose);
-  sure = λ room.
-      let later : HasRoom mid = (room.0, room.1, early.time.room room.0 room.1 room.2) in
-      ((late.sure later).0, (late.sure later).1 ∙ (early.sure room).1);
+  still = λ none. late.still none ∙ early.still fine;
+  sure = λ tell ready room.
+      let goes = early.goes tell ready (inl room) in
+      let then = late.sure tell (ready_later old mid (early.contents tell) goes ready) (roomy_later old mid (early.contents tell) early.time room) in
+      (then.0, then.1 ∙ (early.sure tell ready room).1);
+  beneath = λ tell ready is.
+      ⊎_elim
+      (λ (rose : Rose old.beneath mid.beneath). rose_sooner old.beneath mid.beneath new.beneath rose late.time.beneath)
+      (λ (still : Rose old.beneath mid.beneath → ⊥).
+      let goes = early.goes tell ready (inr still) in
+      rose_later old.beneath mid.beneath new.beneath early.time.beneath (late.beneath tell (ready_later old mid (early.contents tell) goes ready) is))
+      (rose_or_not old.beneath mid.beneath);
+  goes = λ tell ready how.
+      let one = early.goes tell ready (⊎_elim (λ (room : IsRoomy old). inl room) (λ (still : Rose old.beneath new.beneath → ⊥). inr (not_before old.beneath mid.beneath new.beneath late.time.beneath still)) how) in
+      let two = late.goes tell (ready_later old mid (early.contents tell) one ready) (⊎_elim (λ (room : IsRoomy old). inl (roomy_later old mid (early.contents tell) early.time room)) (λ (still : Rose old.beneath new.beneath → ⊥). inr (not_after old.beneath mid.beneath new.beneath early.time.beneath still)) how) in
+      λ file b at has. two file b at (one file b at has);
 }
 
 -- what is sure stays sure
@@ -113,61 +161,60 @@ reads_synced tells fault old new tell reads synced = λ c here f.
     synced c (reads.crash new.moment c reads.time.later (omega arith) here) f ∙ sym (ap (λ (files : Files). files f) (reads.contents tell))
 
 -- calls that only read take any step that may leave the files
-pub reads_writes : (tells fits fault : Type 0) (step : Files → Files → Type 0) (old new : State) → (fits → HasRoom old) → ((c : Files) → step c c) → OnlyReads tells fault old new → OnlyWrites tells fits fault step old new
-reads_writes tells fits fault step old new room none reads = record {
+pub reads_writes : (tells taken fits fault : Type 0) (step : Files → Files → Type 0) (old new : State) → (taken → IsReady old) → (fits → IsRoomy old) → ((c : Files) → step c c) → OnlyReads tells fault old new → OnlyWrites tells taken fits fault step old new
+reads_writes tells taken fits fault step old new ready room none reads = record {
   contents = λ tell. subst (step old.files) (sym (reads.contents tell)) (none old.files);
   crash = λ t c from to here. (c, reads.crash t c from to here, none c);
   time = reads.time;
   earlier = reads.earlier;
   kept = reads.kept;
   cause = reads.cause;
-  sure = λ fit. reads.sure (room fit);
+  still = reads.still;
+  sure = λ tell is fit. reads.sure tell (ready is) (room fit);
+  beneath = λ tell is. reads.beneath tell (ready is);
+  goes = λ tell is how. reads.goes tell (ready is) (⊎_elim (λ (fit : fits). inl (room fit)) (λ (still : Rose old.beneath new.beneath → ⊥). inr still) how);
 }
 
 -- no call
-pub writes_none : (tells fits : Type 0) (step : Files → Files → Type 0) (s : State) → ((c : Files) → step c c) → OnlyWrites tells fits ⊥ step s s
-writes_none tells fits step s none = record {
+pub writes_none : (tells taken fits : Type 0) (step : Files → Files → Type 0) (s : State) → ((c : Files) → step c c) → OnlyWrites tells taken fits ⊥ step s s
+writes_none tells taken fits step s none = record {
   contents = λ _. none s.files;
   crash = λ t c from to here. (c, during_none s (s.image s.moment) (λ d there. there) t c from to here, none c);
   time = passes_none s;
   earlier = earlier_none s;
   kept = omega arith;
   cause = λ none. absurd none;
-  sure = λ fit. (λ none. none, refl);
+  still = λ _. refl;
+  sure = λ tell is fit. (λ none. none, refl);
+  beneath = λ tell is none. absurd none;
+  goes = λ tell is how file b at has. has;
 }
 
 -- one call, by the clauses of the disk
-pub writes_one : {T E : Type 0} (tells fits : Type 0) (step : Files → Files → Type 0) (old new : State) (result : Result T E) → (tells → step old.files new.files) → Follows step old new → Settles old new → Passes old new → HasCause old.faults new.faults result → IsSure fits old new result → OnlyWrites tells fits (IsErr result) step old new
-writes_one tells fits step old new (Ok v) contents crash settled time cause sure = record {
+pub writes_one : {T E : Type 0} (tells taken fits : Type 0) (step : Files → Files → Type 0) (old new : State) (result : Result T E) → (tells → step old.files new.files) → Follows step old new → Settles old new → Passes old new → HasCause old.faults new.faults result → IsSure (tells × taken) fits old new result → OnlyWrites tells taken fits (IsErr result) step old new
+writes_one tells taken fits step old new (Ok v) contents crash settled time cause sure = record {
   contents = contents;
   crash = crash;
   time = time;
   earlier = earlier_step step old new crash settled time;
   kept = cause.kept;
   cause = λ none. absurd (cc);
-  sure = λ fit. (λ none. cc, (sure fit).1);
+  still = λ _. cause.still;
+  sure = λ tell is fit. (λ none. cc, (sure.sure (tell, is) fit).1);
+  beneath = λ tell is none. absurd (cc);
+  goes = λ tell is how. sure.goes;
 }
-writes_one tells fits step old new (Err e) contents crash settled time cause sure = record {
+writes_one tells taken fits step old new (Err e) contents crash settled time cause sure = record {
   contents = contents;
   crash = crash;
   time = time;
   earlier = earlier_step step old new crash settled time;
   kept = cause.kept;
   cause = λ is. cause.rose;
-  sure = λ fit. (λ is. let ok = (sure fit).0 in cc, (sure fit).1);
-}
-
--- one call that failed, whatever is then answered
-pub writes_failed : {T E : Type 0} (tells fits fault : Type 0) (step : Files → Files → Type 0) (old new : State) (result : Result T E) → IsErr result → (tells → step old.files new.files) → Follows step old new → Settles old new → Passes old new → HasCause old.faults new.faults result → IsSure fits old new result → OnlyWrites tells fits fault step old new
-writes_failed tells fits fault step old new (Ok v) failed contents crash settled time cause sure = absurd (cc)
-writes_failed tells fits fault step old new (Err e) failed contents crash settled time cause sure = record {
-  contents = contents;
-  crash = crash;
-  time = time;
-  earlier = earlier_step step old new crash settled time;
-  kept = cause.kept;
-  cause = λ is. cause.rose;
-  sure = λ fit. (λ is. let ok = (sure fit).0 in cc, (sure fit).1);
+  still = λ fine. absurd (fine refl);
+  sure = λ tell is fit. (λ no. let ok = (sure.sure (tell, is) fit).0 in cc, (sure.sure (tell, is) fit).1);
+  beneath = λ tell is no. sure.beneath (tell, is);
+  goes = λ tell is how. made_goes (tells × taken) fits old new (Err e) sure (tell, is) how;
 }
 
 -- what a write leaves, whatever it answers
@@ -180,40 +227,54 @@ pub cut_anyway : {T E : Type 0} (tells : Type 0) (file len : ℕ) (old new : Fil
 cut_anyway tells file len old new (Ok v) cut torn told = changes_wider file (IsCut len) (MayBeCut len) old new (λ xs ys is. inr is) (cut told)
 cut_anyway tells file len old new (Err e) cut torn told = torn told
 
--- another name for the fault
-pub writes_as : (tells fits fault other : Type 0) (step : Files → Files → Type 0) (old new : State) → (other → fault) → OnlyWrites tells fits fault step old new → OnlyWrites tells fits other step old new
-writes_as tells fits fault other step old new so writes = record {
+-- another name for the fault: it is answered where the calls failed, and only there
+pub writes_as : (tells taken fits fault other : Type 0) (step : Files → Files → Type 0) (old new : State) → (other → fault) → (fault → other) → OnlyWrites tells taken fits fault step old new → OnlyWrites tells taken fits other step old new
+writes_as tells taken fits fault other step old new so back writes = record {
   contents = writes.contents;
   crash = writes.crash;
   time = writes.time;
   earlier = writes.earlier;
   kept = writes.kept;
   cause = λ is. writes.cause (so is);
-  sure = λ fit. (λ is. (writes.sure fit).0 (so is), (writes.sure fit).1);
+  still = λ fine. writes.still (λ is. fine (back is));
+  sure = λ tell is fit. (λ no. (writes.sure tell is fit).0 (so no), (writes.sure tell is fit).1);
+  beneath = λ tell is no. writes.beneath tell is (so no);
+  goes = writes.goes;
 }
 
--- a fault, whatever is then answered
-pub writes_faulted : (tells fits fault other : Type 0) (step : Files → Files → Type 0) (old new : State) → OnlyWrites tells fits fault step old new → fault → OnlyWrites tells fits other step old new
-writes_faulted tells fits fault other step old new writes is = writes_as tells fits fault other step old new (λ _. is) writes
+-- one call that failed, and a fault that is answered
+pub writes_failed : {T E : Type 0} (tells taken fits fault : Type 0) (step : Files → Files → Type 0) (old new : State) (result : Result T E) → IsErr result → fault → (tells → step old.files new.files) → Follows step old new → Settles old new → Passes old new → HasCause old.faults new.faults result → IsSure (tells × taken) fits old new result → OnlyWrites tells taken fits fault step old new
+writes_failed tells taken fits fault step old new result failed is contents crash settled time cause sure =
+    writes_as tells taken fits (IsErr result) fault step old new (λ _. failed) (λ _. is) (writes_one tells taken fits step old new result contents crash settled time cause sure)
 
--- a wider step, and a smaller room
-pub writes_wider : (tells fits fewer fault : Type 0) (narrow wide : Files → Files → Type 0) (old new : State) → ((c d : Files) → narrow c d → wide c d) → (fewer → fits) → OnlyWrites tells fits fault narrow old new → OnlyWrites tells fewer fault wide old new
-writes_wider tells fits fewer fault narrow wide old new wider less writes = record {
+-- a fault, and another that is answered
+pub writes_faulted : (tells taken fits fault other : Type 0) (step : Files → Files → Type 0) (old new : State) → OnlyWrites tells taken fits fault step old new → fault → other → OnlyWrites tells taken fits other step old new
+writes_faulted tells taken fits fault other step old new writes is also = writes_as tells taken fits fault other step old new (λ _. is) (λ _. also) writes
+
+-- a wider step, and fewer that are taken and that fit
+pub writes_wider : (tells taken fits less fewer fault : Type 0) (narrow wide : Files → Files → Type 0) (old new : State) → ((c d : Files) → narrow c d → wide c d) → (tells → less → taken) → (tells → fewer → fits) → OnlyWrites tells taken fits fault narrow old new → OnlyWrites tells less fewer fault wide old new
+writes_wider tells taken fits less fewer fault narrow wide old new wider takes room writes = record {
   contents = λ tell. wider old.files new.files (writes.contents tell);
   crash = λ t c from to here. let was = writes.crash t c from to here in (was.0, was.1, wider was.0 c was.2);
   time = writes.time;
   earlier = writes.earlier;
   kept = writes.kept;
   cause = writes.cause;
-  sure = λ fit. writes.sure (less fit);
+  still = writes.still;
+  sure = λ tell is fit. writes.sure tell (takes tell is) (room tell fit);
+  beneath = λ tell is. writes.beneath tell (takes tell is);
+  goes = λ tell is how. writes.goes tell (takes tell is) (⊎_elim (λ (fit : fewer). inl (room tell fit)) (λ (still : Rose old.beneath new.beneath → ⊥). inr still) how);
 }
 
--- Calls without a fault, and others: the one step and then the other, where that is the third. What fits it all fits the
--- first calls, and after them the others.
-pub writes_both : (tells fits first_fits second_fits first second : Type 0) (one two all : Files → Files → Type 0) (old mid new : State)
-    → ((c d : Files) → one c d → all c d) → ((c d e : Files) → one c d → two d e → all c e) → (fits → first_fits) → (fits → Passes old mid → second_fits)
-    → OnlyWrites tells first_fits first one old mid → OnlyWrites tells second_fits second two mid new → OnlyWrites tells fits second all old new
-writes_both tells fits first_fits second_fits first second one two all old mid new alone both early_fits late_fits early late = record {
+-- Calls without a fault, and others: the one step and then the other, where that is the third. What is taken and fits in all
+-- is taken and fits in the first calls, and after them in the others.
+pub writes_both : (tells taken first_taken second_taken fits first_fits second_fits first second : Type 0) (one two all : Files → Files → Type 0) (old mid new : State)
+    → (first → ⊥)
+    → ((c d : Files) → one c d → all c d) → ((c d e : Files) → one c d → two d e → all c e)
+    → (tells → taken → first_taken) → (tells → taken → one old.files mid.files → KeepsTaking old mid → second_taken)
+    → (tells → fits → first_fits) → (tells → fits → one old.files mid.files → Passes old mid → second_fits)
+    → OnlyWrites tells first_taken first_fits first one old mid → OnlyWrites tells second_taken second_fits second two mid new → OnlyWrites tells taken fits second all old new
+writes_both tells taken first_taken second_taken fits first_fits second_fits first second one two all old mid new fine alone both early_takes late_takes early_fits late_fits early late = record {
   contents = λ tell. both old.files mid.files new.files (early.contents tell) (late.contents tell);
   crash =
       during_both old mid new (λ c. (d : Files) × old.image old.moment d × all d c) early.time late.time
@@ -226,14 +287,31 @@ writes_both tells fits first_fits second_fits first second one two all old mid n
   earlier = earlier_both old mid new early.time late.time early.earlier late.earlier;
   kept = omega (arith, early.kept, late.kept);
   cause = λ is. let rose : Rose mid.faults new.faults = late.cause is in omega (arith, early.kept, rose);
-  sure = λ fit.
-      let then = late.sure (late_fits fit early.time) in
-      (then.0, then.1 ∙ (early.sure (early_fits fit)).1);
+  still = λ none. late.still none ∙ early.still fine;
+  sure = λ tell is fit.
+      let one_is = early_takes tell is in
+      let goes = early.goes tell one_is (inl (early_fits tell fit)) in
+      let then = late.sure tell (late_takes tell is (early.contents tell) goes) (late_fits tell fit (early.contents tell) early.time) in
+      (then.0, then.1 ∙ (early.sure tell one_is (early_fits tell fit)).1);
+  beneath = λ tell is no.
+      ⊎_elim
+      (λ (rose : Rose old.beneath mid.beneath). rose_sooner old.beneath mid.beneath new.beneath rose late.time.beneath)
+      (λ (still : Rose old.beneath mid.beneath → ⊥).
+      let goes = early.goes tell (early_takes tell is) (inr still) in
+      rose_later old.beneath mid.beneath new.beneath early.time.beneath (late.beneath tell (late_takes tell is (early.contents tell) goes) no))
+      (rose_or_not old.beneath mid.beneath);
+  goes = λ tell is how.
+      let goes = early.goes tell (early_takes tell is) (⊎_elim (λ (fit : fits). inl (early_fits tell fit)) (λ (still : Rose old.beneath new.beneath → ⊥). inr (not_before old.beneath mid.beneath new.beneath late.time.beneath still)) how) in
+      let after = late.goes tell (late_takes tell is (early.contents tell) goes) (⊎_elim (λ (fit : fits). inl (late_fits tell fit (early.contents tell) early.time)) (λ (still : Rose old.beneath new.beneath → ⊥). inr (not_after old.beneath mid.beneath new.beneath early.time.beneath still)) how) in
+      λ file b at has. after file b at (goes file b at has);
 }
 
 -- calls that change the files, and others that only read
-pub writes_then_reads : (tells fits first second : Type 0) (step : Files → Files → Type 0) (old mid new : State) → (fits → HasRoom old) → OnlyWrites tells fits first step old mid → OnlyReads tells second mid new → OnlyWrites tells fits second step old new
-writes_then_reads tells fits first second step old mid new room early late = record {
+pub writes_then_reads : (tells taken fits first second : Type 0) (step : Files → Files → Type 0) (old mid new : State)
+    → (first → ⊥)
+    → (tells → taken → step old.files mid.files → KeepsTaking old mid → IsReady mid) → (tells → fits → step old.files mid.files → Passes old mid → IsRoomy mid)
+    → OnlyWrites tells taken fits first step old mid → OnlyReads tells second mid new → OnlyWrites tells taken fits second step old new
+writes_then_reads tells taken fits first second step old mid new fine ready room early late = record {
   contents = λ tell. subst (step old.files) (sym (late.contents tell)) (early.contents tell);
   crash =
       during_then_kept old mid new (λ c. (d : Files) × old.image old.moment d × step d c) early.time late.time late.crash early.crash;
@@ -241,15 +319,30 @@ writes_then_reads tells fits first second step old mid new room early late = rec
   earlier = earlier_both old mid new early.time late.time early.earlier late.earlier;
   kept = omega (arith, early.kept, late.kept);
   cause = λ is. let rose : Rose mid.faults new.faults = late.cause is in omega (arith, early.kept, rose);
-  sure = λ fit.
-      let has = room fit in
-      let then = late.sure (has.0, has.1, early.time.room has.0 has.1 has.2) in
-      (then.0, then.1 ∙ (early.sure fit).1);
+  still = λ none. late.still none ∙ early.still fine;
+  sure = λ tell is fit.
+      let goes = early.goes tell is (inl fit) in
+      let then = late.sure tell (ready tell is (early.contents tell) goes) (room tell fit (early.contents tell) early.time) in
+      (then.0, then.1 ∙ (early.sure tell is fit).1);
+  beneath = λ tell is no.
+      ⊎_elim
+      (λ (rose : Rose old.beneath mid.beneath). rose_sooner old.beneath mid.beneath new.beneath rose late.time.beneath)
+      (λ (still : Rose old.beneath mid.beneath → ⊥).
+      let goes = early.goes tell is (inr still) in
+      rose_later old.beneath mid.beneath new.beneath early.time.beneath (late.beneath tell (ready tell is (early.contents tell) goes) no))
+      (rose_or_not old.beneath mid.beneath);
+  goes = λ tell is how.
+      let goes = early.goes tell is (⊎_elim (λ (fit : fits). inl fit) (λ (still : Rose old.beneath new.beneath → ⊥). inr (not_before old.beneath mid.beneath new.beneath late.time.beneath still)) how) in
+      let after = late.goes tell (ready tell is (early.contents tell) goes) (⊎_elim (λ (fit : fits). inl (room tell fit (early.contents tell) early.time)) (λ (still : Rose old.beneath new.beneath → ⊥). inr (not_after old.beneath mid.beneath new.beneath early.time.beneath still)) how) in
+      λ file b at has. after file b at (goes file b at has);
 }
 
 -- calls that only read, and others that change the files by a step that may leave them
-pub reads_then_writes : (tells fits late_fits first second : Type 0) (step : Files → Files → Type 0) (old mid new : State) → ((c : Files) → step c c) → (fits → HasRoom old) → (fits → Passes old mid → late_fits) → OnlyReads tells first old mid → OnlyWrites tells late_fits second step mid new → OnlyWrites tells fits second step old new
-reads_then_writes tells fits late_fits first second step old mid new none room fits_late early late = record {
+pub reads_then_writes : (tells taken late_taken fits late_fits first second : Type 0) (step : Files → Files → Type 0) (old mid new : State)
+    → (first → ⊥) → ((c : Files) → step c c)
+    → (taken → IsReady old) → (tells → taken → mid.files ≡ old.files → KeepsTaking old mid → late_taken) → (fits → IsRoomy old) → (tells → fits → mid.files ≡ old.files → Passes old mid → late_fits)
+    → OnlyReads tells first old mid → OnlyWrites tells late_taken late_fits second step mid new → OnlyWrites tells taken fits second step old new
+reads_then_writes tells taken late_taken fits late_fits first second step old mid new fine none ready late_takes room fits_late early late = record {
   contents = λ tell. subst (λ (c : Files). step c new.files) (early.contents tell) (late.contents tell);
   crash =
       during_both old mid new (λ c. (d : Files) × old.image old.moment d × step d c) early.time late.time
@@ -261,21 +354,34 @@ reads_then_writes tells fits late_fits first second step old mid new none room f
   earlier = earlier_both old mid new early.time late.time early.earlier late.earlier;
   kept = omega (arith, early.kept, late.kept);
   cause = λ is. let rose : Rose mid.faults new.faults = late.cause is in omega (arith, early.kept, rose);
-  sure = λ fit.
-      let then = late.sure (fits_late fit early.time) in
-      (then.0, then.1 ∙ (early.sure (room fit)).1);
+  still = λ none. late.still none ∙ early.still fine;
+  sure = λ tell is fit.
+      let goes = early.goes tell (ready is) (inl (room fit)) in
+      let then = late.sure tell (late_takes tell is (early.contents tell) goes) (fits_late tell fit (early.contents tell) early.time) in
+      (then.0, then.1 ∙ (early.sure tell (ready is) (room fit)).1);
+  beneath = λ tell is no.
+      ⊎_elim
+      (λ (rose : Rose old.beneath mid.beneath). rose_sooner old.beneath mid.beneath new.beneath rose late.time.beneath)
+      (λ (still : Rose old.beneath mid.beneath → ⊥).
+      let goes = early.goes tell (ready is) (inr still) in
+      rose_later old.beneath mid.beneath new.beneath early.time.beneath (late.beneath tell (late_takes tell is (early.contents tell) goes) no))
+      (rose_or_not old.beneath mid.beneath);
+  goes = λ tell is how.
+      let goes = early.goes tell (ready is) (⊎_elim (λ (fit : fits). inl (room fit)) (λ (still : Rose old.beneath new.beneath → ⊥). inr (not_before old.beneath mid.beneath new.beneath late.time.beneath still)) how) in
+      let after = late.goes tell (late_takes tell is (early.contents tell) goes) (⊎_elim (λ (fit : fits). inl (fits_late tell fit (early.contents tell) early.time)) (λ (still : Rose old.beneath new.beneath → ⊥). inr (not_after old.beneath mid.beneath new.beneath early.time.beneath still)) how) in
+      λ file b at has. after file b at (goes file b at has);
 }
 
 -- what the step leaves, as the frames of one file and of several have it
-pub writes_others : (tells fits fault : Type 0) (step : Files → Files → Type 0) (file : ℕ) (old new : State) → ((c d : Files) → step c d → (f : ℕ) → f ≢ file → d f ≡ c f) → OnlyWrites tells fits fault step old new → KeepsOthers tells file old new
-writes_others tells fits fault step file old new leaves writes = record {
+pub writes_others : (tells taken fits fault : Type 0) (step : Files → Files → Type 0) (file : ℕ) (old new : State) → ((c d : Files) → step c d → (f : ℕ) → f ≢ file → d f ≡ c f) → OnlyWrites tells taken fits fault step old new → KeepsOthers tells file old new
+writes_others tells taken fits fault step file old new leaves writes = record {
   reads = λ tell. leaves old.files new.files (writes.contents tell);
   images = λ t c from to here. let was = writes.crash t c from to here in (was.0, was.1, leaves was.0 c was.2);
 }
 
 -- calls that change the files by a step alone keep those that a test picks, where the step leaves these alone
-pub writes_where : (tells fits fault : Type 0) (step : Files → Files → Type 0) (keep : ℕ → Type 0) (old new : State) → ((c d : Files) → step c d → (f : ℕ) → keep f → d f ≡ c f) → OnlyWrites tells fits fault step old new → KeepsWhere tells keep old new
-writes_where tells fits fault step keep old new leaves writes = record {
+pub writes_where : (tells taken fits fault : Type 0) (step : Files → Files → Type 0) (keep : ℕ → Type 0) (old new : State) → ((c d : Files) → step c d → (f : ℕ) → keep f → d f ≡ c f) → OnlyWrites tells taken fits fault step old new → KeepsWhere tells keep old new
+writes_where tells taken fits fault step keep old new leaves writes = record {
   reads = λ tell. leaves old.files new.files (writes.contents tell);
   images = λ t c from to here. let was = writes.crash t c from to here in (was.0, was.1, leaves was.0 c was.2);
 }

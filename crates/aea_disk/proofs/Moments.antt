@@ -33,7 +33,7 @@ during_both old mid new P first second early late t c from to here =
 
 -- time passes from each state to itself, as where no call is made
 pub passes_none : (s : State) → Passes s s
-passes_none s = record { later = omega arith; keeps = λ t c early. (λ here. here, λ here. here); room = λ f n has. has }
+passes_none s = record { later = omega arith; keeps = λ t c early. (λ here. here, λ here. here); room = λ f n has. has; beneath = omega arith; syncs = λ b has. has; free = λ is. is }
 
 -- where time passes from one state to a second, and from that to a third, it passes from first to third
 pub passes_both : (old mid new : State) → Passes old mid → Passes mid new → Passes old new
@@ -44,6 +44,9 @@ passes_both old mid new first second = record {
       let two = second.keeps t c (omega (arith, first.later)) in
       (λ here. one.0 (two.0 here), λ here. two.1 (one.1 here));
   room = λ f n has. second.room f n (first.room f n has);
+  beneath = omega (arith, first.beneath, second.beneath);
+  syncs = λ b has. second.syncs b (first.syncs b has);
+  free = λ is. second.free (first.free is);
 }
 
 -- a weaker fact at each image

@@ -13,7 +13,7 @@ pub record Failing (D : Type 0) : Type 0 where
 
 -- the inner disk's meanings with a count of its own, and no room that is sure
 abbrev pub with_faults : State → ℕ → State
-with_faults s n = record { files = s.files; moment = s.moment; image = s.image; faults = n; room = λ f m. ⊥ }
+with_faults s n = record { files = s.files; moment = s.moment; image = s.image; faults = n; room = λ f m. ⊥; beneath = n; takes = λ f b at. Unit {0}; keeps = λ b. Unit {0}; free = Unit {0} }
 
 -- the number of the next call, counted from 1, and the greatest u64 from there on
 abbrev pub next_call : ℕ → ℕ
@@ -35,6 +35,6 @@ pub record FailsAlone {D T E : Type 0} (old new : Failing D) (result : Result T 
   pub inner : new.inner ≡ old.inner
 
 -- the call fails only where the inner disk fails: its count rose then, and a call within a sure disk's room doesn't fail
-pub record PassesOn {T E : Type 0} (fits : Type 0) (old new : State) (result : Result T E) : Type 0 where
+pub record PassesOn {T E : Type 0} (taken fits : Type 0) (old new : State) (result : Result T E) : Type 0 where
   pub cause : HasCause old.faults new.faults result
-  pub sure : IsSure fits old new result
+  pub sure : IsSure taken fits old new result

@@ -53,6 +53,10 @@ log_state d = record {
   image = λ t c. (t ≤ length d.calls) × image_at (events_of d.calls d.bytes) t c;
   faults = d.faults;
   room = λ f n. ⊥;
+  beneath = d.faults;
+  takes = λ f b at. Unit {0};
+  keeps = λ b. Unit {0};
+  free = Unit {0};
 }
 
 -- a law of the disk: it may be left as it reads

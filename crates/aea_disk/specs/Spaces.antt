@@ -19,7 +19,7 @@ room_of spaces f = (slice_index_or spaces f empty_extent).room
 
 -- it tells no images, and no call fails that stays within the rooms
 abbrev pub sure_state : Memory → State
-sure_state m = record { files = files_of m.spaces; moment = 0; image = λ t c. ⊥; faults = m.faults; room = λ f n. n ≤ room_of m.spaces f }
+sure_state m = record { files = files_of m.spaces; moment = 0; image = λ t c. ⊥; faults = m.faults; room = λ f n. n ≤ room_of m.spaces f; beneath = m.faults; takes = λ f b at. Unit {0}; keeps = λ b. Unit {0}; free = Unit {0} }
 
 -- the ledger's room for file 0 and the last two, a site's for 1 to `sites`, and none for the others
 abbrev pub room_for : ℕ → ℕ → ℕ → ℕ → ℕ

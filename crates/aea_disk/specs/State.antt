@@ -1,5 +1,6 @@
 -- What a disk means: its files, its moments, and what a crash may have left at each.
-use Rattle.std.specs.Prelude.{◌≡◌, ◌≢◌, ◌↔◌, ◌<◌, ◌≤◌, ℕ, List, length, take, drop, Result, IsOk}
+use Rattle.std.specs.Prelude.{◌≡◌, ◌≢◌, ◌↔◌, ◌<◌, ◌≤◌, ℕ, List, length, take, drop, Result, OnOk, OnErr, IsOk}
+use Rattle.aea_faults.specs.Faults.{Rose}
 use Rattle.aea_disk.specs.Files.{Files}
 
 pub record State : Type 1 where
@@ -13,12 +14,24 @@ pub record State : Type 1 where
   pub faults : ℕ
   -- the file has room for so many bytes, and no call fails that stays within; none for a disk that may fail
   pub room : ℕ → ℕ → Type 0
+  -- how often a call has failed that the disk took: of a disk that hands its calls on, how often the one beneath has
+  pub beneath : ℕ
+  -- Of a file, the bytes of the ledger file, and a place: while the ledger file reads so, no rule of the disk stands against
+  -- a write of the file from this place on, nor against a sync.
+  pub takes : ℕ → List ℕ → ℕ → Type 0
+  -- there is the room that a sync needs while the ledger file reads so
+  pub keeps : List ℕ → Type 0
+  -- the disk has no such rule at all
+  pub free : Type 0
 
--- Time goes on, and a call leaves the images of earlier moments and the rooms as they are.
+-- Time goes on, the count beneath does not fall, and a call leaves the images of earlier moments and the rooms as they are.
 pub record Passes (old new : State) : Type 0 where
   pub later : old.moment ≤ new.moment
   pub keeps : (t : ℕ) (c : Files) → t ≤ old.moment → new.image t c ↔ old.image t c
   pub room : (f n : ℕ) → old.room f n → new.room f n
+  pub beneath : old.beneath ≤ new.beneath
+  pub syncs : (bytes : List ℕ) → old.keeps bytes → new.keeps bytes
+  pub free : old.free → new.free
 
 -- each image of a moment of the call is an image from before it, after the step
 abbrev pub Follows : (Files → Files → Type 0) → State → State → Type 0
@@ -84,9 +97,29 @@ HasRoom s = (f : ℕ) × (n : ℕ) × HasRoomTo s f n
 abbrev pub NeverFails : (fits fine : Type 0) → State → State → Type 0
 NeverFails fits fine old new = fits → fine × (new.faults ≡ old.faults)
 
--- the same of an answer that is Ok or a fault
-abbrev pub IsSure : {T E : Type 0} → Type 0 → State → State → Result T E → Type 0
-IsSure fits old new result = NeverFails fits (IsOk result) old new
+-- the disk takes a write of the file from this place on
+abbrev pub TakesFrom : State → ℕ → ℕ → Type 0
+TakesFrom s file at = s.takes file (s.files 0) at
+
+-- it takes a sync, and calls that only read
+abbrev pub IsReady : State → Type 0
+IsReady s = (at : ℕ) × TakesFrom s 0 at
+
+-- it is ready, and has room to sync
+pub record IsRoomy (s : State) : Type 0 where
+  pub some : HasRoom s
+  pub sync : s.keeps (s.files 0)
+
+-- Calls that did not fail leave what the disk takes.
+abbrev pub KeepsTaking : State → State → Type 0
+KeepsTaking old new = (file : ℕ) (bytes : List ℕ) (at : ℕ) → old.takes file bytes at → new.takes file bytes at
+
+-- Of a call, by whether the disk takes it and whether it fits: where both are so the answer is Ok, and the count stays; a
+-- call that is taken fails only where the count beneath rose; and one that did not fail leaves what the disk takes.
+pub record IsSure {T E : Type 0} (taken fits : Type 0) (old new : State) (result : Result T E) : Type 0 where
+  pub sure : taken → NeverFails fits (IsOk result) old new
+  pub beneath : taken → OnErr result (Rose old.beneath new.beneath)
+  pub goes : OnOk result (KeepsTaking old new)
 
 -- Each other file reads as before, and each image of a moment of the call has it as an image from before the call.
 pub record KeepsOthers (tells : Type 0) (file : ℕ) (old new : State) : Type 0 where

@@ -61,6 +61,20 @@ impl<R: Files<File = File>> Disk for DirDisk<R> {
 
     ghost as_it_reads = { λ d t c told here. absurd told };
 
+    ghost later_taken = { λ d f b m n le has. tt };
+
+    ghost site_taken = { λ d f b m n some within has. tt };
+
+    ghost ended_taken = { λ d b c m n ends has. tt };
+
+    ghost bare_taken = { λ d b c m bare has. tt };
+
+    ghost free_taken = { λ d f b m is. tt };
+
+    ghost alike_kept = { λ d b c n one two same has. tt };
+
+    ghost bare_kept = { λ d b c none also has. tt };
+
     ghost smaller_fits = { λ d f m n le has. has };
 
     fn len(&mut self, file: u8) -> Result<u64, DiskFault> {

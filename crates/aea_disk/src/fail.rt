@@ -3,7 +3,7 @@ ghost use Rattle.aea_faults.specs.Faults.{HasCause};
 ghost use Rattle.aea_disk.specs.Count.{faults_after};
 ghost use Rattle.aea_disk.specs.Fail.{with_faults, next_call, IsListed, Counts, FailsAlone, PassesOn};
 ghost use Rattle.aea_disk.specs.Files.{ChangesFile, Holds, Torn, IsCut, MayBeCut};
-ghost use Rattle.aea_disk.specs.State.{Passes, Follows, KeepsImages, Settles, IsSynced, IsSure, HasRoom};
+ghost use Rattle.aea_disk.specs.State.{Passes, Follows, KeepsImages, Settles, IsSynced, IsReady, IsRoomy, TakesFrom};
 
 use crate::{Disk, DiskFault};
 use aea_faults::risen;
@@ -77,6 +77,20 @@ impl<D: Disk> Disk for FailDisk<D> {
 
     ghost as_it_reads = { λ d t c told here. D.as_it_reads d.inner t c told here };
 
+    ghost later_taken = { λ d f b m n le has. tt };
+
+    ghost site_taken = { λ d f b m n some within has. tt };
+
+    ghost ended_taken = { λ d b c m n ends has. tt };
+
+    ghost bare_taken = { λ d b c m bare has. tt };
+
+    ghost free_taken = { λ d f b m is. tt };
+
+    ghost alike_kept = { λ d b c n one two same has. tt };
+
+    ghost bare_kept = { λ d b c none also has. tt };
+
     ghost smaller_fits = { λ d f m n le has. has };
 
     fn len(&mut self, file: u8) -> Result<u64, DiskFault>
@@ -89,7 +103,7 @@ impl<D: Disk> Disk for FailDisk<D> {
         ensures cause { HasCause self.old.faults self.new.faults result }
         ensures counts { Counts self.old self.new result }
         ensures listed { IsListed self.old → FailsAlone self.old self.new result }
-        ensures passed { ¬ IsListed self.old → PassesOn (HasRoom (D.state self.old.inner)) (D.state self.old.inner) (D.state self.new.inner) result }
+        ensures passed { ¬ IsListed self.old → PassesOn (D.tells × IsReady (D.state self.old.inner)) (IsRoomy (D.state self.old.inner)) (D.state self.old.inner) (D.state self.new.inner) result }
     {
         if self.fails_now() {
             return self.counted(Err(DiskFault));
@@ -111,7 +125,7 @@ impl<D: Disk> Disk for FailDisk<D> {
         ensures cause { HasCause self.old.faults self.new.faults result }
         ensures counts { Counts self.old self.new result }
         ensures listed { IsListed self.old → FailsAlone self.old self.new result }
-        ensures passed { ¬ IsListed self.old → PassesOn (HasRoom (D.state self.old.inner)) (D.state self.old.inner) (D.state self.new.inner) result }
+        ensures passed { ¬ IsListed self.old → PassesOn (D.tells × IsReady (D.state self.old.inner)) (IsRoomy (D.state self.old.inner)) (D.state self.old.inner) (D.state self.new.inner) result }
     {
         if self.fails_now() {
             return self.counted(Err(DiskFault));
@@ -131,7 +145,7 @@ impl<D: Disk> Disk for FailDisk<D> {
         ensures cause { HasCause self.old.faults self.new.faults result }
         ensures counts { Counts self.old self.new result }
         ensures listed { IsListed self.old → FailsAlone self.old self.new result }
-        ensures passed { ¬ IsListed self.old → PassesOn ((D.state self.old.inner).room file (at + length bytes.now)) (D.state self.old.inner) (D.state self.new.inner) result }
+        ensures passed { ¬ IsListed self.old → PassesOn (D.tells × TakesFrom (D.state self.old.inner) file at) ((D.state self.old.inner).room file (at + length bytes.now)) (D.state self.old.inner) (D.state self.new.inner) result }
     {
         if self.fails_now() {
             return self.counted(Err(DiskFault));
@@ -152,7 +166,7 @@ impl<D: Disk> Disk for FailDisk<D> {
         ensures cause { HasCause self.old.faults self.new.faults result }
         ensures counts { Counts self.old self.new result }
         ensures listed { IsListed self.old → FailsAlone self.old self.new result }
-        ensures passed { ¬ IsListed self.old → PassesOn (HasRoom (D.state self.old.inner)) (D.state self.old.inner) (D.state self.new.inner) result }
+        ensures passed { ¬ IsListed self.old → PassesOn (D.tells × TakesFrom (D.state self.old.inner) file 0) ((D.state self.old.inner).room file 0) (D.state self.old.inner) (D.state self.new.inner) result }
     {
         if self.fails_now() {
             return self.counted(Err(DiskFault));
@@ -170,7 +184,7 @@ impl<D: Disk> Disk for FailDisk<D> {
         ensures cause { HasCause self.old.faults self.new.faults result }
         ensures counts { Counts self.old self.new result }
         ensures listed { IsListed self.old → FailsAlone self.old self.new result }
-        ensures passed { ¬ IsListed self.old → PassesOn (HasRoom (D.state self.old.inner)) (D.state self.old.inner) (D.state self.new.inner) result }
+        ensures passed { ¬ IsListed self.old → PassesOn (D.tells × IsReady (D.state self.old.inner)) (IsRoomy (D.state self.old.inner)) (D.state self.old.inner) (D.state self.new.inner) result }
     {
         if self.fails_now() {
             return self.counted(Err(DiskFault));

@@ -1,9 +1,12 @@
 //! The disk: 67 files, what a crash may leave of them, and who keeps them.
 //!
 //! Promises to the layers above, by the trait `Disk`, of each call: how the files read after it, what a crash may leave
-//! at each moment of it, that a fault comes only where the count rose, and that none comes within the room. `SureDisk`,
-//! `MemDisk`, `FailDisk` and `DirDisk` are such disks. Read first in `specs/`: `Files`, `State`, and `Frames`
-//! (`OnlyReads`, `OnlyWrites`). It rests on `aea_faults`.
+//! at each moment of it, that a fault comes only where the count rose, which an answer that is Ok leaves as it was, and that
+//! a call that the disk takes fails only where the count beneath rose, and never within the room. Which calls it takes is
+//! told by the bytes of the ledger file, so that a disk may stand in front of another and refuse some by a rule; by the laws
+//! of the trait an engine shows that its own calls are taken, whatever the disk is. `SureDisk`, `MemDisk`, `FailDisk` and
+//! `DirDisk` are disks without such a rule. Read first in `specs/`: `Files`, `State`, `Ends`, and `Frames` (`OnlyReads`,
+//! `OnlyWrites`). It rests on `aea_faults`.
 //!
 //! A function over any disk gets its clauses from those of its calls by these lemmas of
 //! `Rattle.aea_disk.proofs.Moments`. Each takes the states before, between and after the calls.
@@ -26,9 +29,9 @@
 //!
 //! The frames of `specs/Frames.antt` go together by these lemmas of `Rattle.aea_disk.proofs.Frames`.
 //!
-//! - calls that only read: `reads_none` where no call was made; `reads_one` for one call, `reads_ok` and `reads_made` where
+//! - calls that only read: `reads_none` where no call was made; `reads_one` for one call, `reads_made` where
 //!   it did not fail, `reads_failed` where it did; `reads_both` for two runs; `reads_as` and `reads_faulted` for another
-//!   name of the fault; `reads_synced` for what is sure
+//!   name of the fault; `reads_synced` for what is sure; `ready_later` and `roomy_later` for what is taken and fits after them
 //! - calls that change the files by one step: `writes_none`, `writes_one`, `writes_failed`, `writes_both`, `writes_as`,
 //!   `writes_faulted`; `writes_wider` for a wider step and a smaller room; `torn_anyway` and `cut_anyway` for the step of a
 //!   write and of a cut, whatever it answers
@@ -41,10 +44,11 @@
 //! `torn_none`, `changes_none` and `changes_wider` of any step.
 #![tactic(auto)]
 
-ghost use Rattle.std.specs.Prelude.{◌≡◌, ◌+◌, ◌-◌, ◌^◌, ◌≤◌, ℕ, length, take, drop, min, IfOk, OnOk, OnErr};
+ghost use Rattle.std.specs.Prelude.{◌≡◌, ◌+◌, ◌-◌, ◌^◌, ◌≤◌, ℕ, List, length, take, drop, min, IfOk, OnOk, OnErr};
 ghost use Rattle.aea_faults.specs.Faults.{HasCause};
+ghost use Rattle.aea_disk.specs.Ends.{EndsAt, IsBare};
 ghost use Rattle.aea_disk.specs.Files.{Files, ChangesFile, Holds, Torn, IsCut, MayBeCut};
-ghost use Rattle.aea_disk.specs.State.{State, Passes, Follows, KeepsImages, Settles, EveryImage, IsSynced, IsSure, HasRoom};
+ghost use Rattle.aea_disk.specs.State.{State, Passes, Follows, KeepsImages, Settles, EveryImage, IsSynced, IsSure, IsReady, IsRoomy, TakesFrom, HasRoom};
 
 mod dir;
 mod fail;
@@ -68,7 +72,8 @@ pub struct DiskFault;
 
 /// Files numbered 0 to 66: the ledger, 64 sites and two more ledgers. Places and lengths are in bytes.
 pub trait Disk {
-    /// The files as they read, the clock, the images of each moment, the count of faults, and the rooms.
+    /// The files as they read, the clock, the images of each moment, the count of faults and the one beneath, the rooms, and
+    /// which calls the disk takes.
     ghost state: { Self → State };
 
     /// The disk tells the contents of its files.
@@ -83,7 +88,7 @@ pub trait Disk {
         ensures settled { Settles (state self.old) (state self.new) }
         ensures time { Passes (state self.old) (state self.new) }
         ensures cause { HasCause (state self.old).faults (state self.new).faults result }
-        ensures sure { IsSure (HasRoom (state self.old)) (state self.old) (state self.new) result };
+        ensures sure { IsSure (tells × IsReady (state self.old)) (IsRoomy (state self.old)) (state self.old) (state self.new) result };
 
     /// The bytes of a file from a place on, as many as there are and the buffer holds.
     fn read(&mut self, file: u8, at: u64, buf: &mut [u8]) -> Result<usize, DiskFault>
@@ -97,7 +102,7 @@ pub trait Disk {
         ensures settled { Settles (state self.old) (state self.new) }
         ensures time { Passes (state self.old) (state self.new) }
         ensures cause { HasCause (state self.old).faults (state self.new).faults result }
-        ensures sure { IsSure (HasRoom (state self.old)) (state self.old) (state self.new) result };
+        ensures sure { IsSure (tells × IsReady (state self.old)) (IsRoomy (state self.old)) (state self.old) (state self.new) result };
 
     /// Writes over what is there and past the end; a gap is filled with zeros. After a fault, and until a sync in
     /// what a crash leaves, the range and whatever lies past the old end may hold any bytes.
@@ -110,7 +115,7 @@ pub trait Disk {
         ensures settled { Settles (state self.old) (state self.new) }
         ensures time { Passes (state self.old) (state self.new) }
         ensures cause { HasCause (state self.old).faults (state self.new).faults result }
-        ensures sure { IsSure ((state self.old).room file (at + length bytes.now)) (state self.old) (state self.new) result }
+        ensures sure { IsSure (tells × TakesFrom (state self.old) file at) ((state self.old).room file (at + length bytes.now)) (state self.old) (state self.new) result }
         ensures full { OnOk result (HasRoom (state self.old) → (state self.old).room file (at + length bytes.now)) };
 
     /// Keeps the first bytes of a file. After a fault, and until a sync in what a crash leaves, it may not have
@@ -125,7 +130,7 @@ pub trait Disk {
         ensures settled { Settles (state self.old) (state self.new) }
         ensures time { Passes (state self.old) (state self.new) }
         ensures cause { HasCause (state self.old).faults (state self.new).faults result }
-        ensures sure { IsSure (HasRoom (state self.old)) (state self.old) (state self.new) result };
+        ensures sure { IsSure (tells × TakesFrom (state self.old) file 0) ((state self.old).room file 0) (state self.old) (state self.new) result };
 
     /// Makes all files sure: after it a crash leaves what a read gives.
     fn sync(&mut self) -> Result<(), DiskFault>
@@ -135,10 +140,30 @@ pub trait Disk {
         ensures settled { Settles (state self.old) (state self.new) }
         ensures time { Passes (state self.old) (state self.new) }
         ensures cause { HasCause (state self.old).faults (state self.new).faults result }
-        ensures sure { IsSure (HasRoom (state self.old)) (state self.old) (state self.new) result };
+        ensures sure { IsSure (tells × IsReady (state self.old)) (IsRoomy (state self.old)) (state self.old) (state self.new) result };
 
     /// A disk that tells its images may be left as it reads.
     ghost as_it_reads: { (d : Self) (t : ℕ) (c : Files) → tells → (state d).image t c → (state d).image (state d).moment (state d).files };
+
+    /// What is taken from a place on is taken from a later one.
+    ghost later_taken: { (d : Self) (f : ℕ) (b : List ℕ) (m n : ℕ) → m ≤ n → (state d).takes f b m → (state d).takes f b n };
+
+    /// A disk that takes calls takes writes of the sites.
+    ghost site_taken: { (d : Self) (f : ℕ) (b : List ℕ) (m n : ℕ) → 1 ≤ f → f ≤ 64 → (state d).takes 0 b m → (state d).takes f b n };
+
+    /// It takes writes of the ledger file behind where the records end, and any where there is no ledger.
+    ghost ended_taken: { (d : Self) (b c : List ℕ) (m n : ℕ) → EndsAt c n → (state d).takes 0 b m → (state d).takes 0 c n };
+
+    ghost bare_taken: { (d : Self) (b c : List ℕ) (m : ℕ) → IsBare c → (state d).takes 0 b m → (state d).takes 0 c 0 };
+
+    /// A disk without a rule takes all.
+    ghost free_taken: { (d : Self) (f : ℕ) (b : List ℕ) (m : ℕ) → (state d).free → (state d).takes f b m };
+
+    /// What a sync needs is told by the length of the text and the number of its records alone; and so it is where there is
+    /// no ledger.
+    ghost alike_kept: { (d : Self) (b c : List ℕ) (n : ℕ) → (one : EndsAt b n) → (two : EndsAt c n) → one.records ≡ two.records → (state d).keeps b → (state d).keeps c };
+
+    ghost bare_kept: { (d : Self) (b c : List ℕ) → IsBare b → IsBare c → (state d).keeps b → (state d).keeps c };
 
     /// What is within a smaller range is within the room.
     ghost smaller_fits: { (d : Self) (f m n : ℕ) → m ≤ n → (state d).room f n → (state d).room f m };

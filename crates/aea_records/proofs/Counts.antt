@@ -78,7 +78,7 @@ rise-push (f ∷ fences) low n lt new rise =
 abbrev pub raises : Bool → ℕ
 raises raised = if raised then 1 else 0
 
-raises-small : (b : Bool) → raises b ≤ 1
+pub raises-small : (b : Bool) → raises b ≤ 1
 raises-small true = omega arith
 raises-small false = omega arith
 
@@ -123,10 +123,10 @@ with_object shape earlier r o is no_fence no_raise may size next bounded =
 name_small : (shape : Shape) (earlier : List Record) (o : Stored) → MayBeStored shape earlier o → length o.name ≤ 255
 name_small shape earlier o may = leb-true (length o.name) 255 (and_parts (nat_le 1 (length o.name)) (nat_le (length o.name) 255) (name-length o.name may.name)).1
 
-object_size : (shape : Shape) (earlier : List Record) (o : Stored) → MayBeStored shape earlier o → length (rest_of (Object o)) ≤ 2 ^ 28 - 6
+pub object_size : (shape : Shape) (earlier : List Record) (o : Stored) → MayBeStored shape earlier o → length (rest_of (Object o)) ≤ 2 ^ 28 - 6
 object_size shape earlier o may = omega (arith, length-object shape earlier o may, few-digests shape earlier o may.fits, name_small shape earlier o may)
 
-joined_size : (shape : Shape) (earlier : List Record) (o : Stored) (parts : List Extent) → IsNextJoined shape earlier o parts → length (rest_of (Joined o parts)) ≤ 2 ^ 28 - 6
+pub joined_size : (shape : Shape) (earlier : List Record) (o : Stored) (parts : List Extent) → IsNextJoined shape earlier o parts → length (rest_of (Joined o parts)) ≤ 2 ^ 28 - 6
 joined_size shape earlier o parts next =
     let nodes : ℕ = nodes_of earlier + o.count in
     let apart = (and_parts (are_apart 0 (nodes_of earlier + o.count) parts) (sum_by (λ (e : Extent). e.count) parts == nodes_for shape o.size) next.apart).0 in
@@ -194,6 +194,10 @@ records_are_few shape records valid =
       fences = and_from (nat_le (length (fences_of records)) greatest_fences) (rise_to 0 (nodes_of records) (fences_of records)) (le-leb (length (fences_of records)) greatest_fences b.few_fences) b.fences;
       short = omega (arith, length-append (header shape) (flat_map entry records), b.short, b.few_fences, raises-small (list_any is_raise records));
     }
+
+-- nor too many fences
+pub few_fences : (shape : Shape) (records : List Record) → AreRecords shape records → length (fences_of records) ≤ greatest_fences
+few_fences shape records valid = (bounded shape records valid).few_fences
 
 -- records of a ledger have a digest for each block of their nodes
 pub digests_are_counted : DigestsAreCounted

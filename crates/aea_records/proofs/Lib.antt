@@ -20,6 +20,7 @@ mod Windows
 mod Headers
 mod Rests
 mod Counts
+pub mod Shortness
 mod Placing
 mod Tails
 mod Whole

@@ -8,7 +8,7 @@ use Rattle.aea_lattice.specs.Fences.{greatest_fences, are_fences, last_fence}
 use Rattle.aea_catalog.specs.Catalogs.{Placed}
 use Rattle.aea_records.specs.Tables.{Spells, judge}
 use Rattle.aea_records.specs.TableLaws.{AreBytes}
-use Rattle.aea_records.specs.Format.{Record, Fence, open_gate, greatest_objects, stored_of, nodes_of, digests_of, fences_of, limit_of, is_raise, body, entry, spelled}
+use Rattle.aea_records.specs.Format.{Record, Fence, open_gate, greatest_objects, stored_of, nodes_of, digests_of, fences_of, limit_of, is_raise, rest_of, body, entry, spelled}
 use Rattle.aea_records.specs.Known.{Known, known_of, is_taken}
 use Rattle.aea_records.specs.Fields.{Head, tail_fields, record_fields}
 use Rattle.aea_records.specs.Grammar.{IsNext, AreRecords, IsLedger}
@@ -99,6 +99,15 @@ pub record AreFew (shape : Shape) (records : List Record) : Type 0 where
 
 abbrev pub RecordsAreFew : Type 0
 RecordsAreFew = (shape : Shape) (records : List Record) → AreRecords shape records → AreFew shape records
+
+-- What stands behind the length of each record is shorter than this, and there are not more records than may be of objects,
+-- 16 of fences and one of a raise.
+pub record AreShort (records : List Record) : Type 0 where
+  pub each : All (λ r. length (rest_of r) < 2 ^ 28) records
+  pub few : length records ≤ greatest_objects + 18
+
+abbrev pub RecordsAreShort : Type 0
+RecordsAreShort = (shape : Shape) (records : List Record) → AreRecords shape records → AreShort records
 
 -- A fence may follow behind the last node where the last fence stands before it and there are not too many.
 abbrev pub FencesMayFollow : Type 0

@@ -1,6 +1,6 @@
 //! What follows of the grammar.
 
-ghost use Rattle.aea_records.specs.Laws.{NextIsSpelled, SpelledIsNext, HasOneReading, LedgersAreNotBad, IsBadAtOnePlace, LedgersAreArchives, EachIsOneOrBad, ObjectsAreCounted, NamesAreFound, NewNamesAreFree, ObjectsAreOfRecords, ReadersKnow, RecordsAreFew, FencesMayFollow, DigestsAreCounted, TailsAreJudged, TailsAreSpelled};
+ghost use Rattle.aea_records.specs.Laws.{NextIsSpelled, SpelledIsNext, HasOneReading, LedgersAreNotBad, IsBadAtOnePlace, LedgersAreArchives, EachIsOneOrBad, ObjectsAreCounted, NamesAreFound, NewNamesAreFree, ObjectsAreOfRecords, ReadersKnow, RecordsAreFew, RecordsAreShort, FencesMayFollow, DigestsAreCounted, TailsAreJudged, TailsAreSpelled};
 
 /// The fields of a record that may follow are those of its body.
 pub fn next_is_spelled()
@@ -65,6 +65,11 @@ pub fn readers_know()
 /// Records have not too many objects, nodes and fences, and their spelling is not too long.
 pub fn records_are_few()
     ensures { RecordsAreFew }
+{}
+
+/// No record is long, and there are not many.
+pub fn records_are_short()
+    ensures { RecordsAreShort }
 {}
 
 /// A fence may follow behind the last node where the last fence stands before it and there are not too many.

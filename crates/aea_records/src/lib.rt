@@ -27,6 +27,6 @@ pub use laws::{
     digests_are_counted, each_is_a_ledger_or_bad, fences_may_follow, ledgers_are_archives,
     ledgers_are_bad_at_one_place, ledgers_are_not_bad, ledgers_have_one_reading, names_are_found,
     new_names_are_free, next_is_spelled, objects_are_counted, objects_are_of_records, readers_know,
-    records_are_few, spelled_is_next, tails_are_judged, tails_are_spelled,
+    records_are_few, records_are_short, spelled_is_next, tails_are_judged, tails_are_spelled,
 };
 pub use parts::are_parts;

@@ -5,7 +5,7 @@ use Rattle.aea_lattice.specs.declared.blocks.BlockId.{BlockId}
 use Rattle.aea_lattice.specs.declared.shape.Shape.{Shape}
 use Rattle.aea_lattice.specs.Shapes.{IsBlockOf}
 use Rattle.aea_disk.specs.Files.{Files, ChangesOnly}
-use Rattle.aea_disk.specs.State.{State, Passes, During, IsFixed, HasRoom}
+use Rattle.aea_disk.specs.State.{State, Passes, During, IsFixed, IsRoomy, HasRoom}
 use Rattle.aea_disk.specs.Frames.{OnlyWrites}
 use Rattle.aea_disk.proofs.Moments.{range_kept}
 use Rattle.aea_shelf.specs.Places.{cell_size, home_file, home_place, site_bytes}
@@ -13,7 +13,7 @@ use Rattle.aea_shelf.specs.Facts.{CellsAreApart, HomesAreInRows, HomesAreOnItsSi
 use Rattle.aea_shelf.specs.Writes.{ChangesHome, KeepsShelf}
 use Rattle.aea_shelf.proofs.Cells.{keeps_intact}
 use Rattle.aea_shelf.proofs.Runs.{no_home_in_ledger, no_home_outside}
-use Rattle.aea_archive.specs.Cells.{IsBesides, IsNoSite, ChangesArchive, HaveSitesRoom}
+use Rattle.aea_archive.specs.Cells.{IsBesides, IsNoSite, ChangesArchive, HaveSitesRoom, FitsRows}
 
 -- no call
 pub changes_none : (shape : Shape) (nodes : ℕ) (blocks : BlockId → Type 0) (files : ℕ → Type 0) (c : Files) → ChangesArchive shape nodes blocks files c c
@@ -75,9 +75,9 @@ changes_ledger shape nodes blocks c d only = record {
 }
 
 -- what such calls leave of the shelf
-pub changes_shelf : (tells fits fault : Type 0) (shape : Shape) (nodes : ℕ) (blocks : BlockId → Type 0) (files : ℕ → Type 0) (old new : State)
-    → OnlyWrites tells fits fault (ChangesArchive shape nodes blocks files) old new → KeepsShelf tells shape blocks old new
-changes_shelf tells fits fault shape nodes blocks files old new writes = record {
+pub changes_shelf : (tells taken fits fault : Type 0) (shape : Shape) (nodes : ℕ) (blocks : BlockId → Type 0) (files : ℕ → Type 0) (old new : State)
+    → OnlyWrites tells taken fits fault (ChangesArchive shape nodes blocks files) old new → KeepsShelf tells shape blocks old new
+changes_shelf tells taken fits fault shape nodes blocks files old new writes = record {
   homes = λ told. (writes.contents told).homes;
   intact = λ told. keeps_intact shape blocks old.files new.files (writes.contents told).homes;
   images = λ t c from to here.
@@ -86,23 +86,34 @@ changes_shelf tells fits fault shape nodes blocks files old new writes = record 
 }
 
 -- a file that is to stay, and that every image had as it reads, every image has so at each moment
-pub file_kept : (tells fits fault : Type 0) (shape : Shape) (nodes : ℕ) (blocks : BlockId → Type 0) (files : ℕ → Type 0) (old new : State) (f : ℕ) → files f
-    → OnlyWrites tells fits fault (ChangesArchive shape nodes blocks files) old new → IsFixed old f → During old new (λ c. c f ≡ old.files f)
-file_kept tells fits fault shape nodes blocks files old new f kept writes fixed t c from to here =
+pub file_kept : (tells taken fits fault : Type 0) (shape : Shape) (nodes : ℕ) (blocks : BlockId → Type 0) (files : ℕ → Type 0) (old new : State) (f : ℕ) → files f
+    → OnlyWrites tells taken fits fault (ChangesArchive shape nodes blocks files) old new → IsFixed old f → During old new (λ c. c f ≡ old.files f)
+file_kept tells taken fits fault shape nodes blocks files old new f kept writes fixed t c from to here =
     let was = writes.crash t c from to here in
     was.2.stay f kept ∙ fixed was.0 was.1
 
 -- and nothing is pending on it
-pub fixed_kept : (tells fits fault : Type 0) (shape : Shape) (nodes : ℕ) (blocks : BlockId → Type 0) (files : ℕ → Type 0) (old new : State) (f : ℕ) → tells → files f
-    → OnlyWrites tells fits fault (ChangesArchive shape nodes blocks files) old new → IsFixed old f → IsFixed new f
-fixed_kept tells fits fault shape nodes blocks files old new f told kept writes fixed c here =
-    file_kept tells fits fault shape nodes blocks files old new f kept writes fixed new.moment c writes.time.later (omega arith) here
+pub fixed_kept : (tells taken fits fault : Type 0) (shape : Shape) (nodes : ℕ) (blocks : BlockId → Type 0) (files : ℕ → Type 0) (old new : State) (f : ℕ) → tells → files f
+    → OnlyWrites tells taken fits fault (ChangesArchive shape nodes blocks files) old new → IsFixed old f → IsFixed new f
+fixed_kept tells taken fits fault shape nodes blocks files old new f told kept writes fixed c here =
+    file_kept tells taken fits fault shape nodes blocks files old new f kept writes fixed new.moment c writes.time.later (omega arith) here
     ∙ sym ((writes.contents told).stay f kept)
 
 -- where the sites have room, the disk has some
 pub room_some : HomesAreOnItsSites → (shape : Shape) (nodes : ℕ) (s : State) → HaveSitesRoom shape nodes s → HasRoom s
 room_some sites shape nodes s room = (1, site_bytes shape nodes, room 1 (omega arith) (sites shape).0)
 
+-- and with room to sync it has room for calls that only read
+pub rows_roomy : HomesAreOnItsSites → (shape : Shape) (nodes : ℕ) (s : State) → FitsRows shape nodes s → IsRoomy s
+rows_roomy sites shape nodes s fit = record { some = room_some sites shape nodes s fit.sites; sync = fit.sync }
+
 -- and later on too
 pub room_later : (shape : Shape) (nodes : ℕ) (old new : State) → Passes old new → HaveSitesRoom shape nodes old → HaveSitesRoom shape nodes new
 room_later shape nodes old new time room f site within = time.room f (site_bytes shape nodes) (room f site within)
+
+-- both stay while the ledger file does
+pub rows_later : (shape : Shape) (nodes : ℕ) (old new : State) → new.files 0 ≡ old.files 0 → Passes old new → FitsRows shape nodes old → FitsRows shape nodes new
+rows_later shape nodes old new same time fit = record {
+  sites = room_later shape nodes old new time fit.sites;
+  sync = subst (λ (l : List ℕ). new.keeps l) (sym same) (time.syncs (old.files 0) fit.sync);
+}

@@ -7,8 +7,6 @@ use Rattle.aea_lattice.specs.declared.blocks.BlockId.{BlockId}
 use Rattle.aea_lattice.specs.declared.grid.Lattice.{Lattice}
 use Rattle.aea_lattice.specs.declared.shape.Shape.{Shape}
 use Rattle.aea_lattice.specs.Blocks.{class_number, HasBlock}
-use Rattle.aea_lattice.specs.Data.{value_of}
-use Rattle.aea_lattice.specs.Growth.{IsGrown}
 use Rattle.aea_lattice.specs.Shapes.{IsBlockOf, number_in}
 use Rattle.aea_lattice.proofs.Equations.{number_below}
 use Rattle.aea_envelope.specs.Cells.{block_digest, cell_of}
@@ -16,14 +14,13 @@ use Rattle.aea_envelope.specs.Facts.{CellsHaveLengths, CellsHaveParts}
 use Rattle.aea_disk.specs.Files.{Files}
 use Rattle.aea_shelf.specs.Places.{cell_size, home_bytes, padded_home, HasAtHome}
 use Rattle.aea_shelf.specs.Intact.{IsRecorded, IsIntact, payload_in}
-use Rattle.aea_shelf.specs.Honest.{IsHonest, IsPlain}
 use Rattle.aea_shelf.specs.Facts.{PlainDamageStays}
 use Rattle.aea_shelf.proofs.Cells.{intact_of, at_home, padded_intact}
 use Rattle.aea_weave.specs.Sums.{LongerDataKeepValues}
-use Rattle.aea_archive.specs.Blocks.{IsBlockOn, recorded_in, IsIntactBy}
+use Rattle.aea_archive.specs.Blocks.{IsBlockOn, recorded_in}
 use Rattle.aea_archive.specs.Next.{AreDigestsOn}
 use Rattle.aea_archive.specs.Laws.{LastsAreValues, SurvivorsStayHonest}
-use Rattle.aea_archive.proofs.Values.{last_inside, grown-continues}
+use Rattle.aea_archive.proofs.Values.{grown-continues}
 
 -- what stands at a home: a block that is intact, and its payload
 pub record StandsAtHome (shape : Shape) (b : BlockId) (recorded payload : List ℕ) (c : Files) : Type 0 where

@@ -28,6 +28,11 @@ pub record ChangesArchive (shape : Shape) (nodes : ℕ) (blocks : BlockId → Ty
 abbrev pub HaveSitesRoom : Shape → ℕ → State → Type 0
 HaveSitesRoom shape nodes s = (f : ℕ) → 1 ≤ f → f ≤ shape.sites → HasRoomTo s f (site_bytes shape nodes)
 
+-- the sites have room for the rows of so many nodes, and the disk has room to sync
+pub record FitsRows (shape : Shape) (nodes : ℕ) (s : State) : Type 0 where
+  pub sites : HaveSitesRoom shape nodes s
+  pub sync : s.keeps (s.files 0)
+
 -- the blocks of these nodes have their cells at their homes
 abbrev pub AreAtHome : Shape → ℕ → ℕ → (BlockId → List ℕ) → Files → Type 0
 AreAtHome shape before last payload c = (b : BlockId) → IsBlockOn shape before last b → HasAtHome shape b (cell_of b (payload b)) c

@@ -11,3 +11,8 @@ pub mod Commits
 pub mod Bodies
 pub mod Appends
 pub mod Lying
+mod Making
+mod Takings
+pub mod Ends
+pub mod Readying
+mod Adding

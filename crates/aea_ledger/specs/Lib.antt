@@ -1,9 +1,10 @@
-pub mod Recorded
-pub mod Values
-pub mod Next
-pub mod Stops
-pub mod Reads
-pub mod Openings
-pub mod Readings
 pub mod Committing
 pub mod Lying
+pub mod Next
+pub mod Openings
+pub mod Readings
+pub mod Reads
+pub mod Recorded
+pub mod Stops
+pub mod Taking
+pub mod Values

@@ -6,7 +6,7 @@ ghost use Rattle.std.specs.FinMap.{get, len};
 ghost use Rattle.sha2.specs.Hashers.{Holds256};
 ghost use Rattle.sha2.specs.Sha256.{sha256};
 ghost use Rattle.aea_disk.specs.Files.{ChangesOnly};
-ghost use Rattle.aea_disk.specs.State.{IsFixed, HasRoomTo};
+ghost use Rattle.aea_disk.specs.State.{IsFixed, IsReady};
 ghost use Rattle.aea_disk.specs.Frames.{OnlyWrites};
 ghost use Rattle.aea_lattice.specs.Data.{IsBytes};
 ghost use Rattle.aea_catalog.specs.Names.{IsName};
@@ -15,6 +15,7 @@ ghost use Rattle.aea_records.specs.Format.{Object, Joined, greatest_objects, rai
 ghost use Rattle.aea_records.specs.Fields.{are_parts};
 ghost use Rattle.aea_records.specs.Catalogued.{with_record};
 ghost use Rattle.aea_ledger.specs.Values.{IsThisOne};
+ghost use Rattle.aea_ledger.specs.Taking.{FitsAdding};
 ghost use Rattle.aea_ledger.specs.Next.{next_stored, stored_as, made, HasNodes};
 ghost use Rattle.aea_ledger.specs.Committing.{IsNextOf, LeavesOldOrNew, HasCommitted};
 
@@ -205,7 +206,7 @@ impl Ledger {
         ensures leaves { LeavesOldOrNew D.tells self.old (made (stored_as name.now object.now digests.now) (option_map (λ extents. extents.now) parts.entry)) (D.state disk.old) (D.state disk.new) }
         ensures committed { OnOk result (HasCommitted D.tells self.old self.new (made (stored_as name.now object.now digests.now) (option_map (λ extents. extents.now) parts.entry)) (D.state disk.old) (D.state disk.new)) }
         ensures dead { result ≡ Err AppendFault.DiskFault → self.new ≡ record self.old { live = false } }
-        ensures writes { OnlyWrites D.tells (HasRoomTo (D.state disk.old) 0 (self.old.end + length (entry (made (stored_as name.now object.now digests.now) (option_map (λ extents. extents.now) parts.entry))) + 1)) (result ≡ Err AppendFault.DiskFault) (ChangesOnly 0) (D.state disk.old) (D.state disk.new) }
+        ensures writes { OnlyWrites D.tells (IsReady (D.state disk.old)) (FitsAdding (D.state disk.old) 1 (self.old.end + length (entry (made (stored_as name.now object.now digests.now) (option_map (λ extents. extents.now) parts.entry))))) (result ≡ Err AppendFault.DiskFault) (ChangesOnly 0) (D.state disk.old) (D.state disk.new) }
     {
         objects_are_counted();
         records_are_few();
@@ -263,7 +264,7 @@ impl Ledger {
         ensures dead { result ≡ Err AppendFault.DiskFault → self.new ≡ record self.old { live = false } }
 
         // No other file changes, and when the disk is at fault.
-        ensures writes { OnlyWrites D.tells (HasRoomTo (D.state disk.old) 0 (self.old.end + length (entry (Object (next_stored self.old name.now size digest count digests.now))) + 1)) (result ≡ Err AppendFault.DiskFault) (ChangesOnly 0) (D.state disk.old) (D.state disk.new) }
+        ensures writes { OnlyWrites D.tells (IsReady (D.state disk.old)) (FitsAdding (D.state disk.old) 1 (self.old.end + length (entry (Object (next_stored self.old name.now size digest count digests.now))))) (result ≡ Err AppendFault.DiskFault) (ChangesOnly 0) (D.state disk.old) (D.state disk.new) }
     {
         let object = self.next_fields(name, size, digest, count);
         self.add(disk, name, &object, None, digests)
@@ -303,7 +304,7 @@ impl Ledger {
         ensures dead { result ≡ Err AppendFault.DiskFault → self.new ≡ record self.old { live = false } }
 
         // No other file changes, and when the disk is at fault.
-        ensures writes { OnlyWrites D.tells (HasRoomTo (D.state disk.old) 0 (self.old.end + length (entry (Joined (next_stored self.old name.now size digest count digests.now) parts.now)) + 1)) (result ≡ Err AppendFault.DiskFault) (ChangesOnly 0) (D.state disk.old) (D.state disk.new) }
+        ensures writes { OnlyWrites D.tells (IsReady (D.state disk.old)) (FitsAdding (D.state disk.old) 1 (self.old.end + length (entry (Joined (next_stored self.old name.now size digest count digests.now) parts.now)))) (result ≡ Err AppendFault.DiskFault) (ChangesOnly 0) (D.state disk.old) (D.state disk.new) }
     {
         let object = self.next_fields(name, size, digest, count);
         self.add(disk, name, &object, Some(parts), digests)

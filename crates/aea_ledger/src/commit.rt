@@ -2,10 +2,11 @@
 ghost use Rattle.std.specs.Prelude.{◌≡◌, ◌+◌, ◌^◌, ◌≤◌, [], ◌∷◌, ◌++◌, List, length, max, IsErr, OnOk};
 ghost use Rattle.aea_lattice.specs.declared.shape.Shape.{Shape};
 ghost use Rattle.aea_disk.specs.Files.{ChangesFile, ChangesOnly, Holds, Torn, overwritten};
-ghost use Rattle.aea_disk.specs.State.{Settles, Stays, During, IsSynced, IsFixed, HasRoom, HasRoomTo};
+ghost use Rattle.aea_disk.specs.State.{Settles, Stays, During, IsSynced, IsFixed, IsReady, HasRoom, HasRoomTo};
 ghost use Rattle.aea_disk.specs.Frames.{OnlyWrites};
-ghost use Rattle.aea_records.specs.Format.{Record, body};
+ghost use Rattle.aea_records.specs.Format.{Record, body, entry};
 ghost use Rattle.aea_records.specs.Grammar.{IsLedger};
+ghost use Rattle.aea_ledger.specs.Taking.{TakesThrough, FitsThrough, TakesBehind, TakesCommit, FitsCommit, FitsAdding};
 ghost use Rattle.aea_ledger.specs.Values.{Opened, IsThisOne};
 ghost use Rattle.aea_ledger.specs.Committing.{IsNextOf, HasTaken, LeavesOldOrNew, HasCommitted};
 ghost use Rattle.aea_ledger.specs.Stops.{HasLedger, HasOldOrNew, IsAdded, IsStaged, closed, committed};
@@ -18,7 +19,7 @@ pub(crate) fn write_through<D: Disk>(disk: &mut D, at: u64, bytes: &[u8]) -> Res
     ensures written { OnOk result (D.tells → ChangesFile 0 (Holds at bytes.now) (D.state disk.old).files (D.state disk.new).files) }
     ensures durable { OnOk result (D.tells → IsSynced (D.state disk.new)) }
     ensures settled { Settles (D.state disk.old) (D.state disk.new) }
-    ensures writes { OnlyWrites D.tells (HasRoomTo (D.state disk.old) 0 (at + length bytes.now)) (IsErr result) (ChangesFile 0 (Torn at (length bytes.now))) (D.state disk.old) (D.state disk.new) }
+    ensures writes { OnlyWrites D.tells (TakesThrough (D.state disk.old) at bytes.now) (FitsThrough (D.state disk.old) at bytes.now) (IsErr result) (ChangesFile 0 (Torn at (length bytes.now))) (D.state disk.old) (D.state disk.new) }
     ensures full { OnOk result (HasRoom (D.state disk.old) → HasRoomTo (D.state disk.old) 0 (at + length bytes.now)) }
 {
     disk.write(0, at, bytes)?;
@@ -30,7 +31,7 @@ pub(crate) fn write_through<D: Disk>(disk: &mut D, at: u64, bytes: &[u8]) -> Res
 fn write_both<D: Disk>(disk: &mut D, at: u64, front: &[u8], back: &[u8]) -> Result<(), DiskFault>
     requires { at + (length front.now + length back.now) ≤ 2 ^ 62 }
     ensures written { OnOk result (D.tells → ChangesFile 0 (Holds at (front.now ++ back.now)) (D.state disk.old).files (D.state disk.new).files) }
-    ensures writes { OnlyWrites D.tells (HasRoomTo (D.state disk.old) 0 (at + (length front.now + length back.now))) (IsErr result) (ChangesFile 0 (Torn at (length front.now + length back.now))) (D.state disk.old) (D.state disk.new) }
+    ensures writes { OnlyWrites D.tells (TakesBehind (D.state disk.old) at) (HasRoomTo (D.state disk.old) 0 (at + (length front.now + length back.now))) (IsErr result) (ChangesFile 0 (Torn at (length front.now + length back.now))) (D.state disk.old) (D.state disk.new) }
     ensures full { OnOk result (HasRoom (D.state disk.old) → HasRoomTo (D.state disk.old) 0 (at + (length front.now + length back.now))) }
 {
     disk.write(0, at + front.len() as u64, back)?;
@@ -42,7 +43,7 @@ fn write_closed<D: Disk>(disk: &mut D, at: u64, front: &[u8], rest: &[u8]) -> Re
     requires { at + (length front.now + (length rest.now + 1)) ≤ 2 ^ 62 }
     ensures written { OnOk result (D.tells → ChangesFile 0 (Holds at (closed front.now rest.now)) (D.state disk.old).files (D.state disk.new).files) }
     ensures durable { OnOk result (D.tells → IsSynced (D.state disk.new)) }
-    ensures writes { OnlyWrites D.tells (HasRoomTo (D.state disk.old) 0 (at + (length front.now + (length rest.now + 1)))) (IsErr result) (ChangesFile 0 (Torn at (length front.now + (length rest.now + 1)))) (D.state disk.old) (D.state disk.new) }
+    ensures writes { OnlyWrites D.tells (TakesBehind (D.state disk.old) at) (FitsThrough (D.state disk.old) at (closed front.now rest.now)) (IsErr result) (ChangesFile 0 (Torn at (length front.now + (length rest.now + 1)))) (D.state disk.old) (D.state disk.new) }
     ensures full { OnOk result (HasRoom (D.state disk.old) → HasRoomTo (D.state disk.old) 0 (at + (length front.now + (length rest.now + 1)))) }
 {
     write_both(disk, at + front.len() as u64, rest, &[0])?;
@@ -69,7 +70,7 @@ pub(crate) fn write_body<D: Disk>(
     ensures durable { OnOk result (D.tells → IsSynced (D.state disk.new)) }
 
     ensures length { D.tells → length ((D.state disk.new).files 0) ≤ max (length ((D.state disk.old).files 0)) (end + 1 + (length front.now + (length rest.now + 1))) }
-    ensures writes { OnlyWrites D.tells (HasRoomTo (D.state disk.old) 0 (end + 1 + (length front.now + (length rest.now + 1)))) (IsErr result) (ChangesOnly 0) (D.state disk.old) (D.state disk.new) }
+    ensures writes { OnlyWrites D.tells (TakesBehind (D.state disk.old) (end + 1)) (FitsThrough (D.state disk.old) (end + 1) (closed front.now rest.now)) (IsErr result) (ChangesOnly 0) (D.state disk.old) (D.state disk.new) }
     ensures full { OnOk result (HasRoom (D.state disk.old) → HasRoomTo (D.state disk.old) 0 (end + 1 + (length front.now + (length rest.now + 1)))) }
 {
     write_closed(disk, end + 1, front, rest)
@@ -89,7 +90,7 @@ pub(crate) fn open_gate<D: Disk>(disk: &mut D, end: u64) -> Result<(), DiskFault
     ensures durable { OnOk result (D.tells → IsSynced (D.state disk.new)) }
 
     ensures length { D.tells → length ((D.state disk.new).files 0) ≤ max (length ((D.state disk.old).files 0)) (end + 1) }
-    ensures writes { OnlyWrites D.tells (HasRoomTo (D.state disk.old) 0 (end + 1)) (IsErr result) (ChangesOnly 0) (D.state disk.old) (D.state disk.new) }
+    ensures writes { OnlyWrites D.tells (TakesThrough (D.state disk.old) end (1 ∷ [])) (FitsThrough (D.state disk.old) end (1 ∷ [])) (IsErr result) (ChangesOnly 0) (D.state disk.old) (D.state disk.new) }
 {
     write_through(disk, end, &[1])
 }
@@ -115,7 +116,7 @@ pub(crate) fn commit<D: Disk>(
     ensures durable { OnOk result (D.tells → IsSynced (D.state disk.new)) }
 
     ensures length { D.tells → length ((D.state disk.new).files 0) ≤ max (length ((D.state disk.old).files 0)) (end + 1 + (length front.now + (length rest.now + 1))) }
-    ensures writes { OnlyWrites D.tells (HasRoomTo (D.state disk.old) 0 (end + 1 + (length front.now + (length rest.now + 1)))) (IsErr result) (ChangesOnly 0) (D.state disk.old) (D.state disk.new) }
+    ensures writes { OnlyWrites D.tells (TakesCommit (D.state disk.old) end (closed front.now rest.now)) (FitsCommit (D.state disk.old) end (closed front.now rest.now)) (IsErr result) (ChangesOnly 0) (D.state disk.old) (D.state disk.new) }
     ensures full { OnOk result (HasRoom (D.state disk.old) → HasRoomTo (D.state disk.old) 0 (end + 1 + (length front.now + (length rest.now + 1)))) }
 {
     write_body(disk, end, front, rest)?;
@@ -133,7 +134,7 @@ pub(crate) fn commit_next<D: Disk>(
     requires fixed { D.tells → IsFixed (D.state disk.old) 0 }
     ensures leaves { (v : Opened) (r : Record) → v.end ≡ end → front.now ++ rest.now ≡ body r → IsNextOf v r → LeavesOldOrNew D.tells v r (D.state disk.old) (D.state disk.new) }
     ensures committed { OnOk result ((v w : Opened) (r : Record) → v.end ≡ end → front.now ++ rest.now ≡ body r → IsNextOf v r → (D.tells → IsThisOne v ((D.state disk.old).files 0)) → HasTaken v r w → HasCommitted D.tells v w r (D.state disk.old) (D.state disk.new)) }
-    ensures writes { OnlyWrites D.tells (HasRoomTo (D.state disk.old) 0 (end + 1 + (length front.now + (length rest.now + 1)))) (IsErr result) (ChangesOnly 0) (D.state disk.old) (D.state disk.new) }
+    ensures writes { (v : Opened) (r : Record) → v.end ≡ end → front.now ++ rest.now ≡ body r → IsNextOf v r → (D.tells → IsThisOne v ((D.state disk.old).files 0)) → OnlyWrites D.tells (IsReady (D.state disk.old)) (FitsAdding (D.state disk.old) 1 (v.end + length (entry r))) (IsErr result) (ChangesOnly 0) (D.state disk.old) (D.state disk.new) }
 {
     commit(disk, end, front, rest)?;
     Ok(())

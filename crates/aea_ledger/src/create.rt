@@ -2,9 +2,10 @@
 
 ghost use Rattle.std.specs.Prelude.{◌≡◌, ◌≢◌, ◌↔◌, ◌+◌, ◌≤◌, [], ◌∷◌, length, drop, max, IsErr, IsTrue, IfOk, OnOk};
 ghost use Rattle.aea_disk.specs.Files.{ChangesFile, ChangesOnly, MayBeCut};
-ghost use Rattle.aea_disk.specs.State.{KeepsImages, During, IsSynced, IsFixed, HasRoom, HasRoomTo, NeverFails};
+ghost use Rattle.aea_disk.specs.State.{KeepsImages, During, IsSynced, IsFixed, HasRoom, HasRoomTo, IsReady, IsRoomy, TakesFrom, NeverFails};
 ghost use Rattle.aea_disk.specs.Frames.{OnlyReads, OnlyWrites};
 ghost use Rattle.aea_records.specs.Faults.{HasOpenHeader, IsNoArchive};
+ghost use Rattle.aea_ledger.specs.Taking.{FitsTo, FitsMaking};
 ghost use Rattle.aea_ledger.specs.Stops.{empty_ledger, IsNoneOrEmpty, IsBeingMade, MakesArchive, IsOpened, HasOpening};
 
 use crate::commit::write_through;
@@ -46,7 +47,7 @@ fn is_occupied<D: Disk>(disk: &mut D) -> Result<bool, DiskFault>
 fn empty<D: Disk>(disk: &mut D) -> Result<(), DiskFault>
     ensures emptied { OnOk result (D.tells → (D.state disk.new).files 0 ≡ []) }
     ensures durable { OnOk result (D.tells → IsSynced (D.state disk.new)) }
-    ensures writes { OnlyWrites D.tells (HasRoom (D.state disk.old)) (IsErr result) (ChangesFile 0 (MayBeCut 0)) (D.state disk.old) (D.state disk.new) }
+    ensures writes { OnlyWrites D.tells (TakesFrom (D.state disk.old) 0 0) (FitsTo (D.state disk.old) 0 []) (IsErr result) (ChangesFile 0 (MayBeCut 0)) (D.state disk.old) (D.state disk.new) }
 {
     disk.cut(0, 0)?;
     disk.sync()
@@ -61,7 +62,7 @@ fn begin<D: Disk>(disk: &mut D) -> Result<(), DiskFault>
     ensures begun { OnOk result (D.tells → (D.state disk.new).files 0 ≡ 0 ∷ []) }
     ensures durable { OnOk result (D.tells → IsSynced (D.state disk.new)) }
     ensures length { D.tells → length ((D.state disk.new).files 0) ≤ max (length ((D.state disk.old).files 0)) 1 }
-    ensures writes { OnlyWrites D.tells (HasRoomTo (D.state disk.old) 0 1) (IsErr result) (ChangesOnly 0) (D.state disk.old) (D.state disk.new) }
+    ensures writes { OnlyWrites D.tells (IsReady (D.state disk.old)) (FitsTo (D.state disk.old) 1 ((D.state disk.old).files 0)) (IsErr result) (ChangesOnly 0) (D.state disk.old) (D.state disk.new) }
 {
     empty(disk)?;
     write_through(disk, 0, &[0])
@@ -102,7 +103,7 @@ fn finish<D: Disk>(disk: &mut D, shape: &Shape) -> Result<(), DiskFault>
     ensures created { OnOk result (D.tells → (D.state disk.new).files 0 ≡ empty_ledger shape.now) }
     ensures durable { OnOk result (D.tells → IsSynced (D.state disk.new)) }
     ensures length { D.tells → length ((D.state disk.new).files 0) ≤ 18 }
-    ensures writes { OnlyWrites D.tells (HasRoomTo (D.state disk.old) 0 18) (IsErr result) (ChangesOnly 0) (D.state disk.old) (D.state disk.new) }
+    ensures writes { OnlyWrites D.tells (IsReady (D.state disk.old)) (FitsMaking (D.state disk.old) shape.now) (IsErr result) (ChangesOnly 0) (D.state disk.old) (D.state disk.new) }
     ensures full { OnOk result (HasRoom (D.state disk.old) → HasRoomTo (D.state disk.new) 0 18) }
 {
     write_through(disk, 1, &behind_gate(shape))?;
@@ -118,7 +119,7 @@ fn make<D: Disk>(disk: &mut D, shape: &Shape) -> Result<(), DiskFault>
     ensures created { OnOk result (D.tells → (D.state disk.new).files 0 ≡ empty_ledger shape.now) }
     ensures durable { OnOk result (D.tells → IsSynced (D.state disk.new)) }
     ensures length { D.tells → length ((D.state disk.new).files 0) ≤ max (length ((D.state disk.old).files 0)) 18 }
-    ensures writes { OnlyWrites D.tells (HasRoomTo (D.state disk.old) 0 18) (IsErr result) (ChangesOnly 0) (D.state disk.old) (D.state disk.new) }
+    ensures writes { OnlyWrites D.tells (IsReady (D.state disk.old)) (FitsMaking (D.state disk.old) shape.now) (IsErr result) (ChangesOnly 0) (D.state disk.old) (D.state disk.new) }
     ensures full { OnOk result (HasRoom (D.state disk.old) → HasRoomTo (D.state disk.new) 0 18) }
 {
     begin(disk)?;
@@ -145,9 +146,9 @@ pub fn create_ledger<D: Disk>(disk: &mut D, shape: &Shape) -> Result<(), CreateF
     ensures length { D.tells → length ((D.state disk.new).files 0) ≤ max (length ((D.state disk.old).files 0)) 18 }
 
     // No other file changes, and when the disk is at fault.
-    ensures writes { OnlyWrites D.tells (HasRoomTo (D.state disk.old) 0 18) (result ≡ Err CreateFault.DiskFault) (ChangesOnly 0) (D.state disk.old) (D.state disk.new) }
+    ensures writes { OnlyWrites D.tells (IsReady (D.state disk.old)) (FitsMaking (D.state disk.old) shape.now) (result ≡ Err CreateFault.DiskFault) (ChangesOnly 0) (D.state disk.old) (D.state disk.new) }
     ensures full { OnOk result (HasRoom (D.state disk.old) → HasRoomTo (D.state disk.new) 0 18) }
-    ensures refused { D.tells → HasOpenHeader ((D.state disk.old).files 0) → NeverFails (HasRoom (D.state disk.old)) (result ≡ Err CreateFault.Occupied) (D.state disk.old) (D.state disk.new) }
+    ensures refused { D.tells → HasOpenHeader ((D.state disk.old).files 0) → IsReady (D.state disk.old) → NeverFails (IsRoomy (D.state disk.old)) (result ≡ Err CreateFault.Occupied) (D.state disk.old) (D.state disk.new) }
 {
     if is_occupied(disk)? {
         return Err(CreateFault::Occupied);

@@ -2,11 +2,12 @@
 
 ghost use Rattle.std.specs.Prelude.{◌≡◌, ◌≢◌, ◌⊎◌, ◌↔◌, ◌+◌, ◌≤◌, ℕ, length, IfOk, IsErr, OnOk, Err, true, false};
 ghost use Rattle.aea_disk.specs.Files.{ChangesOnly};
-ghost use Rattle.aea_disk.specs.State.{IsFixed, HasRoomTo};
+ghost use Rattle.aea_disk.specs.State.{IsFixed, IsReady};
 ghost use Rattle.aea_disk.specs.Frames.{OnlyWrites};
 ghost use Rattle.aea_lattice.specs.Fences.{greatest_fences, last_fence};
 ghost use Rattle.aea_records.specs.Format.{Fence};
 ghost use Rattle.aea_ledger.specs.Values.{IsThisOne};
+ghost use Rattle.aea_ledger.specs.Taking.{FitsAdding};
 ghost use Rattle.aea_ledger.specs.Committing.{LeavesOldOrNew, HasCommitted};
 
 use crate::append::take_entry;
@@ -58,7 +59,7 @@ impl Ledger {
         ensures dead { result ≡ Err FenceFault.DiskFault → self.new ≡ record self.old { live = false } }
 
         // No other file changes, and when the disk is at fault.
-        ensures writes { OnlyWrites D.tells (HasRoomTo (D.state disk.old) 0 (self.old.end + 11)) (result ≡ Err FenceFault.DiskFault) (ChangesOnly 0) (D.state disk.old) (D.state disk.new) }
+        ensures writes { OnlyWrites D.tells (IsReady (D.state disk.old)) (FitsAdding (D.state disk.old) 1 (self.old.end + 10)) (result ≡ Err FenceFault.DiskFault) (ChangesOnly 0) (D.state disk.old) (D.state disk.new) }
     {
         fences_may_follow();
         records_are_few();

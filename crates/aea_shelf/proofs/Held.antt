@@ -1,12 +1,12 @@
 -- Blocks that are held at a moment, in each of its images.
-use Rattle.std.proofs.Common.{◌≡◌, ◌+◌, ◌≤◌, ℕ, List, length, sym, ap, subst, arith}
+use Rattle.std.proofs.Common.{ℕ, List, sym, subst, arith}
 use Rattle.aea_lattice.specs.declared.blocks.BlockId.{BlockId}
 use Rattle.aea_lattice.specs.declared.shape.Shape.{Shape}
 use Rattle.aea_lattice.specs.Shapes.{IsBlockOf}
 use Rattle.aea_disk.specs.Files.{Files}
-use Rattle.aea_disk.specs.State.{State, EveryImage, AtEachMoment}
-use Rattle.aea_shelf.specs.Places.{cell_size, home_bytes, HasAtHome}
-use Rattle.aea_shelf.specs.Intact.{IsRecorded, IsIntact, IsBlockHeld, IsHeldIn}
+use Rattle.aea_disk.specs.State.{State, AtEachMoment}
+use Rattle.aea_shelf.specs.Places.{home_bytes, HasAtHome}
+use Rattle.aea_shelf.specs.Intact.{IsBlockHeld, IsHeldIn}
 use Rattle.aea_shelf.specs.Writes.{KeepsShelf}
 use Rattle.aea_shelf.proofs.Cells.{length-home, at_home, intact_of}
 

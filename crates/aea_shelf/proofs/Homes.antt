@@ -22,6 +22,9 @@ use Rattle.aea_shelf.specs.Writes.{KeepsHomes, KeepsPadded}
 pub some_sites : (shape : Shape) → 1 ≤ shape.sites
 some_sites shape = let h = shape.in_profile in grind (arith, nat_tests)
 
+pub few_sites : (shape : Shape) → shape.sites ≤ 64
+few_sites shape = let h = shape.in_profile in grind (arith, nat_tests)
+
 -- the file of a home is one of its sites'
 pub home_on_sites : (shape : Shape) (b : BlockId) → (1 ≤ home_file shape b) × (home_file shape b ≤ shape.sites)
 home_on_sites shape b =

@@ -7,7 +7,7 @@ ghost use Rattle.aea_lattice.specs.Data.{value_of};
 ghost use Rattle.aea_lattice.specs.Shapes.{IsBlockOf};
 ghost use Rattle.aea_envelope.specs.Cells.{block_digest, cell_of};
 ghost use Rattle.aea_disk.specs.Files.{ChangesFile, Holds};
-ghost use Rattle.aea_disk.specs.State.{Settles, AtEachMoment, HasRoom, HasRoomTo};
+ghost use Rattle.aea_disk.specs.State.{Settles, AtEachMoment, HasRoom, HasRoomTo, IsReady};
 ghost use Rattle.aea_disk.specs.Frames.{OnlyReads, OnlyWrites};
 ghost use Rattle.aea_shelf.specs.Places.{cell_size, home_file, home_place, home_bytes, HasAtHome};
 ghost use Rattle.aea_shelf.specs.Intact.{IsRecorded, IsIntact, IsBlockHeld, IsHeldIn, payload_in};
@@ -114,7 +114,7 @@ fn write_home<D: Disk>(
     requires cell { length cell.now ≡ cell_size shape.now }
     ensures written { OnOk result (D.tells → ChangesFile (home_file shape.now b) (Holds (home_place shape.now b) cell.now) (D.state disk.old).files (D.state disk.new).files) }
     ensures settled { Settles (D.state disk.old) (D.state disk.new) }
-    ensures writes { OnlyWrites D.tells (HasRoomTo (D.state disk.old) (home_file shape.now b) (home_place shape.now b + cell_size shape.now)) (IsErr result) (ChangesHome shape.now b) (D.state disk.old) (D.state disk.new) }
+    ensures writes { OnlyWrites D.tells (IsReady (D.state disk.old)) (HasRoomTo (D.state disk.old) (home_file shape.now b) (home_place shape.now b + cell_size shape.now)) (IsErr result) (ChangesHome shape.now b) (D.state disk.old) (D.state disk.new) }
     ensures full { OnOk result (HasRoom (D.state disk.old) → HasRoomTo (D.state disk.old) (home_file shape.now b) (home_place shape.now b + cell_size shape.now)) }
 {
     let home = home_place(shape, b);
@@ -142,7 +142,7 @@ pub fn write_cell<D: Disk>(
 
     // The file grows by zeros up to the cell, and nothing else changes.
     ensures written { OnOk result (D.tells → ChangesFile (home_file shape.now b) (Holds (home_place shape.now b) (cell_of b payload.now)) (D.state disk.old).files (D.state disk.new).files) }
-    ensures writes { OnlyWrites D.tells (HasRoomTo (D.state disk.old) (home_file shape.now b) (home_place shape.now b + cell_size shape.now)) (IsErr result) (ChangesHome shape.now b) (D.state disk.old) (D.state disk.new) }
+    ensures writes { OnlyWrites D.tells (IsReady (D.state disk.old)) (HasRoomTo (D.state disk.old) (home_file shape.now b) (home_place shape.now b + cell_size shape.now)) (IsErr result) (ChangesHome shape.now b) (D.state disk.old) (D.state disk.new) }
     ensures settled { Settles (D.state disk.old) (D.state disk.new) }
     ensures full { OnOk result (HasRoom (D.state disk.old) → HasRoomTo (D.state disk.old) (home_file shape.now b) (home_place shape.now b + cell_size shape.now)) }
 

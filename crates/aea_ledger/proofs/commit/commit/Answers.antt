@@ -1,10 +1,10 @@
-use Rattle.std.proofs.Common.{◌≢◌, ◌+◌, [], ◌∷◌, ◌++◌, length, inl, arith}
+use Rattle.std.proofs.Common.{◌≢◌, ◌+◌, ℕ, List, [], ◌∷◌, ◌++◌, length, inl, refl, sym, subst, arith}
 use Rattle.std.proofs.lemmas.Result.{on_ok_weaker}
-use Rattle.aea_disk.specs.Files.{Files, ChangesOnly}
-use Rattle.aea_disk.specs.State.{HasRoomTo}
-use Rattle.aea_disk.proofs.Frames.{writes_both, keeps_both}
+use Rattle.aea_disk.specs.Files.{Files, ChangesOnly, overwritten}
+use Rattle.aea_disk.proofs.Frames.{ok_fine, writes_both, writes_faulted, writes_wider, keeps_both}
 use Rattle.aea_disk.proofs.Moments.{during_both, during_more, stays_both}
-use Rattle.aea_ledger.specs.Stops.{HasLedger, HasOldOrNew}
+use Rattle.aea_ledger.specs.Taking.{TakesBehind, TakesThrough, TakesCommit, FitsThrough, FitsCommit}
+use Rattle.aea_ledger.specs.Stops.{HasLedger, HasOldOrNew, closed, committed}
 use Rattle.aea_ledger.proofs.commit.commit.Goals as goal
 
 pub returns-in_err-write_body-clause-any_moment : goal.returns-in_err-write_body-clause-any_moment
@@ -55,8 +55,31 @@ returns-clause-writes g c =
     let first = g.D.Disk.state c.args.disk.now in
     let second = g.D.Disk.state c.write_body.new.disk in
     let third = g.D.Disk.state c.open_gate.new.disk in
-    let fits = HasRoomTo first 0 (c.args.end + 1 + (length c.args.front.now + (length c.args.rest.now + 1))) in
-    writes_both g.D.Disk.tells fits fits (HasRoomTo second 0 (c.args.end + 1)) _ _ (ChangesOnly 0) (ChangesOnly 0) (ChangesOnly 0) first second third
-    (λ d e one. one) (λ d e f one two. keeps_both (λ k. k ≢ 0) d e f one two) (λ fit. fit)
-    (λ fit passes. g.met.D.Disk.smaller_fits c.write_body.new.disk 0 (c.args.end + 1) (c.args.end + 1 + (length c.args.front.now + (length c.args.rest.now + 1))) (omega arith) (passes.room 0 (c.args.end + 1 + (length c.args.front.now + (length c.args.rest.now + 1))) fit))
+    let end = c.args.end in
+    let behind = closed c.args.front.now c.args.rest.now in
+    let most = end + 1 + length behind in
+    let one : List ℕ = 1 ∷ [] in
+    writes_both g.D.Disk.tells (TakesCommit first end behind) (TakesBehind first (end + 1)) (TakesThrough second end one) (FitsCommit first end behind) (FitsThrough first (end + 1) behind) (FitsThrough second end one) _ _ (ChangesOnly 0) (ChangesOnly 0) (ChangesOnly 0) first second third (ok_fine (c.in_ok-write_body.was))
+    (λ d e one. one) (λ d e f one two. keeps_both (λ k. k ≢ 0) d e f one two)
+    (λ told is. is.body)
+    (λ told is step goes.
+    let exactly = c.in_ok-write_body.ensures.exactly told in
+    record {
+      here = subst (λ (l : List ℕ). second.takes 0 l end) (sym exactly) (goes 0 (overwritten (first.files 0) (end + 1) behind) end is.gate);
+      then = (is.done.0, subst (λ (l : List ℕ). second.takes 0 (overwritten l end one) is.done.0) (sym exactly) (goes 0 (committed (first.files 0) end behind) is.done.0 is.done.1));
+    })
+    (λ told fit. record { room = fit.room; sync = fit.body })
+    (λ told fit step passes. record {
+      room = g.met.D.Disk.smaller_fits c.write_body.new.disk 0 (end + 1) most (omega arith) (passes.room 0 most fit.room);
+      sync = subst (λ (l : List ℕ). second.keeps (overwritten l end one)) (sym (c.in_ok-write_body.ensures.exactly told)) (passes.syncs (committed (first.files 0) end behind) fit.done);
+    })
     c.write_body.ensures.writes c.open_gate.ensures.writes
+
+pub returns-in_err-write_body-clause-writes : goal.returns-in_err-write_body-clause-writes
+returns-in_err-write_body-clause-writes g c =
+    let first = g.D.Disk.state c.args.disk.now in
+    let end = c.args.end in
+    let behind = closed c.args.front.now c.args.rest.now in
+    writes_wider g.D.Disk.tells (TakesBehind first (end + 1)) (FitsThrough first (end + 1) behind) (TakesCommit first end behind) (FitsCommit first end behind) _ (ChangesOnly 0) (ChangesOnly 0) first (g.D.Disk.state c.write_body.new.disk)
+    (λ d e changes. changes) (λ told is. is.body) (λ told fit. record { room = fit.room; sync = fit.body })
+    (writes_faulted g.D.Disk.tells (TakesBehind first (end + 1)) (FitsThrough first (end + 1) behind) _ _ (ChangesOnly 0) first (g.D.Disk.state c.write_body.new.disk) c.in_err-write_body.ensures.writes refl (cc))

@@ -1,10 +1,10 @@
-use Rattle.std.proofs.Common.{[], ◌∷◌, ◌++◌, ◌+◌, ℕ, List, sym, subst}
+use Rattle.std.proofs.Common.{[], ◌∷◌, ◌++◌, ℕ, List, sym, subst}
 use Rattle.std.proofs.lemmas.Result.{on_ok_weaker}
 use Rattle.aea_disk.specs.Files.{Files, ChangesFile, ChangesOnly, Torn}
-use Rattle.aea_disk.specs.State.{HasRoomTo}
 use Rattle.aea_disk.proofs.Frames.{writes_wider}
 use Rattle.aea_disk.proofs.Moments.{during_change, stays_step}
 use Rattle.aea_records.specs.Grammar.{IsLedger}
+use Rattle.aea_ledger.specs.Taking.{TakesThrough, FitsThrough}
 use Rattle.aea_ledger.specs.Stops.{HasLedger, HasOldOrNew}
 use Rattle.aea_ledger.proofs.Commits.{old_staged, old_or_new, new_opened, not_both}
 use Rattle.aea_ledger.proofs.commit.open_gate.Goals as goal
@@ -41,4 +41,7 @@ returns-clause-opened g c =
 pub returns-clause-writes : goal.returns-clause-writes
 returns-clause-writes g c =
     let first = g.D.Disk.state c.args.disk.now in
-    writes_wider g.D.Disk.tells (HasRoomTo first 0 (c.args.end + 1)) (HasRoomTo first 0 (c.args.end + 1)) _ (ChangesFile 0 (Torn c.args.end 1)) (ChangesOnly 0) first (g.D.Disk.state c.write_through.new.disk) (λ d e changes. changes.others) (λ fit. fit) c.write_through.ensures.writes
+    let one : List ℕ = 1 ∷ [] in
+    let second = g.D.Disk.state c.write_through.new.disk in
+    writes_wider g.D.Disk.tells (TakesThrough first c.args.end one) (FitsThrough first c.args.end one) (TakesThrough first c.args.end one) (FitsThrough first c.args.end one) _ (ChangesFile 0 (Torn c.args.end 1)) (ChangesOnly 0) first second (λ d e changes. changes.others) (λ told is. is)
+    (λ told fit. fit) c.write_through.ensures.writes

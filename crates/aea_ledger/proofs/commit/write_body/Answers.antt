@@ -1,10 +1,10 @@
 use Rattle.std.proofs.Common.{[], ◌∷◌, ◌++◌, ◌+◌, length}
 use Rattle.std.proofs.lemmas.Result.{on_ok_weaker}
 use Rattle.aea_disk.specs.Files.{ChangesFile, ChangesOnly, Torn}
-use Rattle.aea_disk.specs.State.{HasRoomTo}
 use Rattle.aea_disk.proofs.Frames.{writes_wider}
 use Rattle.aea_disk.proofs.Moments.{during_change, stays_never}
 use Rattle.aea_records.specs.Format.{spelled}
+use Rattle.aea_ledger.specs.Taking.{TakesBehind, FitsThrough}
 use Rattle.aea_ledger.specs.Stops.{HasLedger, closed}
 use Rattle.aea_ledger.proofs.Commits.{old_behind, staged, not_both}
 use Rattle.aea_ledger.proofs.commit.write_body.Goals as goal
@@ -41,4 +41,7 @@ returns-clause-staged g c =
 pub returns-clause-writes : goal.returns-clause-writes
 returns-clause-writes g c =
     let first = g.D.Disk.state c.args.disk.now in
-    writes_wider g.D.Disk.tells (HasRoomTo first 0 (c.args.end + 1 + (length c.args.front.now + (length c.args.rest.now + 1)))) (HasRoomTo first 0 (c.args.end + 1 + (length c.args.front.now + (length c.args.rest.now + 1)))) _ (ChangesFile 0 (Torn (c.args.end + 1) ((length c.args.front.now + (length c.args.rest.now + 1))))) (ChangesOnly 0) first (g.D.Disk.state c.write_closed.new.disk) (λ d e changes. changes.others) (λ fit. fit) c.write_closed.ensures.writes
+    let place = c.args.end + 1 in
+    let n = length c.args.front.now + (length c.args.rest.now + 1) in
+    let behind = closed c.args.front.now c.args.rest.now in
+    writes_wider g.D.Disk.tells (TakesBehind first place) (FitsThrough first place behind) (TakesBehind first place) (FitsThrough first place behind) _ (ChangesFile 0 (Torn place n)) (ChangesOnly 0) first (g.D.Disk.state c.write_closed.new.disk) (λ d e changes. changes.others) (λ told is. is) (λ told fit. fit) c.write_closed.ensures.writes

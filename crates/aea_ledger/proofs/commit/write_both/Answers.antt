@@ -1,9 +1,11 @@
-use Rattle.std.proofs.Common.{◌≡◌, ◌+◌, length, refl, subst, arith}
+use Rattle.std.proofs.Common.{◌≡◌, ◌+◌, [], length, refl, subst, arith}
 use Rattle.aea_disk.specs.Files.{ChangesFile, Torn}
 use Rattle.aea_disk.specs.Steps.{changes_wider}
-use Rattle.aea_disk.specs.State.{HasRoomTo}
-use Rattle.aea_disk.proofs.Frames.{writes_one, writes_failed, writes_both, writes_wider, torn_anyway}
+use Rattle.aea_disk.specs.State.{HasRoomTo, TakesFrom}
+use Rattle.aea_disk.proofs.Frames.{ok_fine, writes_one, writes_failed, writes_both, writes_wider, torn_anyway}
 use Rattle.std.proofs.lemmas.Result.{on_ok_weaker}
+use Rattle.aea_ledger.specs.Taking.{TakesBehind}
+use Rattle.aea_ledger.proofs.Takings.{behind_torn, behind_more, behind_through}
 use Rattle.aea_ledger.proofs.Writes.{changes_both, torn_both, torn_late, holds_both}
 use Rattle.aea_ledger.proofs.commit.write_both.Goals as goal
 
@@ -17,10 +19,11 @@ returns-in_err-write-clause-writes g c =
     let e = c.in_err-write.ensures in
     let narrow = ChangesFile 0 (Torn (c.args.at + n) m) in
     let same : c.args.at + (n + m) ≡ c.args.at + n + m = omega arith in
-    writes_wider tells (HasRoomTo first 0 (c.args.at + n + m)) (HasRoomTo first 0 (c.args.at + (n + m))) _ narrow (ChangesFile 0 (Torn c.args.at (n + m))) first second
+    writes_wider tells (TakesFrom first 0 (c.args.at + n)) (HasRoomTo first 0 (c.args.at + n + m)) (TakesBehind first c.args.at) (HasRoomTo first 0 (c.args.at + (n + m))) _ narrow (ChangesFile 0 (Torn c.args.at (n + m))) first second
     (λ a b. changes_wider 0 (Torn (c.args.at + n) m) (Torn c.args.at (n + m)) a b (torn_late c.args.at n m))
-    (subst (HasRoomTo first 0) same)
-    (writes_failed tells (HasRoomTo first 0 (c.args.at + n + m)) _ narrow first second _ refl e.torn e.crash e.settled e.time e.cause e.sure)
+    (λ told is. (behind_through first (c.args.at + n) [] (g.met.D.Disk.later_taken c.args.disk.now) (behind_more first c.args.at (c.args.at + n) (omega arith) is)).here)
+    (λ told fit. subst (HasRoomTo first 0) same fit)
+    (writes_failed tells (TakesFrom first 0 (c.args.at + n)) (HasRoomTo first 0 (c.args.at + n + m)) _ narrow first second _ refl (cc) e.torn e.crash e.settled e.time e.cause e.sure)
 
 pub returns-clause-written : goal.returns-clause-written
 returns-clause-written g c =
@@ -41,16 +44,18 @@ returns-clause-writes g c =
     let n = length c.args.front.now in
     let m = length c.args.back.now in
     let same : at + (n + m) ≡ at + n + m = omega arith in
-    writes_both tells (HasRoomTo first 0 (at + (n + m))) (HasRoomTo first 0 (at + n + m)) (HasRoomTo second 0 (at + n)) _ _
-    (ChangesFile 0 (Torn (at + n) m)) (ChangesFile 0 (Torn at n)) (ChangesFile 0 (Torn at (n + m))) first second third
+    writes_both tells (TakesBehind first at) (TakesFrom first 0 (at + n)) (TakesFrom second 0 at) (HasRoomTo first 0 (at + (n + m))) (HasRoomTo first 0 (at + n + m)) (HasRoomTo second 0 (at + n)) _ _
+    (ChangesFile 0 (Torn (at + n) m)) (ChangesFile 0 (Torn at n)) (ChangesFile 0 (Torn at (n + m))) first second third (ok_fine (c.in_ok-write.was))
     (λ a b. changes_wider 0 (Torn (at + n) m) (Torn at (n + m)) a b (torn_late at n m))
     (λ a b d. changes_both 0 (Torn (at + n) m) (Torn at n) (Torn at (n + m)) a b d (torn_both at n m))
-    (subst (HasRoomTo first 0) same)
-    (λ fit passes. g.met.D.Disk.smaller_fits c.write.new.self 0 (at + n) (at + (n + m)) (omega arith) (passes.room 0 (at + (n + m)) fit))
-    (writes_one tells (HasRoomTo first 0 (at + n + m)) (ChangesFile 0 (Torn (at + n) m)) first second c.write.result
+    (λ told is. (behind_through first (at + n) [] (g.met.D.Disk.later_taken c.args.disk.now) (behind_more first at (at + n) (omega arith) is)).here)
+    (λ told is step goes. (behind_through second at [] (g.met.D.Disk.later_taken c.write.new.self) (behind_torn first second at (at + n) m is (omega arith) step.here goes)).here)
+    (λ told fit. subst (HasRoomTo first 0) same fit)
+    (λ told fit step passes. g.met.D.Disk.smaller_fits c.write.new.self 0 (at + n) (at + (n + m)) (omega arith) (passes.room 0 (at + (n + m)) fit))
+    (writes_one tells (TakesFrom first 0 (at + n)) (HasRoomTo first 0 (at + n + m)) (ChangesFile 0 (Torn (at + n) m)) first second c.write.result
     (torn_anyway tells 0 (at + n) c.args.back.now first.files second.files c.write.result c.write.ensures.written c.write.ensures.torn)
     c.write.ensures.crash c.write.ensures.settled c.write.ensures.time c.write.ensures.cause c.write.ensures.sure)
-    (writes_one tells (HasRoomTo second 0 (at + n)) (ChangesFile 0 (Torn at n)) second third c.write-2.result
+    (writes_one tells (TakesFrom second 0 at) (HasRoomTo second 0 (at + n)) (ChangesFile 0 (Torn at n)) second third c.write-2.result
     (torn_anyway tells 0 at c.args.front.now second.files third.files c.write-2.result c.write-2.ensures.written c.write-2.ensures.torn)
     c.write-2.ensures.crash c.write-2.ensures.settled c.write-2.ensures.time c.write-2.ensures.cause c.write-2.ensures.sure)
 

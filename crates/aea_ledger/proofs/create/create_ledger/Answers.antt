@@ -1,7 +1,11 @@
-use Rattle.std.proofs.Common.{refl, inr}
-use Rattle.aea_disk.specs.Files.{ChangesOnly}
-use Rattle.aea_disk.specs.State.{HasRoomTo}
+use Rattle.std.proofs.Common.{refl, inr, sym, ap, subst}
+use Rattle.std.proofs.lemmas.Result.{err_from_is_err_and}
+use Rattle.std.proofs.lemmas.Bool.{false≢true}
+use Rattle.aea_disk.specs.Files.{Files, ChangesOnly}
+use Rattle.aea_disk.specs.State.{IsReady}
+use Rattle.aea_ledger.specs.Taking.{FitsMaking}
 use Rattle.aea_disk.proofs.Frames.{reads_as, reads_faulted, reads_writes, writes_as, writes_faulted, reads_then_writes}
+use Rattle.aea_ledger.proofs.Making.{roomy_making, fits_later}
 use Rattle.aea_ledger.proofs.Creates.{no_header, opened_making, opened_occupied}
 use Rattle.aea_ledger.proofs.create.create_ledger.Goals as goal
 
@@ -22,8 +26,10 @@ returns-in_err-make-clause-writes g c =
     let first = g.D.Disk.state c.args.disk.now in
     let second = g.D.Disk.state c.is_occupied.new.disk in
     let third = g.D.Disk.state c.make.new.disk in
-    reads_then_writes g.D.Disk.tells (HasRoomTo first 0 18) (HasRoomTo second 0 18) _ _ (ChangesOnly 0) first second third (λ d f other. refl) (λ fit. (0, 18, fit)) (λ fit passes. passes.room 0 18 fit)
-    c.is_occupied.ensures.reads (writes_faulted g.D.Disk.tells (HasRoomTo second 0 18) _ _ (ChangesOnly 0) second third c.in_err-make.ensures.writes refl)
+    reads_then_writes g.D.Disk.tells (IsReady first) (IsReady second) (FitsMaking first c.args.shape.now) (FitsMaking second c.args.shape.now) _ _ (ChangesOnly 0) first second third false≢true (λ d f other. refl)
+    (λ ready. ready) (λ told ready same goes. (ready.0, subst (λ (f : Files). second.takes 0 (f 0) ready.0) (sym same) (goes 0 (first.files 0) ready.0 ready.1)))
+    (λ fit. roomy_making first c.args.shape.now fit) (λ told fit same passes. fits_later first second c.args.shape.now (ap (λ (f : Files). f 0) same) passes fit)
+    c.in_ok-is_occupied.ensures.reads (writes_faulted g.D.Disk.tells (IsReady second) (FitsMaking second c.args.shape.now) _ _ (ChangesOnly 0) second third c.in_err-make.ensures.writes refl (let p = err_from_is_err_and c.from_residual-in_err-make.result c.from_residual-in_err-make.ensures.1 in rw (p.1, p.2)))
 
 pub returns-clause-stops : goal.returns-clause-stops
 returns-clause-stops g c told =
@@ -44,19 +50,21 @@ returns-clause-writes g c =
     let first = g.D.Disk.state c.args.disk.now in
     let second = g.D.Disk.state c.is_occupied.new.disk in
     let third = g.D.Disk.state c.make.new.disk in
-    reads_then_writes g.D.Disk.tells (HasRoomTo first 0 18) (HasRoomTo second 0 18) _ _ (ChangesOnly 0) first second third (λ d f other. refl) (λ fit. (0, 18, fit)) (λ fit passes. passes.room 0 18 fit)
-    c.is_occupied.ensures.reads (writes_as g.D.Disk.tells (HasRoomTo second 0 18) _ _ (ChangesOnly 0) second third (λ is. absurd (cc)) c.in_ok-make.ensures.writes)
+    reads_then_writes g.D.Disk.tells (IsReady first) (IsReady second) (FitsMaking first c.args.shape.now) (FitsMaking second c.args.shape.now) _ _ (ChangesOnly 0) first second third false≢true (λ d f other. refl)
+    (λ ready. ready) (λ told ready same goes. (ready.0, subst (λ (f : Files). second.takes 0 (f 0) ready.0) (sym same) (goes 0 (first.files 0) ready.0 ready.1)))
+    (λ fit. roomy_making first c.args.shape.now fit) (λ told fit same passes. fits_later first second c.args.shape.now (ap (λ (f : Files). f 0) same) passes fit)
+    c.in_ok-is_occupied.ensures.reads (writes_as g.D.Disk.tells (IsReady second) (FitsMaking second c.args.shape.now) _ _ (ChangesOnly 0) second third (λ is. absurd (cc)) (λ is. absurd (cc)) c.in_ok-make.ensures.writes)
 
 pub returns-in_err-is_occupied-clause-writes : goal.returns-in_err-is_occupied-clause-writes
 returns-in_err-is_occupied-clause-writes g c =
     let first = g.D.Disk.state c.args.disk.now in
     let second = g.D.Disk.state c.is_occupied.new.disk in
-    reads_writes g.D.Disk.tells (HasRoomTo first 0 18) _ (ChangesOnly 0) first second (λ fit. (0, 18, fit)) (λ d f other. refl)
-    (reads_faulted g.D.Disk.tells _ _ first second c.in_err-is_occupied.ensures.reads refl)
+    reads_writes g.D.Disk.tells (IsReady first) (FitsMaking first c.args.shape.now) _ (ChangesOnly 0) first second (λ ready. ready) (λ fit. roomy_making first c.args.shape.now fit) (λ d f other. refl)
+    (reads_faulted g.D.Disk.tells _ _ first second c.in_err-is_occupied.ensures.reads refl (let p = err_from_is_err_and c.from_residual.result c.from_residual.ensures.1 in rw (p.1, p.2)))
 
 pub returns-then-branch-clause-writes : goal.returns-then-branch-clause-writes
 returns-then-branch-clause-writes g c =
     let first = g.D.Disk.state c.args.disk.now in
     let second = g.D.Disk.state c.is_occupied.new.disk in
-    reads_writes g.D.Disk.tells (HasRoomTo first 0 18) _ (ChangesOnly 0) first second (λ fit. (0, 18, fit)) (λ d f other. refl)
-    (reads_as g.D.Disk.tells _ _ first second (λ is. absurd (cc)) c.in_ok-is_occupied.ensures.reads)
+    reads_writes g.D.Disk.tells (IsReady first) (FitsMaking first c.args.shape.now) _ (ChangesOnly 0) first second (λ ready. ready) (λ fit. roomy_making first c.args.shape.now fit) (λ d f other. refl)
+    (reads_as g.D.Disk.tells _ _ first second (λ is. absurd (cc)) (λ is. absurd (cc)) c.in_ok-is_occupied.ensures.reads)

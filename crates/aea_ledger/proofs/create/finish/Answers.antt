@@ -1,10 +1,14 @@
-use Rattle.std.proofs.Common.{◌≡◌, ◌≢◌, ◌+◌, ◌∷◌, length, inl, refl, ap, arith}
+use Rattle.std.proofs.Common.{◌≡◌, ◌≢◌, ℕ, List, [], ◌∷◌, length, inl, refl, sym, subst, arith}
 use Rattle.std.proofs.lemmas.Result.{on_ok_weaker}
-use Rattle.aea_disk.specs.Files.{Files, ChangesFile, ChangesOnly, Torn}
-use Rattle.aea_disk.specs.State.{HasRoomTo}
+use Rattle.std.proofs.lemmas.Bool.{false≢true}
+use Rattle.aea_disk.specs.Files.{Files, ChangesFile, ChangesOnly, Torn, overwritten}
+use Rattle.aea_disk.specs.State.{IsReady}
 use Rattle.aea_disk.proofs.Frames.{writes_faulted, writes_wider, writes_both, keeps_both}
 use Rattle.aea_disk.proofs.Moments.{during_both, during_change, synced_fixed}
-use Rattle.aea_ledger.specs.Stops.{IsNoneOrEmpty}
+use Rattle.aea_ledger.specs.Stops.{IsNoneOrEmpty, empty_ledger}
+use Rattle.aea_ledger.specs.Taking.{FitsMaking, TakesThrough, FitsThrough}
+use Rattle.aea_ledger.proofs.Making.{fits_filling, fits_opening}
+use Rattle.aea_ledger.proofs.Takings.{bare_behind, bare_begun, bare_full, empty_ends}
 use Rattle.aea_ledger.proofs.Creates.{none_behind, filled, none_or_empty, empty_opened}
 use Rattle.aea_ledger.proofs.create.finish.Goals as goal
 
@@ -49,19 +53,45 @@ returns-clause-created g c =
 pub returns-in_err-write_through-clause-writes : goal.returns-in_err-write_through-clause-writes
 returns-in_err-write_through-clause-writes g c =
     let first = g.D.Disk.state c.args.disk.now in
-    let n = length c.behind_gate.result in
-    writes_wider g.D.Disk.tells (HasRoomTo first 0 (1 + n)) (HasRoomTo first 0 18) _ (ChangesFile 0 (Torn 1 n)) (ChangesOnly 0) first (g.D.Disk.state c.write_through.new.disk) (λ d e changes. changes.others)
-    (λ fit. g.met.D.Disk.smaller_fits c.args.disk.now 0 (1 + n) 18 (omega (arith, ap length c.behind_gate.ensures)) fit)
-    (writes_faulted g.D.Disk.tells (HasRoomTo first 0 (1 + n)) _ _ (ChangesFile 0 (Torn 1 n)) first (g.D.Disk.state c.write_through.new.disk) c.in_err-write_through.ensures.writes refl)
+    let rest = c.behind_gate.result in
+    let n = length rest in
+    let D = c.args.disk.now in
+    writes_wider g.D.Disk.tells (TakesThrough first 1 rest) (FitsThrough first 1 rest) (IsReady first) (FitsMaking first c.args.shape.now) _ (ChangesFile 0 (Torn 1 n)) (ChangesOnly 0) first (g.D.Disk.state c.write_through.new.disk) (λ d e changes. changes.others)
+    (λ told ready. record {
+      here = g.met.D.Disk.later_taken D 0 (first.files 0) 0 1 (omega arith) (g.met.D.Disk.bare_taken D (first.files 0) (first.files 0) ready.0 (bare_begun (first.files 0) (c.requires.begun told)) ready.1);
+      then = (0, g.met.D.Disk.bare_taken D (first.files 0) (overwritten (first.files 0) 1 rest) ready.0 (bare_behind (first.files 0) rest (c.requires.begun told)) ready.1);
+    })
+    (λ told fit. fits_filling first c.args.shape.now rest (g.met.D.Disk.bare_kept D) (g.met.D.Disk.smaller_fits D) (c.requires.begun told) c.behind_gate.ensures fit)
+    (writes_faulted g.D.Disk.tells (TakesThrough first 1 rest) (FitsThrough first 1 rest) _ _ (ChangesFile 0 (Torn 1 n)) first (g.D.Disk.state c.write_through.new.disk) c.in_err-write_through.ensures.writes refl (cc))
 
 pub returns-clause-writes : goal.returns-clause-writes
 returns-clause-writes g c =
     let first = g.D.Disk.state c.args.disk.now in
     let second = g.D.Disk.state c.write_through.new.disk in
     let third = g.D.Disk.state c.write_through-2.new.disk in
-    let n = length c.behind_gate.result in
-    writes_both g.D.Disk.tells (HasRoomTo first 0 18) (HasRoomTo first 0 (1 + n)) (HasRoomTo second 0 1) _ _ (ChangesFile 0 (Torn 1 n)) (ChangesFile 0 (Torn 0 1)) (ChangesOnly 0) first second third
+    let shape = c.args.shape.now in
+    let rest = c.behind_gate.result in
+    let n = length rest in
+    let D = c.args.disk.now in
+    let E = c.write_through.new.disk in
+    let there = overwritten (second.files 0) 0 (1 ∷ []) in
+    writes_both g.D.Disk.tells (IsReady first) (TakesThrough first 1 rest) (TakesThrough second 0 (1 ∷ [])) (FitsMaking first c.args.shape.now) (FitsThrough first 1 rest) (FitsThrough second 0 (1 ∷ [])) _ _
+    (ChangesFile 0 (Torn 1 n)) (ChangesFile 0 (Torn 0 1)) (ChangesOnly 0) first second third false≢true
     (λ d e one. one.others) (λ d e f one two. keeps_both (λ k. k ≢ 0) d e f one.others two.others)
-    (λ fit. g.met.D.Disk.smaller_fits c.args.disk.now 0 (1 + n) 18 (omega (arith, ap length c.behind_gate.ensures)) fit)
-    (λ fit passes. g.met.D.Disk.smaller_fits c.write_through.new.disk 0 1 18 (omega arith) (passes.room 0 18 fit))
-    c.write_through.ensures.writes c.write_through-2.ensures.writes
+    (λ told ready. record {
+      here = g.met.D.Disk.later_taken D 0 (first.files 0) 0 1 (omega arith) (g.met.D.Disk.bare_taken D (first.files 0) (first.files 0) ready.0 (bare_begun (first.files 0) (c.requires.begun told)) ready.1);
+      then = (0, g.met.D.Disk.bare_taken D (first.files 0) (overwritten (first.files 0) 1 rest) ready.0 (bare_behind (first.files 0) rest (c.requires.begun told)) ready.1);
+    })
+    (λ told ready step goes.
+    let has = goes 0 (first.files 0) ready.0 ready.1 in
+    let full : second.files 0 ≡ 0 ∷ rest = filled shape rest (first.files 0) (second.files 0) (c.requires.begun told) c.behind_gate.ensures (c.in_ok-write_through.ensures.written told).here in
+    let whole : there ≡ empty_ledger shape = empty_opened shape rest (second.files 0) there full c.behind_gate.ensures refl in
+    record {
+      here = g.met.D.Disk.bare_taken E (first.files 0) (second.files 0) ready.0 (bare_full rest (second.files 0) full) has;
+      then = (17, subst (λ (l : List ℕ). second.takes 0 l 17) (sym whole) (g.met.D.Disk.ended_taken E (first.files 0) (empty_ledger shape) ready.0 17 (empty_ends shape) has));
+    })
+    (λ told fit. fits_filling first c.args.shape.now rest (g.met.D.Disk.bare_kept D) (g.met.D.Disk.smaller_fits D) (c.requires.begun told) c.behind_gate.ensures fit)
+    (λ told fit step passes.
+    let full : second.files 0 ≡ 0 ∷ rest = filled shape rest (first.files 0) (second.files 0) (c.requires.begun told) c.behind_gate.ensures (c.in_ok-write_through.ensures.written told).here in
+    fits_opening first second shape (g.met.D.Disk.smaller_fits E) (empty_opened shape rest (second.files 0) there full c.behind_gate.ensures refl) passes fit)
+    c.in_ok-write_through.ensures.writes c.write_through-2.ensures.writes

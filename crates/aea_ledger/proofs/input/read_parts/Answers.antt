@@ -9,15 +9,15 @@ loop-preserved g c =
       parts_push g.D.Disk.tells _ c.args.input.now c.loop.input c.read_part.new.input c.loop.counter _ _ _ c.loop.invariant.0
           (parts_in g.D.Disk.tells ((g.D.Disk.state c.loop.disk).files 0) ((g.D.Disk.state c.args.disk.now).files 0) c.loop.input c.read_part.new.input 1 _ _
           (λ tells. ap (λ (f : ℕ → List ℕ). f 0) (early.contents tells)) (c.in_ok-read_part.ensures.more c.if-not-branch.false)),
-      reads_both g.D.Disk.tells ⊥ ⊥ (g.D.Disk.state c.args.disk.now) (g.D.Disk.state c.loop.disk) (g.D.Disk.state c.read_part.new.disk) early
-          (reads_as g.D.Disk.tells _ ⊥ _ _ (λ none. absurd none) c.in_ok-read_part.ensures.reads),
+      reads_both g.D.Disk.tells ⊥ ⊥ (g.D.Disk.state c.args.disk.now) (g.D.Disk.state c.loop.disk) (g.D.Disk.state c.read_part.new.disk) (λ none. none) early
+          (reads_as g.D.Disk.tells _ ⊥ _ _ (λ none. absurd none) (λ is. absurd (cc)) c.in_ok-read_part.ensures.reads),
     )
 
 pub loop-init : goal.loop-init
 loop-init g c = (search rules, reads_none g.D.Disk.tells ⊥ (g.D.Disk.state c.args.disk.now) (λ none. none))
 
 pub returns-in_err-read_part-clause-reads : goal.returns-in_err-read_part-clause-reads
-returns-in_err-read_part-clause-reads g c = reads_both g.D.Disk.tells ⊥ _ (g.D.Disk.state c.args.disk.now) (g.D.Disk.state c.loop.disk) (g.D.Disk.state c.read_part.new.disk) c.loop.invariant.1 (reads_as g.D.Disk.tells _ _ _ _ (λ e. search rules) c.in_err-read_part.ensures.reads)
+returns-in_err-read_part-clause-reads g c = reads_both g.D.Disk.tells ⊥ _ (g.D.Disk.state c.args.disk.now) (g.D.Disk.state c.loop.disk) (g.D.Disk.state c.read_part.new.disk) (λ none. none) c.loop.invariant.1 (reads_as g.D.Disk.tells _ _ _ _ (λ e. search rules) (λ is. search rules) c.in_err-read_part.ensures.reads)
 
 pub returns-then-not-branch-clause-reads : goal.returns-then-not-branch-clause-reads
-returns-then-not-branch-clause-reads g c = reads_both g.D.Disk.tells ⊥ _ (g.D.Disk.state c.args.disk.now) (g.D.Disk.state c.loop.disk) (g.D.Disk.state c.read_part.new.disk) c.loop.invariant.1 (reads_as g.D.Disk.tells _ _ _ _ (λ e. absurd (cc)) c.in_ok-read_part.ensures.reads)
+returns-then-not-branch-clause-reads g c = reads_both g.D.Disk.tells ⊥ _ (g.D.Disk.state c.args.disk.now) (g.D.Disk.state c.loop.disk) (g.D.Disk.state c.read_part.new.disk) (λ none. none) c.loop.invariant.1 (reads_as g.D.Disk.tells _ _ _ _ (λ e. absurd (cc)) (λ is. absurd (cc)) c.in_ok-read_part.ensures.reads)

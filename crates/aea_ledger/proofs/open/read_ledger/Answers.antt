@@ -12,16 +12,16 @@ returns-in_err-read_all-clause-reads g c =
     (let two = g.D.Disk.state c.args.disk.now in
     let three = g.D.Disk.state c.start.new.disk in
     let four = g.D.Disk.state c.read_all.new.disk in
-    reads_both g.D.Disk.tells _ _ two three four c.in_ok-reader.ensures.reads
-    (reads_as g.D.Disk.tells _ _ three four (λ e. cc) c.in_err-read_all.ensures.reads))
+    reads_both g.D.Disk.tells _ _ two three four (λ is. absurd (cc)) c.in_ok-reader.ensures.reads
+    (reads_as g.D.Disk.tells _ _ three four (λ e. cc) (λ is. cc) c.in_err-read_all.ensures.reads))
 
 pub returns-clause-reads : goal.returns-clause-reads
 returns-clause-reads g c =
     let two = g.D.Disk.state c.args.disk.now in
     let three = g.D.Disk.state c.start.new.disk in
     let four = g.D.Disk.state c.read_all.new.disk in
-    reads_both g.D.Disk.tells _ _ two three four c.in_ok-reader.ensures.reads
-    (reads_as g.D.Disk.tells _ _ three four (λ e. let other = IfErr-at_err (λ fault. fault ≡ NoMemory) e c.finish.ensures.memory in absurd (cc)) c.in_ok-read_all.ensures.reads)
+    reads_both g.D.Disk.tells _ _ two three four (λ is. absurd (cc)) c.in_ok-reader.ensures.reads
+    (reads_as g.D.Disk.tells _ _ three four (λ e. let other = IfErr-at_err (λ fault. fault ≡ NoMemory) e c.finish.ensures.memory in absurd (cc)) (λ is. absurd (cc)) c.in_ok-read_all.ensures.reads)
 
 pub returns-clause-records : goal.returns-clause-records
 returns-clause-records g c =

@@ -1,4 +1,4 @@
-use Rattle.std.proofs.Common.{refl, inl, inr}
+use Rattle.std.proofs.Common.{rules, refl, inl, inr}
 use Rattle.aea_disk.proofs.Frames.{reads_failed, reads_made, reads_both, reads_synced}
 use Rattle.aea_ledger.proofs.Creates.{opened_read}
 use Rattle.aea_ledger.proofs.open.read_surely.Goals as goal
@@ -6,7 +6,7 @@ use Rattle.aea_ledger.proofs.open.read_surely.Goals as goal
 pub returns-in_err-sync-clause-reads : goal.returns-in_err-sync-clause-reads
 returns-in_err-sync-clause-reads g c =
     let e = c.in_err-sync.ensures in
-    reads_failed g.D.Disk.tells _ (g.D.Disk.state c.args.disk.now) (g.D.Disk.state c.sync.new.self) _ refl e.contents e.crash e.settled e.time e.cause e.sure
+    reads_failed g.D.Disk.tells _ (g.D.Disk.state c.args.disk.now) (g.D.Disk.state c.sync.new.self) _ refl (search rules) e.contents e.crash e.settled e.time e.cause e.sure
 
 pub returns-in_err-sync-clause-stops : goal.returns-in_err-sync-clause-stops
 returns-in_err-sync-clause-stops g c told = inl c.in_err-sync.ensures.crash
@@ -30,5 +30,5 @@ returns-clause-opened g c fine told =
 pub returns-clause-reads : goal.returns-clause-reads
 returns-clause-reads g c =
     let e = c.in_ok-sync.ensures in
-    reads_both g.D.Disk.tells ⊥ _ (g.D.Disk.state c.args.disk.now) (g.D.Disk.state c.sync.new.self) (g.D.Disk.state c.read_ledger.new.disk)
-    (reads_made g.D.Disk.tells ⊥ _ _ _ (λ is. is) e.contents e.crash e.settled e.time e.cause e.sure) c.read_ledger.ensures.reads
+    reads_both g.D.Disk.tells ⊥ _ (g.D.Disk.state c.args.disk.now) (g.D.Disk.state c.sync.new.self) (g.D.Disk.state c.read_ledger.new.disk) (λ none. none)
+    (reads_made g.D.Disk.tells ⊥ _ _ _ (cc) (λ is. is) e.contents e.crash e.settled e.time e.cause e.sure) c.read_ledger.ensures.reads

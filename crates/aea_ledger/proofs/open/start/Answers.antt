@@ -31,19 +31,19 @@ returns-clause-reading g c =
     (subst (λ (f : ℕ → List ℕ). IsAhead c.fill.new.self (f 0)) (e.reads.contents tells ∙ c.in_ok-bytes.ensures.contents tells) (e.told tells)))
 
 pub returns-in_err-bytes-clause-reads : goal.returns-in_err-bytes-clause-reads
-returns-in_err-bytes-clause-reads g c = reads_failed g.D.Disk.tells _ (g.D.Disk.state c.args.disk.now) (g.D.Disk.state c.len.new.self) _ refl c.in_err-bytes.ensures.contents c.in_err-bytes.ensures.crash c.in_err-bytes.ensures.settled c.in_err-bytes.ensures.time c.in_err-bytes.ensures.cause c.in_err-bytes.ensures.sure
+returns-in_err-bytes-clause-reads g c = reads_failed g.D.Disk.tells _ (g.D.Disk.state c.args.disk.now) (g.D.Disk.state c.len.new.self) _ refl (search rules) c.in_err-bytes.ensures.contents c.in_err-bytes.ensures.crash c.in_err-bytes.ensures.settled c.in_err-bytes.ensures.time c.in_err-bytes.ensures.cause c.in_err-bytes.ensures.sure
 
 pub returns-in_err-new-clause-reads : goal.returns-in_err-new-clause-reads
-returns-in_err-new-clause-reads g c = reads_as g.D.Disk.tells ⊥ _ (g.D.Disk.state c.args.disk.now) (g.D.Disk.state c.len.new.self) (λ e. search rules) (reads_made g.D.Disk.tells ⊥ _ _ _ (λ is. is) c.in_ok-bytes.ensures.contents c.in_ok-bytes.ensures.crash c.in_ok-bytes.ensures.settled c.in_ok-bytes.ensures.time c.in_ok-bytes.ensures.cause c.in_ok-bytes.ensures.sure)
+returns-in_err-new-clause-reads g c = reads_as g.D.Disk.tells ⊥ _ (g.D.Disk.state c.args.disk.now) (g.D.Disk.state c.len.new.self) (λ e. search rules) (λ none. absurd none) (reads_made g.D.Disk.tells ⊥ _ _ _ (cc) (λ is. is) c.in_ok-bytes.ensures.contents c.in_ok-bytes.ensures.crash c.in_ok-bytes.ensures.settled c.in_ok-bytes.ensures.time c.in_ok-bytes.ensures.cause c.in_ok-bytes.ensures.sure)
 
 pub returns-in_err-count-clause-reads : goal.returns-in_err-count-clause-reads
-returns-in_err-count-clause-reads g c = reads_both g.D.Disk.tells ⊥ _ (g.D.Disk.state c.args.disk.now) (g.D.Disk.state c.len.new.self) (g.D.Disk.state c.fill.new.disk) (reads_made g.D.Disk.tells ⊥ _ _ _ (λ is. is) c.in_ok-bytes.ensures.contents c.in_ok-bytes.ensures.crash c.in_ok-bytes.ensures.settled c.in_ok-bytes.ensures.time c.in_ok-bytes.ensures.cause c.in_ok-bytes.ensures.sure) (reads_as g.D.Disk.tells _ _ _ _ (λ e. search rules) c.in_err-count.ensures.reads)
+returns-in_err-count-clause-reads g c = reads_both g.D.Disk.tells ⊥ _ (g.D.Disk.state c.args.disk.now) (g.D.Disk.state c.len.new.self) (g.D.Disk.state c.fill.new.disk) (λ none. none) (reads_made g.D.Disk.tells ⊥ _ _ _ (cc) (λ is. is) c.in_ok-bytes.ensures.contents c.in_ok-bytes.ensures.crash c.in_ok-bytes.ensures.settled c.in_ok-bytes.ensures.time c.in_ok-bytes.ensures.cause c.in_ok-bytes.ensures.sure) (reads_as g.D.Disk.tells _ _ _ _ (λ e. search rules) (λ is. search rules) c.in_err-count.ensures.reads)
 
 pub returns-in_err-shape-clause-reads : goal.returns-in_err-shape-clause-reads
-returns-in_err-shape-clause-reads g c = reads_both g.D.Disk.tells ⊥ _ (g.D.Disk.state c.args.disk.now) (g.D.Disk.state c.len.new.self) (g.D.Disk.state c.fill.new.disk) (reads_made g.D.Disk.tells ⊥ _ _ _ (λ is. is) c.in_ok-bytes.ensures.contents c.in_ok-bytes.ensures.crash c.in_ok-bytes.ensures.settled c.in_ok-bytes.ensures.time c.in_ok-bytes.ensures.cause c.in_ok-bytes.ensures.sure) (reads_as g.D.Disk.tells _ _ _ _ (λ e. search rules) c.in_ok-count.ensures.reads)
+returns-in_err-shape-clause-reads g c = reads_both g.D.Disk.tells ⊥ _ (g.D.Disk.state c.args.disk.now) (g.D.Disk.state c.len.new.self) (g.D.Disk.state c.fill.new.disk) (λ none. none) (reads_made g.D.Disk.tells ⊥ _ _ _ (cc) (λ is. is) c.in_ok-bytes.ensures.contents c.in_ok-bytes.ensures.crash c.in_ok-bytes.ensures.settled c.in_ok-bytes.ensures.time c.in_ok-bytes.ensures.cause c.in_ok-bytes.ensures.sure) (reads_as g.D.Disk.tells _ _ _ _ (λ e. search rules) (λ is. cc) c.in_ok-count.ensures.reads)
 
 pub returns-in_err-digests-clause-reads : goal.returns-in_err-digests-clause-reads
-returns-in_err-digests-clause-reads g c = reads_both g.D.Disk.tells ⊥ _ (g.D.Disk.state c.args.disk.now) (g.D.Disk.state c.len.new.self) (g.D.Disk.state c.fill.new.disk) (reads_made g.D.Disk.tells ⊥ _ _ _ (λ is. is) c.in_ok-bytes.ensures.contents c.in_ok-bytes.ensures.crash c.in_ok-bytes.ensures.settled c.in_ok-bytes.ensures.time c.in_ok-bytes.ensures.cause c.in_ok-bytes.ensures.sure) (reads_as g.D.Disk.tells _ _ _ _ (λ e. search rules) c.in_ok-count.ensures.reads)
+returns-in_err-digests-clause-reads g c = reads_both g.D.Disk.tells ⊥ _ (g.D.Disk.state c.args.disk.now) (g.D.Disk.state c.len.new.self) (g.D.Disk.state c.fill.new.disk) (λ none. none) (reads_made g.D.Disk.tells ⊥ _ _ _ (cc) (λ is. is) c.in_ok-bytes.ensures.contents c.in_ok-bytes.ensures.crash c.in_ok-bytes.ensures.settled c.in_ok-bytes.ensures.time c.in_ok-bytes.ensures.cause c.in_ok-bytes.ensures.sure) (reads_as g.D.Disk.tells _ _ _ _ (λ e. search rules) (λ is. cc) c.in_ok-count.ensures.reads)
 
 pub returns-clause-reads : goal.returns-clause-reads
-returns-clause-reads g c = reads_both g.D.Disk.tells ⊥ _ (g.D.Disk.state c.args.disk.now) (g.D.Disk.state c.len.new.self) (g.D.Disk.state c.fill.new.disk) (reads_made g.D.Disk.tells ⊥ _ _ _ (λ is. is) c.in_ok-bytes.ensures.contents c.in_ok-bytes.ensures.crash c.in_ok-bytes.ensures.settled c.in_ok-bytes.ensures.time c.in_ok-bytes.ensures.cause c.in_ok-bytes.ensures.sure) (reads_as g.D.Disk.tells _ _ _ _ (λ e. absurd (cc)) c.in_ok-count.ensures.reads)
+returns-clause-reads g c = reads_both g.D.Disk.tells ⊥ _ (g.D.Disk.state c.args.disk.now) (g.D.Disk.state c.len.new.self) (g.D.Disk.state c.fill.new.disk) (λ none. none) (reads_made g.D.Disk.tells ⊥ _ _ _ (cc) (λ is. is) c.in_ok-bytes.ensures.contents c.in_ok-bytes.ensures.crash c.in_ok-bytes.ensures.settled c.in_ok-bytes.ensures.time c.in_ok-bytes.ensures.cause c.in_ok-bytes.ensures.sure) (reads_as g.D.Disk.tells _ _ _ _ (λ e. absurd (cc)) (λ is. absurd (cc)) c.in_ok-count.ensures.reads)

@@ -1,4 +1,3 @@
-use Rattle.aea_disk.specs.Files.{Files}
 use Rattle.aea_shelf.proofs.Held.{held_in, held_of}
 use Rattle.aea_shelf.proofs.facts.held_is_held_now.Goals as goal
 

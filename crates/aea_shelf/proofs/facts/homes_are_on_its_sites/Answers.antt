@@ -1,4 +1,3 @@
-use Rattle.aea_shelf.specs.Places.{home_file}
 use Rattle.aea_lattice.specs.Shapes.{number_in}
 use Rattle.aea_shelf.proofs.Homes.{some_sites}
 use Rattle.aea_shelf.proofs.facts.homes_are_on_its_sites.Goals as goal

@@ -3,7 +3,7 @@ use Rattle.aea_lattice.specs.declared.blocks.BlockId.{BlockId}
 use Rattle.aea_lattice.specs.declared.shape.Shape.{Shape}
 use Rattle.aea_envelope.specs.Cells.{block_digest, cell_of}
 use Rattle.aea_disk.specs.Files.{Files, ChangesFile, Holds}
-use Rattle.aea_disk.specs.State.{HasRoomTo}
+use Rattle.aea_disk.specs.State.{HasRoomTo, IsReady}
 use Rattle.aea_disk.proofs.Frames.{writes_as}
 use Rattle.aea_shelf.specs.Places.{cell_size, home_file, home_place}
 use Rattle.aea_shelf.specs.Writes.{ChangesHome}
@@ -83,7 +83,7 @@ pub returns-clause-writes : goal.returns-clause-writes
 returns-clause-writes g c =
     let shape = c.args.shape.now in
     let old = g.D.Disk.state c.args.disk.now in
-    writes_as g.D.Disk.tells (HasRoomTo old (home_file shape c.args.b) (home_place shape c.args.b + cell_size shape)) _ _ (ChangesHome shape c.args.b) old (g.D.Disk.state c.write_home.new.disk) (λ is. absurd (cc)) c.in_ok-write_home.ensures.writes
+    writes_as g.D.Disk.tells (IsReady old) (HasRoomTo old (home_file shape c.args.b) (home_place shape c.args.b + cell_size shape)) _ _ (ChangesHome shape c.args.b) old (g.D.Disk.state c.write_home.new.disk) (λ is. absurd (cc)) (λ is. absurd (cc)) c.in_ok-write_home.ensures.writes
 
 pub returns-clause-elsewhere : goal.returns-clause-elsewhere
 returns-clause-elsewhere g c told =

@@ -6,15 +6,14 @@ use Rattle.sha2.specs.Hashers.{Holds256}
 use Rattle.sha2.specs.Sha256.{sha256}
 use Rattle.std.proofs.lemmas.Result.{err_from_is_err_and}
 use Rattle.aea_disk.specs.Files.{ChangesOnly}
-use Rattle.aea_disk.specs.State.{HasRoomTo}
-use Rattle.aea_disk.proofs.Frames.{writes_none, writes_as, writes_wider}
+use Rattle.aea_disk.proofs.Frames.{ok_not_err, writes_none, writes_as}
 use Rattle.aea_catalog.specs.declared.objects.Extent.{Extent}
 use Rattle.aea_records.specs.Format.{entry, greatest_objects}
 use Rattle.aea_records.specs.Catalogued.{with_record}
 use Rattle.aea_ledger.specs.Values.{Opened, HasSomeRecords}
 use Rattle.aea_ledger.specs.Next.{stored_as, made}
 use Rattle.aea_ledger.specs.Committing.{HasTaken}
-use Rattle.aea_ledger.proofs.Appends.{HasMade, made_taken, with_made, made_small, few_objects, of_view, short_end, length-closed, leaves_none, has_some_more, when_ok, room_same}
+use Rattle.aea_ledger.proofs.Appends.{HasMade, made_taken, with_made, made_small, few_objects, of_view, short_end, length-closed, leaves_none, has_some_more, when_ok}
 use Rattle.aea_ledger.proofs.ledger.Ledger.add.Given.{Over}
 use Rattle.aea_ledger.proofs.ledger.Ledger.add.Goals as goal
 
@@ -30,7 +29,7 @@ returns-then-len-ge-MAX_OBJECTS-clause-leaves g c = leaves_none g.D.Disk.tells c
 
 pub returns-then-len-ge-MAX_OBJECTS-clause-writes : goal.returns-then-len-ge-MAX_OBJECTS-clause-writes
 returns-then-len-ge-MAX_OBJECTS-clause-writes g c =
-    writes_as g.D.Disk.tells _ ⊥ _ (ChangesOnly 0) (g.D.Disk.state c.args.disk.now) (g.D.Disk.state c.args.disk.now) (λ is. cc) (writes_none g.D.Disk.tells _ (ChangesOnly 0) (g.D.Disk.state c.args.disk.now) (λ d f other. refl))
+    writes_as g.D.Disk.tells _ _ ⊥ _ (ChangesOnly 0) (g.D.Disk.state c.args.disk.now) (g.D.Disk.state c.args.disk.now) (λ is. cc) (λ none. absurd none) (writes_none g.D.Disk.tells _ _ (ChangesOnly 0) (g.D.Disk.state c.args.disk.now) (λ d f other. refl))
 
 pub returns-in_err-owned_name-clause-leaves : goal.returns-in_err-owned_name-clause-leaves
 returns-in_err-owned_name-clause-leaves g c = leaves_none g.D.Disk.tells c.args.self.now (made (stored_as c.args.name.now c.args.object.now c.args.digests.now) (option_map (λ e. e.now) c.args.parts)) (g.D.Disk.state c.args.disk.now) c.requires.fixed
@@ -38,7 +37,7 @@ returns-in_err-owned_name-clause-leaves g c = leaves_none g.D.Disk.tells c.args.
 pub returns-in_err-owned_name-clause-writes : goal.returns-in_err-owned_name-clause-writes
 returns-in_err-owned_name-clause-writes g c =
     let p = err_from_is_err_and c.from_residual.result c.from_residual.ensures.1 in rw (p.1, p.2)
-    (writes_as g.D.Disk.tells _ ⊥ _ (ChangesOnly 0) (g.D.Disk.state c.args.disk.now) (g.D.Disk.state c.args.disk.now) (λ is. cc) (writes_none g.D.Disk.tells _ (ChangesOnly 0) (g.D.Disk.state c.args.disk.now) (λ d f other. refl)))
+    (writes_as g.D.Disk.tells _ _ ⊥ _ (ChangesOnly 0) (g.D.Disk.state c.args.disk.now) (g.D.Disk.state c.args.disk.now) (λ is. cc) (λ none. absurd none) (writes_none g.D.Disk.tells _ _ (ChangesOnly 0) (g.D.Disk.state c.args.disk.now) (λ d f other. refl)))
 
 pub returns-in_err-owned_parts-clause-leaves : goal.returns-in_err-owned_parts-clause-leaves
 returns-in_err-owned_parts-clause-leaves g c = leaves_none g.D.Disk.tells c.args.self.now (made (stored_as c.args.name.now c.args.object.now c.args.digests.now) (option_map (λ e. e.now) c.args.parts)) (g.D.Disk.state c.args.disk.now) c.requires.fixed
@@ -46,7 +45,7 @@ returns-in_err-owned_parts-clause-leaves g c = leaves_none g.D.Disk.tells c.args
 pub returns-in_err-owned_parts-clause-writes : goal.returns-in_err-owned_parts-clause-writes
 returns-in_err-owned_parts-clause-writes g c =
     let p = err_from_is_err_and c.from_residual-in_err-owned_parts.result c.from_residual-in_err-owned_parts.ensures.1 in rw (p.1, p.2)
-    (writes_as g.D.Disk.tells _ ⊥ _ (ChangesOnly 0) (g.D.Disk.state c.args.disk.now) (g.D.Disk.state c.args.disk.now) (λ is. cc) (writes_none g.D.Disk.tells _ (ChangesOnly 0) (g.D.Disk.state c.args.disk.now) (λ d f other. refl)))
+    (writes_as g.D.Disk.tells _ _ ⊥ _ (ChangesOnly 0) (g.D.Disk.state c.args.disk.now) (g.D.Disk.state c.args.disk.now) (λ is. cc) (λ none. absurd none) (writes_none g.D.Disk.tells _ _ (ChangesOnly 0) (g.D.Disk.state c.args.disk.now) (λ d f other. refl)))
 
 pub returns-in_err-front-clause-leaves : goal.returns-in_err-front-clause-leaves
 returns-in_err-front-clause-leaves g c = leaves_none g.D.Disk.tells c.args.self.now (made (stored_as c.args.name.now c.args.object.now c.args.digests.now) (option_map (λ e. e.now) c.args.parts)) (g.D.Disk.state c.args.disk.now) c.requires.fixed
@@ -54,7 +53,7 @@ returns-in_err-front-clause-leaves g c = leaves_none g.D.Disk.tells c.args.self.
 pub returns-in_err-front-clause-writes : goal.returns-in_err-front-clause-writes
 returns-in_err-front-clause-writes g c =
     let p = err_from_is_err_and c.from_residual-in_err-front.result c.from_residual-in_err-front.ensures.1 in rw (p.1, p.2)
-    (writes_as g.D.Disk.tells _ ⊥ _ (ChangesOnly 0) (g.D.Disk.state c.args.disk.now) (g.D.Disk.state c.args.disk.now) (λ is. cc) (writes_none g.D.Disk.tells _ (ChangesOnly 0) (g.D.Disk.state c.args.disk.now) (λ d f other. refl)))
+    (writes_as g.D.Disk.tells _ _ ⊥ _ (ChangesOnly 0) (g.D.Disk.state c.args.disk.now) (g.D.Disk.state c.args.disk.now) (λ is. cc) (λ none. absurd none) (writes_none g.D.Disk.tells _ _ (ChangesOnly 0) (g.D.Disk.state c.args.disk.now) (λ d f other. refl)))
 
 pub returns-in_err-reserve-clause-leaves : goal.returns-in_err-reserve-clause-leaves
 returns-in_err-reserve-clause-leaves g c = leaves_none g.D.Disk.tells c.args.self.now (made (stored_as c.args.name.now c.args.object.now c.args.digests.now) (option_map (λ e. e.now) c.args.parts)) (g.D.Disk.state c.args.disk.now) c.requires.fixed
@@ -62,7 +61,7 @@ returns-in_err-reserve-clause-leaves g c = leaves_none g.D.Disk.tells c.args.sel
 pub returns-in_err-reserve-clause-writes : goal.returns-in_err-reserve-clause-writes
 returns-in_err-reserve-clause-writes g c =
     let p = err_from_is_err_and c.from_residual-in_err-reserve.result c.from_residual-in_err-reserve.ensures.1 in rw (p.1, p.2)
-    (writes_as g.D.Disk.tells _ ⊥ _ (ChangesOnly 0) (g.D.Disk.state c.args.disk.now) (g.D.Disk.state c.args.disk.now) (λ is. cc) (writes_none g.D.Disk.tells _ (ChangesOnly 0) (g.D.Disk.state c.args.disk.now) (λ d f other. refl)))
+    (writes_as g.D.Disk.tells _ _ ⊥ _ (ChangesOnly 0) (g.D.Disk.state c.args.disk.now) (g.D.Disk.state c.args.disk.now) (λ is. cc) (λ none. absurd none) (writes_none g.D.Disk.tells _ _ (ChangesOnly 0) (g.D.Disk.state c.args.disk.now) (λ d f other. refl)))
 
 pub commit_next-requires-clause-range : goal.commit_next-requires-clause-range
 commit_next-requires-clause-range g c =
@@ -76,11 +75,8 @@ returns-then-is_err-clause-leaves g c = c.commit_next.ensures.leaves c.args.self
 
 pub returns-then-is_err-clause-writes : goal.returns-then-is_err-clause-writes
 returns-then-is_err-clause-writes g c =
-    let size = length-closed c.deref.result.now c.as_flattened-rest.result.now (made (stored_as c.args.name.now c.args.object.now c.args.digests.now) (option_map (λ e. e.now) c.args.parts)) ((λ i. c.deref.ensures.value i ++ c.as_flattened-rest.ensures.value i) ∙ c.in_ok-front.ensures) in
-    let same = room_same c.self.inside.end c.args.self.now.end (length c.deref.result.now + (length c.as_flattened-rest.result.now + 1)) (length (entry (made (stored_as c.args.name.now c.args.object.now c.args.digests.now) (option_map (λ e. e.now) c.args.parts)))) (ap (λ (v : Opened). v.end) c.self.view_is) size in
-    writes_wider g.D.Disk.tells (HasRoomTo (g.D.Disk.state c.args.disk.now) 0 (c.self.inside.end + 1 + (length c.deref.result.now + (length c.as_flattened-rest.result.now + 1)))) (HasRoomTo (g.D.Disk.state c.args.disk.now) 0 (c.args.self.now.end + length (entry (made (stored_as c.args.name.now c.args.object.now c.args.digests.now) (option_map (λ e. e.now) c.args.parts))) + 1)) _ (ChangesOnly 0) (ChangesOnly 0) (g.D.Disk.state c.args.disk.now) (g.D.Disk.state c.commit_next.new.disk) (λ d e step. step)
-    (λ fit. subst (λ (n : ℕ). HasRoomTo (g.D.Disk.state c.args.disk.now) 0 n) same fit)
-    (writes_as g.D.Disk.tells (HasRoomTo (g.D.Disk.state c.args.disk.now) 0 (c.self.inside.end + 1 + (length c.deref.result.now + (length c.as_flattened-rest.result.now + 1)))) _ _ (ChangesOnly 0) (g.D.Disk.state c.args.disk.now) (g.D.Disk.state c.commit_next.new.disk) (λ is. sym c.is_err.ensures.value ∙ c.if-is_err.true) c.commit_next.ensures.writes)
+    writes_as g.D.Disk.tells _ _ _ _ (ChangesOnly 0) (g.D.Disk.state c.args.disk.now) (g.D.Disk.state c.commit_next.new.disk) (λ is. sym c.is_err.ensures.value ∙ c.if-is_err.true) (λ is. cc)
+    (c.commit_next.ensures.writes c.args.self.now (made (stored_as c.args.name.now c.args.object.now c.args.digests.now) (option_map (λ e. e.now) c.args.parts)) (sym (ap (λ (v : Opened). v.end) c.self.view_is)) ((λ i. c.deref.ensures.value i ++ c.as_flattened-rest.ensures.value i) ∙ c.in_ok-front.ensures) c.may_follow.ensures.next c.requires.this)
 
 pub put_object-requires-clause-few : goal.put_object-requires-clause-few
 put_object-requires-clause-few g c =
@@ -132,8 +128,5 @@ returns-clause-committed g c =
 
 pub returns-clause-writes : goal.returns-clause-writes
 returns-clause-writes g c =
-    let size = length-closed c.deref.result.now c.as_flattened-rest.result.now (made (stored_as c.args.name.now c.args.object.now c.args.digests.now) (option_map (λ e. e.now) c.args.parts)) ((λ i. c.deref.ensures.value i ++ c.as_flattened-rest.ensures.value i) ∙ c.in_ok-front.ensures) in
-    let same = room_same c.self.inside.end c.args.self.now.end (length c.deref.result.now + (length c.as_flattened-rest.result.now + 1)) (length (entry (made (stored_as c.args.name.now c.args.object.now c.args.digests.now) (option_map (λ e. e.now) c.args.parts)))) (ap (λ (v : Opened). v.end) c.self.view_is) size in
-    writes_wider g.D.Disk.tells (HasRoomTo (g.D.Disk.state c.args.disk.now) 0 (c.self.inside.end + 1 + (length c.deref.result.now + (length c.as_flattened-rest.result.now + 1)))) (HasRoomTo (g.D.Disk.state c.args.disk.now) 0 (c.args.self.now.end + length (entry (made (stored_as c.args.name.now c.args.object.now c.args.digests.now) (option_map (λ e. e.now) c.args.parts))) + 1)) _ (ChangesOnly 0) (ChangesOnly 0) (g.D.Disk.state c.args.disk.now) (g.D.Disk.state c.commit_next.new.disk) (λ d e step. step)
-    (λ fit. subst (λ (n : ℕ). HasRoomTo (g.D.Disk.state c.args.disk.now) 0 n) same fit)
-    (writes_as g.D.Disk.tells (HasRoomTo (g.D.Disk.state c.args.disk.now) 0 (c.self.inside.end + 1 + (length c.deref.result.now + (length c.as_flattened-rest.result.now + 1)))) _ _ (ChangesOnly 0) (g.D.Disk.state c.args.disk.now) (g.D.Disk.state c.commit_next.new.disk) (λ is. absurd (cc)) c.commit_next.ensures.writes)
+    writes_as g.D.Disk.tells _ _ _ _ (ChangesOnly 0) (g.D.Disk.state c.args.disk.now) (g.D.Disk.state c.commit_next.new.disk) (λ is. absurd (cc)) (λ is. absurd (ok_not_err c.commit_next.result c.if-is_err.ensures.negation is))
+    (c.commit_next.ensures.writes c.args.self.now (made (stored_as c.args.name.now c.args.object.now c.args.digests.now) (option_map (λ e. e.now) c.args.parts)) (sym (ap (λ (v : Opened). v.end) c.self.view_is)) ((λ i. c.deref.ensures.value i ++ c.as_flattened-rest.ensures.value i) ∙ c.in_ok-front.ensures) c.may_follow.ensures.next c.requires.this)

@@ -3,8 +3,7 @@ use Rattle.sha2.specs.Hashers.{Holds256}
 use Rattle.sha2.specs.Sha256.{sha256}
 use Rattle.std.proofs.lemmas.List.{append-nil}
 use Rattle.aea_disk.specs.Files.{ChangesOnly}
-use Rattle.aea_disk.specs.State.{HasRoomTo}
-use Rattle.aea_disk.proofs.Frames.{writes_none, writes_as, writes_wider}
+use Rattle.aea_disk.proofs.Frames.{ok_not_err, writes_none, writes_as}
 use Rattle.aea_lattice.specs.Fences.{greatest_fences, last_fence}
 use Rattle.aea_records.specs.Format.{Fence, body, entry}
 use Rattle.aea_ledger.specs.Values.{Opened, HasSomeRecords}
@@ -19,7 +18,7 @@ returns-then-last_fence-nodes-clause-leaves g c = leaves_none g.D.Disk.tells c.a
 
 pub returns-then-last_fence-nodes-clause-writes : goal.returns-then-last_fence-nodes-clause-writes
 returns-then-last_fence-nodes-clause-writes g c = (let s = (g.D.Disk.state c.args.disk.now) in
-    writes_as g.D.Disk.tells _ ⊥ _ (ChangesOnly 0) s s (λ is. cc) (writes_none g.D.Disk.tells _ (ChangesOnly 0) s (λ d f other. refl)))
+    writes_as g.D.Disk.tells _ _ ⊥ _ (ChangesOnly 0) s s (λ is. cc) (λ none. absurd none) (writes_none g.D.Disk.tells _ _ (ChangesOnly 0) s (λ d f other. refl)))
 
 pub returns-in_default-clause-many : goal.returns-in_default-clause-many
 returns-in_default-clause-many g c =
@@ -33,7 +32,7 @@ returns-in_default-clause-leaves g c = leaves_none g.D.Disk.tells c.args.self.no
 
 pub returns-in_default-clause-writes : goal.returns-in_default-clause-writes
 returns-in_default-clause-writes g c = (let s = (g.D.Disk.state c.args.disk.now) in
-    writes_as g.D.Disk.tells _ ⊥ _ (ChangesOnly 0) s s (λ is. cc) (writes_none g.D.Disk.tells _ (ChangesOnly 0) s (λ d f other. refl)))
+    writes_as g.D.Disk.tells _ _ ⊥ _ (ChangesOnly 0) s s (λ is. cc) (λ none. absurd none) (writes_none g.D.Disk.tells _ _ (ChangesOnly 0) s (λ d f other. refl)))
 
 pub commit_next-requires-clause-range : goal.commit_next-requires-clause-range
 commit_next-requires-clause-range g c =
@@ -50,12 +49,9 @@ returns-then-is_err-clause-leaves g c =
 
 pub returns-then-is_err-clause-writes : goal.returns-then-is_err-clause-writes
 returns-then-is_err-clause-writes g c =
-    let s = (g.D.Disk.state c.args.disk.now) in
-    let size : length c.split_at.result.0.now + (length c.split_at.result.1.now + 1) ≡ length (entry (Fence c.args.self.now.lattice.n)) = length-closed c.split_at.result.0.now c.split_at.result.1.now (Fence c.args.self.now.lattice.n) ((λ i. c.split_at.ensures.front i ++ c.split_at.ensures.back i) ∙ cut-behind (Fence c.args.self.now.lattice.n) c.fence_body-behind.result 9 5 (c.fence_body-behind.ensures ∙ ap (λ (n : ℕ). body (Fence n) ++ 0 ∷ []) (ap (λ (v : Opened). v.lattice.n) c.self.view_is)) refl) in
-    let same : c.args.self.now.end + 11 ≡ c.self.inside.end + 1 + (length c.split_at.result.0.now + (length c.split_at.result.1.now + 1)) = omega (arith, size, ap (λ (v : Opened). v.end) c.self.view_is) in
-    writes_wider g.D.Disk.tells (HasRoomTo s 0 (c.self.inside.end + 1 + (length c.split_at.result.0.now + (length c.split_at.result.1.now + 1)))) (HasRoomTo s 0 (c.args.self.now.end + 11)) _ (ChangesOnly 0) (ChangesOnly 0) s (g.D.Disk.state c.commit_next.new.disk) (λ d e step. step)
-    (λ fit. subst (λ (n : ℕ). HasRoomTo s 0 n) same fit)
-    (writes_as g.D.Disk.tells (HasRoomTo s 0 (c.self.inside.end + 1 + (length c.split_at.result.0.now + (length c.split_at.result.1.now + 1)))) _ _ (ChangesOnly 0) s (g.D.Disk.state c.commit_next.new.disk) (λ is. sym c.is_err.ensures.value ∙ c.if-is_err.true) c.commit_next.ensures.writes)
+    let may = (rw c.in-Some.is at c.fenced.ensures.valid).0 refl in
+    writes_as g.D.Disk.tells _ _ _ _ (ChangesOnly 0) (g.D.Disk.state c.args.disk.now) (g.D.Disk.state c.commit_next.new.disk) (λ is. sym c.is_err.ensures.value ∙ c.if-is_err.true) (λ is. cc)
+    (c.commit_next.ensures.writes c.args.self.now (Fence c.args.self.now.lattice.n) (sym (ap (λ (v : Opened). v.end) c.self.view_is)) ((λ i. c.split_at.ensures.front i ++ c.split_at.ensures.back i) ∙ cut-behind (Fence c.args.self.now.lattice.n) c.fence_body-behind.result 9 5 (c.fence_body-behind.ensures ∙ ap (λ (n : ℕ). body (Fence n) ++ 0 ∷ []) (ap (λ (v : Opened). v.lattice.n) c.self.view_is)) refl) (fence_next c.args.self.now c.fences_may_follow.ensures (subst (λ (v : Opened). last_fence v.lattice.fences < v.lattice.n) c.self.view_is may.0) (subst (λ (v : Opened). length v.lattice.fences < greatest_fences) c.self.view_is may.1)) c.requires.this)
 
 pub invariant_of-self-2 : goal.invariant_of-self-2
 invariant_of-self-2 g c =
@@ -104,9 +100,6 @@ returns-clause-committed g c =
 
 pub returns-clause-writes : goal.returns-clause-writes
 returns-clause-writes g c =
-    let s = (g.D.Disk.state c.args.disk.now) in
-    let size : length c.split_at.result.0.now + (length c.split_at.result.1.now + 1) ≡ length (entry (Fence c.args.self.now.lattice.n)) = length-closed c.split_at.result.0.now c.split_at.result.1.now (Fence c.args.self.now.lattice.n) ((λ i. c.split_at.ensures.front i ++ c.split_at.ensures.back i) ∙ cut-behind (Fence c.args.self.now.lattice.n) c.fence_body-behind.result 9 5 (c.fence_body-behind.ensures ∙ ap (λ (n : ℕ). body (Fence n) ++ 0 ∷ []) (ap (λ (v : Opened). v.lattice.n) c.self.view_is)) refl) in
-    let same : c.args.self.now.end + 11 ≡ c.self.inside.end + 1 + (length c.split_at.result.0.now + (length c.split_at.result.1.now + 1)) = omega (arith, size, ap (λ (v : Opened). v.end) c.self.view_is) in
-    writes_wider g.D.Disk.tells (HasRoomTo s 0 (c.self.inside.end + 1 + (length c.split_at.result.0.now + (length c.split_at.result.1.now + 1)))) (HasRoomTo s 0 (c.args.self.now.end + 11)) _ (ChangesOnly 0) (ChangesOnly 0) s (g.D.Disk.state c.commit_next.new.disk) (λ d e step. step)
-    (λ fit. subst (λ (n : ℕ). HasRoomTo s 0 n) same fit)
-    (writes_as g.D.Disk.tells (HasRoomTo s 0 (c.self.inside.end + 1 + (length c.split_at.result.0.now + (length c.split_at.result.1.now + 1)))) _ _ (ChangesOnly 0) s (g.D.Disk.state c.commit_next.new.disk) (λ is. absurd (cc)) c.commit_next.ensures.writes)
+    let may = (rw c.in-Some.is at c.fenced.ensures.valid).0 refl in
+    writes_as g.D.Disk.tells _ _ _ _ (ChangesOnly 0) (g.D.Disk.state c.args.disk.now) (g.D.Disk.state c.commit_next.new.disk) (λ is. absurd (cc)) (λ is. absurd (ok_not_err c.commit_next.result c.if-is_err.ensures.negation is))
+    (c.commit_next.ensures.writes c.args.self.now (Fence c.args.self.now.lattice.n) (sym (ap (λ (v : Opened). v.end) c.self.view_is)) ((λ i. c.split_at.ensures.front i ++ c.split_at.ensures.back i) ∙ cut-behind (Fence c.args.self.now.lattice.n) c.fence_body-behind.result 9 5 (c.fence_body-behind.ensures ∙ ap (λ (n : ℕ). body (Fence n) ++ 0 ∷ []) (ap (λ (v : Opened). v.lattice.n) c.self.view_is)) refl) (fence_next c.args.self.now c.fences_may_follow.ensures (subst (λ (v : Opened). last_fence v.lattice.fences < v.lattice.n) c.self.view_is may.0) (subst (λ (v : Opened). length v.lattice.fences < greatest_fences) c.self.view_is may.1)) c.requires.this)

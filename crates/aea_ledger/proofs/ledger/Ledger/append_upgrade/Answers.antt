@@ -3,8 +3,7 @@ use Rattle.sha2.specs.Hashers.{Holds256}
 use Rattle.sha2.specs.Sha256.{sha256}
 use Rattle.std.proofs.lemmas.List.{append-nil}
 use Rattle.aea_disk.specs.Files.{ChangesOnly}
-use Rattle.aea_disk.specs.State.{HasRoomTo}
-use Rattle.aea_disk.proofs.Frames.{writes_none, writes_as, writes_wider}
+use Rattle.aea_disk.proofs.Frames.{ok_not_err, writes_none, writes_as}
 use Rattle.aea_records.specs.Format.{Raise, entry}
 use Rattle.aea_ledger.specs.Values.{Opened, HasSomeRecords}
 use Rattle.aea_ledger.specs.Committing.{HasTaken}
@@ -17,7 +16,7 @@ returns-then-self-clause-leaves g c = leaves_none g.D.Disk.tells c.args.self.now
 
 pub returns-then-self-clause-writes : goal.returns-then-self-clause-writes
 returns-then-self-clause-writes g c = (let s = (g.D.Disk.state c.args.disk.now) in
-    writes_as g.D.Disk.tells _ ⊥ _ (ChangesOnly 0) s s (λ is. cc) (writes_none g.D.Disk.tells _ (ChangesOnly 0) s (λ d f other. refl)))
+    writes_as g.D.Disk.tells _ _ ⊥ _ (ChangesOnly 0) s s (λ is. cc) (λ none. absurd none) (writes_none g.D.Disk.tells _ _ (ChangesOnly 0) s (λ d f other. refl)))
 
 pub commit_next-requires-clause-range : goal.commit_next-requires-clause-range
 commit_next-requires-clause-range g c =
@@ -31,12 +30,8 @@ returns-then-is_err-clause-leaves g c = c.commit_next.ensures.leaves c.args.self
 
 pub returns-then-is_err-clause-writes : goal.returns-then-is_err-clause-writes
 returns-then-is_err-clause-writes g c =
-    let s = (g.D.Disk.state c.args.disk.now) in
-    let size : length c.split_at.result.0.now + (length c.split_at.result.1.now + 1) ≡ length (entry Raise) = length-closed c.split_at.result.0.now c.split_at.result.1.now Raise ((λ i. c.split_at.ensures.front i ++ c.split_at.ensures.back i) ∙ cut-behind Raise c.raise_body-behind.result 9 5 c.raise_body-behind.ensures refl) in
-    let same : c.args.self.now.end + 11 ≡ c.self.inside.end + 1 + (length c.split_at.result.0.now + (length c.split_at.result.1.now + 1)) = omega (arith, size, ap (λ (v : Opened). v.end) c.self.view_is) in
-    writes_wider g.D.Disk.tells (HasRoomTo s 0 (c.self.inside.end + 1 + (length c.split_at.result.0.now + (length c.split_at.result.1.now + 1)))) (HasRoomTo s 0 (c.args.self.now.end + 11)) _ (ChangesOnly 0) (ChangesOnly 0) s (g.D.Disk.state c.commit_next.new.disk) (λ d e step. step)
-    (λ fit. subst (λ (n : ℕ). HasRoomTo s 0 n) same fit)
-    (writes_as g.D.Disk.tells (HasRoomTo s 0 (c.self.inside.end + 1 + (length c.split_at.result.0.now + (length c.split_at.result.1.now + 1)))) _ _ (ChangesOnly 0) s (g.D.Disk.state c.commit_next.new.disk) (λ is. sym c.is_err.ensures.value ∙ c.if-is_err.true) c.commit_next.ensures.writes)
+    writes_as g.D.Disk.tells _ _ _ _ (ChangesOnly 0) (g.D.Disk.state c.args.disk.now) (g.D.Disk.state c.commit_next.new.disk) (λ is. sym c.is_err.ensures.value ∙ c.if-is_err.true) (λ is. cc)
+    (c.commit_next.ensures.writes c.args.self.now Raise (sym (ap (λ (v : Opened). v.end) c.self.view_is)) ((λ i. c.split_at.ensures.front i ++ c.split_at.ensures.back i) ∙ cut-behind Raise c.raise_body-behind.result 9 5 c.raise_body-behind.ensures refl) (raise_next c.args.self.now (ap (λ (v : Opened). v.raised) (sym c.self.view_is) ∙ c.if-self.false)) c.requires.this)
 
 pub invariant_of-self-2 : goal.invariant_of-self-2
 invariant_of-self-2 g c = has_some_more c.args.self.now (record { shape = c.self.inside.shape; lattice = c.self.inside.lattice; objects = c.self.inside.catalog.objects; raised = true; digests = c.self.inside.digests.items; hasher = c.take_entry-self-inside.new.hasher; seal = c.take_entry-self-inside.result; end = c.self.inside.end + 10; live = c.self.inside.live }) Raise (subst (λ (v : Opened). HasTaken v Raise (record { shape = c.self.inside.shape; lattice = c.self.inside.lattice; objects = c.self.inside.catalog.objects; raised = true; digests = c.self.inside.digests.items; hasher = c.take_entry-self-inside.new.hasher; seal = c.take_entry-self-inside.result; end = c.self.inside.end + 10; live = c.self.inside.live })) c.self.view_is
@@ -80,9 +75,5 @@ returns-clause-committed g c =
 
 pub returns-clause-writes : goal.returns-clause-writes
 returns-clause-writes g c =
-    let s = (g.D.Disk.state c.args.disk.now) in
-    let size : length c.split_at.result.0.now + (length c.split_at.result.1.now + 1) ≡ length (entry Raise) = length-closed c.split_at.result.0.now c.split_at.result.1.now Raise ((λ i. c.split_at.ensures.front i ++ c.split_at.ensures.back i) ∙ cut-behind Raise c.raise_body-behind.result 9 5 c.raise_body-behind.ensures refl) in
-    let same : c.args.self.now.end + 11 ≡ c.self.inside.end + 1 + (length c.split_at.result.0.now + (length c.split_at.result.1.now + 1)) = omega (arith, size, ap (λ (v : Opened). v.end) c.self.view_is) in
-    writes_wider g.D.Disk.tells (HasRoomTo s 0 (c.self.inside.end + 1 + (length c.split_at.result.0.now + (length c.split_at.result.1.now + 1)))) (HasRoomTo s 0 (c.args.self.now.end + 11)) _ (ChangesOnly 0) (ChangesOnly 0) s (g.D.Disk.state c.commit_next.new.disk) (λ d e step. step)
-    (λ fit. subst (λ (n : ℕ). HasRoomTo s 0 n) same fit)
-    (writes_as g.D.Disk.tells (HasRoomTo s 0 (c.self.inside.end + 1 + (length c.split_at.result.0.now + (length c.split_at.result.1.now + 1)))) _ _ (ChangesOnly 0) s (g.D.Disk.state c.commit_next.new.disk) (λ is. absurd (cc)) c.commit_next.ensures.writes)
+    writes_as g.D.Disk.tells _ _ _ _ (ChangesOnly 0) (g.D.Disk.state c.args.disk.now) (g.D.Disk.state c.commit_next.new.disk) (λ is. absurd (cc)) (λ is. absurd (ok_not_err c.commit_next.result c.if-is_err.ensures.negation is))
+    (c.commit_next.ensures.writes c.args.self.now Raise (sym (ap (λ (v : Opened). v.end) c.self.view_is)) ((λ i. c.split_at.ensures.front i ++ c.split_at.ensures.back i) ∙ cut-behind Raise c.raise_body-behind.result 9 5 c.raise_body-behind.ensures refl) (raise_next c.args.self.now (ap (λ (v : Opened). v.raised) (sym c.self.view_is) ∙ c.if-self.false)) c.requires.this)

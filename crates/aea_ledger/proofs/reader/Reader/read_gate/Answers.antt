@@ -39,7 +39,7 @@ returns-in-Ok-None-clause-last g c = λ _.
     }
 
 pub returns-in_err-read_record-in-Ok-Some-clause-reads : goal.returns-in_err-read_record-in-Ok-Some-clause-reads
-returns-in_err-read_record-in-Ok-Some-clause-reads g c = reads_both g.D.Disk.tells _ _ (g.D.Disk.state c.args.disk.now) (g.D.Disk.state c.fill.new.disk) (g.D.Disk.state c.read_record.new.disk) (reads_as g.D.Disk.tells _ ⊥ _ _ (λ none. absurd none) c.in_ok-size.ensures.reads) (reads_as g.D.Disk.tells _ _ _ _ (λ e. search rules) c.in_err-read_record-in-Ok-Some.ensures.reads)
+returns-in_err-read_record-in-Ok-Some-clause-reads g c = reads_both g.D.Disk.tells _ _ (g.D.Disk.state c.args.disk.now) (g.D.Disk.state c.fill.new.disk) (g.D.Disk.state c.read_record.new.disk) (λ none. none) (reads_as g.D.Disk.tells _ ⊥ _ _ (λ none. absurd none) (λ is. absurd (cc)) c.in_ok-size.ensures.reads) (reads_as g.D.Disk.tells _ _ _ _ (λ e. search rules) (λ is. search rules) c.in_err-read_record-in-Ok-Some.ensures.reads)
 
 pub returns-in_ok-read_record-in-Ok-Some-clause-reads : goal.returns-in_ok-read_record-in-Ok-Some-clause-reads
-returns-in_ok-read_record-in-Ok-Some-clause-reads g c = reads_both g.D.Disk.tells _ _ (g.D.Disk.state c.args.disk.now) (g.D.Disk.state c.fill.new.disk) (g.D.Disk.state c.read_record.new.disk) (reads_as g.D.Disk.tells _ ⊥ _ _ (λ none. absurd none) c.in_ok-size.ensures.reads) (reads_as g.D.Disk.tells _ _ _ _ (λ e. absurd (cc)) c.in_ok-read_record-in-Ok-Some.ensures.reads)
+returns-in_ok-read_record-in-Ok-Some-clause-reads g c = reads_both g.D.Disk.tells _ _ (g.D.Disk.state c.args.disk.now) (g.D.Disk.state c.fill.new.disk) (g.D.Disk.state c.read_record.new.disk) (λ none. none) (reads_as g.D.Disk.tells _ ⊥ _ _ (λ none. absurd none) (λ is. absurd (cc)) c.in_ok-size.ensures.reads) (reads_as g.D.Disk.tells _ _ _ _ (λ e. absurd (cc)) (λ is. absurd (cc)) c.in_ok-read_record-in-Ok-Some.ensures.reads)

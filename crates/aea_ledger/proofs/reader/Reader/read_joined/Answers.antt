@@ -34,7 +34,7 @@ returns-then-not-are_parts-clause-bad g c = λ tells.
 pub returns-in_err-read_digests-clause-reads : goal.returns-in_err-read_digests-clause-reads
 returns-in_err-read_digests-clause-reads g c =
     let p = err_from_is_err_and c.from_residual-in_err-read_digests.result c.from_residual-in_err-read_digests.ensures.1 in rw (p.1, p.2)
-    (reads_both g.D.Disk.tells _ _ (g.D.Disk.state c.args.disk.now) (g.D.Disk.state c.read_parts.new.disk) (g.D.Disk.state c.read_digests.new.disk) c.in_ok-read_parts.ensures.reads (reads_as g.D.Disk.tells _ _ (g.D.Disk.state c.read_parts.new.disk) (g.D.Disk.state c.read_digests.new.disk) (λ e. cc) c.in_err-read_digests.ensures.reads))
+    (reads_both g.D.Disk.tells _ _ (g.D.Disk.state c.args.disk.now) (g.D.Disk.state c.read_parts.new.disk) (g.D.Disk.state c.read_digests.new.disk) (λ is. absurd (cc)) c.in_ok-read_parts.ensures.reads (reads_as g.D.Disk.tells _ _ (g.D.Disk.state c.read_parts.new.disk) (g.D.Disk.state c.read_digests.new.disk) (λ e. cc) (λ is. cc) c.in_err-read_digests.ensures.reads))
 
 pub returns-then-not-branch-2-clause-bad : goal.returns-then-not-branch-2-clause-bad
 returns-then-not-branch-2-clause-bad g c = λ tells.
@@ -43,7 +43,7 @@ returns-then-not-branch-2-clause-bad g c = λ tells.
     (omega (arith, c.place-gate.ensures, c.from.ensures))
 
 pub returns-then-not-branch-2-clause-reads : goal.returns-then-not-branch-2-clause-reads
-returns-then-not-branch-2-clause-reads g c = reads_both g.D.Disk.tells _ _ (g.D.Disk.state c.args.disk.now) (g.D.Disk.state c.read_parts.new.disk) (g.D.Disk.state c.read_digests.new.disk) c.in_ok-read_parts.ensures.reads (reads_as g.D.Disk.tells _ _ (g.D.Disk.state c.read_parts.new.disk) (g.D.Disk.state c.read_digests.new.disk) (λ e. absurd (cc)) c.in_ok-read_digests.ensures.reads)
+returns-then-not-branch-2-clause-reads g c = reads_both g.D.Disk.tells _ _ (g.D.Disk.state c.args.disk.now) (g.D.Disk.state c.read_parts.new.disk) (g.D.Disk.state c.read_digests.new.disk) (λ is. absurd (cc)) c.in_ok-read_parts.ensures.reads (reads_as g.D.Disk.tells _ _ (g.D.Disk.state c.read_parts.new.disk) (g.D.Disk.state c.read_digests.new.disk) (λ e. absurd (cc)) (λ is. absurd (cc)) c.in_ok-read_digests.ensures.reads)
 
 pub overflow_add-from-3 : goal.overflow_add-from-3
 overflow_add-from-3 g c = omega (arith, c.from-3.ensures, c.requires.stands.small.0.0, c.requires.stands.small.1, c.blocks_of-count.ensures.few)
@@ -54,12 +54,12 @@ returns-then-from-object-clause-bad g c = λ tells.
     (λ e. c.if-from-object.true (c.from-2.ensures ∙ e ∙ (λ i. 54 + 8 * sym c.from-3.ensures i + c.args.object.now.long + 32 * c.blocks_of-count.result))) (ap (λ (n : ℕ). n + 2) c.place-gate.ensures)
 
 pub returns-then-from-object-clause-reads : goal.returns-then-from-object-clause-reads
-returns-then-from-object-clause-reads g c = reads_both g.D.Disk.tells _ _ (g.D.Disk.state c.args.disk.now) (g.D.Disk.state c.read_parts.new.disk) (g.D.Disk.state c.read_digests.new.disk) c.in_ok-read_parts.ensures.reads (reads_as g.D.Disk.tells _ _ (g.D.Disk.state c.read_parts.new.disk) (g.D.Disk.state c.read_digests.new.disk) (λ e. absurd (cc)) c.in_ok-read_digests.ensures.reads)
+returns-then-from-object-clause-reads g c = reads_both g.D.Disk.tells _ _ (g.D.Disk.state c.args.disk.now) (g.D.Disk.state c.read_parts.new.disk) (g.D.Disk.state c.read_digests.new.disk) (λ is. absurd (cc)) c.in_ok-read_parts.ensures.reads (reads_as g.D.Disk.tells _ _ (g.D.Disk.state c.read_parts.new.disk) (g.D.Disk.state c.read_digests.new.disk) (λ e. absurd (cc)) (λ is. absurd (cc)) c.in_ok-read_digests.ensures.reads)
 
 pub returns-in_err-reserve-clause-reads : goal.returns-in_err-reserve-clause-reads
 returns-in_err-reserve-clause-reads g c =
     let p = err_from_is_err_and c.from_residual-in_err-reserve.result c.from_residual-in_err-reserve.ensures.1 in rw (p.1, p.2)
-    (reads_both g.D.Disk.tells _ _ (g.D.Disk.state c.args.disk.now) (g.D.Disk.state c.read_parts.new.disk) (g.D.Disk.state c.read_digests.new.disk) c.in_ok-read_parts.ensures.reads (reads_as g.D.Disk.tells _ _ (g.D.Disk.state c.read_parts.new.disk) (g.D.Disk.state c.read_digests.new.disk) (λ e. absurd (cc)) c.in_ok-read_digests.ensures.reads))
+    (reads_both g.D.Disk.tells _ _ (g.D.Disk.state c.args.disk.now) (g.D.Disk.state c.read_parts.new.disk) (g.D.Disk.state c.read_digests.new.disk) (λ is. absurd (cc)) c.in_ok-read_parts.ensures.reads (reads_as g.D.Disk.tells _ _ (g.D.Disk.state c.read_parts.new.disk) (g.D.Disk.state c.read_digests.new.disk) (λ e. absurd (cc)) (λ is. absurd (cc)) c.in_ok-read_digests.ensures.reads))
 
 pub joined_ref-requires : goal.joined_ref-requires
 joined_ref-requires g c =
@@ -84,7 +84,7 @@ returns-clause-more g c =
     (ds.digests ∙ ap (λ (n : ℕ). c.args.self.now.digests.items ++ pieces 32 n ds.text) c.blocks_of-count.ensures.value)
 
 pub returns-clause-reads : goal.returns-clause-reads
-returns-clause-reads g c = reads_both g.D.Disk.tells _ _ (g.D.Disk.state c.args.disk.now) (g.D.Disk.state c.read_parts.new.disk) (g.D.Disk.state c.read_digests.new.disk) c.in_ok-read_parts.ensures.reads (reads_as g.D.Disk.tells _ _ (g.D.Disk.state c.read_parts.new.disk) (g.D.Disk.state c.read_digests.new.disk) (λ e. absurd (cc)) c.in_ok-read_digests.ensures.reads)
+returns-clause-reads g c = reads_both g.D.Disk.tells _ _ (g.D.Disk.state c.args.disk.now) (g.D.Disk.state c.read_parts.new.disk) (g.D.Disk.state c.read_digests.new.disk) (λ is. absurd (cc)) c.in_ok-read_parts.ensures.reads (reads_as g.D.Disk.tells _ _ (g.D.Disk.state c.read_parts.new.disk) (g.D.Disk.state c.read_digests.new.disk) (λ e. absurd (cc)) (λ is. absurd (cc)) c.in_ok-read_digests.ensures.reads)
 
 pub returns-in_err-name-clause-reads : goal.returns-in_err-name-clause-reads
 returns-in_err-name-clause-reads g c = reads_none g.D.Disk.tells _ (g.D.Disk.state c.args.disk.now) (λ is. search rules)

@@ -71,11 +71,11 @@ pub same_stored : (s t : List ℕ) (x y : StoredObject) → ◌≡◌ {A = Resul
 same_stored s t x y e = ap (λ (r : Result Ingest IngestFault). stored_in x (ok_in End r)) e
 
 -- nothing was written
-pub nothing_written : (tells fits fault : Type 0) (v : Opened) (s : State) → (fault → ⊥)
-    → OnlyWrites tells fits fault (ChangesArchive v.shape (limit_when v.raised) (IsBlockIn v.shape v.lattice.n) (IsBesides v.shape)) s s
-nothing_written tells fits fault v s fine =
-    writes_as tells fits ⊥ fault (ChangesArchive v.shape (limit_when v.raised) (IsBlockIn v.shape v.lattice.n) (IsBesides v.shape)) s s fine
-    (writes_none tells fits (ChangesArchive v.shape (limit_when v.raised) (IsBlockIn v.shape v.lattice.n) (IsBesides v.shape)) s
+pub nothing_written : (tells taken fits fault : Type 0) (v : Opened) (s : State) → (fault → ⊥)
+    → OnlyWrites tells taken fits fault (ChangesArchive v.shape (limit_when v.raised) (IsBlockIn v.shape v.lattice.n) (IsBesides v.shape)) s s
+nothing_written tells taken fits fault v s fine =
+    writes_as tells taken fits ⊥ fault (ChangesArchive v.shape (limit_when v.raised) (IsBlockIn v.shape v.lattice.n) (IsBesides v.shape)) s s fine (λ none. absurd none)
+    (writes_none tells taken fits (ChangesArchive v.shape (limit_when v.raised) (IsBlockIn v.shape v.lattice.n) (IsBesides v.shape)) s
     (λ c. changes_none v.shape (limit_when v.raised) (IsBlockIn v.shape v.lattice.n) (IsBesides v.shape) c))
 
 -- so the ledger's file stays

@@ -6,7 +6,7 @@ use Rattle.aea_lattice.specs.declared.blocks.BlockId.{BlockId}
 use Rattle.aea_lattice.specs.declared.grid.Lattice.{Lattice}
 use Rattle.aea_lattice.specs.declared.shape.Shape.{Shape}
 use Rattle.aea_disk.specs.Files.{Files, ChangesOnly}
-use Rattle.aea_disk.specs.State.{State, IsFixed, HasRoomTo}
+use Rattle.aea_disk.specs.State.{State, IsReady, IsFixed}
 use Rattle.aea_disk.specs.Frames.{OnlyWrites}
 use Rattle.aea_disk.proofs.Moments.{during_more}
 use Rattle.aea_disk.proofs.Frames.{writes_wider, writes_both, writes_others}
@@ -16,12 +16,14 @@ use Rattle.aea_shelf.specs.Writes.{KeepsPadded}
 use Rattle.aea_shelf.proofs.Runs.{shelf_others, padded_others, no_home_in_ledger}
 use Rattle.aea_records.specs.Format.{Record, limit_when, nodes_of}
 use Rattle.aea_records.specs.Laws.{HasOneReading}
+use Rattle.aea_ledger.specs.Taking.{FitsAdding}
+use Rattle.aea_ledger.proofs.Readying.{ready_same, adding_later}
 use Rattle.aea_ledger.specs.Values.{Opened}
 use Rattle.aea_ledger.specs.Next.{AreItsRecords}
 use Rattle.aea_ledger.specs.Recorded.{AreRecordsOf}
 use Rattle.aea_ledger.specs.Stops.{HasLedger}
 use Rattle.aea_archive.specs.Blocks.{IsBlockIn}
-use Rattle.aea_archive.specs.Cells.{IsBesides, IsNoSite, ChangesArchive, HaveSitesRoom, AreAtHome}
+use Rattle.aea_archive.specs.Cells.{IsBesides, IsNoSite, ChangesArchive, FitsRows, AreAtHome}
 use Rattle.aea_archive.specs.Next.{NewObject}
 use Rattle.aea_archive.specs.Data.{RecordsMore}
 use Rattle.aea_archive.specs.Stretches.{Adds}
@@ -38,17 +40,17 @@ old_blocks v = IsBlockIn v.shape v.lattice.n
 
 -- cells that were written are a change of the archive
 pub cells_wider : (tells fault : Type 0) (v : Opened) (name : List ℕ) (want : Option ℕ) (left rest : Option (List ℕ)) (old new : State) → WritesCells tells v.shape (limit_when v.raised) (IsBlockIn v.shape v.lattice.n) fault old new
-    → OnlyWrites tells (HasWantedRoom v name want left rest old) fault (ChangesArchive v.shape (limit_when v.raised) (IsBlockIn v.shape v.lattice.n) (IsBesides v.shape)) old new
+    → OnlyWrites tells (IsReady old) (HasWantedRoom v name want left rest old) fault (ChangesArchive v.shape (limit_when v.raised) (IsBlockIn v.shape v.lattice.n) (IsBesides v.shape)) old new
 cells_wider tells fault v name want left rest old new writes =
-    writes_wider tells (HaveSitesRoom v.shape (limit_when v.raised) old) (HasWantedRoom v name want left rest old) fault
+    writes_wider tells (IsReady old) (FitsRows v.shape (limit_when v.raised) old) (IsReady old) (HasWantedRoom v name want left rest old) fault
     (ChangesArchive v.shape (limit_when v.raised) (IsBlockIn v.shape v.lattice.n) (IsNoSite v.shape)) (ChangesArchive v.shape (limit_when v.raised) (IsBlockIn v.shape v.lattice.n) (IsBesides v.shape)) old new
-    (λ c d step. changes_less v.shape (limit_when v.raised) (IsBlockIn v.shape v.lattice.n) (IsBlockIn v.shape v.lattice.n) (IsNoSite v.shape) (IsBesides v.shape) c d (λ a kept. kept) (λ f past. inr past) step)
-    (λ room. wanted_sites v name want left rest old room) writes
+    (λ c d step. changes_less v.shape (limit_when v.raised) (IsBlockIn v.shape v.lattice.n) (IsBlockIn v.shape v.lattice.n) (IsNoSite v.shape) (IsBesides v.shape) c d (λ a kept. kept) (λ f past. inr past) step) (λ _ is. is)
+    (λ _ room. wanted_sites v name want left rest old room) writes
 
 -- the ledger's file stays
 pub leaves_ledger : (tells fault : Type 0) → tells → (v : Opened) (old new : State) → IsFixed old 0 → WritesCells tells v.shape (limit_when v.raised) (IsBlockIn v.shape v.lattice.n) fault old new → LeavesLedger old new
 leaves_ledger tells fault told v old new fixed writes = record {
-  images = file_kept tells (HaveSitesRoom v.shape (limit_when v.raised) old) fault v.shape (limit_when v.raised) (IsBlockIn v.shape v.lattice.n) (IsNoSite v.shape) old new 0 (inl refl) writes fixed;
+  images = file_kept tells (IsReady old) (FitsRows v.shape (limit_when v.raised) old) fault v.shape (limit_when v.raised) (IsBlockIn v.shape v.lattice.n) (IsNoSite v.shape) old new 0 (inl refl) writes fixed;
   reads = (writes.contents told).stay 0 (inl refl);
 }
 
@@ -90,30 +92,32 @@ stopped_before one tells fault told v Fits old new fixed writes =
 
 -- cells that are written, and then the ledger's file alone, are a change of the archive that leaves its old blocks
 -- and the files besides it, where the room of a put has that of the ledger's write
-pub both_write : (tells first second : Type 0) (v : Opened) (name : List ℕ) (want : Option ℕ) (left rest : Option (List ℕ)) (end : ℕ) (old mid new : State) → WritesCells tells v.shape (limit_when v.raised) (IsBlockIn v.shape v.lattice.n) first old mid
-    → OnlyWrites tells (HasRoomTo mid 0 end) second (ChangesOnly 0) mid new → (HasWantedRoom v name want left rest old → HasRoomTo old 0 end)
-    → OnlyWrites tells (HasWantedRoom v name want left rest old) second (ChangesArchive v.shape (limit_when v.raised) (IsBlockIn v.shape v.lattice.n) (IsBesides v.shape)) old new
-both_write tells first second v name want left rest end old mid new cells commit room =
-    writes_both tells (HasWantedRoom v name want left rest old) (HaveSitesRoom v.shape (limit_when v.raised) old) (HasRoomTo mid 0 end) first second
-    (ChangesArchive v.shape (limit_when v.raised) (IsBlockIn v.shape v.lattice.n) (IsNoSite v.shape)) (ChangesOnly 0) (ChangesArchive v.shape (limit_when v.raised) (IsBlockIn v.shape v.lattice.n) (IsBesides v.shape)) old mid new
+pub both_write : (tells first second : Type 0) (v : Opened) (name : List ℕ) (want : Option ℕ) (left rest : Option (List ℕ)) (end : ℕ) (old mid new : State) → (first → ⊥)
+    → WritesCells tells v.shape (limit_when v.raised) (IsBlockIn v.shape v.lattice.n) first old mid
+    → OnlyWrites tells (IsReady mid) (FitsAdding mid 1 end) second (ChangesOnly 0) mid new → (HasWantedRoom v name want left rest old → FitsAdding old 1 end)
+    → OnlyWrites tells (IsReady old) (HasWantedRoom v name want left rest old) second (ChangesArchive v.shape (limit_when v.raised) (IsBlockIn v.shape v.lattice.n) (IsBesides v.shape)) old new
+both_write tells first second v name want left rest end old mid new fine cells commit room =
+    writes_both tells (IsReady old) (IsReady old) (IsReady mid) (HasWantedRoom v name want left rest old) (FitsRows v.shape (limit_when v.raised) old) (FitsAdding mid 1 end) first second
+    (ChangesArchive v.shape (limit_when v.raised) (IsBlockIn v.shape v.lattice.n) (IsNoSite v.shape)) (ChangesOnly 0) (ChangesArchive v.shape (limit_when v.raised) (IsBlockIn v.shape v.lattice.n) (IsBesides v.shape)) old mid new fine
     (λ c d step. changes_less v.shape (limit_when v.raised) (IsBlockIn v.shape v.lattice.n) (IsBlockIn v.shape v.lattice.n) (IsNoSite v.shape) (IsBesides v.shape) c d (λ a kept. kept) (λ f past. inr past) step)
     (λ c d e step only. changes_both v.shape (limit_when v.raised) (IsBlockIn v.shape v.lattice.n) (IsBesides v.shape) c d e
     (changes_less v.shape (limit_when v.raised) (IsBlockIn v.shape v.lattice.n) (IsBlockIn v.shape v.lattice.n) (IsNoSite v.shape) (IsBesides v.shape) c d (λ a kept. kept) (λ f past. inr past) step)
     (changes_ledger v.shape (limit_when v.raised) (IsBlockIn v.shape v.lattice.n) d e only))
-    (λ has. wanted_sites v name want left rest old has) (λ has time. time.room 0 end (room has)) cells commit
+    (λ _ is. is) (λ _ is step goes. ready_same old mid (step.stay 0 (inl refl)) goes is)
+    (λ _ has. wanted_sites v name want left rest old has) (λ _ has step time. adding_later old mid 1 end (step.stay 0 (inl refl)) time (room has)) cells commit
 
 -- where the disk tells, and nothing was pending on the ledger's file, calls that write cells and then add a record
 -- by a change of that file alone add it over all
-pub adds_put : HasOneReading → (tells first second fits : Type 0) → tells → (v : Opened) (records : List Record) (r : Record) (payload : BlockId → List ℕ) (old mid new : State) → AreItsRecords v records (old.files 0) → IsFixed old 0
-    → WritesCells tells v.shape (limit_when v.raised) (IsBlockIn v.shape v.lattice.n) first old mid → OnlyWrites tells fits second (ChangesOnly 0) mid new
+pub adds_put : HasOneReading → (tells first second taken fits : Type 0) → tells → (v : Opened) (records : List Record) (r : Record) (payload : BlockId → List ℕ) (old mid new : State) → AreItsRecords v records (old.files 0) → IsFixed old 0
+    → WritesCells tells v.shape (limit_when v.raised) (IsBlockIn v.shape v.lattice.n) first old mid → OnlyWrites tells taken fits second (ChangesOnly 0) mid new
     → Adds v.shape records (r ∷ []) payload mid new → Adds v.shape records (r ∷ []) payload old new
-adds_put one tells first second fits told v records r payload old mid new its fixed cells commit late =
+adds_put one tells first second taken fits told v records r payload old mid new its fixed cells commit late =
     let leaves = leaves_ledger tells first told v old mid fixed cells in
     let ledger = has_ledger v records (old.files 0) its in
     adds_later one tells v.shape records (r ∷ []) payload old mid new cells.time commit.time cells.earlier
     (during_more old mid (λ c. c 0 ≡ old.files 0) (λ c. HasLedger v.shape records (c 0)) (λ c same. subst (HasLedger v.shape records) (sym same) ledger) leaves.images)
     (subst (HasLedger v.shape records) (sym leaves.reads) ledger)
-    (shelf_others tells v.shape (IsBlockIn v.shape (nodes_of records)) 0 mid new (λ a block. no_home_in_ledger v.shape a) (writes_others tells fits second (ChangesOnly 0) 0 mid new (λ c d step f other. step f other) commit))
+    (shelf_others tells v.shape (IsBlockIn v.shape (nodes_of records)) 0 mid new (λ a block. no_home_in_ledger v.shape a) (writes_others tells taken fits second (ChangesOnly 0) 0 mid new (λ c d step f other. step f other) commit))
     late
 
 -- the records of the ledger are those of its file behind the cells

@@ -3,11 +3,12 @@ use Rattle.std.specs.Prelude.{◌≡◌, ◌≢◌, ◌⊎◌, ◌≤◌, ℕ, �
 use Rattle.std.specs.FinMap.{get, len}
 use Rattle.std.specs.Io.KnownBytes.{Consumes}
 use Rattle.aea_lattice.specs.declared.blocks.BlockId.{BlockId}
-use Rattle.aea_disk.specs.State.{State, HasRoomTo}
+use Rattle.aea_disk.specs.State.{State}
 use Rattle.aea_catalog.specs.Names.{IsName}
 use Rattle.aea_records.specs.Format.{greatest_objects, nodes_for, limit_when}
+use Rattle.aea_ledger.specs.Taking.{FitsAdding}
 use Rattle.aea_ledger.specs.Values.{Opened}
-use Rattle.aea_archive.specs.Cells.{HaveSitesRoom}
+use Rattle.aea_archive.specs.Cells.{FitsRows}
 use Rattle.aea_append.specs.declared.fault.PutFault.{PutFault}
 use Rattle.aea_append.specs.declared.fault.PutFault.TheVariants.{BadName, NameTaken, CatalogFull, HeadDamaged, DiskFault, NoMemory}
 
@@ -41,22 +42,22 @@ next_end end long digests = end + 56 + long + 32 * digests
 abbrev pub HasLedgerRoom : Opened → List ℕ → Option (List ℕ) → Option (List ℕ) → State → Type 0
 HasLedgerRoom v name left rest s =
     (bytes : List ℕ) → Consumes left rest bytes → v.lattice.n + nodes_for v.shape (length bytes) ≤ limit_when v.raised
-    → HasRoomTo s 0 (next_end v.end (length name) (nodes_for v.shape (length bytes) * (1 + v.shape.alpha)) + 1)
+    → FitsAdding s 1 (next_end v.end (length name) (nodes_for v.shape (length bytes) * (1 + v.shape.alpha)))
 
 -- the disk has room for all that may be written
 pub record HasPutRoom (v : Opened) (name : List ℕ) (left rest : Option (List ℕ)) (s : State) : Type 0 where
-  pub sites : HaveSitesRoom v.shape (limit_when v.raised) s
+  pub sites : FitsRows v.shape (limit_when v.raised) s
   pub ledger : HasLedgerRoom v name left rest s
 
 -- the ledger has room for the record of an object of so many bytes, if its nodes fit
 abbrev pub HasRecordRoom : Opened → List ℕ → ℕ → State → Type 0
 HasRecordRoom v name size s =
     v.lattice.n + nodes_for v.shape size ≤ limit_when v.raised
-    → HasRoomTo s 0 (next_end v.end (length name) (nodes_for v.shape size * (1 + v.shape.alpha)) + 1)
+    → FitsAdding s 1 (next_end v.end (length name) (nodes_for v.shape size * (1 + v.shape.alpha)))
 
 -- the disk has room for all that may be written for an object of so many bytes
 pub record HasCutRoom (v : Opened) (name : List ℕ) (size : ℕ) (s : State) : Type 0 where
-  pub sites : HaveSitesRoom v.shape (limit_when v.raised) s
+  pub sites : FitsRows v.shape (limit_when v.raised) s
   pub ledger : HasRecordRoom v name size s
 
 -- the disk has room for all that may be written for what is wanted of a source

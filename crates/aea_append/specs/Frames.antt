@@ -7,7 +7,7 @@ use Rattle.aea_disk.specs.State.{State}
 use Rattle.aea_catalog.specs.Names.{IsName}
 use Rattle.aea_records.specs.Format.{nodes_for, limit_when}
 use Rattle.aea_ledger.specs.Values.{Opened}
-use Rattle.aea_archive.specs.Cells.{HaveSitesRoom}
+use Rattle.aea_archive.specs.Cells.{FitsRows}
 use Rattle.aea_archive.specs.Next.{NewObject}
 use Rattle.aea_append.specs.declared.frame.Head.{Head}
 use Rattle.aea_append.specs.declared.frame.Head.TheVariants.{End, Cut, NoName, Whole}
@@ -113,5 +113,5 @@ BeginsWith left name size = (rest : Option (List ℕ)) × Consumes left rest (fr
 
 -- The disk has room for all that may be written for the frame that the source can begin with.
 pub record HasFrameRoom (v : Opened) (left : Option (List ℕ)) (s : State) : Type 0 where
-  pub sites : HaveSitesRoom v.shape (limit_when v.raised) s
+  pub sites : FitsRows v.shape (limit_when v.raised) s
   pub ledger : (name : List ℕ) (size : ℕ) → BeginsWith left name size → HasRecordRoom v name size s

@@ -11,12 +11,12 @@ use Rattle.aea_lattice.specs.Ends.{strands_of, last_open}
 use Rattle.aea_lattice.specs.Growth.{IsGrown}
 use Rattle.aea_envelope.specs.Cells.{block_digest, cell_of}
 use Rattle.aea_disk.specs.Files.{Files}
-use Rattle.aea_disk.specs.State.{State}
+use Rattle.aea_disk.specs.State.{State, IsReady}
 use Rattle.aea_disk.specs.Frames.{OnlyWrites}
 use Rattle.aea_shelf.specs.Places.{HasAtHome}
 use Rattle.aea_weave.specs.Woven.{Woven, head_of}
 use Rattle.aea_archive.specs.Blocks.{IsBlockOn}
-use Rattle.aea_archive.specs.Cells.{IsNoSite, ChangesArchive, HaveSitesRoom, AreAtHome}
+use Rattle.aea_archive.specs.Cells.{IsNoSite, ChangesArchive, FitsRows, AreAtHome}
 use Rattle.aea_archive.specs.Lasts.{IsLastParity, AreLastsRecorded, AreLastsAtHome}
 use Rattle.aea_archive.specs.Next.{HoldsData, IsWovenAfter, AreDigestsOn}
 use Rattle.aea_append.specs.declared.fault.PutFault.{PutFault}
@@ -68,7 +68,7 @@ pub record HasWoven (tells : Type 0) (shape : Shape) (l : Lattice) (recorded : L
 -- cells.
 abbrev pub WritesCells : Type 0 → Shape → ℕ → (BlockId → Type 0) → Type 0 → State → State → Type 0
 WritesCells tells shape nodes keep fault old new =
-    OnlyWrites tells (HaveSitesRoom shape nodes old) fault (ChangesArchive shape nodes keep (IsNoSite shape)) old new
+    OnlyWrites tells (IsReady old) (FitsRows shape nodes old) fault (ChangesArchive shape nodes keep (IsNoSite shape)) old new
 
 -- the fault is of the disk, or of memory
 abbrev pub IsStopping : PutFault → Type 0

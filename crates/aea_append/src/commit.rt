@@ -4,11 +4,12 @@ ghost use Rattle.std.specs.Prelude.{◌≡◌, ◌⊎◌, ◌+◌, ◌*◌, ◌�
 ghost use Rattle.std.specs.FinMap.{get, len};
 ghost use Rattle.aea_lattice.specs.declared.blocks.BlockId.{BlockId};
 ghost use Rattle.aea_disk.specs.Files.{ChangesOnly};
-ghost use Rattle.aea_disk.specs.State.{KeepsImages, IsSynced, IsFixed, HasRoomTo};
+ghost use Rattle.aea_disk.specs.State.{KeepsImages, IsSynced, IsFixed, IsReady};
 ghost use Rattle.aea_disk.specs.Frames.{OnlyWrites};
 ghost use Rattle.aea_catalog.specs.Names.{IsName};
 ghost use Rattle.aea_records.specs.Format.{Record, Object, greatest_objects, nodes_for, limit_when, entry};
 ghost use Rattle.aea_ledger.specs.Values.{HasRecords, IsThisOne};
+ghost use Rattle.aea_ledger.specs.Taking.{FitsAdding};
 ghost use Rattle.aea_ledger.specs.Next.{next_stored, AreItsRecords};
 ghost use Rattle.aea_ledger.specs.Stops.{HasLedger};
 ghost use Rattle.aea_archive.specs.Cells.{AreAtHome};
@@ -58,7 +59,7 @@ pub(crate) fn commit_object<D: Disk>(
 
     // No other file changes, none is written past the gate that ends the new ledger, and when the disk is at fault.
     ensures long { D.tells → length ((D.state disk.new).files 0) ≤ max (length ((D.state disk.old).files 0)) (ledger.old.end + length (entry (Object (next_stored ledger.old name.now size digest count digests.now))) + 1) }
-    ensures writes { OnlyWrites D.tells (HasRoomTo (D.state disk.old) 0 (ledger.old.end + length (entry (Object (next_stored ledger.old name.now size digest count digests.now))) + 1)) (result ≡ Err AppendFault.DiskFault) (ChangesOnly 0) (D.state disk.old) (D.state disk.new) }
+    ensures writes { OnlyWrites D.tells (IsReady (D.state disk.old)) (FitsAdding (D.state disk.old) 1 (ledger.old.end + length (entry (Object (next_stored ledger.old name.now size digest count digests.now))))) (result ≡ Err AppendFault.DiskFault) (ChangesOnly 0) (D.state disk.old) (D.state disk.new) }
 {
     ledgers_have_one_reading();
     let Ok(()) = disk.sync() else {

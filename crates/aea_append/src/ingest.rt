@@ -5,7 +5,7 @@ ghost use Rattle.std.specs.FinMap.{len};
 ghost use Rattle.std.specs.Io.KnownBytes.{IsAtEnd};
 ghost use Rattle.aea_faults.specs.Faults.{Rose};
 ghost use Rattle.aea_lattice.specs.declared.blocks.BlockId.{BlockId};
-ghost use Rattle.aea_disk.specs.State.{IsFixed};
+ghost use Rattle.aea_disk.specs.State.{IsFixed, IsReady};
 ghost use Rattle.aea_disk.specs.Frames.{OnlyReads, OnlyWrites};
 ghost use Rattle.aea_shelf.specs.Writes.{KeepsPadded};
 ghost use Rattle.aea_catalog.specs.Names.{IsName};
@@ -135,7 +135,7 @@ fn store_frame<D: Disk, S: Source>(
 
     // The blocks that the archive had and the other files stay, no site grows past the rows that the archive can have, and
     // when the disk is at fault.
-    ensures writes { OnlyWrites D.tells (HasCutRoom ledger.old name.now size (D.state disk.old)) (result ≡ Err IngestFault.DiskFault) (ChangesArchive ledger.old.shape (limit_when ledger.old.raised) (IsBlockIn ledger.old.shape ledger.old.lattice.n) (IsBesides ledger.old.shape)) (D.state disk.old) (D.state disk.new) }
+    ensures writes { OnlyWrites D.tells (IsReady (D.state disk.old)) (HasCutRoom ledger.old name.now size (D.state disk.old)) (result ≡ Err IngestFault.DiskFault) (ChangesArchive ledger.old.shape (limit_when ledger.old.raised) (IsBlockIn ledger.old.shape ledger.old.lattice.n) (IsBesides ledger.old.shape)) (D.state disk.old) (D.state disk.new) }
     ensures padded { result ≢ Err IngestFault.DiskFault → D.tells → KeepsPadded ledger.old.shape (IsBlockIn ledger.old.shape ledger.old.lattice.n) (D.state disk.old).files (D.state disk.new).files }
 
     // How many bytes are taken, and when the source is at fault.
@@ -143,6 +143,7 @@ fn store_frame<D: Disk, S: Source>(
     ensures short { result ≡ Err IngestFault.ReadFault → at.new < at.old + size }
     ensures source_kept { (S.state source.old).faults ≤ (S.state source.new).faults }
     ensures read_cause { result ≡ Err IngestFault.ReadFault → Rose (S.state source.old).faults (S.state source.new).faults }
+    ensures source_still { result ≢ Err IngestFault.ReadFault → (S.state source.new).faults ≡ (S.state source.old).faults }
 
     // No write goes past the gate that ends the new ledger.
     ensures ledger { (text : List ℕ) (stored : StoredObject) → result ≡ Ok (Ingest.Stored text stored) → D.tells → length ((D.state disk.new).files 0) ≤ max (length ((D.state disk.old).files 0)) (next_end ledger.old.end (length name.now) (stored.nodes * (1 + ledger.old.shape.alpha)) + 1) }
@@ -243,12 +244,13 @@ pub fn ingest_one<D: Disk, S: Source>(
 
     // The blocks that the archive had and the other files stay, no site grows past the rows that the archive can have, and
     // when the disk is at fault.
-    ensures writes { OnlyWrites D.tells (HasFrameRoom ledger.old (S.state source.old).left (D.state disk.old)) (result ≡ Err IngestFault.DiskFault) (ChangesArchive ledger.old.shape (limit_when ledger.old.raised) (IsBlockIn ledger.old.shape ledger.old.lattice.n) (IsBesides ledger.old.shape)) (D.state disk.old) (D.state disk.new) }
+    ensures writes { OnlyWrites D.tells (IsReady (D.state disk.old)) (HasFrameRoom ledger.old (S.state source.old).left (D.state disk.old)) (result ≡ Err IngestFault.DiskFault) (ChangesArchive ledger.old.shape (limit_when ledger.old.raised) (IsBlockIn ledger.old.shape ledger.old.lattice.n) (IsBesides ledger.old.shape)) (D.state disk.old) (D.state disk.new) }
     ensures padded { result ≢ Err IngestFault.DiskFault → D.tells → KeepsPadded ledger.old.shape (IsBlockIn ledger.old.shape ledger.old.lattice.n) (D.state disk.old).files (D.state disk.new).files }
 
     // When the source is at fault.
     ensures source_kept { (S.state source.old).faults ≤ (S.state source.new).faults }
     ensures read_cause { result ≡ Err IngestFault.ReadFault → Rose (S.state source.old).faults (S.state source.new).faults }
+    ensures source_still { result ≢ Err IngestFault.ReadFault → (S.state source.new).faults ≡ (S.state source.old).faults }
 
     // No write goes past the gate that ends the new ledger.
     ensures ledger { (name : List ℕ) (stored : StoredObject) → result ≡ Ok (Ingest.Stored name stored) → D.tells → length ((D.state disk.new).files 0) ≤ max (length ((D.state disk.old).files 0)) (next_end ledger.old.end (length name) (stored.nodes * (1 + ledger.old.shape.alpha)) + 1) }

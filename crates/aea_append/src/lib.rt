@@ -2,7 +2,8 @@
 //!
 //! Promises to the commands above that `put` stores all that a source has as one object, and `ingest_one` one that it
 //! takes from a stream, or says why not; and that whatever it answers, in every image of every moment the ledger is the
-//! old one or has the record, and then the cells of its blocks (`HasPut`, `HasStored`, `MayHaveStored`).
+//! old one or has the record, and then the cells of its blocks (`HasPut`, `HasStored`, `MayHaveStored`). A fault of the disk
+//! or of the source is answered as such and never as want of memory: after any other answer its count is what it was.
 //!
 //! `specs/Loading.antt` says what of the last parities is loaded, `specs/Weaving.antt` what was woven behind the nodes of a
 //! lattice, `specs/Taking.antt` what of a source was taken and woven, `specs/Causes.antt` why an object is not stored,

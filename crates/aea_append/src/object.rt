@@ -96,6 +96,7 @@ fn has_more<S: Source>(source: &mut S, full: bool, at: &mut u64) -> Result<bool,
     ensures only_full { IfErr result (λ f. full ≡ true) }
     ensures kept { (S.state source.old).faults ≤ (S.state source.new).faults }
     ensures cause { result ≡ Err PutFault.ReadFault → Rose (S.state source.old).faults (S.state source.new).faults }
+    ensures still { result ≢ Err PutFault.ReadFault → (S.state source.new).faults ≡ (S.state source.old).faults }
 {
     if !full {
         return Ok(false);
@@ -163,6 +164,7 @@ fn take_object<D: Disk, S: Source>(
     ensures short { (n : ℕ) → want ≡ Some n → result ≡ Err PutFault.ReadFault → at.new < at.old + n }
     ensures source_kept { (S.state source.old).faults ≤ (S.state source.new).faults }
     ensures read_cause { result ≡ Err PutFault.ReadFault → Rose (S.state source.old).faults (S.state source.new).faults }
+    ensures source_still { result ≢ Err PutFault.ReadFault → (S.state source.new).faults ≡ (S.state source.old).faults }
 {
     records_are_few();
     let shape = ledger.shape();
@@ -236,6 +238,7 @@ pub(crate) fn weave_object<D: Disk, S: Source>(
     ensures short { (n : ℕ) → want ≡ Some n → result ≡ Err PutFault.ReadFault → at.new < at.old + n }
     ensures source_kept { (S.state source.old).faults ≤ (S.state source.new).faults }
     ensures read_cause { result ≡ Err PutFault.ReadFault → Rose (S.state source.old).faults (S.state source.new).faults }
+    ensures source_still { result ≢ Err PutFault.ReadFault → (S.state source.new).faults ≡ (S.state source.old).faults }
 {
     homes_are_on_its_sites();
     let size = ledger.shape().block() as usize;

@@ -80,6 +80,7 @@ fn weave_piece<D: Disk, S: Source>(
     ensures faults { IfErr result IsBroken }
     ensures source_kept { (S.state source.old).faults ≤ (S.state source.new).faults }
     ensures read_cause { result ≡ Err PutFault.ReadFault → Rose (S.state source.old).faults (S.state source.new).faults }
+    ensures source_still { result ≢ Err PutFault.ReadFault → (S.state source.new).faults ≡ (S.state source.old).faults }
 {
     let count = match read_piece(source, block, want, at) {
         Ok(count) => count,
@@ -127,6 +128,7 @@ pub(crate) fn weave_all<D: Disk, S: Source>(
     ensures faults { IfErr result IsBroken }
     ensures source_kept { (S.state source.old).faults ≤ (S.state source.new).faults }
     ensures read_cause { result ≡ Err PutFault.ReadFault → Rose (S.state source.old).faults (S.state source.new).faults }
+    ensures source_still { result ≢ Err PutFault.ReadFault → (S.state source.new).faults ≡ (S.state source.old).faults }
 {
     let mut done: u64 = 0;
     while done < limit {

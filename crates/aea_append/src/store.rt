@@ -5,7 +5,7 @@ ghost use Rattle.std.specs.FinMap.{len};
 ghost use Rattle.aea_faults.specs.Faults.{Rose};
 ghost use Rattle.aea_io.specs.Taken.{TakesAtMost};
 ghost use Rattle.aea_lattice.specs.declared.blocks.BlockId.{BlockId};
-ghost use Rattle.aea_disk.specs.State.{IsFixed};
+ghost use Rattle.aea_disk.specs.State.{IsFixed, IsReady};
 ghost use Rattle.aea_disk.specs.Frames.{OnlyReads, OnlyWrites};
 ghost use Rattle.aea_shelf.specs.Writes.{KeepsPadded};
 ghost use Rattle.aea_catalog.specs.Names.{IsName};
@@ -132,7 +132,7 @@ pub(crate) fn put_wanted<D: Disk, S: Source>(
 
     // The blocks that the archive had and the other files stay, no site grows past the rows that the archive can have, and
     // when the disk is at fault.
-    ensures writes { OnlyWrites D.tells (HasWantedRoom ledger.old name.now want (S.state source.old).left (S.state source.new).left (D.state disk.old)) (result ≡ Err PutFault.DiskFault) (ChangesArchive ledger.old.shape (limit_when ledger.old.raised) (IsBlockIn ledger.old.shape ledger.old.lattice.n) (IsBesides ledger.old.shape)) (D.state disk.old) (D.state disk.new) }
+    ensures writes { OnlyWrites D.tells (IsReady (D.state disk.old)) (HasWantedRoom ledger.old name.now want (S.state source.old).left (S.state source.new).left (D.state disk.old)) (result ≡ Err PutFault.DiskFault) (ChangesArchive ledger.old.shape (limit_when ledger.old.raised) (IsBlockIn ledger.old.shape ledger.old.lattice.n) (IsBesides ledger.old.shape)) (D.state disk.old) (D.state disk.new) }
     ensures padded { result ≢ Err PutFault.DiskFault → D.tells → KeepsPadded ledger.old.shape (IsBlockIn ledger.old.shape ledger.old.lattice.n) (D.state disk.old).files (D.state disk.new).files }
 
     // How many bytes are taken, and when the source is at fault.
@@ -140,6 +140,7 @@ pub(crate) fn put_wanted<D: Disk, S: Source>(
     ensures short { (n : ℕ) → want ≡ Some n → result ≡ Err PutFault.ReadFault → at.new < at.old + n }
     ensures source_kept { (S.state source.old).faults ≤ (S.state source.new).faults }
     ensures read_cause { result ≡ Err PutFault.ReadFault → Rose (S.state source.old).faults (S.state source.new).faults }
+    ensures source_still { result ≢ Err PutFault.ReadFault → (S.state source.new).faults ≡ (S.state source.old).faults }
 
     // No write goes past the gate that ends the new ledger.
     ensures ledger { IfOk result (λ kept. IfSome kept (λ stored. D.tells → length ((D.state disk.new).files 0) ≤ max (length ((D.state disk.old).files 0)) (next_end ledger.old.end (length name.now) (stored.nodes * (1 + ledger.old.shape.alpha)) + 1))) }
@@ -241,13 +242,14 @@ pub fn put<D: Disk, S: Source>(
 
     // The blocks that the archive had and the other files stay, no site grows past the rows that the archive can have, and
     // when the disk is at fault.
-    ensures writes { OnlyWrites D.tells (HasPutRoom ledger.old name.now (S.state source.old).left (S.state source.new).left (D.state disk.old)) (result ≡ Err PutFault.DiskFault) (ChangesArchive ledger.old.shape (limit_when ledger.old.raised) (IsBlockIn ledger.old.shape ledger.old.lattice.n) (IsBesides ledger.old.shape)) (D.state disk.old) (D.state disk.new) }
+    ensures writes { OnlyWrites D.tells (IsReady (D.state disk.old)) (HasPutRoom ledger.old name.now (S.state source.old).left (S.state source.new).left (D.state disk.old)) (result ≡ Err PutFault.DiskFault) (ChangesArchive ledger.old.shape (limit_when ledger.old.raised) (IsBlockIn ledger.old.shape ledger.old.lattice.n) (IsBesides ledger.old.shape)) (D.state disk.old) (D.state disk.new) }
     ensures padded { result ≢ Err PutFault.DiskFault → D.tells → KeepsPadded ledger.old.shape (IsBlockIn ledger.old.shape ledger.old.lattice.n) (D.state disk.old).files (D.state disk.new).files }
 
     // At most one byte past what fits is read, and when the source is at fault.
     ensures reads { TakesAtMost (S.state source.old).left (S.state source.new).left (room_left ledger.old + 1) }
     ensures source_kept { (S.state source.old).faults ≤ (S.state source.new).faults }
     ensures read_cause { result ≡ Err PutFault.ReadFault → Rose (S.state source.old).faults (S.state source.new).faults }
+    ensures source_still { result ≢ Err PutFault.ReadFault → (S.state source.new).faults ≡ (S.state source.old).faults }
 
     // No write goes past the gate that ends the new ledger.
     ensures ledger { IfOk result (λ stored. D.tells → length ((D.state disk.new).files 0) ≤ max (length ((D.state disk.old).files 0)) (next_end ledger.old.end (length name.now) (stored.nodes * (1 + ledger.old.shape.alpha)) + 1)) }

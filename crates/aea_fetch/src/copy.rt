@@ -1,6 +1,6 @@
 //! The second pass: the payloads of an object's data blocks, printed in order and cut to its length.
 
-ghost use Rattle.std.specs.Prelude.{◌≡◌, ◌+◌, ◌-◌, ◌*◌, ◌≤◌, [], ◌∷◌, ℕ, List, length, take, drop, Some, IfOk, IfErr, IsErr, OnOk, Err};
+ghost use Rattle.std.specs.Prelude.{◌≡◌, ◌≢◌, ◌+◌, ◌-◌, ◌*◌, ◌≤◌, [], ◌∷◌, ℕ, List, length, take, drop, Some, IfOk, IfErr, IsErr, OnOk, Err};
 ghost use Rattle.std.specs.FinMap.{get};
 ghost use Rattle.aea_lattice.specs.declared.blocks.Class.TheVariants.{Datum};
 ghost use Rattle.aea_lattice.specs.Blocks.{block_of};
@@ -48,6 +48,7 @@ fn copy_datum<D: Disk, O: Sink>(
     ensures copied { OnOk result (HasCopied D.tells ledger.now.shape ledger.now.digests (D.state disk.old).files (block_of node Datum ∷ []) most (O.state out.old) sheet.old (O.state out.new) sheet.new) }
     ensures broken { IfErr result (HasBroken D.tells ledger.now.shape ledger.now.digests (D.state disk.old).files (block_of node Datum ∷ []) most (O.state out.old) sheet.old (O.state out.new)) }
     ensures faults { IfErr result IsCopyFault }
+    ensures still { result ≢ Err GetFault.WriteFault → (O.state out.new).faults ≡ (O.state out.old).faults }
     ensures reads { OnlyReads D.tells (result ≡ Err GetFault.DiskFault) (D.state disk.old) (D.state disk.new) }
 {
     let b = BlockId {
@@ -89,6 +90,7 @@ fn copy_part<D: Disk, O: Sink>(
     ensures left { IfOk result (λ left. left ≡ most - part.count * ledger.now.shape.block) }
     ensures broken { IfErr result (HasBroken D.tells ledger.now.shape ledger.now.digests (D.state disk.old).files (data_in part) most (O.state out.old) sheet.old (O.state out.new)) }
     ensures faults { IfErr result IsCopyFault }
+    ensures still { result ≢ Err GetFault.WriteFault → (O.state out.new).faults ≡ (O.state out.old).faults }
     ensures reads { OnlyReads D.tells (result ≡ Err GetFault.DiskFault) (D.state disk.old) (D.state disk.new) }
 {
     let size = ledger.shape().block();
@@ -120,6 +122,7 @@ pub(crate) fn copy_parts<D: Disk, O: Sink>(
     ensures copied { OnOk result ((p : Placed) → get ledger.now.objects name.now ≡ Some p → HasCopied D.tells ledger.now.shape ledger.now.digests (D.state disk.old).files (data_of p.parts) most (O.state out.old) sheet.old (O.state out.new) sheet.new) }
     ensures broken { IfErr result (λ fault. (p : Placed) → get ledger.now.objects name.now ≡ Some p → HasBroken D.tells ledger.now.shape ledger.now.digests (D.state disk.old).files (data_of p.parts) most (O.state out.old) sheet.old (O.state out.new) fault) }
     ensures faults { IfErr result IsCopyFault }
+    ensures still { result ≢ Err GetFault.WriteFault → (O.state out.new).faults ≡ (O.state out.old).faults }
     ensures reads { OnlyReads D.tells (result ≡ Err GetFault.DiskFault) (D.state disk.old) (D.state disk.new) }
 {
     let mut left = most;

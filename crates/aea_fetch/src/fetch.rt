@@ -1,6 +1,6 @@
 //! An object that is got.
 
-ghost use Rattle.std.specs.Prelude.{◌≡◌, ◌⊎◌, ◌↔◌, ◌≤◌, ℕ, List, length, take, None, Some, All, [], Err, IfOk, OnOk, IsOk, IsErr, IfErr};
+ghost use Rattle.std.specs.Prelude.{◌≡◌, ◌≢◌, ◌⊎◌, ◌↔◌, ◌≤◌, ℕ, List, length, take, None, Some, All, [], Err, IfOk, OnOk, IsOk, IsErr, IfErr};
 ghost use Rattle.std.specs.List.{Contains};
 ghost use Rattle.std.specs.FinMap.{get};
 ghost use Rattle.std.specs.Io.KnownBytes.{Appends};
@@ -54,6 +54,7 @@ fn send_object<D: Disk, O: Sink>(
     ensures sent { OnOk result ((p : Placed) → get ledger.now.objects name.now ≡ Some p → HasSent D.tells ledger.now.shape ledger.now.digests (D.state disk.old).files (data_of p.parts) most (O.state out.old) (O.state out.new)) }
     ensures broken { IfErr result (λ fault. (p : Placed) → get ledger.now.objects name.now ≡ Some p → HasBroken D.tells ledger.now.shape ledger.now.digests (D.state disk.old).files (data_of p.parts) most (O.state out.old) [] (O.state out.new) fault) }
     ensures faults { IfErr result IsCopyFault }
+    ensures still { result ≢ Err GetFault.WriteFault → (O.state out.new).faults ≡ (O.state out.old).faults }
     ensures flushed { OnOk result (IsFlushed (O.state out.new)) }
     ensures reads { OnlyReads D.tells (result ≡ Err GetFault.DiskFault) (D.state disk.old) (D.state disk.new) }
 {
@@ -115,6 +116,7 @@ pub fn get<D: Disk, O: Sink>(
     ensures reads { OnlyReads D.tells (result ≡ Err GetFault.DiskFault) (D.state disk.old) (D.state disk.new) }
     ensures out_kept { (O.state out.old).faults ≤ (O.state out.new).faults }
     ensures out_cause { result ≡ Err GetFault.WriteFault → Rose (O.state out.old).faults (O.state out.new).faults }
+    ensures out_still { result ≢ Err GetFault.WriteFault → (O.state out.new).faults ≡ (O.state out.old).faults }
     ensures in_room { (p : Placed) (room : ℕ) → get ledger.now.objects name.now ≡ Some p → (O.state out.old).room ≡ Some room → p.object.length ≤ room
         → (result ≡ Err GetFault.WriteFault → ⊥) × ((O.state out.new).faults ≡ (O.state out.old).faults) }
 {

@@ -1,6 +1,6 @@
 //! The head of a report, read line by line.
 
-ghost use Rattle.std.specs.Prelude.{◌≡◌, ◌≤◌, ℕ, List, [], ◌∷◌, Option, IfSome, IfOk, MatchResult, Err};
+ghost use Rattle.std.specs.Prelude.{◌≡◌, ◌≢◌, ◌≤◌, ℕ, List, [], ◌∷◌, Option, IfSome, IfOk, MatchResult, Err};
 ghost use Rattle.aea_faults.specs.Faults.{Rose};
 ghost use Rattle.aea_lattice.specs.declared.grid.Lattice.{Lattice};
 ghost use Rattle.aea_lattice.specs.Data.{IsBytes};
@@ -26,6 +26,7 @@ fn read_mark<S: Source>(alloc: Global, ahead: &mut Ahead, source: &mut S) -> Res
         (IsFault input 1 (S.state source.new).left) }
     ensures kept { (S.state source.old).faults ≤ (S.state source.new).faults }
     ensures cause { result ≡ Err ReportFault.ReadFault → Rose (S.state source.old).faults (S.state source.new).faults }
+    ensures still { result ≢ Err ReportFault.ReadFault → (S.state source.new).faults ≡ (S.state source.old).faults }
 {
     let line = head_line(alloc, ahead, source, 1)?;
     if is_mark(&line) {
@@ -46,6 +47,7 @@ fn read_shape<S: Source>(
         (IsFault input 2 (S.state source.new).left) }
     ensures kept { (S.state source.old).faults ≤ (S.state source.new).faults }
     ensures cause { result ≡ Err ReportFault.ReadFault → Rose (S.state source.old).faults (S.state source.new).faults }
+    ensures still { result ≢ Err ReportFault.ReadFault → (S.state source.new).faults ≡ (S.state source.old).faults }
 {
     let line = head_line(alloc, ahead, source, 2)?;
     match lattice_in(&line) {
@@ -66,6 +68,7 @@ fn read_seal<S: Source>(
         (IsFault input 3 (S.state source.new).left) }
     ensures kept { (S.state source.old).faults ≤ (S.state source.new).faults }
     ensures cause { result ≡ Err ReportFault.ReadFault → Rose (S.state source.old).faults (S.state source.new).faults }
+    ensures still { result ≢ Err ReportFault.ReadFault → (S.state source.new).faults ≡ (S.state source.old).faults }
 {
     let line = head_line(alloc, ahead, source, 3)?;
     match seal_in(&line) {
@@ -89,6 +92,7 @@ fn read_counts<S: Source>(
         (IsFault input 4 (S.state source.new).left) }
     ensures kept { (S.state source.old).faults ≤ (S.state source.new).faults }
     ensures cause { result ≡ Err ReportFault.ReadFault → Rose (S.state source.old).faults (S.state source.new).faults }
+    ensures still { result ≢ Err ReportFault.ReadFault → (S.state source.new).faults ≡ (S.state source.old).faults }
 {
     let line = head_line(alloc, ahead, source, 4)?;
     match counts_in(&line) {
@@ -119,6 +123,7 @@ pub fn read_head<S: Source>(
         (IsHeadFault input (S.state source.new).left) }
     ensures kept { (S.state source.old).faults ≤ (S.state source.new).faults }
     ensures cause { result ≡ Err ReportFault.ReadFault → Rose (S.state source.old).faults (S.state source.new).faults }
+    ensures still { result ≢ Err ReportFault.ReadFault → (S.state source.new).faults ≡ (S.state source.old).faults }
 {
     read_mark(alloc, ahead, source)?;
     let lattice = read_shape(alloc, ahead, source)?;

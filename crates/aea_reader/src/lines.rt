@@ -1,6 +1,6 @@
 //! Lines of a source.
 
-ghost use Rattle.std.specs.Prelude.{◌≡◌, ◌⊎◌, ◌+◌, ◌-◌, ◌<◌, ◌≤◌, ◌==◌, ◌++◌, [], length, position, IfSome, IfOk, OnOk, Err, vec_len};
+ghost use Rattle.std.specs.Prelude.{◌≡◌, ◌≢◌, ◌⊎◌, ◌+◌, ◌-◌, ◌<◌, ◌≤◌, ◌==◌, ◌++◌, [], length, position, IfSome, IfOk, OnOk, Err, vec_len};
 ghost use Rattle.aea_faults.specs.Faults.{Rose};
 ghost use Rattle.aea_io.specs.Taken.{TakesAtMost};
 ghost use Rattle.aea_report.specs.Faults.{greatest_line};
@@ -83,6 +83,7 @@ pub fn read_line<S: Source>(
     ensures most { TakesAtMost (S.state source.old).left (S.state source.new).left (greatest_line + 1 - length ahead.old) }
     ensures kept { (S.state source.old).faults ≤ (S.state source.new).faults }
     ensures cause { result ≡ Err LineFault.ReadFault → Rose (S.state source.old).faults (S.state source.new).faults }
+    ensures still { result ≢ Err LineFault.ReadFault → (S.state source.new).faults ≡ (S.state source.old).faults }
 {
     'pieces: loop {
         let Ok(met) = take_piece(ahead, line) else {

@@ -1,6 +1,6 @@
 //! A reader of reports, line by line.
 
-ghost use Rattle.std.specs.Prelude.{◌≡◌, ◌-◌, ◌+◌, ◌≤◌, ℕ, List, length, Option, Some, None, IfOk, Ok, Err};
+ghost use Rattle.std.specs.Prelude.{◌≡◌, ◌≢◌, ◌-◌, ◌+◌, ◌≤◌, ℕ, List, length, Option, Some, None, IfOk, Ok, Err};
 ghost use Rattle.std.specs.Io.KnownBytes.{IsAtEnd};
 ghost use Rattle.aea_faults.specs.Faults.{Rose};
 ghost use Rattle.aea_io.specs.Taken.{TakesAtMost};
@@ -68,6 +68,7 @@ impl Reader {
         ensures begun { (input : List ℕ) → (S.state source.old).left ≡ Some input → HasBegun input (S.state source.new).left result }
         ensures kept { (S.state source.old).faults ≤ (S.state source.new).faults }
         ensures cause { result ≡ Err ReportFault.ReadFault → Rose (S.state source.old).faults (S.state source.new).faults }
+        ensures still { result ≢ Err ReportFault.ReadFault → (S.state source.new).faults ≡ (S.state source.old).faults }
     {
         let mut ahead = Ahead::new();
         let (lattice, head) = read_head(alloc, &mut ahead, source)?;
@@ -92,6 +93,7 @@ impl Reader {
         ensures most { TakesAtMost (S.state source.old).left (S.state source.new).left (greatest_line + 1 - length self.old.ahead) }
         ensures kept { (S.state source.old).faults ≤ (S.state source.new).faults }
         ensures cause { result ≡ Err ReportFault.ReadFault → Rose (S.state source.old).faults (S.state source.new).faults }
+        ensures still { result ≢ Err ReportFault.ReadFault → (S.state source.new).faults ≡ (S.state source.old).faults }
     {
         let k = self.line;
         let mut text = Vec::new(alloc);
@@ -135,6 +137,7 @@ impl Reader {
         ensures most { TakesAtMost (S.state source.old).left (S.state source.new).left (greatest_line + 1 - length self.old.ahead) }
         ensures kept { (S.state source.old).faults ≤ (S.state source.new).faults }
         ensures cause { self.old.settled ≡ None → result ≡ Err ReportFault.ReadFault → Rose (S.state source.old).faults (S.state source.new).faults }
+        ensures still { result ≢ Err ReportFault.ReadFault → (S.state source.new).faults ≡ (S.state source.old).faults }
     {
         match self.settled {
             Some(Ending::Ended) => Ok(Next::End),

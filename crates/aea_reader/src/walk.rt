@@ -1,6 +1,6 @@
 //! The lines of a report, one after the other, where they stand in the input.
 
-ghost use Rattle.std.specs.Prelude.{◌≡◌, ◌+◌, ◌-◌, ◌≤◌, ℕ, List, [], false, length, MatchResult, Ok, Err};
+ghost use Rattle.std.specs.Prelude.{◌≡◌, ◌≢◌, ◌+◌, ◌-◌, ◌≤◌, ℕ, List, [], false, length, MatchResult, Ok, Err};
 ghost use Rattle.std.specs.Io.KnownBytes.{IsAtEnd};
 ghost use Rattle.aea_faults.specs.Faults.{Rose};
 ghost use Rattle.aea_io.specs.Taken.{TakesAtMost};
@@ -27,6 +27,7 @@ pub fn next_line<S: Source>(
     ensures most { TakesAtMost (S.state source.old).left (S.state source.new).left (greatest_line + 1 - length ahead.old) }
     ensures kept { (S.state source.old).faults ≤ (S.state source.new).faults }
     ensures cause { result ≡ Err ReportFault.ReadFault → Rose (S.state source.old).faults (S.state source.new).faults }
+    ensures still { result ≢ Err ReportFault.ReadFault → (S.state source.new).faults ≡ (S.state source.old).faults }
 {
     match read_line(ahead, line, source) {
         Ok(LineEnd::Newline) => Ok(true),
@@ -54,6 +55,7 @@ pub fn head_line<S: Source>(
         (IsFault input k (S.state source.new).left) }
     ensures kept { (S.state source.old).faults ≤ (S.state source.new).faults }
     ensures cause { result ≡ Err ReportFault.ReadFault → Rose (S.state source.old).faults (S.state source.new).faults }
+    ensures still { result ≢ Err ReportFault.ReadFault → (S.state source.new).faults ≡ (S.state source.old).faults }
 {
     let mut line = Vec::new(alloc);
     match next_line(ahead, &mut line, source, k) {

@@ -134,15 +134,22 @@ fewer_nodes shape m n is less =
 pub put_room : (v : Opened) (bytes : List ℕ) (rest : Option (List ℕ)) (s : State) → IsRehearsalShape v.shape → HasRecords v [] → HasRehearsalRoom (nodes_for v.shape (length bytes)) s
     → HasPutRoom v (codes "rehearsal") (Some bytes) rest s
 put_room v bytes rest s is has room = record {
-  sites = λ f first last.
-      let count = is.sites in
-      let limit : limit_when v.raised ≡ 65536 = ap limit_when has.raised in
-      room.cells.sites f (site_bytes v.shape (limit_when v.raised)) first (omega (arith, last, count)) (rows-short v.shape (limit_when v.raised) is (omega (arith, limit)));
+  sites = record {
+    sites = λ f first last.
+        let count = is.sites in
+        let limit : limit_when v.raised ≡ 65536 = ap limit_when has.raised in
+        room.cells.sites f (site_bytes v.shape (limit_when v.raised)) first (omega (arith, last, count)) (rows-short v.shape (limit_when v.raised) is (omega (arith, limit)));
+    sync = room.cells.syncs (s.files 0);
+  };
   ledger = λ taken gone fits.
       let end = new_end v has in
       let fewer = fewer_nodes v.shape (length taken) (length bytes) is (taken_short bytes taken rest gone) in
       let four : nodes_for v.shape (length taken) * (1 + v.shape.alpha) ≡ nodes_for v.shape (length taken) * 4 = ap (λ (a : ℕ). nodes_for v.shape (length taken) * (1 + a)) is.alpha in
-      room.ledger (next_end v.end (length (codes "rehearsal")) (nodes_for v.shape (length taken) * (1 + v.shape.alpha)) + 1) (omega (arith, end, fewer, four));
+      record {
+        room = room.ledger (next_end v.end (length (codes "rehearsal")) (nodes_for v.shape (length taken) * (1 + v.shape.alpha)) + 1) (omega (arith, end, fewer, four));
+        now = room.cells.syncs (s.files 0);
+        then = λ xs last one two more. room.cells.syncs xs;
+      };
 }
 
 -- the cell of an intact block whose payload is known

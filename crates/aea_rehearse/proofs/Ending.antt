@@ -36,7 +36,7 @@ use Rattle.aea_rehearse.specs.Checking.{IsReady}
 use Rattle.aea_rehearse.specs.Altered.{IsAlteredAt, IsAltered, IsRestored, HasNumbers}
 use Rattle.aea_rehearse.specs.declared.rehearsal.Rehearsal.{Rehearsal}
 use Rattle.aea_rehearse.proofs.Built.{nodes-512}
-use Rattle.aea_rehearse.proofs.Homes.{block_in_shape, rows-short}
+use Rattle.aea_rehearse.proofs.Homes.{block_in_shape, cells_willing, rows-short, willing_after}
 use Rattle.aea_rehearse.proofs.ReportRoom.{report-short}
 use Rattle.aea_rehearse.proofs.Struck.{left_by_number, is_struck, struck_tells, struck_honest, struck_plain}
 use Rattle.aea_rehearse.proofs.Turning.{length-turned_cell}
@@ -100,6 +100,7 @@ module _ (lengths : CellsHaveLengths) (parts : CellsHaveParts) where
         recorded = i.recorded;
         honest = struck_honest lengths parts v known payload s.files struck (rehearsal_data v.shape v.lattice number) (λ b. refl);
         plain = struck_plain lengths parts v known payload s.files struck;
+        willing = cells_willing s cells;
         sites = λ f first last.
             let count = i.is_shape.sites in
             let n = i.is_lattice.n in
@@ -232,6 +233,7 @@ ready_later tells v old new room told reads ready =
       recorded = ready.recorded;
       honest = subst (λ (c : Files). AreSurvivorsHonest v.shape v.lattice v.digests ready.datas c) (sym same) ready.honest;
       plain = subst (λ (c : Files). IsDamagePlain v.shape v.lattice v.digests c) (sym same) ready.plain;
+      willing = willing_after old new reads.time ready.willing;
       sites = λ f first last. reads.time.room f (site_bytes v.shape v.lattice.n) (ready.sites f first last);
       known = ready.known;
       survivors = subst (λ (c : Files). TellsSurvivors v.shape v.lattice.n v.digests c ready.known) (sym same) ready.survivors;

@@ -8,13 +8,13 @@ use Rattle.aea_lattice.specs.Shapes.{IsBlockOf, number_in}
 use Rattle.aea_place.specs.declared.homes.Spot.{Spot}
 use Rattle.aea_place.specs.Homes.{home_of}
 use Rattle.aea_disk.specs.Files.{Files, ChangesFile, Holds, Torn}
-use Rattle.aea_disk.specs.State.{State, Passes, HasRoom, HasRoomTo}
+use Rattle.aea_disk.specs.State.{State, Passes, HasRoomTo, IsReady, IsRoomy}
 use Rattle.aea_disk.specs.Steps.{changes_wider, holds_torn}
 use Rattle.aea_shelf.specs.Places.{cell_size, home_file, home_place, site_bytes}
 use Rattle.aea_shelf.specs.Writes.{ChangesHome}
 use Rattle.aea_shelf.specs.Facts.{HomesAreInRows, HomesAreOnItsSites}
 use Rattle.aea_rehearse.specs.Rehearsed.{IsRehearsalShape}
-use Rattle.aea_rehearse.specs.Rooms.{HasCellsRoom, HasRehearsalRoom}
+use Rattle.aea_rehearse.specs.Rooms.{IsWilling, HasCellsRoom, HasRehearsalRoom}
 
 -- a cell has 560 bytes
 pub cell-long : (shape : Shape) → IsRehearsalShape shape → cell_size shape ≡ 560
@@ -53,9 +53,21 @@ room_by_number shape b file place n s here there long room =
     let end : home_place shape b + cell_size shape ≡ place + n = omega (arith, there, long) in
     subst (λ (f : ℕ). s.room f (place + n)) (sym here) (subst (λ (e : ℕ). s.room (home_file shape b) e) end room)
 
--- the disk of a rehearsal has some room
-pub some_room : (s : State) → HasCellsRoom s → HasRoom s
-some_room s room = (1, 0, room.sites 1 0 (omega arith) (omega arith) (omega arith))
+-- the disk of a rehearsal is willing
+pub cells_willing : (s : State) → HasCellsRoom s → IsWilling s
+cells_willing s room = record {
+  free = room.free;
+  syncs = room.syncs;
+  some = (1, 0, room.sites 1 0 (omega arith) (omega arith) (omega arith));
+}
+
+-- a disk that is willing has room for calls that only read
+pub willing_roomy : (s : State) → IsWilling s → IsRoomy s
+willing_roomy s willing = record { some = willing.some; sync = willing.syncs (s.files 0) }
+
+-- and is ready, by the law of a disk without a rule
+pub willing_ready : (s : State) → ((f : ℕ) (b : List ℕ) (m : ℕ) → s.free → s.takes f b m) → IsWilling s → IsReady s
+willing_ready s law willing = (0, law 0 (s.files 0) 0 willing.free)
 
 -- the rows of so few nodes end within the room of a site
 pub rows-short : (shape : Shape) (n : ℕ) → IsRehearsalShape shape → n ≤ 65536 → site_bytes shape n ≤ 14680400
@@ -80,6 +92,8 @@ home_room rows sites shape n b s is has within few room =
 pub cells_room_stays : (old new : State) → Passes old new → new.faults ≡ old.faults → HasCellsRoom old → HasCellsRoom new
 cells_room_stays old new time steady room = record {
   sites = λ f n first last small. time.room f n (room.sites f n first last small);
+  free = time.free room.free;
+  syncs = λ bytes. time.syncs bytes (room.syncs bytes);
   count = (let below = room.count in omega (arith, below, steady));
 }
 
@@ -95,6 +109,10 @@ rehearsal_room_stays nodes old new time steady room = record {
   ledger = λ n small. time.room 0 n (room.ledger n small);
 }
 
--- a disk with room has it later on too
-pub room_after : (old new : State) → Passes old new → HasRoom old → HasRoom new
-room_after old new time room = (room.0, room.1, time.room room.0 room.1 room.2)
+-- a disk that is willing is so later on too
+pub willing_after : (old new : State) → Passes old new → IsWilling old → IsWilling new
+willing_after old new time willing = record {
+  free = time.free willing.free;
+  syncs = λ bytes. time.syncs bytes (willing.syncs bytes);
+  some = (willing.some.0, willing.some.1, time.room willing.some.0 willing.some.1 willing.some.2);
+}

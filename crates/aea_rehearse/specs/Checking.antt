@@ -15,9 +15,11 @@ use Rattle.aea_ledger.specs.Values.{Opened, HasRecords}
 use Rattle.aea_archive.specs.Blocks.{TellsSurvivors}
 use Rattle.aea_archive.specs.Cells.{HaveSitesRoom}
 use Rattle.aea_archive.specs.Data.{AreSurvivorsHonest, IsDamagePlain}
+use Rattle.aea_rehearse.specs.Rooms.{IsWilling}
 
 -- The archive may be repaired, and nothing fails: its survivors are honest for a data list that its ledger records, the damage
--- is plain, the sites have room for its rows, and a report for the survivors has no more bytes than there is room for.
+-- is plain, the disk is willing and the sites have room for its rows, and a report for the survivors has no more bytes than
+-- there is room for.
 pub record IsReady (v : Opened) (s : State) (room : ℕ) : Type 0 where
   pub records : List Record
   pub datas : List (List ℕ)
@@ -25,6 +27,7 @@ pub record IsReady (v : Opened) (s : State) (room : ℕ) : Type 0 where
   pub recorded : AreRecordsOf v.shape records datas
   pub honest : AreSurvivorsHonest v.shape v.lattice v.digests datas s.files
   pub plain : IsDamagePlain v.shape v.lattice v.digests s.files
+  pub willing : IsWilling s
   pub sites : HaveSitesRoom v.shape v.lattice.n s
   pub known : BlockId → Bool
   pub survivors : TellsSurvivors v.shape v.lattice.n v.digests s.files known

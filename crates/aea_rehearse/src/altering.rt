@@ -4,7 +4,7 @@ ghost use Rattle.std.specs.Prelude.{◌≡◌, ◌+◌, ◌<◌, ◌≤◌, ℕ,
 ghost use Rattle.aea_lattice.specs.declared.blocks.BlockId.{BlockId};
 ghost use Rattle.aea_lattice.specs.Blocks.{HasBlock, blocks_count, number_of};
 ghost use Rattle.aea_disk.specs.Files.{ChangesFile, Holds};
-ghost use Rattle.aea_disk.specs.State.{Passes, HasRoom, HasRoomTo};
+ghost use Rattle.aea_disk.specs.State.{Passes, HasRoomTo};
 ghost use Rattle.aea_disk.specs.Frames.{OnlyReads};
 ghost use Rattle.aea_envelope.specs.Cells.{block_digest, cell_of};
 ghost use Rattle.aea_shelf.specs.Places.{cell_size, home_file, home_place, HasAtHome};
@@ -12,7 +12,7 @@ ghost use Rattle.aea_shelf.specs.Writes.{ChangesHome};
 ghost use Rattle.aea_archive.specs.Blocks.{recorded_in, IsIntactBy};
 ghost use Rattle.aea_rehearse.specs.Generator.{next_state, state_after};
 ghost use Rattle.aea_rehearse.specs.Rehearsed.{IsRehearsalShape, turned_cell, keeps_digest};
-ghost use Rattle.aea_rehearse.specs.Rooms.{HasCellsRoom};
+ghost use Rattle.aea_rehearse.specs.Rooms.{IsWilling, HasCellsRoom};
 ghost use Rattle.aea_rehearse.specs.Building.{AreRecordedPayloads, AreWoven, AreGoneThrough, AreLeft};
 
 use crate::generator::Generator;
@@ -30,7 +30,7 @@ const CELL: usize = 560;
 // Reads the cell of a block, which is intact.
 fn read_intact<D: Disk>(disk: &mut D, ledger: &Ledger, b: BlockId, cell: &mut [u8])
     requires tells { D.tells }
-    requires room { HasRoom (D.state disk.old) }
+    requires willing { IsWilling (D.state disk.old) }
     requires block { HasBlock ledger.now.lattice b }
     requires buffer { length cell.old ≡ cell_size ledger.now.shape }
     requires intact { IsIntactBy ledger.now.shape ledger.now.digests (D.state disk.old).files b }
@@ -51,6 +51,7 @@ fn write_home<D: Disk>(disk: &mut D, ledger: &Ledger, b: BlockId, cell: &[u8])
     requires shape { IsRehearsalShape ledger.now.shape }
     requires block { HasBlock ledger.now.lattice b }
     requires cell { length cell.now ≡ cell_size ledger.now.shape }
+    requires free { (D.state disk.old).free }
     requires room { HasRoomTo (D.state disk.old) (home_file ledger.now.shape b) (home_place ledger.now.shape b + cell_size ledger.now.shape) }
     ensures written { ChangesFile (home_file ledger.now.shape b) (Holds (home_place ledger.now.shape b) cell.now) (D.state disk.old).files (D.state disk.new).files }
     ensures time { Passes (D.state disk.old) (D.state disk.new) }

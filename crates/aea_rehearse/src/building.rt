@@ -2,7 +2,7 @@
 
 ghost use Rattle.std.specs.Prelude.{◌≡◌, ◌*◌, ◌≤◌, true, [], length, IfOk, OnOk};
 ghost use Rattle.aea_lattice.specs.declared.shape.Shape.{Shape};
-ghost use Rattle.aea_disk.specs.State.{Passes, IsFixed, IsSynced, HasRoom, HasRoomTo};
+ghost use Rattle.aea_disk.specs.State.{Passes, IsFixed, IsSynced, HasRoomTo};
 ghost use Rattle.aea_disk.specs.Frames.{OnlyReads};
 ghost use Rattle.aea_records.specs.Format.{nodes_for};
 ghost use Rattle.aea_records.specs.Laws.{IsSomeLedger};
@@ -10,7 +10,7 @@ ghost use Rattle.aea_ledger.specs.Values.{IsThisOne};
 ghost use Rattle.aea_ledger.specs.Next.{AreItsRecords};
 ghost use Rattle.aea_ledger.specs.Stops.{empty_ledger};
 ghost use Rattle.aea_rehearse.specs.Rehearsed.{IsRehearsalShape};
-ghost use Rattle.aea_rehearse.specs.Rooms.{HasRehearsalRoom};
+ghost use Rattle.aea_rehearse.specs.Rooms.{IsWilling, HasRehearsalRoom};
 ghost use Rattle.aea_rehearse.specs.Building.{IsBuilt};
 
 use crate::fault::NoMemory;
@@ -44,6 +44,7 @@ fn rehearsal_shape() -> Shape
 fn create<D: Disk>(disk: &mut D, shape: &Shape)
     requires tells { D.tells }
     requires empty { (D.state disk.old).files 0 ≡ [] }
+    requires willing { IsWilling (D.state disk.old) }
     requires room { HasRoomTo (D.state disk.old) 0 18 }
     ensures made { (D.state disk.new).files 0 ≡ empty_ledger shape.now }
     ensures time { Passes (D.state disk.old) (D.state disk.new) }
@@ -60,7 +61,7 @@ fn create<D: Disk>(disk: &mut D, shape: &Shape)
 pub(crate) fn open<D: Disk>(alloc: Global, disk: &mut D) -> Result<Ledger, NoMemory>
     requires tells { D.tells }
     requires archive { IsSomeLedger ((D.state disk.old).files 0) }
-    requires room { HasRoom (D.state disk.old) }
+    requires willing { IsWilling (D.state disk.old) }
     ensures this { IfOk result (λ v. IsThisOne v ((D.state disk.old).files 0)) }
     ensures live { IfOk result (λ v. v.live ≡ true) }
     ensures synced { IsSynced (D.state disk.new) }

@@ -2,7 +2,7 @@
 
 ghost use Rattle.std.specs.Prelude.{◌≡◌, ◌↔◌, Bool, List, [], IfOk};
 ghost use Rattle.aea_lattice.specs.declared.blocks.BlockId.{BlockId};
-ghost use Rattle.aea_disk.specs.State.{Passes, HasRoom};
+ghost use Rattle.aea_disk.specs.State.{Passes};
 ghost use Rattle.aea_disk.specs.Frames.{OnlyReads};
 ghost use Rattle.aea_report.specs.declared.head.Head.{Head};
 ghost use Rattle.aea_report.specs.declared.line.Line.{Line};
@@ -13,6 +13,7 @@ ghost use Rattle.aea_archive.specs.Blocks.{TellsSurvivors};
 ghost use Rattle.aea_verify.specs.declared.verdict.Verdict.TheVariants as verdicts;
 ghost use Rattle.aea_lattice.specs.Data.{IsBytes};
 ghost use Rattle.aea_records.specs.TableLaws.{AreBytes};
+ghost use Rattle.aea_rehearse.specs.Rooms.{IsWilling};
 ghost use Rattle.aea_rehearse.specs.Checking.{IsReady, IsFitting};
 ghost use Rattle.aea_rehearse.specs.Altered.{IsMended};
 
@@ -74,7 +75,7 @@ fn judge_report<D: Disk>(
     report: &[u8],
 ) -> Result<Verdict, NoMemory>
     requires tells { D.tells }
-    requires room { HasRoom (D.state disk.old) }
+    requires willing { IsWilling (D.state disk.old) }
     requires report { AreReport report.now }
     ensures accepted { IfOk result (λ verdict. (intact : BlockId → Bool) (h : Head) (lines : List Line) → TellsSurvivors ledger.now.shape ledger.now.lattice.n ledger.now.digests (D.state disk.old).files intact
         → IsReport report.now h lines → (verdict ≡ verdicts.Accepted) ↔ Fits ledger.now.lattice ledger.now.seal intact h lines) }
@@ -99,7 +100,7 @@ pub(crate) fn check<D: Disk>(
     report: &[u8],
 ) -> Result<(), NoMemory>
     requires tells { D.tells }
-    requires room { HasRoom (D.state disk.old) }
+    requires willing { IsWilling (D.state disk.old) }
     requires fits { IsFitting ledger.now (D.state disk.old).files report.now }
     ensures reads { OnlyReads D.tells ⊥ (D.state disk.old) (D.state disk.new) }
 {

@@ -2,11 +2,11 @@
 
 ghost use Rattle.std.specs.Prelude.{◌≡◌, ◌+◌, ◌-◌, ◌*◌, ◌^◌, ◌<◌, ◌≤◌, ℕ, [], IfOk, OnOk};
 ghost use Rattle.aea_disk.specs.Spaces.{files_of, room_of};
-ghost use Rattle.aea_disk.specs.State.{Passes, HasRoom};
+ghost use Rattle.aea_disk.specs.State.{Passes};
 ghost use Rattle.aea_records.specs.Laws.{IsSomeLedger};
 ghost use Rattle.aea_ledger.specs.Values.{Opened, IsThisOne};
 ghost use Rattle.aea_rehearse.specs.Rehearsed.{IsRehearsed};
-ghost use Rattle.aea_rehearse.specs.Rooms.{HasRehearsalRoom, report_room};
+ghost use Rattle.aea_rehearse.specs.Rooms.{IsWilling, HasRehearsalRoom, report_room};
 ghost use Rattle.aea_rehearse.specs.Checking.{IsReady};
 ghost use Rattle.aea_rehearse.specs.Altered.{IsAltered, IsRestored, HasNumbers};
 
@@ -61,7 +61,7 @@ fn restore<D: Disk>(alloc: Global, disk: &mut D, report: &mut SureSink) -> Resul
     requires tells { D.tells }
     requires archive { IsSomeLedger ((D.state disk.old).files 0) }
     requires ready { (v : Opened) → IsThisOne v ((D.state disk.old).files 0) → IsReady v (D.state disk.old) report.old.room }
-    requires room { HasRoom (D.state disk.old) }
+    requires willing { IsWilling (D.state disk.old) }
     requires empty { report.old.bytes.items ≡ [] }
     ensures restored { IfOk result (IsRestored (D.state disk.old).files (D.state disk.new).files) }
     ensures steady { (D.state disk.new).faults ≡ (D.state disk.old).faults }

@@ -38,6 +38,14 @@ not_written {T} f other written = elim written [
   | inr e ↦ other (let h = e in cc)
 ]
 
+-- the answer of a call with this fault
+abbrev Failed : (T : Type 0) → RepairFault → Result T RepairFault
+Failed T f = Err f
+
+-- two calls with the same fault
+pub err_as : {T U : Type 0} {f g : RepairFault} → Failed T f ≡ Failed T g → Failed U f ≡ Failed U g
+err_as e = ap Err (let h = e in cc)
+
 -- ---- the faults of the writing stage
 
 pub left_as : (v : Opened) (mends : BlockId → Type 0) (old new : Files) (fault : RestoreFault) → stage.Leaves v mends old new (Err fault) → LeavesAt v mends old new (fault_of fault)
@@ -72,7 +80,7 @@ repairs_failed {T} tells v known old new f other left alone clash = record {
     honest = λ written. absurd (not_written {T = T} f other written);
     clash = λ b told computed e. clash b told computed (let h = e in cc);
   };
-  alone = blocks_as tells (f ≡ DiskFault) _ v (IsLeft (IsRestorable v.lattice known)) old new (λ e. (let h = e in cc)) alone;
+  alone = blocks_as tells (f ≡ DiskFault) _ v (IsLeft (IsRestorable v.lattice known)) old new (λ e. (let h = e in cc)) (λ e. cc) alone;
 }
 
 -- what is determined is marked in the end
@@ -89,12 +97,12 @@ pub repairs_done : {T : Type 0} (tells fault : Type 0) (v : Opened) (known given
     → TellsSurvivors v.shape v.lattice.n v.digests old.files known
     → ((b : BlockId) → IsTrue (given b) ↔ IsRestorable v.lattice known b)
     → IsRepaired v (λ b. IsTrue (given b)) old.files new.files
-    → WritesBlocks tells v (IsLeft (λ b. IsTrue (given b))) fault old new
+    → (fault → ⊥) → WritesBlocks tells v (IsLeft (λ b. IsTrue (given b))) fault old new
     → ((b : BlockId) → HasBlock v.lattice b → Determines v.lattice known b → IsTrue (ready b))
     → ((b : BlockId) → HasBlock v.lattice b → IsTrue (ready b) → IsIntactBy v.shape v.digests new.files b)
     → ((records : List Record) (datas : List (List ℕ)) → HasRecords v records → AreRecordsOf v.shape records datas → AreSurvivorsHonest v.shape v.lattice v.digests datas old.files → AreSomeHonest ready v.shape v.lattice v.digests datas new.files)
     → Repairs {T = T} tells v known old new (Ok x)
-repairs_done {T} tells fault v known given ready old new x stays inside fits tell mends repaired writes marked intact honest =
+repairs_done {T} tells fault v known given ready old new x stays inside fits tell mends repaired fine writes marked intact honest =
     let done = leaves_same (λ b. IsTrue (given b)) (IsRestorable v.lattice known) (λ b. (mends b).0) (λ b. (mends b).1) v old.files new.files (Ok tt) repaired in
     record {
       restores = record {
@@ -110,7 +118,7 @@ repairs_done {T} tells fault v known given ready old new x stays inside fits tel
         honest = λ written records datas has are own b here is. honest records datas has are own b here (marked b here is) (intact b here (marked b here is));
         clash = λ b told computed e. absurd (let h = e in cc);
       };
-      alone = blocks_less tells fault _ v (IsLeft (λ b. IsTrue (given b))) (IsLeft (IsRestorable v.lattice known)) old new (λ a left one. left ((mends a).0 one)) (λ e. absurd (let h = e in cc)) writes;
+      alone = blocks_less tells fault _ v (IsLeft (λ b. IsTrue (given b))) (IsLeft (IsRestorable v.lattice known)) old new (λ a left one. left ((mends a).0 one)) (λ e. absurd (let h = e in cc)) (λ e. absurd (fine e)) writes;
     }
 
 -- ---- what only read, before and without the writing stage
@@ -123,20 +131,20 @@ repairs_broken {T} sites tells fault v known old new told is reads =
       grown = padded_kept v.shape (IsLeft (IsRestorable v.lattice known)) old.files new.files (reads.contents told);
       restored = λ b one. inr (ap (λ (c : Files). padded_home v.shape b c) (reads.contents told));
     }))
-    (blocks_read sites tells fault (DiskFault ≡ DiskFault) v (IsLeft (IsRestorable v.lattice known)) old new (λ e. is) reads)
+    (blocks_read sites tells fault (DiskFault ≡ DiskFault) v (IsLeft (IsRestorable v.lattice known)) old new (λ e. is) (λ e. refl) reads)
     (λ b t k e. absurd (let h = e in cc))
 
 -- memory was wanting
-pub repairs_unwritten : {T : Type 0} → HomesAreOnItsSites → (tells fault : Type 0) (v : Opened) (known : BlockId → Bool) (old new : State) → tells → OnlyReads tells fault old new → Repairs {T = T} tells v known old new (Err NoMemory)
-repairs_unwritten {T} sites tells fault v known old new told reads =
+pub repairs_unwritten : {T : Type 0} → HomesAreOnItsSites → (tells fault : Type 0) (v : Opened) (known : BlockId → Bool) (old new : State) → tells → (fault → ⊥) → OnlyReads tells fault old new → Repairs {T = T} tells v known old new (Err NoMemory)
+repairs_unwritten {T} sites tells fault v known old new told fine reads =
     repairs_failed {T = T} tells v known old new NoMemory (λ e. (let h = e in cc)) (reads.contents told)
-    (blocks_read sites tells fault (NoMemory ≡ DiskFault) v (IsLeft (IsRestorable v.lattice known)) old new (λ e. absurd (let h = e in cc)) reads)
+    (blocks_read sites tells fault (NoMemory ≡ DiskFault) v (IsLeft (IsRestorable v.lattice known)) old new (λ e. absurd (let h = e in cc)) (λ e. absurd (fine e)) reads)
     (λ b t k e. absurd (let h = e in cc))
 
 -- calls that only read, and the writing stage behind them
-pub repairs_later : {T : Type 0} → HomesAreOnItsSites → (tells first : Type 0) (v : Opened) (known : BlockId → Bool) (old mid new : State) (result : Result T RepairFault) → tells → OnlyReads tells first old mid
+pub repairs_later : {T : Type 0} → HomesAreOnItsSites → (tells first : Type 0) (v : Opened) (known : BlockId → Bool) (old mid new : State) (result : Result T RepairFault) → tells → (first → ⊥) → OnlyReads tells first old mid
     → Repairs tells v known mid new result → Repairs tells v known old new result
-repairs_later sites tells first v known old mid new result told reads late =
+repairs_later sites tells first v known old mid new result told fine reads late =
     let same : mid.files ≡ old.files = reads.contents told in
     record {
       restores = record {
@@ -146,7 +154,7 @@ repairs_later sites tells first v known old mid new result told reads late =
         honest = λ written records datas has are own. late.restores.honest written records datas has are (subst (AreSurvivorsHonest v.shape v.lattice v.digests datas) (sym same) own);
         clash = λ b t k e. let one = late.restores.clash b t k e in (one.0, subst (λ (c : Files). IsClash v known c b t k) same one.1);
       };
-      alone = read_then_blocks sites tells first _ v (IsLeft (IsRestorable v.lattice known)) old mid new reads late.alone;
+      alone = read_then_blocks sites tells first _ v (IsLeft (IsRestorable v.lattice known)) old mid new fine reads late.alone;
     }
 
 -- ---- other answers of what was done
@@ -160,7 +168,7 @@ repairs_ok {T} {U} tells v known old new x y done = record {
     honest = λ written. done.restores.honest (inl refl);
     clash = λ b t k e. absurd (let h = e in cc);
   };
-  alone = blocks_as tells _ _ v (IsLeft (IsRestorable v.lattice known)) old new (λ e. absurd (let h = e in cc)) done.alone;
+  alone = blocks_as tells _ _ v (IsLeft (IsRestorable v.lattice known)) old new (λ e. absurd (let h = e in cc)) (λ e. absurd (let h = e in cc)) done.alone;
 }
 
 pub repairs_unprinted : {T U : Type 0} (tells : Type 0) (v : Opened) (known : BlockId → Bool) (old new : State) (x : T) → Repairs tells v known old new (Ok x) → Repairs {T = U} tells v known old new (Err WriteFault)
@@ -172,7 +180,7 @@ repairs_unprinted {T} {U} tells v known old new x done = record {
     honest = λ written. done.restores.honest (inl refl);
     clash = λ b t k e. absurd (let h = e in cc);
   };
-  alone = blocks_as tells _ _ v (IsLeft (IsRestorable v.lattice known)) old new (λ e. absurd (let h = e in cc)) done.alone;
+  alone = blocks_as tells _ _ v (IsLeft (IsRestorable v.lattice known)) old new (λ e. absurd (let h = e in cc)) (λ e. absurd (let h = e in cc)) done.alone;
 }
 
 pub repairs_err : {T U : Type 0} (tells : Type 0) (v : Opened) (known : BlockId → Bool) (old new : State) (f : RepairFault) → Repairs {T = T} tells v known old new (Err f) → Repairs {T = U} tells v known old new (Err f)
@@ -184,7 +192,7 @@ repairs_err {T} {U} tells v known old new f failed = record {
     honest = λ written. failed.restores.honest (written_as written);
     clash = λ b t k e. failed.restores.clash b t k (ap Err (let h = e in cc));
   };
-  alone = blocks_as tells _ _ v (IsLeft (IsRestorable v.lattice known)) old new (λ e. ap Err (let h = e in cc)) failed.alone;
+  alone = blocks_as tells _ _ v (IsLeft (IsRestorable v.lattice known)) old new (λ e. err_as e) (λ e. err_as e) failed.alone;
 }
   where
     written_as : IsWritten {T = U} (Err f) → IsWritten {T = T} (Err f)

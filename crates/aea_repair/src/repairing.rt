@@ -113,6 +113,7 @@ pub fn repair<D: Disk, O: Sink>(
     // When the output is at fault.
     ensures out_kept { (O.state out.old).faults ≤ (O.state out.new).faults }
     ensures out_cause { result ≡ Err RepairFault.WriteFault → Rose (O.state out.old).faults (O.state out.new).faults }
+    ensures out_still { result ≢ Err RepairFault.WriteFault → (O.state out.new).faults ≡ (O.state out.old).faults }
     ensures in_room { D.tells → (room : ℕ) (known : BlockId → Bool) (h : Head) (lines : List Line) → (O.state out.old).room ≡ Some room
         → TellsSurvivors ledger.now.shape ledger.now.lattice.n ledger.now.digests (D.state disk.old).files known → IsPrinted ledger.now.lattice known (Some ledger.now.seal) h lines → length (report_bytes h lines) ≤ room
         → (result ≢ Err RepairFault.WriteFault) × ((O.state out.new).faults ≡ (O.state out.old).faults) }

@@ -12,7 +12,7 @@ use Rattle.aea_lattice.proofs.Equations.{number_below}
 use Rattle.aea_lattice.proofs.Numbers.{length-blocks_of, slice_get-blocks_of}
 use Rattle.aea_envelope.specs.Cells.{block_digest}
 use Rattle.aea_disk.specs.Files.{Files}
-use Rattle.aea_disk.specs.State.{State, AtEachMoment}
+use Rattle.aea_disk.specs.State.{State, IsReady, AtEachMoment}
 use Rattle.aea_shelf.specs.Intact.{IsHeldIn}
 use Rattle.aea_shelf.proofs.Runs.{held_by_shelf}
 use Rattle.aea_shelf.proofs.Held.{held_in, held_through}
@@ -21,7 +21,7 @@ use Rattle.aea_records.specs.Format.{Record, nodes_of, fences_of, digests_of}
 use Rattle.aea_ledger.specs.Recorded.{AreRecordsOf}
 use Rattle.aea_ledger.specs.Values.{Opened, HasRecords}
 use Rattle.aea_archive.specs.Blocks.{IsBlockIn, recorded_in, IsHeldBy, TellsSurvivors}
-use Rattle.aea_archive.specs.Cells.{IsNoSite, HaveSitesRoom}
+use Rattle.aea_archive.specs.Cells.{IsNoSite, FitsRows}
 use Rattle.aea_archive.specs.Data.{AreSurvivorsHonest, AreSomeHonest}
 use Rattle.aea_archive.proofs.Cells.{changes_shelf}
 use Rattle.aea_archive.proofs.Records.{one_lattice}
@@ -105,7 +105,7 @@ held_left v mends old known b inside tell fresh has held is = true≢false (sym 
 pub held_on : (tells fault : Type 0) (v : Opened) (mends : BlockId → Type 0) (old new : State) (b : BlockId) → tells → IsBlockOf v.shape b → IsLeft mends b → WritesBlocks tells v (IsLeft mends) fault old new → IsHeldBy v.shape v.digests old b
     → AtEachMoment old new (IsHeldIn v.shape b (recorded_in v.shape v.digests b)) × IsHeldBy v.shape v.digests new b
 held_on tells fault v mends old new b told fits left writes held =
-    let shelf = changes_shelf tells (HaveSitesRoom v.shape v.lattice.n old) fault v.shape v.lattice.n (IsLeft mends) (IsNoSite v.shape) old new writes in (
+    let shelf = changes_shelf tells (IsReady old) (FitsRows v.shape v.lattice.n old) fault v.shape v.lattice.n (IsLeft mends) (IsNoSite v.shape) old new writes in (
       held_through tells v.shape (IsLeft mends) old new b (recorded_in v.shape v.digests b) fits left shelf (held_in v.shape b (recorded_in v.shape v.digests b) old held),
       held_by_shelf tells v.shape (IsLeft mends) old new b (recorded_in v.shape v.digests b) told fits left writes.time.later shelf held,
     )

@@ -48,4 +48,4 @@ module _ (mends others : BlockId → Type 0) (to : (b : BlockId) → mends b →
 
   -- what is written
   pub writes_same : (tells fault : Type 0) (v : Opened) (old new : State) → WritesBlocks tells v (IsLeft mends) fault old new → WritesBlocks tells v (IsLeft others) fault old new
-  writes_same tells fault v old new writes = blocks_less tells fault fault v (IsLeft mends) (IsLeft others) old new (λ a left one. left (to a one)) (λ is. is) writes
+  writes_same tells fault v old new writes = blocks_less tells fault fault v (IsLeft mends) (IsLeft others) old new (λ a left one. left (to a one)) (λ is. is) (λ is. is) writes

@@ -5,14 +5,14 @@ use Rattle.aea_lattice.specs.declared.blocks.BlockId.{BlockId}
 use Rattle.aea_lattice.specs.declared.grid.Lattice.{Lattice}
 use Rattle.aea_lattice.specs.Blocks.{HasBlock}
 use Rattle.aea_disk.specs.Files.{Files}
-use Rattle.aea_disk.specs.State.{State}
+use Rattle.aea_disk.specs.State.{State, IsReady}
 use Rattle.aea_disk.specs.Frames.{OnlyWrites}
 use Rattle.aea_shelf.specs.Places.{home_file, padded_home}
 use Rattle.aea_shelf.specs.Writes.{KeepsHomes, KeepsPadded}
 use Rattle.aea_view.specs.Marked.{Marked, is_marked}
 use Rattle.aea_ledger.specs.Values.{Opened}
 use Rattle.aea_archive.specs.Blocks.{IsIntactBy}
-use Rattle.aea_archive.specs.Cells.{IsNoSite, ChangesArchive, HaveSitesRoom}
+use Rattle.aea_archive.specs.Cells.{IsNoSite, ChangesArchive, FitsRows}
 use Rattle.aea_restore.specs.declared.fault.RestoreFault.{RestoreFault}
 use Rattle.aea_restore.specs.declared.fault.RestoreFault.TheVariants.{Clash, DiskFault}
 
@@ -29,7 +29,7 @@ IsLeft mends b = mends b → ⊥
 -- the room of these rows it does not fail.
 abbrev pub WritesBlocks : Type 0 → Opened → (BlockId → Type 0) → Type 0 → State → State → Type 0
 WritesBlocks tells v keep fault old new =
-    OnlyWrites tells (HaveSitesRoom v.shape v.lattice.n old) fault (ChangesArchive v.shape v.lattice.n keep (IsNoSite v.shape)) old new
+    OnlyWrites tells (IsReady old) (FitsRows v.shape v.lattice.n old) fault (ChangesArchive v.shape v.lattice.n keep (IsNoSite v.shape)) old new
 
 -- What stands when all is written: each block that is restored is intact, and each that is left alone reads as before,
 -- with zeros past the end of its file, where the file may have grown.

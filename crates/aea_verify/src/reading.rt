@@ -1,6 +1,6 @@
 //! A report that is judged by marks of the intact blocks, line by line.
 
-ghost use Rattle.std.specs.Prelude.{◌≡◌, ◌≤◌, ◌+◌, ◌++◌, ◌∷◌, ℕ, List, [], Some, None, true, Err, IfOk, IfNone, OnOk};
+ghost use Rattle.std.specs.Prelude.{◌≡◌, ◌≢◌, ◌≤◌, ◌+◌, ◌++◌, ◌∷◌, ℕ, List, [], Some, None, true, Err, IfOk, IfNone, OnOk};
 ghost use Rattle.std.specs.Io.KnownBytes.{IsAtEnd};
 ghost use Rattle.aea_faults.specs.Faults.{Rose};
 ghost use Rattle.aea_lattice.specs.Blocks.{number_of};
@@ -55,6 +55,7 @@ fn read_line<S: Source>(
     ensures end { IfOk result (λ next. IfNone next (IsAtEnd (S.state source.new).left)) }
     ensures kept { (S.state source.old).faults ≤ (S.state source.new).faults }
     ensures cause { result ≡ Err ReportFault.ReadFault → Rose (S.state source.old).faults (S.state source.new).faults }
+    ensures still { result ≢ Err ReportFault.ReadFault → (S.state source.new).faults ≡ (S.state source.old).faults }
 {
     let next = match reader.next(alloc, source) {
         Ok(next) => next,
@@ -81,6 +82,7 @@ fn read_lines<S: Source>(
     ensures end { OnOk result (IsAtEnd (S.state source.new).left) }
     ensures kept { (S.state source.old).faults ≤ (S.state source.new).faults }
     ensures cause { result ≡ Err ReportFault.ReadFault → Rose (S.state source.old).faults (S.state source.new).faults }
+    ensures still { result ≢ Err ReportFault.ReadFault → (S.state source.new).faults ≡ (S.state source.old).faults }
 {
     let mut tally = Tally::begin();
     'lines: loop {
@@ -152,6 +154,7 @@ pub(crate) fn judge_report<S: Source>(
     ensures end { OnOk result (IsAtEnd (S.state source.new).left) }
     ensures kept { (S.state source.old).faults ≤ (S.state source.new).faults }
     ensures cause { result ≡ Err ReportFault.ReadFault → Rose (S.state source.old).faults (S.state source.new).faults }
+    ensures still { result ≢ Err ReportFault.ReadFault → (S.state source.new).faults ≡ (S.state source.old).faults }
 {
     let begun = match Reader::begin(alloc, source) {
         Ok(begun) => begun,

@@ -1,6 +1,6 @@
 //! The check of a report against the disk.
 
-ghost use Rattle.std.specs.Prelude.{◌≡◌, ◌≤◌, ℕ, List, Some, Err, OnOk};
+ghost use Rattle.std.specs.Prelude.{◌≡◌, ◌≢◌, ◌≤◌, ℕ, List, Some, Err, OnOk};
 ghost use Rattle.std.specs.Io.KnownBytes.{IsAtEnd};
 ghost use Rattle.aea_faults.specs.Faults.{Rose};
 ghost use Rattle.aea_disk.specs.Frames.{OnlyReads};
@@ -53,6 +53,7 @@ pub fn verify<D: Disk, S: Source>(
     ensures reads { OnlyReads D.tells (result ≡ Err VerifyFault.DiskFault) (D.state disk.old) (D.state disk.new) }
     ensures source_kept { (S.state source.old).faults ≤ (S.state source.new).faults }
     ensures source_cause { result ≡ Err VerifyFault.ReadFault → Rose (S.state source.old).faults (S.state source.new).faults }
+    ensures source_still { result ≢ Err VerifyFault.ReadFault → (S.state source.new).faults ≡ (S.state source.old).faults }
 {
     accepted_are_fitting();
     lost_are_open();

@@ -3,15 +3,17 @@ use Rattle.std.proofs.lemmas.Result.{on_ok_weaker}
 use Rattle.std.specs.Prelude.{IsErr}
 use Rattle.std.specs.List.{sum_by}
 use Rattle.aea_disk.specs.Files.{Files, ChangesOnly}
-use Rattle.aea_disk.specs.State.{State, KeepsImages, HasRoomTo}
+use Rattle.aea_disk.specs.State.{State, KeepsImages, IsReady, IsRoomy}
 use Rattle.aea_disk.proofs.Moments.{during_kept, earlier_kept}
-use Rattle.aea_disk.proofs.Frames.{reads_one, reads_then_writes, reads_writes, writes_as, writes_others}
+use Rattle.aea_disk.proofs.Frames.{ok_fine, ready_later, reads_one, reads_then_writes, reads_writes, writes_as, writes_others}
 use Rattle.aea_envelope.specs.Cells.{cell_of}
 use Rattle.aea_shelf.specs.Places.{home_file, home_place}
 use Rattle.aea_shelf.proofs.Runs.{shelf_others, no_home_in_ledger}
 use Rattle.aea_records.specs.Format.{Stored, Object, nodes_of, entry}
 use Rattle.aea_ledger.specs.Next.{next_stored, AreItsRecords}
 use Rattle.aea_ledger.specs.Stops.{HasLedger}
+use Rattle.aea_ledger.specs.Taking.{FitsAdding}
+use Rattle.aea_ledger.proofs.Readying.{adding_later}
 use Rattle.aea_ledger.proofs.Records.{nodes_of-push}
 use Rattle.aea_archive.specs.Blocks.{IsBlockIn}
 use Rattle.aea_archive.proofs.Stretches.{has_ledger, adds_nothing, adds_append, adds_later}
@@ -45,7 +47,7 @@ returns-clause-adds g c told records payload its cells =
     let same = ap (λ (f : Files). f 0) (c.sync.ensures.contents told) in
     let mid_its : AreItsRecords v records (mid.files 0) = subst (λ (l : List ℕ). AreItsRecords v records l) (sym same) its in
     let ledger = has_ledger v records (old.files 0) its in
-    let others = writes_others tells _ _ (ChangesOnly 0) 0 mid new (λ d e step f other. step f other) c.append.ensures.writes in
+    let others = writes_others tells _ _ _ (ChangesOnly 0) 0 mid new (λ d e step f other. step f other) c.append.ensures.writes in
     let nodes = its.has.lattice.n in
     let one : sum_by (λ (o : Stored). o.count) (stored ∷ []) ≡ c.args.count = omega arith in
     adds_later c.ledgers_have_one_reading.ensures tells v.shape records (r ∷ []) payload old mid new c.sync.ensures.time c.append.ensures.writes.time
@@ -73,13 +75,17 @@ returns-clause-unchanged g c is =
     let old = g.D.Disk.state c.args.disk.now in
     (same.0, subst (λ (s : State). KeepsImages old s × (g.D.Disk.tells → s.files ≡ old.files)) (sym (ap g.D.Disk.state same.1)) (c.sync.ensures.crash, c.sync.ensures.contents))
 
+-- the room for the record is room to sync
+roomy : (s : State) (end : ℕ) → FitsAdding s 1 end → IsRoomy s
+roomy s end fit = record { some = (0, end + 1, fit.room); sync = fit.now }
+
 pub returns-in_default-clause-writes : goal.returns-in_default-clause-writes
 returns-in_default-clause-writes g c =
     let old = g.D.Disk.state c.args.disk.now in
     let mid = g.D.Disk.state c.sync.new.self in
-    let end : ℕ = c.args.ledger.now.end + length (entry (Object (next_stored c.args.ledger.now c.args.name.now c.args.size c.args.digest c.args.count c.args.digests.now))) + 1 in
-    writes_as g.D.Disk.tells (HasRoomTo old 0 end) (IsErr c.sync.result) _ (ChangesOnly 0) old mid (λ is. subst IsErr (sym c.in_default.is) refl)
-    (reads_writes g.D.Disk.tells (HasRoomTo old 0 end) (IsErr c.sync.result) (ChangesOnly 0) old mid (λ room. (0, end, room)) (λ d f other. refl)
+    let end : ℕ = c.args.ledger.now.end + length (entry (Object (next_stored c.args.ledger.now c.args.name.now c.args.size c.args.digest c.args.count c.args.digests.now))) in
+    writes_as g.D.Disk.tells (IsReady old) (FitsAdding old 1 end) (IsErr c.sync.result) _ (ChangesOnly 0) old mid (λ is. subst IsErr (sym c.in_default.is) refl) (λ _. refl)
+    (reads_writes g.D.Disk.tells (IsReady old) (FitsAdding old 1 end) (IsErr c.sync.result) (ChangesOnly 0) old mid (λ is. is) (roomy old end) (λ d f other. refl)
     (reads_one g.D.Disk.tells old mid c.sync.result c.sync.ensures.contents c.sync.ensures.crash c.sync.ensures.settled c.sync.ensures.time c.sync.ensures.cause c.sync.ensures.sure))
 
 pub returns-clause-writes : goal.returns-clause-writes
@@ -87,8 +93,9 @@ returns-clause-writes g c =
     let old = g.D.Disk.state c.args.disk.now in
     let mid = g.D.Disk.state c.sync.new.self in
     let new = g.D.Disk.state c.append.new.disk in
-    let end : ℕ = c.args.ledger.now.end + length (entry (Object (next_stored c.args.ledger.now c.args.name.now c.args.size c.args.digest c.args.count c.args.digests.now))) + 1 in
-    reads_then_writes g.D.Disk.tells (HasRoomTo old 0 end) (HasRoomTo mid 0 end) (IsErr c.sync.result) _ (ChangesOnly 0) old mid new (λ d f other. refl) (λ room. (0, end, room)) (λ room time. time.room 0 end room)
+    let end : ℕ = c.args.ledger.now.end + length (entry (Object (next_stored c.args.ledger.now c.args.name.now c.args.size c.args.digest c.args.count c.args.digests.now))) in
+    reads_then_writes g.D.Disk.tells (IsReady old) (IsReady mid) (FitsAdding old 1 end) (FitsAdding mid 1 end) (IsErr c.sync.result) _ (ChangesOnly 0) old mid new (ok_fine c.in-Ok.is) (λ d f other. refl)
+    (λ is. is) (λ _ is same goes. ready_later old mid same goes is) (roomy old end) (λ _ fit same time. adding_later old mid 1 end (ap (λ (f : ℕ → List ℕ). f 0) same) time fit)
     (reads_one g.D.Disk.tells old mid c.sync.result c.sync.ensures.contents c.sync.ensures.crash c.sync.ensures.settled c.sync.ensures.time c.sync.ensures.cause c.sync.ensures.sure)
     c.append.ensures.writes
 

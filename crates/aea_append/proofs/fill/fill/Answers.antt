@@ -1,4 +1,4 @@
-use Rattle.std.proofs.Common.{rules, length, ◌≡◌, ◌-◌, ◌≤◌, take, drop, sym, ◌∙◌, subst, arith}
+use Rattle.std.proofs.Common.{length, ◌≡◌, ◌-◌, ◌≤◌, take, drop, sym, ◌∙◌, subst, arith}
 use Rattle.std.proofs.lemmas.List.{length-drop, length-take-le}
 use Rattle.std.specs.Io.KnownBytes.{Consumes}
 use Rattle.std.proofs.KnownBytes.{Consumes-trans}
@@ -21,6 +21,6 @@ loop-done-preserved g c =
       long = same ∙ s.invariant.long;
       taken = subst (Consumes old new) (sym (filled-more s.buf c.read.new.buf s.done rest c.in-Ok.count s.invariant.within few))
           (Consumes-trans old _ new _ _ s.invariant.taken c.in-Ok.ensures.bytes.0);
-      kept = search rules;
+      still = c.in-Ok.ensures.cause.still ∙ s.invariant.still;
       counted = omega (arith, s.invariant.counted);
     }

@@ -7,7 +7,7 @@ invariant-loop-done g l = record {
   within : l.done ≤ length l.buf;
   long : length l.buf ≡ length l.fn.buf;
   taken : Consumes (g.S.Source.state l.fn.source).left (g.S.Source.state l.source).left (take l.done l.buf);
-  kept : (g.S.Source.state l.fn.source).faults ≤ (g.S.Source.state l.source).faults;
+  still : (g.S.Source.state l.source).faults ≡ (g.S.Source.state l.fn.source).faults;
   counted : l.at ≡ l.fn.at + l.done;
 }
 

@@ -19,7 +19,7 @@ use Rattle.aea_append.proofs.ingest.ingest_one.Goals as goal
 
 pub returns-in-Ok-End-clause-writes : goal.returns-in-Ok-End-clause-writes
 returns-in-Ok-End-clause-writes g c =
-    nothing_written g.D.Disk.tells _ _ c.args.ledger.now (g.D.Disk.state c.args.disk.now) (λ is. absurd (let e = is in cc))
+    nothing_written g.D.Disk.tells _ _ _ c.args.ledger.now (g.D.Disk.state c.args.disk.now) (λ is. absurd (let e = is in cc))
 
 pub returns-in-Ok-End-clause-refused_leaves : goal.returns-in-Ok-End-clause-refused_leaves
 returns-in-Ok-End-clause-refused_leaves g c fine other told =
@@ -35,7 +35,7 @@ returns-in-Ok-End-clause-taken g c =
 
 pub returns-in-Ok-Cut-clause-writes : goal.returns-in-Ok-Cut-clause-writes
 returns-in-Ok-Cut-clause-writes g c =
-    nothing_written g.D.Disk.tells _ _ c.args.ledger.now (g.D.Disk.state c.args.disk.now) (λ is. absurd (let e = is in cc))
+    nothing_written g.D.Disk.tells _ _ _ c.args.ledger.now (g.D.Disk.state c.args.disk.now) (λ is. absurd (let e = is in cc))
 
 pub returns-in-Ok-Cut-clause-refused_leaves : goal.returns-in-Ok-Cut-clause-refused_leaves
 returns-in-Ok-Cut-clause-refused_leaves g c fine other told =
@@ -51,7 +51,7 @@ returns-in-Ok-Cut-clause-taken g c =
 
 pub returns-in-Ok-NoName-clause-writes : goal.returns-in-Ok-NoName-clause-writes
 returns-in-Ok-NoName-clause-writes g c =
-    nothing_written g.D.Disk.tells _ _ c.args.ledger.now (g.D.Disk.state c.args.disk.now) (λ is. absurd (let e = is in cc))
+    nothing_written g.D.Disk.tells _ _ _ c.args.ledger.now (g.D.Disk.state c.args.disk.now) (λ is. absurd (let e = is in cc))
 
 pub returns-in-Ok-NoName-clause-refused_leaves : goal.returns-in-Ok-NoName-clause-refused_leaves
 returns-in-Ok-NoName-clause-refused_leaves g c fine other told =
@@ -67,7 +67,7 @@ returns-in-Ok-NoName-clause-taken g c =
 
 pub returns-in-Err-clause-writes : goal.returns-in-Err-clause-writes
 returns-in-Err-clause-writes g c =
-    nothing_written g.D.Disk.tells _ _ c.args.ledger.now (g.D.Disk.state c.args.disk.now) (λ is. absurd (let e = is in cc))
+    nothing_written g.D.Disk.tells _ _ _ c.args.ledger.now (g.D.Disk.state c.args.disk.now) (λ is. absurd (let e = is in cc))
 
 pub returns-in-Err-clause-refused_leaves : goal.returns-in-Err-clause-refused_leaves
 returns-in-Err-clause-refused_leaves g c fine other told =
@@ -328,7 +328,7 @@ returns-in-Ok-Whole-clause-stopped g c is told =
 pub returns-in-Ok-Whole-clause-writes : goal.returns-in-Ok-Whole-clause-writes
 returns-in-Ok-Whole-clause-writes g c =
     let w = c.in-Ok-Whole.ensures.whole c.in-Ok-Whole.long c.in-Ok-Whole.size (ap Ok c.in-Ok-Whole.field-0-is) in
-    writes_wider g.D.Disk.tells (HasCutRoom c.args.ledger.now (take c.in-Ok-Whole.long c.read_head.new.buffer) c.in-Ok-Whole.size (g.D.Disk.state c.args.disk.now)) (HasFrameRoom c.args.ledger.now (g.S.Source.state c.args.source.now).left (g.D.Disk.state c.args.disk.now)) _ (ChangesArchive c.args.ledger.now.shape (limit_when c.args.ledger.now.raised) (IsBlockIn c.args.ledger.now.shape c.args.ledger.now.lattice.n) (IsBesides c.args.ledger.now.shape)) (ChangesArchive c.args.ledger.now.shape (limit_when c.args.ledger.now.raised) (IsBlockIn c.args.ledger.now.shape c.args.ledger.now.lattice.n) (IsBesides c.args.ledger.now.shape)) (g.D.Disk.state c.args.disk.now) (g.D.Disk.state c.store_frame.new.disk) (λ d e step. step) (λ room. record { sites = room.sites; ledger = room.ledger (take c.in-Ok-Whole.long c.read_head.new.buffer) c.in-Ok-Whole.size ((g.S.Source.state c.read_head.new.source).left, w.3) }) c.store_frame.ensures.writes
+    writes_wider g.D.Disk.tells _ (HasCutRoom c.args.ledger.now (take c.in-Ok-Whole.long c.read_head.new.buffer) c.in-Ok-Whole.size (g.D.Disk.state c.args.disk.now)) _ (HasFrameRoom c.args.ledger.now (g.S.Source.state c.args.source.now).left (g.D.Disk.state c.args.disk.now)) _ (ChangesArchive c.args.ledger.now.shape (limit_when c.args.ledger.now.raised) (IsBlockIn c.args.ledger.now.shape c.args.ledger.now.lattice.n) (IsBesides c.args.ledger.now.shape)) (ChangesArchive c.args.ledger.now.shape (limit_when c.args.ledger.now.raised) (IsBlockIn c.args.ledger.now.shape c.args.ledger.now.lattice.n) (IsBesides c.args.ledger.now.shape)) (g.D.Disk.state c.args.disk.now) (g.D.Disk.state c.store_frame.new.disk) (λ d e step. step) (λ _ is. is) (λ _ room. record { sites = room.sites; ledger = room.ledger (take c.in-Ok-Whole.long c.read_head.new.buffer) c.in-Ok-Whole.size ((g.S.Source.state c.read_head.new.source).left, w.3) }) c.store_frame.ensures.writes
 
 pub returns-in-Ok-Whole-clause-ledger : goal.returns-in-Ok-Whole-clause-ledger
 returns-in-Ok-Whole-clause-ledger g c name stored r told =

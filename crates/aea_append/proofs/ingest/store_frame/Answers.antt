@@ -18,7 +18,7 @@ use Rattle.aea_append.proofs.ingest.store_frame.Goals as goal
 
 pub returns-in-Err-BadName-clause-writes : goal.returns-in-Err-BadName-clause-writes
 returns-in-Err-BadName-clause-writes g c =
-    nothing_written g.D.Disk.tells _ _ c.args.ledger.now (g.D.Disk.state c.args.disk.now) (λ is. absurd (let e = is in cc))
+    nothing_written g.D.Disk.tells _ _ _ c.args.ledger.now (g.D.Disk.state c.args.disk.now) (λ is. absurd (let e = is in cc))
 
 pub returns-in-Err-BadName-clause-refused_leaves : goal.returns-in-Err-BadName-clause-refused_leaves
 returns-in-Err-BadName-clause-refused_leaves g c fine other told =
@@ -34,7 +34,7 @@ returns-in-Err-BadName-clause-counted g c =
 
 pub returns-in-Err-NameTaken-clause-writes : goal.returns-in-Err-NameTaken-clause-writes
 returns-in-Err-NameTaken-clause-writes g c =
-    nothing_written g.D.Disk.tells _ _ c.args.ledger.now (g.D.Disk.state c.args.disk.now) (λ is. absurd (let e = is in cc))
+    nothing_written g.D.Disk.tells _ _ _ c.args.ledger.now (g.D.Disk.state c.args.disk.now) (λ is. absurd (let e = is in cc))
 
 pub returns-in-Err-NameTaken-clause-refused_leaves : goal.returns-in-Err-NameTaken-clause-refused_leaves
 returns-in-Err-NameTaken-clause-refused_leaves g c fine other told =
@@ -50,7 +50,7 @@ returns-in-Err-NameTaken-clause-counted g c =
 
 pub returns-in-Err-CatalogFull-clause-writes : goal.returns-in-Err-CatalogFull-clause-writes
 returns-in-Err-CatalogFull-clause-writes g c =
-    nothing_written g.D.Disk.tells _ _ c.args.ledger.now (g.D.Disk.state c.args.disk.now) (λ is. absurd (let e = is in cc))
+    nothing_written g.D.Disk.tells _ _ _ c.args.ledger.now (g.D.Disk.state c.args.disk.now) (λ is. absurd (let e = is in cc))
 
 pub returns-in-Err-CatalogFull-clause-refused_leaves : goal.returns-in-Err-CatalogFull-clause-refused_leaves
 returns-in-Err-CatalogFull-clause-refused_leaves g c fine other told =
@@ -66,7 +66,7 @@ returns-in-Err-CatalogFull-clause-counted g c =
 
 pub returns-in-Err-text_of-clause-writes : goal.returns-in-Err-text_of-clause-writes
 returns-in-Err-text_of-clause-writes g c =
-    nothing_written g.D.Disk.tells _ _ c.args.ledger.now (g.D.Disk.state c.args.disk.now) (λ is. absurd (let e = is in cc))
+    nothing_written g.D.Disk.tells _ _ _ c.args.ledger.now (g.D.Disk.state c.args.disk.now) (λ is. absurd (let e = is in cc))
 
 pub returns-in-Err-text_of-clause-refused_leaves : goal.returns-in-Err-text_of-clause-refused_leaves
 returns-in-Err-text_of-clause-refused_leaves g c fine other told =
@@ -82,7 +82,7 @@ returns-in-Err-text_of-clause-counted g c =
 
 pub returns-in-Ok-Some-clause-writes : goal.returns-in-Ok-Some-clause-writes
 returns-in-Ok-Some-clause-writes g c =
-    writes_as g.D.Disk.tells _ _ _ _ (g.D.Disk.state c.args.disk.now) (g.D.Disk.state c.put_wanted.new.disk) (λ is. absurd (let e = is in cc)) c.put_wanted.ensures.writes
+    writes_as g.D.Disk.tells _ _ _ _ _ (g.D.Disk.state c.args.disk.now) (g.D.Disk.state c.put_wanted.new.disk) (λ is. absurd (let e = is in cc)) (λ is. absurd (cc)) c.put_wanted.ensures.writes
 
 pub returns-in-Ok-Some-clause-padded : goal.returns-in-Ok-Some-clause-padded
 returns-in-Ok-Some-clause-padded g c fine told =
@@ -100,7 +100,7 @@ returns-in-Ok-Some-clause-full_refused g c may past =
 
 pub returns-in-Ok-None-clause-writes : goal.returns-in-Ok-None-clause-writes
 returns-in-Ok-None-clause-writes g c =
-    writes_as g.D.Disk.tells _ _ _ _ (g.D.Disk.state c.args.disk.now) (g.D.Disk.state c.put_wanted.new.disk) (λ is. absurd (let e = is in cc)) c.put_wanted.ensures.writes
+    writes_as g.D.Disk.tells _ _ _ _ _ (g.D.Disk.state c.args.disk.now) (g.D.Disk.state c.put_wanted.new.disk) (λ is. absurd (let e = is in cc)) (λ is. absurd (cc)) c.put_wanted.ensures.writes
 
 pub returns-in-Ok-None-clause-padded : goal.returns-in-Ok-None-clause-padded
 returns-in-Ok-None-clause-padded g c fine told =
@@ -123,7 +123,7 @@ returns-in-Ok-None-clause-complete g c told bytes is may there intact fits disk 
 
 pub returns-in-Err-DiskFault-clause-writes : goal.returns-in-Err-DiskFault-clause-writes
 returns-in-Err-DiskFault-clause-writes g c =
-    writes_as g.D.Disk.tells _ _ _ _ (g.D.Disk.state c.args.disk.now) (g.D.Disk.state c.put_wanted.new.disk) (λ is. (c.in-Err-DiskFault.is ∙ ap Err c.in-Err-DiskFault.field-0-is)) c.put_wanted.ensures.writes
+    writes_as g.D.Disk.tells _ _ _ _ _ (g.D.Disk.state c.args.disk.now) (g.D.Disk.state c.put_wanted.new.disk) (λ is. (c.in-Err-DiskFault.is ∙ ap Err c.in-Err-DiskFault.field-0-is)) (λ is. cc) c.put_wanted.ensures.writes
 
 pub returns-in-Err-DiskFault-clause-complete : goal.returns-in-Err-DiskFault-clause-complete
 returns-in-Err-DiskFault-clause-complete g c told bytes is may there intact fits disk source =
@@ -132,7 +132,7 @@ returns-in-Err-DiskFault-clause-complete g c told bytes is may there intact fits
 
 pub returns-in-Err-HeadDamaged-clause-writes : goal.returns-in-Err-HeadDamaged-clause-writes
 returns-in-Err-HeadDamaged-clause-writes g c =
-    writes_as g.D.Disk.tells _ _ _ _ (g.D.Disk.state c.args.disk.now) (g.D.Disk.state c.put_wanted.new.disk) (λ is. absurd (let e = is in cc)) c.put_wanted.ensures.writes
+    writes_as g.D.Disk.tells _ _ _ _ _ (g.D.Disk.state c.args.disk.now) (g.D.Disk.state c.put_wanted.new.disk) (λ is. absurd (let e = is in cc)) (λ is. absurd (cc)) c.put_wanted.ensures.writes
 
 pub returns-in-Err-HeadDamaged-clause-padded : goal.returns-in-Err-HeadDamaged-clause-padded
 returns-in-Err-HeadDamaged-clause-padded g c fine told =
@@ -149,7 +149,7 @@ returns-in-Err-HeadDamaged-clause-complete g c told bytes is may there intact fi
 
 pub returns-in-Err-Full-clause-writes : goal.returns-in-Err-Full-clause-writes
 returns-in-Err-Full-clause-writes g c =
-    writes_as g.D.Disk.tells _ _ _ _ (g.D.Disk.state c.args.disk.now) (g.D.Disk.state c.put_wanted.new.disk) (λ is. absurd (let e = is in cc)) c.put_wanted.ensures.writes
+    writes_as g.D.Disk.tells _ _ _ _ _ (g.D.Disk.state c.args.disk.now) (g.D.Disk.state c.put_wanted.new.disk) (λ is. absurd (let e = is in cc)) (λ is. absurd (cc)) c.put_wanted.ensures.writes
 
 pub returns-in-Err-Full-clause-padded : goal.returns-in-Err-Full-clause-padded
 returns-in-Err-Full-clause-padded g c fine told =
@@ -166,7 +166,7 @@ returns-in-Err-Full-clause-complete g c told bytes is may there intact fits disk
 
 pub returns-in-Err-ReadFault-clause-writes : goal.returns-in-Err-ReadFault-clause-writes
 returns-in-Err-ReadFault-clause-writes g c =
-    writes_as g.D.Disk.tells _ _ _ _ (g.D.Disk.state c.args.disk.now) (g.D.Disk.state c.put_wanted.new.disk) (λ is. absurd (let e = is in cc)) c.put_wanted.ensures.writes
+    writes_as g.D.Disk.tells _ _ _ _ _ (g.D.Disk.state c.args.disk.now) (g.D.Disk.state c.put_wanted.new.disk) (λ is. absurd (let e = is in cc)) (λ is. absurd (cc)) c.put_wanted.ensures.writes
 
 pub returns-in-Err-ReadFault-clause-padded : goal.returns-in-Err-ReadFault-clause-padded
 returns-in-Err-ReadFault-clause-padded g c fine told =
@@ -189,7 +189,7 @@ returns-in-Err-ReadFault-clause-complete g c told bytes is may there intact fits
 
 pub returns-in-Err-NoMemory-clause-writes : goal.returns-in-Err-NoMemory-clause-writes
 returns-in-Err-NoMemory-clause-writes g c =
-    writes_as g.D.Disk.tells _ _ _ _ (g.D.Disk.state c.args.disk.now) (g.D.Disk.state c.put_wanted.new.disk) (λ is. absurd (let e = is in cc)) c.put_wanted.ensures.writes
+    writes_as g.D.Disk.tells _ _ _ _ _ (g.D.Disk.state c.args.disk.now) (g.D.Disk.state c.put_wanted.new.disk) (λ is. absurd (let e = is in cc)) (λ is. absurd (cc)) c.put_wanted.ensures.writes
 
 pub returns-in-Err-NoMemory-clause-padded : goal.returns-in-Err-NoMemory-clause-padded
 returns-in-Err-NoMemory-clause-padded g c fine told =

@@ -5,7 +5,7 @@ use Rattle.aea_lattice.specs.declared.grid.Lattice.{Lattice}
 use Rattle.aea_lattice.specs.Blocks.{HasParity, HasBlock}
 use Rattle.aea_lattice.specs.Ends.{strands_of, last_open}
 use Rattle.aea_disk.proofs.Moments.{earlier_none, earlier_both}
-use Rattle.aea_disk.proofs.Frames.{reads_none, reads_both, reads_as}
+use Rattle.aea_disk.proofs.Frames.{ok_fine, reads_none, reads_both, reads_as}
 use Rattle.aea_weave.specs.Woven.{strands_before, head_of}
 use Rattle.aea_append.specs.Loading.{IsLesser}
 use Rattle.aea_append.proofs.Loads.{load_none, load_next, loaded_same, found_same, found_inside, found_on_inside}
@@ -26,12 +26,12 @@ returns-in-Err-clause-earlier g c =
 
 pub returns-in-Err-clause-reads : goal.returns-in-Err-clause-reads
 returns-in-Err-clause-reads g c =
-    reads_as g.D.Disk.tells (IsErr c.load_strand.result) _ (g.D.Disk.state c.args.disk.now) (g.D.Disk.state c.load_strand.new.disk) (λ is. subst IsErr (sym c.in-Err.is) refl)
-    (reads_both g.D.Disk.tells ⊥ (IsErr c.load_strand.result) (g.D.Disk.state c.args.disk.now) (g.D.Disk.state c.loop-place.disk) (g.D.Disk.state c.load_strand.new.disk) c.loop-place.invariant.reads c.load_strand.ensures.reads)
+    reads_as g.D.Disk.tells (IsErr c.load_strand.result) _ (g.D.Disk.state c.args.disk.now) (g.D.Disk.state c.load_strand.new.disk) (λ is. subst IsErr (sym c.in-Err.is) refl) (λ _. refl)
+    (reads_both g.D.Disk.tells ⊥ (IsErr c.load_strand.result) (g.D.Disk.state c.args.disk.now) (g.D.Disk.state c.loop-place.disk) (g.D.Disk.state c.load_strand.new.disk) (λ none. none) c.loop-place.invariant.reads c.load_strand.ensures.reads)
 
 pub returns-clause-reads : goal.returns-clause-reads
 returns-clause-reads g c =
-    reads_as g.D.Disk.tells ⊥ _ (g.D.Disk.state c.args.disk.now) (g.D.Disk.state c.loop-place.disk) (λ is. absurd (let e = is in cc)) c.loop-place.invariant.reads
+    reads_as g.D.Disk.tells ⊥ _ (g.D.Disk.state c.args.disk.now) (g.D.Disk.state c.loop-place.disk) (λ is. absurd (let e = is in cc)) (λ none. absurd none) c.loop-place.invariant.reads
 
 pub loop-place-preserved : goal.loop-place-preserved
 loop-place-preserved g c =
@@ -59,7 +59,7 @@ loop-place-preserved g c =
           c.load_strand.ensures.lattice c.load_strand.ensures.size c.load_strand.ensures.others
           (subst (λ (m : Lattice). IsLesser m c.loop-place.found c.in-Ok.next c.lesser-found.result) l c.lesser-found.ensures);
       earlier = earlier_both old mid new c.loop-place.invariant.reads.time c.load_strand.ensures.reads.time c.loop-place.invariant.earlier c.load_strand.ensures.earlier;
-      reads = reads_as tells (IsErr c.load_strand.result) ⊥ old new (λ none. absurd none) (reads_both tells ⊥ (IsErr c.load_strand.result) old mid new c.loop-place.invariant.reads c.load_strand.ensures.reads);
+      reads = reads_as tells (IsErr c.load_strand.result) ⊥ old new (λ none. absurd none) (λ is. absurd (ok_fine c.in-Ok.is is)) (reads_both tells ⊥ (IsErr c.load_strand.result) old mid new (λ none. none) c.loop-place.invariant.reads c.load_strand.ensures.reads);
     }
 
 pub lesser-found-requires-clause-a : goal.lesser-found-requires-clause-a

@@ -2,7 +2,7 @@ use Rattle.std.proofs.Common.{Option, Some, refl, sym, ◌∙◌, ap, subst}
 use Rattle.std.specs.Prelude.{IsErr}
 use Rattle.aea_lattice.specs.declared.blocks.BlockId.{BlockId}
 use Rattle.aea_disk.proofs.Moments.{earlier_none}
-use Rattle.aea_disk.proofs.Frames.{reads_none, reads_as}
+use Rattle.aea_disk.proofs.Frames.{ok_fine, reads_none, reads_as}
 use Rattle.aea_weave.specs.Stored.{all_strands}
 use Rattle.aea_archive.specs.Lasts.{IsLastParity, IsFirstDamagedLast}
 use Rattle.aea_append.specs.Loading.{HasLoaded}
@@ -13,16 +13,16 @@ pub returns-in-Err-clause-earlier : goal.returns-in-Err-clause-earlier
 returns-in-Err-clause-earlier g c = earlier_none (g.D.Disk.state c.args.disk.now)
 
 pub returns-in-Err-clause-reads : goal.returns-in-Err-clause-reads
-returns-in-Err-clause-reads g c = reads_as g.D.Disk.tells ⊥ _ (g.D.Disk.state c.args.disk.now) (g.D.Disk.state c.args.disk.now) (λ is. absurd (let e = is in cc)) (reads_none g.D.Disk.tells ⊥ (g.D.Disk.state c.args.disk.now) (λ none. none))
+returns-in-Err-clause-reads g c = reads_as g.D.Disk.tells ⊥ _ (g.D.Disk.state c.args.disk.now) (g.D.Disk.state c.args.disk.now) (λ is. absurd (let e = is in cc)) (λ none. absurd none) (reads_none g.D.Disk.tells ⊥ (g.D.Disk.state c.args.disk.now) (λ none. none))
 
 pub returns-in-Ok-None-clause-reads : goal.returns-in-Ok-None-clause-reads
-returns-in-Ok-None-clause-reads g c = reads_as g.D.Disk.tells _ _ (g.D.Disk.state c.args.disk.now) (g.D.Disk.state c.load_heads.new.disk) (λ is. absurd (let e = is in cc)) c.load_heads.ensures.reads
+returns-in-Ok-None-clause-reads g c = reads_as g.D.Disk.tells _ _ (g.D.Disk.state c.args.disk.now) (g.D.Disk.state c.load_heads.new.disk) (λ is. absurd (let e = is in cc)) (λ is. absurd (ok_fine c.in-Ok-None.is is)) c.load_heads.ensures.reads
 
 pub returns-in-Ok-Some-clause-reads : goal.returns-in-Ok-Some-clause-reads
-returns-in-Ok-Some-clause-reads g c = reads_as g.D.Disk.tells _ _ (g.D.Disk.state c.args.disk.now) (g.D.Disk.state c.load_heads.new.disk) (λ is. absurd (let e = is in cc)) c.load_heads.ensures.reads
+returns-in-Ok-Some-clause-reads g c = reads_as g.D.Disk.tells _ _ (g.D.Disk.state c.args.disk.now) (g.D.Disk.state c.load_heads.new.disk) (λ is. absurd (let e = is in cc)) (λ is. absurd (ok_fine c.in-Ok-Some.is is)) c.load_heads.ensures.reads
 
 pub returns-in-Err-load_heads-clause-reads : goal.returns-in-Err-load_heads-clause-reads
-returns-in-Err-load_heads-clause-reads g c = reads_as g.D.Disk.tells (IsErr c.load_heads.result) _ (g.D.Disk.state c.args.disk.now) (g.D.Disk.state c.load_heads.new.disk) (λ is. subst IsErr (sym c.in-Err-load_heads.is) refl) c.load_heads.ensures.reads
+returns-in-Err-load_heads-clause-reads g c = reads_as g.D.Disk.tells (IsErr c.load_heads.result) _ (g.D.Disk.state c.args.disk.now) (g.D.Disk.state c.load_heads.new.disk) (λ is. subst IsErr (sym c.in-Err-load_heads.is) refl) (λ _. refl) c.load_heads.ensures.reads
 
 pub returns-in-Ok-None-clause-woven : goal.returns-in-Ok-None-clause-woven
 returns-in-Ok-None-clause-woven g c =

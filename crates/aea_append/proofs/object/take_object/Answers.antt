@@ -13,7 +13,7 @@ use Rattle.aea_append.proofs.Rooms.{room_within, room_few, limit_is, all_writes,
 use Rattle.aea_append.proofs.Starts.{same_nodes}
 use Rattle.aea_append.proofs.Takings.{takes_object, counts_none, counts_more, counts_then}
 use Rattle.aea_append.proofs.Wanted.{limit_most, limit_more, limit_all, limit_cut, over_limit, over_all, not_both}
-use Rattle.aea_append.proofs.Writes.{cells_none}
+use Rattle.aea_append.proofs.Writes.{cells_none, ok_no_fault}
 use Rattle.aea_append.proofs.object.take_object.Goals as goal
 
 pub weave_all-requires-clause-limit : goal.weave_all-requires-clause-limit
@@ -63,7 +63,7 @@ returns-in-Err-clause-writes g c =
     let most : c.greatest_length-most.result ≡ limit_of c.args.want (room_left c.args.ledger.now) = c.greatest_length-most.ensures ∙ ap (limit_of c.args.want) room in
     let within : c.greatest_length-most.result ≤ room_left c.args.ledger.now = (let w : c.greatest_length-most.result ≤ c.from.result * c.from-2.result = grind (arith, nat_tests, c.if-room-most.false) in omega (arith, w, room)) in
     all_writes c.records_are_few.ensures g.D.Disk.tells (c.weave_all.result ≡ Err DiskFault) _ c.args.ledger.now c.shape-shape.result c.args.heads.now.lattice c.greatest_length-most.result (g.D.Disk.state c.args.disk.now) (g.D.Disk.state c.weave_all.new.disk)
-    c.shape-shape.ensures.records c.shape-shape.ensures.value c.requires.lattice within (λ is. c.in-Err.is ∙ fault_as c.in-Err.fault DiskFault is) c.weave_all.ensures.writes
+    c.shape-shape.ensures.records c.shape-shape.ensures.value c.requires.lattice within (λ is. c.in-Err.is ∙ fault_as c.in-Err.fault DiskFault is) (λ is. cc) c.weave_all.ensures.writes
 
 pub returns-in-Err-clause-padded : goal.returns-in-Err-clause-padded
 returns-in-Err-clause-padded g c fine told =
@@ -91,7 +91,7 @@ returns-in-Ok-true-clause-writes g c =
     let most : c.greatest_length-most.result ≡ limit_of c.args.want (room_left c.args.ledger.now) = c.greatest_length-most.ensures ∙ ap (limit_of c.args.want) room in
     let within : c.greatest_length-most.result ≤ room_left c.args.ledger.now = (let w : c.greatest_length-most.result ≤ c.from.result * c.from-2.result = grind (arith, nat_tests, c.if-room-most.false) in omega (arith, w, room)) in
     all_writes c.records_are_few.ensures g.D.Disk.tells (c.weave_all.result ≡ Err DiskFault) _ c.args.ledger.now c.shape-shape.result c.args.heads.now.lattice c.greatest_length-most.result (g.D.Disk.state c.args.disk.now) (g.D.Disk.state c.weave_all.new.disk)
-    c.shape-shape.ensures.records c.shape-shape.ensures.value c.requires.lattice within (λ is. absurd (let e = is in cc)) c.weave_all.ensures.writes
+    c.shape-shape.ensures.records c.shape-shape.ensures.value c.requires.lattice within (λ is. absurd (let e = is in cc)) (λ is. absurd (ok_no_fault c.in-Ok.is is)) c.weave_all.ensures.writes
 
 pub returns-in-Ok-true-clause-padded : goal.returns-in-Ok-true-clause-padded
 returns-in-Ok-true-clause-padded g c fine told =
@@ -123,7 +123,7 @@ returns-in-Ok-false-clause-writes g c =
     let most : c.greatest_length-most.result ≡ limit_of c.args.want (room_left c.args.ledger.now) = c.greatest_length-most.ensures ∙ ap (limit_of c.args.want) room in
     let within : c.greatest_length-most.result ≤ room_left c.args.ledger.now = (let w : c.greatest_length-most.result ≤ c.from.result * c.from-2.result = grind (arith, nat_tests, c.if-room-most.false) in omega (arith, w, room)) in
     all_writes c.records_are_few.ensures g.D.Disk.tells (c.weave_all.result ≡ Err DiskFault) _ c.args.ledger.now c.shape-shape.result c.args.heads.now.lattice c.greatest_length-most.result (g.D.Disk.state c.args.disk.now) (g.D.Disk.state c.weave_all.new.disk)
-    c.shape-shape.ensures.records c.shape-shape.ensures.value c.requires.lattice within (λ is. absurd (let e = is in cc)) c.weave_all.ensures.writes
+    c.shape-shape.ensures.records c.shape-shape.ensures.value c.requires.lattice within (λ is. absurd (let e = is in cc)) (λ is. absurd (ok_no_fault c.in-Ok.is is)) c.weave_all.ensures.writes
 
 pub returns-in-Ok-false-clause-padded : goal.returns-in-Ok-false-clause-padded
 returns-in-Ok-false-clause-padded g c fine told =
@@ -155,7 +155,7 @@ returns-in-Err-has_more-clause-writes g c =
     let most : c.greatest_length-most.result ≡ limit_of c.args.want (room_left c.args.ledger.now) = c.greatest_length-most.ensures ∙ ap (limit_of c.args.want) room in
     let within : c.greatest_length-most.result ≤ room_left c.args.ledger.now = (let w : c.greatest_length-most.result ≤ c.from.result * c.from-2.result = grind (arith, nat_tests, c.if-room-most.false) in omega (arith, w, room)) in
     all_writes c.records_are_few.ensures g.D.Disk.tells (c.weave_all.result ≡ Err DiskFault) _ c.args.ledger.now c.shape-shape.result c.args.heads.now.lattice c.greatest_length-most.result (g.D.Disk.state c.args.disk.now) (g.D.Disk.state c.weave_all.new.disk)
-    c.shape-shape.ensures.records c.shape-shape.ensures.value c.requires.lattice within (λ is. absurd (let e = is in cc)) c.weave_all.ensures.writes
+    c.shape-shape.ensures.records c.shape-shape.ensures.value c.requires.lattice within (λ is. absurd (let e = is in cc)) (λ is. absurd (ok_no_fault c.in-Ok.is is)) c.weave_all.ensures.writes
 
 pub returns-in-Err-has_more-clause-padded : goal.returns-in-Err-has_more-clause-padded
 returns-in-Err-has_more-clause-padded g c fine told =

@@ -1,15 +1,15 @@
-use Rattle.std.proofs.Common.{◌≡◌, ⊎_elim, inl, inr, Err, sym, ◌∙◌, ap}
-use Rattle.aea_disk.proofs.Frames.{reads_writes, reads_then_writes, writes_as}
+use Rattle.std.proofs.Common.{◌≡◌, ⊎_elim, inl, inr, ℕ, List, Err, sym, ◌∙◌, ap}
+use Rattle.aea_disk.proofs.Frames.{ready_later, reads_writes, reads_then_writes, writes_as}
 use Rattle.aea_shelf.proofs.Runs.{padded_kept, padded_both}
 use Rattle.aea_records.specs.Format.{limit_when}
 use Rattle.aea_archive.specs.Blocks.{IsBlockIn}
-use Rattle.aea_archive.specs.Cells.{IsNoSite, ChangesArchive, HaveSitesRoom}
-use Rattle.aea_archive.proofs.Cells.{changes_none, room_some, room_later}
+use Rattle.aea_archive.specs.Cells.{IsNoSite, ChangesArchive, FitsRows}
+use Rattle.aea_archive.proofs.Cells.{changes_none, rows_roomy, rows_later}
 use Rattle.aea_append.specs.declared.fault.PutFault.TheVariants.{DiskFault, HeadDamaged, Full, ReadFault}
 use Rattle.aea_append.proofs.Faults.{fault_is, fault_as}
 use Rattle.aea_append.specs.Taking.{most_of, room_left}
 use Rattle.aea_append.proofs.Takings.{counts_none}
-use Rattle.aea_append.proofs.Writes.{cells_none}
+use Rattle.aea_append.proofs.Writes.{cells_none, ok_no_fault, met_fault}
 use Rattle.aea_append.proofs.object.weave_object.Goals as goal
 
 pub returns-in-Err-clause-writes : goal.returns-in-Err-clause-writes
@@ -22,9 +22,9 @@ returns-in-Err-HeadDamaged-clause-writes g c =
     let old = g.D.Disk.state c.args.disk.now in
     let mid = g.D.Disk.state c.ready_heads.new.disk in
     let keep = IsBlockIn c.args.ledger.now.shape c.args.ledger.now.lattice.n in
-    writes_as g.D.Disk.tells (HaveSitesRoom v.shape (limit_when v.raised) old) (c.ready_heads.result ≡ Err DiskFault) _ (ChangesArchive v.shape (limit_when v.raised) (IsBlockIn v.shape v.lattice.n) (IsNoSite v.shape)) old mid (λ is. absurd (let e = is in cc))
-    (reads_writes g.D.Disk.tells (HaveSitesRoom v.shape (limit_when v.raised) old) (c.ready_heads.result ≡ Err DiskFault) (ChangesArchive v.shape (limit_when v.raised) (IsBlockIn v.shape v.lattice.n) (IsNoSite v.shape)) old mid
-    (λ room. room_some c.homes_are_on_its_sites.ensures v.shape (limit_when v.raised) old room) (λ d. changes_none v.shape (limit_when v.raised) (IsBlockIn v.shape v.lattice.n) (IsNoSite v.shape) d) c.ready_heads.ensures.reads)
+    writes_as g.D.Disk.tells _ (FitsRows v.shape (limit_when v.raised) old) (c.ready_heads.result ≡ Err DiskFault) _ (ChangesArchive v.shape (limit_when v.raised) (IsBlockIn v.shape v.lattice.n) (IsNoSite v.shape)) old mid (λ is. absurd (let e = is in cc)) (λ is. absurd (let e = met_fault c.in-Err-HeadDamaged.is c.in-Err-HeadDamaged.field-0-is is in cc))
+    (reads_writes g.D.Disk.tells _ (FitsRows v.shape (limit_when v.raised) old) (c.ready_heads.result ≡ Err DiskFault) (ChangesArchive v.shape (limit_when v.raised) (IsBlockIn v.shape v.lattice.n) (IsNoSite v.shape)) old mid (λ is. is)
+    (λ room. rows_roomy c.homes_are_on_its_sites.ensures v.shape (limit_when v.raised) old room) (λ d. changes_none v.shape (limit_when v.raised) (IsBlockIn v.shape v.lattice.n) (IsNoSite v.shape) d) c.ready_heads.ensures.reads)
 
 pub returns-in-Err-DiskFault-clause-writes : goal.returns-in-Err-DiskFault-clause-writes
 returns-in-Err-DiskFault-clause-writes g c =
@@ -32,9 +32,9 @@ returns-in-Err-DiskFault-clause-writes g c =
     let old = g.D.Disk.state c.args.disk.now in
     let mid = g.D.Disk.state c.ready_heads.new.disk in
     let keep = IsBlockIn c.args.ledger.now.shape c.args.ledger.now.lattice.n in
-    writes_as g.D.Disk.tells (HaveSitesRoom v.shape (limit_when v.raised) old) (c.ready_heads.result ≡ Err DiskFault) _ (ChangesArchive v.shape (limit_when v.raised) (IsBlockIn v.shape v.lattice.n) (IsNoSite v.shape)) old mid (λ is. c.in-Err-DiskFault.is ∙ ap Err c.in-Err-DiskFault.field-0-is)
-    (reads_writes g.D.Disk.tells (HaveSitesRoom v.shape (limit_when v.raised) old) (c.ready_heads.result ≡ Err DiskFault) (ChangesArchive v.shape (limit_when v.raised) (IsBlockIn v.shape v.lattice.n) (IsNoSite v.shape)) old mid
-    (λ room. room_some c.homes_are_on_its_sites.ensures v.shape (limit_when v.raised) old room) (λ d. changes_none v.shape (limit_when v.raised) (IsBlockIn v.shape v.lattice.n) (IsNoSite v.shape) d) c.ready_heads.ensures.reads)
+    writes_as g.D.Disk.tells _ (FitsRows v.shape (limit_when v.raised) old) (c.ready_heads.result ≡ Err DiskFault) _ (ChangesArchive v.shape (limit_when v.raised) (IsBlockIn v.shape v.lattice.n) (IsNoSite v.shape)) old mid (λ is. c.in-Err-DiskFault.is ∙ ap Err c.in-Err-DiskFault.field-0-is) (λ is. cc)
+    (reads_writes g.D.Disk.tells _ (FitsRows v.shape (limit_when v.raised) old) (c.ready_heads.result ≡ Err DiskFault) (ChangesArchive v.shape (limit_when v.raised) (IsBlockIn v.shape v.lattice.n) (IsNoSite v.shape)) old mid (λ is. is)
+    (λ room. rows_roomy c.homes_are_on_its_sites.ensures v.shape (limit_when v.raised) old room) (λ d. changes_none v.shape (limit_when v.raised) (IsBlockIn v.shape v.lattice.n) (IsNoSite v.shape) d) c.ready_heads.ensures.reads)
 
 pub returns-in-Err-NoMemory-clause-writes : goal.returns-in-Err-NoMemory-clause-writes
 returns-in-Err-NoMemory-clause-writes g c =
@@ -42,9 +42,9 @@ returns-in-Err-NoMemory-clause-writes g c =
     let old = g.D.Disk.state c.args.disk.now in
     let mid = g.D.Disk.state c.ready_heads.new.disk in
     let keep = IsBlockIn c.args.ledger.now.shape c.args.ledger.now.lattice.n in
-    writes_as g.D.Disk.tells (HaveSitesRoom v.shape (limit_when v.raised) old) (c.ready_heads.result ≡ Err DiskFault) _ (ChangesArchive v.shape (limit_when v.raised) (IsBlockIn v.shape v.lattice.n) (IsNoSite v.shape)) old mid (λ is. absurd (let e = is in cc))
-    (reads_writes g.D.Disk.tells (HaveSitesRoom v.shape (limit_when v.raised) old) (c.ready_heads.result ≡ Err DiskFault) (ChangesArchive v.shape (limit_when v.raised) (IsBlockIn v.shape v.lattice.n) (IsNoSite v.shape)) old mid
-    (λ room. room_some c.homes_are_on_its_sites.ensures v.shape (limit_when v.raised) old room) (λ d. changes_none v.shape (limit_when v.raised) (IsBlockIn v.shape v.lattice.n) (IsNoSite v.shape) d) c.ready_heads.ensures.reads)
+    writes_as g.D.Disk.tells _ (FitsRows v.shape (limit_when v.raised) old) (c.ready_heads.result ≡ Err DiskFault) _ (ChangesArchive v.shape (limit_when v.raised) (IsBlockIn v.shape v.lattice.n) (IsNoSite v.shape)) old mid (λ is. absurd (let e = is in cc)) (λ is. absurd (let e = met_fault c.in-Err-NoMemory.is c.in-Err-NoMemory.field-0-is is in cc))
+    (reads_writes g.D.Disk.tells _ (FitsRows v.shape (limit_when v.raised) old) (c.ready_heads.result ≡ Err DiskFault) (ChangesArchive v.shape (limit_when v.raised) (IsBlockIn v.shape v.lattice.n) (IsNoSite v.shape)) old mid (λ is. is)
+    (λ room. rows_roomy c.homes_are_on_its_sites.ensures v.shape (limit_when v.raised) old room) (λ d. changes_none v.shape (limit_when v.raised) (IsBlockIn v.shape v.lattice.n) (IsNoSite v.shape) d) c.ready_heads.ensures.reads)
 
 pub returns-in-Ok-take_object-clause-writes : goal.returns-in-Ok-take_object-clause-writes
 returns-in-Ok-take_object-clause-writes g c =
@@ -53,10 +53,10 @@ returns-in-Ok-take_object-clause-writes g c =
     let mid = g.D.Disk.state c.ready_heads.new.disk in
     let keep = IsBlockIn c.args.ledger.now.shape c.args.ledger.now.lattice.n in
     let new = g.D.Disk.state c.take_object.new.disk in
-    writes_as g.D.Disk.tells (HaveSitesRoom v.shape (limit_when v.raised) old) (c.take_object.result ≡ Err DiskFault) _ (ChangesArchive v.shape (limit_when v.raised) (IsBlockIn v.shape v.lattice.n) (IsNoSite v.shape)) old new (λ is. absurd (let e = is in cc))
-    (reads_then_writes g.D.Disk.tells (HaveSitesRoom v.shape (limit_when v.raised) old) (HaveSitesRoom v.shape (limit_when v.raised) mid) (c.ready_heads.result ≡ Err DiskFault) (c.take_object.result ≡ Err DiskFault) (ChangesArchive v.shape (limit_when v.raised) (IsBlockIn v.shape v.lattice.n) (IsNoSite v.shape)) old mid new
-    (λ d. changes_none v.shape (limit_when v.raised) (IsBlockIn v.shape v.lattice.n) (IsNoSite v.shape) d)
-    (λ room. room_some c.homes_are_on_its_sites.ensures v.shape (limit_when v.raised) old room) (λ room time. room_later v.shape (limit_when v.raised) old mid time room) c.ready_heads.ensures.reads c.take_object.ensures.writes)
+    writes_as g.D.Disk.tells _ (FitsRows v.shape (limit_when v.raised) old) (c.take_object.result ≡ Err DiskFault) _ (ChangesArchive v.shape (limit_when v.raised) (IsBlockIn v.shape v.lattice.n) (IsNoSite v.shape)) old new (λ is. absurd (let e = is in cc)) (λ is. absurd (ok_no_fault c.in-Ok-take_object.is is))
+    (reads_then_writes g.D.Disk.tells _ _ (FitsRows v.shape (limit_when v.raised) old) (FitsRows v.shape (limit_when v.raised) mid) (c.ready_heads.result ≡ Err DiskFault) (c.take_object.result ≡ Err DiskFault) (ChangesArchive v.shape (limit_when v.raised) (IsBlockIn v.shape v.lattice.n) (IsNoSite v.shape)) old mid new (ok_no_fault c.in-Ok-ready_heads.is)
+    (λ d. changes_none v.shape (limit_when v.raised) (IsBlockIn v.shape v.lattice.n) (IsNoSite v.shape) d) (λ is. is) (λ _ is same goes. ready_later old mid same goes is)
+    (λ room. rows_roomy c.homes_are_on_its_sites.ensures v.shape (limit_when v.raised) old room) (λ _ room same time. rows_later v.shape (limit_when v.raised) old mid (ap (λ (f : ℕ → List ℕ). f 0) same) time room) c.ready_heads.ensures.reads c.take_object.ensures.writes)
 
 pub returns-clause-writes : goal.returns-clause-writes
 returns-clause-writes g c =
@@ -65,10 +65,10 @@ returns-clause-writes g c =
     let mid = g.D.Disk.state c.ready_heads.new.disk in
     let keep = IsBlockIn c.args.ledger.now.shape c.args.ledger.now.lattice.n in
     let new = g.D.Disk.state c.take_object.new.disk in
-    writes_as g.D.Disk.tells (HaveSitesRoom v.shape (limit_when v.raised) old) (c.take_object.result ≡ Err DiskFault) _ (ChangesArchive v.shape (limit_when v.raised) (IsBlockIn v.shape v.lattice.n) (IsNoSite v.shape)) old new (λ is. c.in-Err-take_object.is ∙ fault_as c.in-Err-take_object.fault DiskFault is)
-    (reads_then_writes g.D.Disk.tells (HaveSitesRoom v.shape (limit_when v.raised) old) (HaveSitesRoom v.shape (limit_when v.raised) mid) (c.ready_heads.result ≡ Err DiskFault) (c.take_object.result ≡ Err DiskFault) (ChangesArchive v.shape (limit_when v.raised) (IsBlockIn v.shape v.lattice.n) (IsNoSite v.shape)) old mid new
-    (λ d. changes_none v.shape (limit_when v.raised) (IsBlockIn v.shape v.lattice.n) (IsNoSite v.shape) d)
-    (λ room. room_some c.homes_are_on_its_sites.ensures v.shape (limit_when v.raised) old room) (λ room time. room_later v.shape (limit_when v.raised) old mid time room) c.ready_heads.ensures.reads c.take_object.ensures.writes)
+    writes_as g.D.Disk.tells _ (FitsRows v.shape (limit_when v.raised) old) (c.take_object.result ≡ Err DiskFault) _ (ChangesArchive v.shape (limit_when v.raised) (IsBlockIn v.shape v.lattice.n) (IsNoSite v.shape)) old new (λ is. c.in-Err-take_object.is ∙ fault_as c.in-Err-take_object.fault DiskFault is) (λ is. cc)
+    (reads_then_writes g.D.Disk.tells _ _ (FitsRows v.shape (limit_when v.raised) old) (FitsRows v.shape (limit_when v.raised) mid) (c.ready_heads.result ≡ Err DiskFault) (c.take_object.result ≡ Err DiskFault) (ChangesArchive v.shape (limit_when v.raised) (IsBlockIn v.shape v.lattice.n) (IsNoSite v.shape)) old mid new (ok_no_fault c.in-Ok-ready_heads.is)
+    (λ d. changes_none v.shape (limit_when v.raised) (IsBlockIn v.shape v.lattice.n) (IsNoSite v.shape) d) (λ is. is) (λ _ is same goes. ready_later old mid same goes is)
+    (λ room. rows_roomy c.homes_are_on_its_sites.ensures v.shape (limit_when v.raised) old room) (λ _ room same time. rows_later v.shape (limit_when v.raised) old mid (ap (λ (f : ℕ → List ℕ). f 0) same) time room) c.ready_heads.ensures.reads c.take_object.ensures.writes)
 
 pub returns-clause-head : goal.returns-clause-head
 returns-clause-head g c b is =

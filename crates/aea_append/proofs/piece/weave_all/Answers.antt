@@ -1,4 +1,4 @@
-use Rattle.std.proofs.Common.{◌≡◌, ◌≢◌, ℕ, ◌+◌, ◌-◌, ◌*◌, ◌<◌, ◌≤◌, min, Err, sym, ◌∙◌, ap, subst, arith}
+use Rattle.std.proofs.Common.{◌≡◌, ◌≢◌, ℕ, ◌+◌, ◌-◌, ◌*◌, ◌<◌, ◌≤◌, min, Err, refl, sym, ◌∙◌, ap, subst, arith}
 use Rattle.std.proofs.lemmas.Bool.Decides.{nat_tests}
 use Rattle.aea_shelf.specs.Writes.{KeepsPadded}
 use Rattle.aea_shelf.proofs.Runs.{padded_none, padded_both, padded_less}
@@ -10,7 +10,7 @@ use Rattle.aea_append.specs.Taking.{Takes}
 use Rattle.aea_append.proofs.Cuts.{some_bytes, nodes_one, nodes-past}
 use Rattle.aea_append.proofs.Faults.{fault_as}
 use Rattle.aea_append.proofs.Takings.{takes_none, takes_both, counts_none, counts_more, counts_then}
-use Rattle.aea_append.proofs.Writes.{cells_none, cells_then, cells_as}
+use Rattle.aea_append.proofs.Writes.{cells_none, cells_then, cells_as, ok_no_fault}
 use Rattle.aea_append.proofs.piece.weave_all.Given.{Over}
 use Rattle.aea_append.proofs.piece.weave_all.Goals.{In-Err, In-Ok, Then-count-want, Else-count-want}
 use Rattle.aea_append.proofs.piece.weave_all.Goals as goal
@@ -28,7 +28,7 @@ loop-done-init g c = record {
   padded = λ told. padded_none c.args.shape.now (IsBlockIn c.args.shape.now c.args.heads.now.lattice.n) (g.D.Disk.state c.args.disk.now).files;
   exact = omega arith;
   counted = counts_none (g.S.Source.state c.args.source.now).left c.args.at.now 0;
-  kept = omega arith;
+  still = refl;
 }
 
 -- what was written and taken then
@@ -38,7 +38,7 @@ writes_err g c nodes within =
     let lt : c.loop-done.done < c.args.limit = grind (arith, nat_tests, c.loop-done-test.true) in
     let whole = c.loop-done.invariant.whole lt in
     let past = nodes-past c.args.shape.now whole.0 c.args.limit (omega (arith, whole.1, lt)) in
-    cells_then g.D.Disk.tells ⊥ (c.weave_piece.result ≡ Err DiskFault) c.args.shape.now nodes (IsBlockIn c.args.shape.now c.args.heads.now.lattice.n) (λ a. a.node ≢ c.loop-done.heads.lattice.n + 1) (g.D.Disk.state c.args.disk.now) (g.D.Disk.state c.loop-done.disk) (g.D.Disk.state c.weave_piece.new.disk)
+    cells_then g.D.Disk.tells ⊥ (c.weave_piece.result ≡ Err DiskFault) c.args.shape.now nodes (IsBlockIn c.args.shape.now c.args.heads.now.lattice.n) (λ a. a.node ≢ c.loop-done.heads.lattice.n + 1) (g.D.Disk.state c.args.disk.now) (g.D.Disk.state c.loop-done.disk) (g.D.Disk.state c.weave_piece.new.disk) (λ none. none)
     (λ a block same. (let most = block.most in omega (arith, most, same, whole.2)))
     (c.loop-done.invariant.writes nodes within) (c.weave_piece.ensures.writes nodes (omega (arith, within, whole.2, past)))
 
@@ -58,7 +58,7 @@ writes_then g c nodes within =
     let lt : c.loop-done.done < c.args.limit = grind (arith, nat_tests, c.loop-done-test.true) in
     let whole = c.loop-done.invariant.whole lt in
     let past = nodes-past c.args.shape.now whole.0 c.args.limit (omega (arith, whole.1, lt)) in
-    cells_then g.D.Disk.tells ⊥ (c.weave_piece.result ≡ Err DiskFault) c.args.shape.now nodes (IsBlockIn c.args.shape.now c.args.heads.now.lattice.n) (λ a. a.node ≢ c.loop-done.heads.lattice.n + 1) (g.D.Disk.state c.args.disk.now) (g.D.Disk.state c.loop-done.disk) (g.D.Disk.state c.weave_piece.new.disk)
+    cells_then g.D.Disk.tells ⊥ (c.weave_piece.result ≡ Err DiskFault) c.args.shape.now nodes (IsBlockIn c.args.shape.now c.args.heads.now.lattice.n) (λ a. a.node ≢ c.loop-done.heads.lattice.n + 1) (g.D.Disk.state c.args.disk.now) (g.D.Disk.state c.loop-done.disk) (g.D.Disk.state c.weave_piece.new.disk) (λ none. none)
     (λ a block same. (let most = block.most in omega (arith, most, same, whole.2)))
     (c.loop-done.invariant.writes nodes within) (c.weave_piece.ensures.writes nodes (omega (arith, within, whole.2, past)))
 
@@ -94,7 +94,7 @@ writes_else g c nodes within =
     let lt : c.loop-done.done < c.args.limit = grind (arith, nat_tests, c.loop-done-test.true) in
     let whole = c.loop-done.invariant.whole lt in
     let past = nodes-past c.args.shape.now whole.0 c.args.limit (omega (arith, whole.1, lt)) in
-    cells_then g.D.Disk.tells ⊥ (c.weave_piece.result ≡ Err DiskFault) c.args.shape.now nodes (IsBlockIn c.args.shape.now c.args.heads.now.lattice.n) (λ a. a.node ≢ c.loop-done.heads.lattice.n + 1) (g.D.Disk.state c.args.disk.now) (g.D.Disk.state c.loop-done.disk) (g.D.Disk.state c.weave_piece.new.disk)
+    cells_then g.D.Disk.tells ⊥ (c.weave_piece.result ≡ Err DiskFault) c.args.shape.now nodes (IsBlockIn c.args.shape.now c.args.heads.now.lattice.n) (λ a. a.node ≢ c.loop-done.heads.lattice.n + 1) (g.D.Disk.state c.args.disk.now) (g.D.Disk.state c.loop-done.disk) (g.D.Disk.state c.weave_piece.new.disk) (λ none. none)
     (λ a block same. (let most = block.most in omega (arith, most, same, whole.2)))
     (c.loop-done.invariant.writes nodes within) (c.weave_piece.ensures.writes nodes (omega (arith, within, whole.2, past)))
 
@@ -126,7 +126,7 @@ fine_else g c bad = let is = c.in-Ok.is in cc
 pub returns-in-Err-clause-writes : goal.returns-in-Err-clause-writes
 returns-in-Err-clause-writes g c nodes within =
     cells_as g.D.Disk.tells (c.weave_piece.result ≡ Err DiskFault) _ c.args.shape.now nodes (IsBlockIn c.args.shape.now c.args.heads.now.lattice.n) (g.D.Disk.state c.args.disk.now) (g.D.Disk.state c.weave_piece.new.disk)
-    (λ is. c.in-Err.is ∙ fault_as c.in-Err.fault DiskFault is) (writes_err g c nodes within)
+    (λ is. c.in-Err.is ∙ fault_as c.in-Err.fault DiskFault is) (λ is. cc) (writes_err g c nodes within)
 
 pub returns-in-Err-clause-padded : goal.returns-in-Err-clause-padded
 returns-in-Err-clause-padded g c fine told = padded_err g c (λ bad. fine (fault_as c.in-Err.fault DiskFault (sym c.in-Err.is ∙ bad))) told
@@ -140,7 +140,7 @@ returns-in-Err-clause-counted g c =
 pub returns-then-count-want-clause-writes : goal.returns-then-count-want-clause-writes
 returns-then-count-want-clause-writes g c nodes within =
     cells_as g.D.Disk.tells (c.weave_piece.result ≡ Err DiskFault) _ c.args.shape.now nodes (IsBlockIn c.args.shape.now c.args.heads.now.lattice.n) (g.D.Disk.state c.args.disk.now) (g.D.Disk.state c.weave_piece.new.disk)
-    (λ is. absurd (let e = is in cc)) (writes_then g c nodes within)
+    (λ is. absurd (let e = is in cc)) (λ is. absurd (fine_then g c is)) (writes_then g c nodes within)
 
 pub returns-then-count-want-clause-padded : goal.returns-then-count-want-clause-padded
 returns-then-count-want-clause-padded g c fine told = padded_then g c (fine_then g c) told
@@ -157,7 +157,7 @@ returns-then-count-want-clause-took g c = took_then g c
 pub returns-clause-writes : goal.returns-clause-writes
 returns-clause-writes g c nodes within =
     cells_as g.D.Disk.tells ⊥ _ c.args.shape.now nodes (IsBlockIn c.args.shape.now c.args.heads.now.lattice.n) (g.D.Disk.state c.args.disk.now) (g.D.Disk.state c.loop-done.disk)
-    (λ is. absurd (let e = is in cc)) (c.loop-done.invariant.writes nodes within)
+    (λ is. absurd (let e = is in cc)) (λ none. absurd none) (c.loop-done.invariant.writes nodes within)
 
 pub returns-clause-counted : goal.returns-clause-counted
 returns-clause-counted g c = counts_more (g.S.Source.state c.args.source.now).left (g.S.Source.state c.loop-done.source).left c.args.at.now c.loop-done.at c.loop-done.done c.args.limit c.loop-done.invariant.counted c.loop-done.invariant.within
@@ -186,13 +186,13 @@ loop-done-preserved g c =
       cell = c.weave_piece.auto.cell ∙ c.loop-done.invariant.cell;
       took = took_else g c;
       writes = λ nodes within. cells_as g.D.Disk.tells (c.weave_piece.result ≡ Err DiskFault) ⊥ c.args.shape.now nodes (IsBlockIn c.args.shape.now c.args.heads.now.lattice.n) (g.D.Disk.state c.args.disk.now) (g.D.Disk.state c.weave_piece.new.disk)
-          (λ none. absurd none) (writes_else g c nodes within);
+          (λ none. absurd none) (fine_else g c) (writes_else g c nodes within);
       padded = λ told. padded_else g c (fine_else g c) told;
       exact = (let e = c.in-Ok.ensures.exact in omega (arith, e, c.loop-done.invariant.exact));
       counted = counts_more (g.S.Source.state c.args.source.now).left (g.S.Source.state c.weave_piece.new.source).left c.args.at.now c.weave_piece.new.at (c.loop-done.done + c.min-want.result) (c.loop-done.done + c.in-Ok.count)
           (counts_then (g.S.Source.state c.args.source.now).left (g.S.Source.state c.loop-done.source).left (g.S.Source.state c.weave_piece.new.source).left c.args.at.now c.loop-done.at c.weave_piece.new.at c.loop-done.done c.min-want.result c.loop-done.invariant.counted c.weave_piece.ensures.counted)
           (omega (arith, all));
-      kept = omega (arith, c.loop-done.invariant.kept, c.weave_piece.ensures.source_kept);
+      still = c.weave_piece.ensures.source_still (λ bad. ok_no_fault c.in-Ok.is bad) ∙ c.loop-done.invariant.still;
     }
 
 -- a read fails only before the limit

@@ -20,7 +20,7 @@ invariant-loop-done g l = record {
   padded : g.D.Disk.tells → KeepsPadded l.shape (IsBlockIn l.shape l.fn.heads.lattice.n) (g.D.Disk.state l.fn.disk).files (g.D.Disk.state l.disk).files;
   exact : l.at ≡ l.fn.at + l.done;
   counted : Counts (g.S.Source.state l.fn.source).left (g.S.Source.state l.source).left l.fn.at l.at l.done;
-  kept : (g.S.Source.state l.fn.source).faults ≤ (g.S.Source.state l.source).faults;
+  still : (g.S.Source.state l.source).faults ≡ (g.S.Source.state l.fn.source).faults;
 }
 
 abbrev pub decreases-loop-done : goal.decreases-loop-done

@@ -21,11 +21,11 @@ returns-then-count-eq0-clause-writes g c nodes within =
 
 pub returns-in-Ok-weave_node-clause-writes : goal.returns-in-Ok-weave_node-clause-writes
 returns-in-Ok-weave_node-clause-writes g c nodes within =
-    cells_as g.D.Disk.tells _ _ c.args.shape.now nodes (λ a. a.node ≢ c.args.heads.now.lattice.n + 1) (g.D.Disk.state c.args.disk.now) (g.D.Disk.state c.weave_node.new.disk) (λ is. absurd (let e = is in cc)) (c.weave_node.ensures.writes nodes within)
+    cells_as g.D.Disk.tells _ _ c.args.shape.now nodes (λ a. a.node ≢ c.args.heads.now.lattice.n + 1) (g.D.Disk.state c.args.disk.now) (g.D.Disk.state c.weave_node.new.disk) (λ is. absurd (let e = is in cc)) (λ is. absurd (cc)) (c.weave_node.ensures.writes nodes within)
 
 pub returns-in-Err-weave_node-clause-writes : goal.returns-in-Err-weave_node-clause-writes
 returns-in-Err-weave_node-clause-writes g c nodes within =
-    cells_as g.D.Disk.tells _ _ c.args.shape.now nodes (λ a. a.node ≢ c.args.heads.now.lattice.n + 1) (g.D.Disk.state c.args.disk.now) (g.D.Disk.state c.weave_node.new.disk) (λ is. c.in-Err-weave_node.is ∙ fault_as c.in-Err-weave_node.fault DiskFault is) (c.weave_node.ensures.writes nodes within)
+    cells_as g.D.Disk.tells _ _ c.args.shape.now nodes (λ a. a.node ≢ c.args.heads.now.lattice.n + 1) (g.D.Disk.state c.args.disk.now) (g.D.Disk.state c.weave_node.new.disk) (λ is. c.in-Err-weave_node.is ∙ fault_as c.in-Err-weave_node.fault DiskFault is) (λ is. cc) (c.weave_node.ensures.writes nodes within)
 
 pub returns-then-count-eq0-clause-took : goal.returns-then-count-eq0-clause-took
 returns-then-count-eq0-clause-took g c =

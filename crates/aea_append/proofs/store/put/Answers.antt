@@ -22,7 +22,7 @@ returns-in-Err-clause-writes g c =
 
 pub returns-in-Ok-Some-clause-writes : goal.returns-in-Ok-Some-clause-writes
 returns-in-Ok-Some-clause-writes g c =
-    writes_as g.D.Disk.tells _ _ _ _ (g.D.Disk.state c.args.disk.now) (g.D.Disk.state c.put_wanted.new.disk) (λ is. absurd (let e = is in cc)) c.put_wanted.ensures.writes
+    writes_as g.D.Disk.tells _ _ _ _ _ (g.D.Disk.state c.args.disk.now) (g.D.Disk.state c.put_wanted.new.disk) (λ is. absurd (let e = is in cc)) (λ is. absurd (cc)) c.put_wanted.ensures.writes
 
 pub returns-in-Ok-Some-clause-padded : goal.returns-in-Ok-Some-clause-padded
 returns-in-Ok-Some-clause-padded g c fine told =
@@ -42,7 +42,7 @@ returns-in-Ok-Some-clause-full_refused g c bytes is may past =
 
 pub returns-in-Err-put_wanted-clause-writes : goal.returns-in-Err-put_wanted-clause-writes
 returns-in-Err-put_wanted-clause-writes g c =
-    writes_as g.D.Disk.tells _ _ _ _ (g.D.Disk.state c.args.disk.now) (g.D.Disk.state c.put_wanted.new.disk) (λ is. c.in-Err-put_wanted.is ∙ fault_as c.in-Err-put_wanted.fault DiskFault is) c.put_wanted.ensures.writes
+    writes_as g.D.Disk.tells _ _ _ _ _ (g.D.Disk.state c.args.disk.now) (g.D.Disk.state c.put_wanted.new.disk) (λ is. c.in-Err-put_wanted.is ∙ fault_as c.in-Err-put_wanted.fault DiskFault is) (λ is. cc) c.put_wanted.ensures.writes
 
 pub returns-in-Err-put_wanted-clause-padded : goal.returns-in-Err-put_wanted-clause-padded
 returns-in-Err-put_wanted-clause-padded g c fine told =

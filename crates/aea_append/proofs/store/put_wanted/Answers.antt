@@ -9,10 +9,11 @@ use Rattle.aea_shelf.proofs.Runs.{padded_both}
 use Rattle.aea_records.specs.Format.{Stored, Record, Object, nodes_for, limit_when, entry}
 use Rattle.aea_ledger.specs.Next.{next_stored}
 use Rattle.aea_archive.specs.Blocks.{IsBlockIn}
-use Rattle.aea_archive.specs.Cells.{AreAtHome, HaveSitesRoom, IsNoSite}
+use Rattle.aea_archive.specs.Cells.{AreAtHome, FitsRows, IsNoSite}
 use Rattle.aea_archive.proofs.Cells.{fixed_kept}
 use Rattle.aea_append.specs.Causes.{next_end}
-use Rattle.aea_disk.specs.State.{HasRoomTo}
+use Rattle.aea_ledger.specs.Taking.{FitsAdding}
+use Rattle.aea_append.proofs.Writes.{ok_no_fault, met_fault}
 use Rattle.aea_disk.proofs.Moments.{during_then_kept}
 use Rattle.aea_archive.specs.Next.{NewObject}
 use Rattle.aea_append.specs.Taking.{TakesObject}
@@ -34,7 +35,7 @@ returns-in-Err-DiskFault-clause-writes g c =
     let v = c.args.ledger.now in
     let left = (g.S.Source.state c.args.source.now).left in
     let rest = (g.S.Source.state c.weave_object.new.source).left in
-    writes_as g.D.Disk.tells _ (c.weave_object.result ≡ Err DiskFault) _ _ old mid (λ is. c.in-Err-DiskFault.is ∙ ap Err c.in-Err-DiskFault.field-0-is) (cells_wider g.D.Disk.tells (c.weave_object.result ≡ Err DiskFault) v c.args.name.now c.args.want left rest old mid c.weave_object.ensures.writes)
+    writes_as g.D.Disk.tells _ _ (c.weave_object.result ≡ Err DiskFault) _ _ old mid (λ is. c.in-Err-DiskFault.is ∙ ap Err c.in-Err-DiskFault.field-0-is) (λ is. cc) (cells_wider g.D.Disk.tells (c.weave_object.result ≡ Err DiskFault) v c.args.name.now c.args.want left rest old mid c.weave_object.ensures.writes)
 
 pub returns-in-Err-HeadDamaged-clause-writes : goal.returns-in-Err-HeadDamaged-clause-writes
 returns-in-Err-HeadDamaged-clause-writes g c =
@@ -43,7 +44,7 @@ returns-in-Err-HeadDamaged-clause-writes g c =
     let v = c.args.ledger.now in
     let left = (g.S.Source.state c.args.source.now).left in
     let rest = (g.S.Source.state c.weave_object.new.source).left in
-    writes_as g.D.Disk.tells _ (c.weave_object.result ≡ Err DiskFault) _ _ old mid (λ is. absurd (let e = is in cc)) (cells_wider g.D.Disk.tells (c.weave_object.result ≡ Err DiskFault) v c.args.name.now c.args.want left rest old mid c.weave_object.ensures.writes)
+    writes_as g.D.Disk.tells _ _ (c.weave_object.result ≡ Err DiskFault) _ _ old mid (λ is. absurd (let e = is in cc)) (λ is. absurd (let e = met_fault c.in-Err-HeadDamaged.is c.in-Err-HeadDamaged.field-0-is is in cc)) (cells_wider g.D.Disk.tells (c.weave_object.result ≡ Err DiskFault) v c.args.name.now c.args.want left rest old mid c.weave_object.ensures.writes)
 
 pub returns-in-Err-HeadDamaged-clause-refused_leaves : goal.returns-in-Err-HeadDamaged-clause-refused_leaves
 returns-in-Err-HeadDamaged-clause-refused_leaves g c is fine told =
@@ -61,7 +62,7 @@ returns-in-Err-Full-clause-writes g c =
     let v = c.args.ledger.now in
     let left = (g.S.Source.state c.args.source.now).left in
     let rest = (g.S.Source.state c.weave_object.new.source).left in
-    writes_as g.D.Disk.tells _ (c.weave_object.result ≡ Err DiskFault) _ _ old mid (λ is. absurd (let e = is in cc)) (cells_wider g.D.Disk.tells (c.weave_object.result ≡ Err DiskFault) v c.args.name.now c.args.want left rest old mid c.weave_object.ensures.writes)
+    writes_as g.D.Disk.tells _ _ (c.weave_object.result ≡ Err DiskFault) _ _ old mid (λ is. absurd (let e = is in cc)) (λ is. absurd (let e = met_fault c.in-Err-Full.is c.in-Err-Full.field-0-is is in cc)) (cells_wider g.D.Disk.tells (c.weave_object.result ≡ Err DiskFault) v c.args.name.now c.args.want left rest old mid c.weave_object.ensures.writes)
 
 pub returns-in-Err-Full-clause-refused_leaves : goal.returns-in-Err-Full-clause-refused_leaves
 returns-in-Err-Full-clause-refused_leaves g c is fine told =
@@ -79,7 +80,7 @@ returns-in-Err-ReadFault-clause-writes g c =
     let v = c.args.ledger.now in
     let left = (g.S.Source.state c.args.source.now).left in
     let rest = (g.S.Source.state c.weave_object.new.source).left in
-    writes_as g.D.Disk.tells _ (c.weave_object.result ≡ Err DiskFault) _ _ old mid (λ is. absurd (let e = is in cc)) (cells_wider g.D.Disk.tells (c.weave_object.result ≡ Err DiskFault) v c.args.name.now c.args.want left rest old mid c.weave_object.ensures.writes)
+    writes_as g.D.Disk.tells _ _ (c.weave_object.result ≡ Err DiskFault) _ _ old mid (λ is. absurd (let e = is in cc)) (λ is. absurd (let e = met_fault c.in-Err-ReadFault.is c.in-Err-ReadFault.field-0-is is in cc)) (cells_wider g.D.Disk.tells (c.weave_object.result ≡ Err DiskFault) v c.args.name.now c.args.want left rest old mid c.weave_object.ensures.writes)
 
 pub returns-in-Err-ReadFault-clause-refused_leaves : goal.returns-in-Err-ReadFault-clause-refused_leaves
 returns-in-Err-ReadFault-clause-refused_leaves g c is fine told =
@@ -97,7 +98,7 @@ returns-in-Err-NoMemory-clause-writes g c =
     let v = c.args.ledger.now in
     let left = (g.S.Source.state c.args.source.now).left in
     let rest = (g.S.Source.state c.weave_object.new.source).left in
-    writes_as g.D.Disk.tells _ (c.weave_object.result ≡ Err DiskFault) _ _ old mid (λ is. absurd (let e = is in cc)) (cells_wider g.D.Disk.tells (c.weave_object.result ≡ Err DiskFault) v c.args.name.now c.args.want left rest old mid c.weave_object.ensures.writes)
+    writes_as g.D.Disk.tells _ _ (c.weave_object.result ≡ Err DiskFault) _ _ old mid (λ is. absurd (let e = is in cc)) (λ is. absurd (let e = met_fault c.in-Err-NoMemory.is c.in-Err-NoMemory.field-0-is is in cc)) (cells_wider g.D.Disk.tells (c.weave_object.result ≡ Err DiskFault) v c.args.name.now c.args.want left rest old mid c.weave_object.ensures.writes)
 
 pub returns-in-Err-NoMemory-clause-refused_leaves : goal.returns-in-Err-NoMemory-clause-refused_leaves
 returns-in-Err-NoMemory-clause-refused_leaves g c is fine told =
@@ -159,10 +160,10 @@ returns-in-Ok-commit_object-clause-writes g c =
     let long : length c.as_slice.result.now ≡ nodes_for c.args.ledger.now.shape (length t.bytes) * (1 + c.args.ledger.now.shape.alpha) =
     t.woven.digests_are.long ∙ ap (λ (n : ℕ). n * (1 + v.shape.alpha)) (let e : t.heads.lattice.n - v.lattice.n ≡ nodes_for v.shape (length t.bytes) = (omega (arith, last, counted, ap (nodes_for v.shape) t.long)) in e) in
     let fits : v.lattice.n + nodes_for v.shape (length t.bytes) ≤ limit_when v.raised = (let f = c.in-Ok.ensures.fits in omega (arith, f, counted, ap (nodes_for v.shape) t.long)) in
-    let size : next_end v.end (length name) (nodes_for v.shape (length t.bytes) * (1 + v.shape.alpha)) + 1 ≡ v.end + length (entry (Object stored)) + 1 = omega (arith, c.commit_object.ensures.size (ap length t.digest_is ∙ length-sha256 t.bytes), long) in
-    writes_as tells _ _ _ _ old new (λ is. absurd (let e = is in cc))
-    (both_write tells bad _ v name c.args.want left rest (v.end + length (entry (Object stored)) + 1) old mid new c.weave_object.ensures.writes c.commit_object.ensures.writes
-    (λ has. subst (λ (n : ℕ). HasRoomTo old 0 n) size (wanted_ledger v name c.args.want left rest old has t.bytes t.taken (λ n is. (let cut = c.in-Ok.ensures.cut n is in let all = c.is_short.ensures.no c.if-is_short.false n is in omega (arith, cut.0, all, t.long))) fits)))
+    let size : next_end v.end (length name) (nodes_for v.shape (length t.bytes) * (1 + v.shape.alpha)) ≡ v.end + length (entry (Object stored)) = omega (arith, c.commit_object.ensures.size (ap length t.digest_is ∙ length-sha256 t.bytes), long) in
+    writes_as tells _ _ _ _ _ old new (λ is. absurd (let e = is in cc)) (λ is. absurd (ok_no_fault c.in-Ok-commit_object.is is))
+    (both_write tells bad _ v name c.args.want left rest (v.end + length (entry (Object stored))) old mid new (ok_no_fault c.in-Ok.is) c.weave_object.ensures.writes c.commit_object.ensures.writes
+    (λ has. subst (FitsAdding old 1) size (wanted_ledger v name c.args.want left rest old has t.bytes t.taken (λ n is. (let cut = c.in-Ok.ensures.cut n is in let all = c.is_short.ensures.no c.if-is_short.false n is in omega (arith, cut.0, all, t.long))) fits)))
 
 pub returns-in-Err-DiskFault-commit_object-clause-writes : goal.returns-in-Err-DiskFault-commit_object-clause-writes
 returns-in-Err-DiskFault-commit_object-clause-writes g c =
@@ -188,10 +189,10 @@ returns-in-Err-DiskFault-commit_object-clause-writes g c =
     let long : length c.as_slice.result.now ≡ nodes_for c.args.ledger.now.shape (length t.bytes) * (1 + c.args.ledger.now.shape.alpha) =
     t.woven.digests_are.long ∙ ap (λ (n : ℕ). n * (1 + v.shape.alpha)) (let e : t.heads.lattice.n - v.lattice.n ≡ nodes_for v.shape (length t.bytes) = (omega (arith, last, counted, ap (nodes_for v.shape) t.long)) in e) in
     let fits : v.lattice.n + nodes_for v.shape (length t.bytes) ≤ limit_when v.raised = (let f = c.in-Ok.ensures.fits in omega (arith, f, counted, ap (nodes_for v.shape) t.long)) in
-    let size : next_end v.end (length name) (nodes_for v.shape (length t.bytes) * (1 + v.shape.alpha)) + 1 ≡ v.end + length (entry (Object stored)) + 1 = omega (arith, c.commit_object.ensures.size (ap length t.digest_is ∙ length-sha256 t.bytes), long) in
-    writes_as tells _ _ _ _ old new (λ is. c.in-Err-DiskFault-commit_object.is ∙ ap Err c.in-Err-DiskFault-commit_object.field-0-is)
-    (both_write tells bad _ v name c.args.want left rest (v.end + length (entry (Object stored)) + 1) old mid new c.weave_object.ensures.writes c.commit_object.ensures.writes
-    (λ has. subst (λ (n : ℕ). HasRoomTo old 0 n) size (wanted_ledger v name c.args.want left rest old has t.bytes t.taken (λ n is. (let cut = c.in-Ok.ensures.cut n is in let all = c.is_short.ensures.no c.if-is_short.false n is in omega (arith, cut.0, all, t.long))) fits)))
+    let size : next_end v.end (length name) (nodes_for v.shape (length t.bytes) * (1 + v.shape.alpha)) ≡ v.end + length (entry (Object stored)) = omega (arith, c.commit_object.ensures.size (ap length t.digest_is ∙ length-sha256 t.bytes), long) in
+    writes_as tells _ _ _ _ _ old new (λ is. c.in-Err-DiskFault-commit_object.is ∙ ap Err c.in-Err-DiskFault-commit_object.field-0-is) (λ is. cc)
+    (both_write tells bad _ v name c.args.want left rest (v.end + length (entry (Object stored))) old mid new (ok_no_fault c.in-Ok.is) c.weave_object.ensures.writes c.commit_object.ensures.writes
+    (λ has. subst (FitsAdding old 1) size (wanted_ledger v name c.args.want left rest old has t.bytes t.taken (λ n is. (let cut = c.in-Ok.ensures.cut n is in let all = c.is_short.ensures.no c.if-is_short.false n is in omega (arith, cut.0, all, t.long))) fits)))
 
 pub returns-in-Err-NoMemory-commit_object-clause-writes : goal.returns-in-Err-NoMemory-commit_object-clause-writes
 returns-in-Err-NoMemory-commit_object-clause-writes g c =
@@ -217,10 +218,10 @@ returns-in-Err-NoMemory-commit_object-clause-writes g c =
     let long : length c.as_slice.result.now ≡ nodes_for c.args.ledger.now.shape (length t.bytes) * (1 + c.args.ledger.now.shape.alpha) =
     t.woven.digests_are.long ∙ ap (λ (n : ℕ). n * (1 + v.shape.alpha)) (let e : t.heads.lattice.n - v.lattice.n ≡ nodes_for v.shape (length t.bytes) = (omega (arith, last, counted, ap (nodes_for v.shape) t.long)) in e) in
     let fits : v.lattice.n + nodes_for v.shape (length t.bytes) ≤ limit_when v.raised = (let f = c.in-Ok.ensures.fits in omega (arith, f, counted, ap (nodes_for v.shape) t.long)) in
-    let size : next_end v.end (length name) (nodes_for v.shape (length t.bytes) * (1 + v.shape.alpha)) + 1 ≡ v.end + length (entry (Object stored)) + 1 = omega (arith, c.commit_object.ensures.size (ap length t.digest_is ∙ length-sha256 t.bytes), long) in
-    writes_as tells _ _ _ _ old new (λ is. absurd (let e = is in cc))
-    (both_write tells bad _ v name c.args.want left rest (v.end + length (entry (Object stored)) + 1) old mid new c.weave_object.ensures.writes c.commit_object.ensures.writes
-    (λ has. subst (λ (n : ℕ). HasRoomTo old 0 n) size (wanted_ledger v name c.args.want left rest old has t.bytes t.taken (λ n is. (let cut = c.in-Ok.ensures.cut n is in let all = c.is_short.ensures.no c.if-is_short.false n is in omega (arith, cut.0, all, t.long))) fits)))
+    let size : next_end v.end (length name) (nodes_for v.shape (length t.bytes) * (1 + v.shape.alpha)) ≡ v.end + length (entry (Object stored)) = omega (arith, c.commit_object.ensures.size (ap length t.digest_is ∙ length-sha256 t.bytes), long) in
+    writes_as tells _ _ _ _ _ old new (λ is. absurd (let e = is in cc)) (λ is. absurd (let e = met_fault c.in-Err-NoMemory-commit_object.is c.in-Err-NoMemory-commit_object.field-0-is is in cc))
+    (both_write tells bad _ v name c.args.want left rest (v.end + length (entry (Object stored))) old mid new (ok_no_fault c.in-Ok.is) c.weave_object.ensures.writes c.commit_object.ensures.writes
+    (λ has. subst (FitsAdding old 1) size (wanted_ledger v name c.args.want left rest old has t.bytes t.taken (λ n is. (let cut = c.in-Ok.ensures.cut n is in let all = c.is_short.ensures.no c.if-is_short.false n is in omega (arith, cut.0, all, t.long))) fits)))
 
 pub returns-in-Ok-commit_object-clause-padded : goal.returns-in-Ok-commit_object-clause-padded
 returns-in-Ok-commit_object-clause-padded g c fine told =
@@ -269,7 +270,7 @@ returns-in-Err-NoMemory-commit_object-clause-padded g c fine told =
 pub commit_object-requires-clause-fixed : goal.commit_object-requires-clause-fixed
 commit_object-requires-clause-fixed g c told =
     let v = c.args.ledger.now in
-    fixed_kept g.D.Disk.tells (HaveSitesRoom v.shape (limit_when v.raised) (g.D.Disk.state c.args.disk.now)) (c.weave_object.result ≡ Err DiskFault) v.shape (limit_when v.raised) (IsBlockIn v.shape v.lattice.n) (IsNoSite v.shape) (g.D.Disk.state c.args.disk.now) (g.D.Disk.state c.weave_object.new.disk) 0 told (inl refl) c.weave_object.ensures.writes (c.requires.fixed told)
+    fixed_kept g.D.Disk.tells _ (FitsRows v.shape (limit_when v.raised) (g.D.Disk.state c.args.disk.now)) (c.weave_object.result ≡ Err DiskFault) v.shape (limit_when v.raised) (IsBlockIn v.shape v.lattice.n) (IsNoSite v.shape) (g.D.Disk.state c.args.disk.now) (g.D.Disk.state c.weave_object.new.disk) 0 told (inl refl) c.weave_object.ensures.writes (c.requires.fixed told)
 
 pub returns-in-Ok-commit_object-clause-head_refused : goal.returns-in-Ok-commit_object-clause-head_refused
 returns-in-Ok-commit_object-clause-head_refused g c told a damaged = absurd (damaged.damaged (c.in-Ok.ensures.intact told a damaged.last))
@@ -321,7 +322,7 @@ returns-in-Ok-commit_object-clause-ledger g c told =
     let long : length c.as_slice.result.now ≡ nodes_for c.args.ledger.now.shape (length t.bytes) * (1 + c.args.ledger.now.shape.alpha) =
     t.woven.digests_are.long ∙ ap (λ (n : ℕ). n * (1 + v.shape.alpha)) (let e : t.heads.lattice.n - v.lattice.n ≡ nodes_for v.shape (length t.bytes) = (omega (arith, last, counted, ap (nodes_for v.shape) t.long)) in e) in
     let fits : v.lattice.n + nodes_for v.shape (length t.bytes) ≤ limit_when v.raised = (let f = c.in-Ok.ensures.fits in omega (arith, f, counted, ap (nodes_for v.shape) t.long)) in
-    let size : next_end v.end (length name) (nodes_for v.shape (length t.bytes) * (1 + v.shape.alpha)) + 1 ≡ v.end + length (entry (Object stored)) + 1 = omega (arith, c.commit_object.ensures.size (ap length t.digest_is ∙ length-sha256 t.bytes), long) in
+    let size : next_end v.end (length name) (nodes_for v.shape (length t.bytes) * (1 + v.shape.alpha)) ≡ v.end + length (entry (Object stored)) = omega (arith, c.commit_object.ensures.size (ap length t.digest_is ∙ length-sha256 t.bytes), long) in
     let same = ap length ((c.weave_object.ensures.writes.contents told).stay 0 (inl refl)) in
     let most = c.commit_object.ensures.long told in
     let n : c.in-Ok.taken.nodes * (1 + v.shape.alpha) ≡ nodes_for v.shape (length t.bytes) * (1 + v.shape.alpha) = ap (λ (x : ℕ). x * (1 + v.shape.alpha)) (counted ∙ ap (nodes_for v.shape) (sym t.long)) in
@@ -386,7 +387,7 @@ returns-in-Err-DiskFault-commit_object-clause-stopped g c is told =
       lattice = t.heads.lattice;
       next = (t.heads.lattice, stored, refl, next_woven tells v name k nodes digest left rest digests old.files mid.files counted t, refl);
       adds = λ records its.
-          adds_put c.ledgers_have_one_reading.ensures tells bad _ _ told v records (Object stored) t.woven.payload old mid new its (c.requires.fixed told) c.weave_object.ensures.writes c.commit_object.ensures.writes
+          adds_put c.ledgers_have_one_reading.ensures tells bad _ _ _ told v records (Object stored) t.woven.payload old mid new its (c.requires.fixed told) c.weave_object.ensures.writes c.commit_object.ensures.writes
           (c.commit_object.ensures.adds told records t.woven.payload (its_later tells bad told v records old mid c.weave_object.ensures.writes its)
           (subst (λ (n : ℕ). AreAtHome v.shape v.lattice.n n t.woven.payload mid.files) last (t.woven.cells told)));
       records_more = λ records datas has valid recorded honest.
@@ -440,7 +441,7 @@ returns-in-Ok-commit_object-clause-stored g c =
         same_shape = same;
         this_one = c.in-Ok-commit_object.ensures.this_one;
         adds = λ told records its.
-            adds_put c.ledgers_have_one_reading.ensures tells bad _ _ told v records (Object stored) t.woven.payload old mid new its (c.requires.fixed told) c.weave_object.ensures.writes c.commit_object.ensures.writes
+            adds_put c.ledgers_have_one_reading.ensures tells bad _ _ _ told v records (Object stored) t.woven.payload old mid new its (c.requires.fixed told) c.weave_object.ensures.writes c.commit_object.ensures.writes
             (c.commit_object.ensures.adds told records t.woven.payload (its_later tells bad told v records old mid c.weave_object.ensures.writes its)
             (subst (λ (n : ℕ). AreAtHome v.shape v.lattice.n n t.woven.payload mid.files) last (t.woven.cells told)));
         added = λ told records its.
@@ -495,7 +496,7 @@ returns-then-is_short-clause-writes g c =
     let v = c.args.ledger.now in
     let left = (g.S.Source.state c.args.source.now).left in
     let rest = (g.S.Source.state c.weave_object.new.source).left in
-    writes_as g.D.Disk.tells _ (c.weave_object.result ≡ Err DiskFault) _ _ old mid (λ is. absurd (let e = is in cc)) (cells_wider g.D.Disk.tells (c.weave_object.result ≡ Err DiskFault) v c.args.name.now c.args.want left rest old mid c.weave_object.ensures.writes)
+    writes_as g.D.Disk.tells _ _ (c.weave_object.result ≡ Err DiskFault) _ _ old mid (λ is. absurd (let e = is in cc)) (λ is. absurd (ok_no_fault c.in-Ok.is is)) (cells_wider g.D.Disk.tells (c.weave_object.result ≡ Err DiskFault) v c.args.name.now c.args.want left rest old mid c.weave_object.ensures.writes)
 
 pub returns-then-is_short-clause-refused_leaves : goal.returns-then-is_short-clause-refused_leaves
 returns-then-is_short-clause-refused_leaves g c fine other told =

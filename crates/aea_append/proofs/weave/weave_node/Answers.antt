@@ -8,13 +8,13 @@ use Rattle.aea_append.proofs.weave.weave_node.Goals as goal
 pub returns-in-Err-clause-writes : goal.returns-in-Err-clause-writes
 returns-in-Err-clause-writes g c nodes within =
     let node : c.step.new.self.lattice.n ≡ c.args.heads.now.lattice.n + 1 = c.step.ensures.weaves.grown.nodes in
-    cells_as g.D.Disk.tells (c.write_node.result ≡ Err DiskFault) _ c.args.shape.now nodes (λ a. a.node ≢ c.args.heads.now.lattice.n + 1) (g.D.Disk.state c.args.disk.now) (g.D.Disk.state c.write_node.new.disk) (λ is. c.in-Err.is ∙ is)
+    cells_as g.D.Disk.tells (c.write_node.result ≡ Err DiskFault) _ c.args.shape.now nodes (λ a. a.node ≢ c.args.heads.now.lattice.n + 1) (g.D.Disk.state c.args.disk.now) (g.D.Disk.state c.write_node.new.disk) (λ is. c.in-Err.is ∙ is) (λ is. cc)
     (subst (λ (n : ℕ). WritesCells g.D.Disk.tells c.args.shape.now nodes (λ a. a.node ≢ n) (c.write_node.result ≡ Err DiskFault) (g.D.Disk.state c.args.disk.now) (g.D.Disk.state c.write_node.new.disk)) node (c.write_node.ensures.writes nodes (omega (arith, node, within))))
 
 pub returns-in-Ok-clause-writes : goal.returns-in-Ok-clause-writes
 returns-in-Ok-clause-writes g c nodes within =
     let node : c.step.new.self.lattice.n ≡ c.args.heads.now.lattice.n + 1 = c.step.ensures.weaves.grown.nodes in
-    cells_as g.D.Disk.tells (c.write_node.result ≡ Err DiskFault) _ c.args.shape.now nodes (λ a. a.node ≢ c.args.heads.now.lattice.n + 1) (g.D.Disk.state c.args.disk.now) (g.D.Disk.state c.write_node.new.disk) (λ is. absurd (let e = is in cc))
+    cells_as g.D.Disk.tells (c.write_node.result ≡ Err DiskFault) _ c.args.shape.now nodes (λ a. a.node ≢ c.args.heads.now.lattice.n + 1) (g.D.Disk.state c.args.disk.now) (g.D.Disk.state c.write_node.new.disk) (λ is. absurd (let e = is in cc)) (λ is. absurd (cc))
     (subst (λ (n : ℕ). WritesCells g.D.Disk.tells c.args.shape.now nodes (λ a. a.node ≢ n) (c.write_node.result ≡ Err DiskFault) (g.D.Disk.state c.args.disk.now) (g.D.Disk.state c.write_node.new.disk)) node (c.write_node.ensures.writes nodes (omega (arith, node, within))))
 
 pub returns-in-Err-clause-padded : goal.returns-in-Err-clause-padded

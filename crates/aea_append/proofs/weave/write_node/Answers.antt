@@ -53,7 +53,7 @@ returns-in-Err-clause-writes g c nodes within =
     let s0 = g.D.Disk.state c.args.disk.now in
     let s1 = g.D.Disk.state c.write_block.new.disk in
     let w1 = cells_less tells _ shape nodes (λ a. a ≢ block_of (c.next_node-node.result - 1) Datum) (λ a. a.node ≢ c.args.heads.now.lattice.n) s0 s1 (λ a other same. other (ap (λ (b : BlockId). b.node) same ∙ node)) (c.write_block.ensures.writes nodes (omega (arith, node, within))) in
-    cells_as tells _ _ shape nodes (λ a. a.node ≢ c.args.heads.now.lattice.n) s0 s1 (λ is. c.in-Err.is ∙ is) w1
+    cells_as tells _ _ shape nodes (λ a. a.node ≢ c.args.heads.now.lattice.n) s0 s1 (λ is. c.in-Err.is ∙ is) (λ is. cc) w1
 
 pub returns-in-Err-write_parity-clause-writes : goal.returns-in-Err-write_parity-clause-writes
 returns-in-Err-write_parity-clause-writes g c nodes within =
@@ -65,8 +65,8 @@ returns-in-Err-write_parity-clause-writes g c nodes within =
     let s1 = g.D.Disk.state c.write_block.new.disk in
     let w1 = cells_less tells _ shape nodes (λ a. a ≢ block_of (c.next_node-node.result - 1) Datum) (λ a. a.node ≢ c.args.heads.now.lattice.n) s0 s1 (λ a other same. other (ap (λ (b : BlockId). b.node) same ∙ node)) (c.write_block.ensures.writes nodes (omega (arith, node, within))) in
     let s2 = g.D.Disk.state c.write_parity.new.disk in
-    let w2 = cells_then tells _ _ shape nodes (λ a. a.node ≢ c.args.heads.now.lattice.n) (λ a. a ≢ block_of n Horiz) s0 s1 s2 (λ a other. apart n Horiz a other) w1 (c.write_parity.ensures.writes nodes within) in
-    cells_as tells _ _ shape nodes (λ a. a.node ≢ c.args.heads.now.lattice.n) s0 s2 (λ is. c.in-Err-write_parity.is ∙ is) w2
+    let w2 = cells_then tells _ _ shape nodes (λ a. a.node ≢ c.args.heads.now.lattice.n) (λ a. a ≢ block_of n Horiz) s0 s1 s2 (λ is. absurd (cc)) (λ a other. apart n Horiz a other) w1 (c.write_parity.ensures.writes nodes within) in
+    cells_as tells _ _ shape nodes (λ a. a.node ≢ c.args.heads.now.lattice.n) s0 s2 (λ is. c.in-Err-write_parity.is ∙ is) (λ is. cc) w2
 
 pub returns-in-Err-write_parity-2-clause-writes : goal.returns-in-Err-write_parity-2-clause-writes
 returns-in-Err-write_parity-2-clause-writes g c nodes within =
@@ -78,10 +78,10 @@ returns-in-Err-write_parity-2-clause-writes g c nodes within =
     let s1 = g.D.Disk.state c.write_block.new.disk in
     let w1 = cells_less tells _ shape nodes (λ a. a ≢ block_of (c.next_node-node.result - 1) Datum) (λ a. a.node ≢ c.args.heads.now.lattice.n) s0 s1 (λ a other same. other (ap (λ (b : BlockId). b.node) same ∙ node)) (c.write_block.ensures.writes nodes (omega (arith, node, within))) in
     let s2 = g.D.Disk.state c.write_parity.new.disk in
-    let w2 = cells_then tells _ _ shape nodes (λ a. a.node ≢ c.args.heads.now.lattice.n) (λ a. a ≢ block_of n Horiz) s0 s1 s2 (λ a other. apart n Horiz a other) w1 (c.write_parity.ensures.writes nodes within) in
+    let w2 = cells_then tells _ _ shape nodes (λ a. a.node ≢ c.args.heads.now.lattice.n) (λ a. a ≢ block_of n Horiz) s0 s1 s2 (λ is. absurd (cc)) (λ a other. apart n Horiz a other) w1 (c.write_parity.ensures.writes nodes within) in
     let s3 = g.D.Disk.state c.write_parity-2.new.disk in
-    let w3 = cells_then tells _ _ shape nodes (λ a. a.node ≢ c.args.heads.now.lattice.n) (λ a. a ≢ block_of n Right) s0 s2 s3 (λ a other. apart n Right a other) w2 (c.write_parity-2.ensures.writes nodes within) in
-    cells_as tells _ _ shape nodes (λ a. a.node ≢ c.args.heads.now.lattice.n) s0 s3 (λ is. c.in-Err-write_parity-2.is ∙ is) w3
+    let w3 = cells_then tells _ _ shape nodes (λ a. a.node ≢ c.args.heads.now.lattice.n) (λ a. a ≢ block_of n Right) s0 s2 s3 (λ is. absurd (cc)) (λ a other. apart n Right a other) w2 (c.write_parity-2.ensures.writes nodes within) in
+    cells_as tells _ _ shape nodes (λ a. a.node ≢ c.args.heads.now.lattice.n) s0 s3 (λ is. c.in-Err-write_parity-2.is ∙ is) (λ is. cc) w3
 
 pub returns-clause-writes : goal.returns-clause-writes
 returns-clause-writes g c nodes within =
@@ -93,11 +93,11 @@ returns-clause-writes g c nodes within =
     let s1 = g.D.Disk.state c.write_block.new.disk in
     let w1 = cells_less tells _ shape nodes (λ a. a ≢ block_of (c.next_node-node.result - 1) Datum) (λ a. a.node ≢ c.args.heads.now.lattice.n) s0 s1 (λ a other same. other (ap (λ (b : BlockId). b.node) same ∙ node)) (c.write_block.ensures.writes nodes (omega (arith, node, within))) in
     let s2 = g.D.Disk.state c.write_parity.new.disk in
-    let w2 = cells_then tells _ _ shape nodes (λ a. a.node ≢ c.args.heads.now.lattice.n) (λ a. a ≢ block_of n Horiz) s0 s1 s2 (λ a other. apart n Horiz a other) w1 (c.write_parity.ensures.writes nodes within) in
+    let w2 = cells_then tells _ _ shape nodes (λ a. a.node ≢ c.args.heads.now.lattice.n) (λ a. a ≢ block_of n Horiz) s0 s1 s2 (λ is. absurd (cc)) (λ a other. apart n Horiz a other) w1 (c.write_parity.ensures.writes nodes within) in
     let s3 = g.D.Disk.state c.write_parity-2.new.disk in
-    let w3 = cells_then tells _ _ shape nodes (λ a. a.node ≢ c.args.heads.now.lattice.n) (λ a. a ≢ block_of n Right) s0 s2 s3 (λ a other. apart n Right a other) w2 (c.write_parity-2.ensures.writes nodes within) in
+    let w3 = cells_then tells _ _ shape nodes (λ a. a.node ≢ c.args.heads.now.lattice.n) (λ a. a ≢ block_of n Right) s0 s2 s3 (λ is. absurd (cc)) (λ a other. apart n Right a other) w2 (c.write_parity-2.ensures.writes nodes within) in
     let s4 = g.D.Disk.state c.write_parity-3.new.disk in
-    let w4 = cells_then tells _ _ shape nodes (λ a. a.node ≢ c.args.heads.now.lattice.n) (λ a. a ≢ block_of n Left) s0 s3 s4 (λ a other. apart n Left a other) w3 (c.write_parity-3.ensures.writes nodes within) in
+    let w4 = cells_then tells _ _ shape nodes (λ a. a.node ≢ c.args.heads.now.lattice.n) (λ a. a ≢ block_of n Left) s0 s3 s4 (λ is. absurd (cc)) (λ a other. apart n Left a other) w3 (c.write_parity-3.ensures.writes nodes within) in
     w4
 
 pub returns-clause-padded : goal.returns-clause-padded

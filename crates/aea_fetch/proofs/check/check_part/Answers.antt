@@ -5,7 +5,7 @@ use Rattle.std.proofs.lemmas.List.Elements.{All-nil}
 use Rattle.aea_lattice.specs.declared.blocks.Class.TheVariants.{Datum}
 use Rattle.aea_lattice.specs.Blocks.{block_of}
 use Rattle.aea_disk.specs.Files.{Files}
-use Rattle.aea_disk.proofs.Frames.{reads_none, reads_both, reads_as}
+use Rattle.aea_disk.proofs.Frames.{ok_fine, reads_none, reads_both, reads_as}
 use Rattle.aea_archive.specs.Blocks.{IsIntactBy}
 use Rattle.aea_fetch.specs.Objects.{data_from}
 use Rattle.aea_fetch.proofs.Checks.{intact_more, one_at, first_at}
@@ -34,13 +34,13 @@ returns-in-Ok-Bad-clause-found g c =
 
 pub returns-in-Ok-Bad-clause-reads : goal.returns-in-Ok-Bad-clause-reads
 returns-in-Ok-Bad-clause-reads g c =
-    reads_as g.D.Disk.tells (IsErr c.read_block.result) _ (g.D.Disk.state c.args.disk.now) (g.D.Disk.state c.read_block.new.disk) (λ is. let e = is in cc)
-    (reads_both g.D.Disk.tells ⊥ (IsErr c.read_block.result) (g.D.Disk.state c.args.disk.now) (g.D.Disk.state c.loop-k.disk) (g.D.Disk.state c.read_block.new.disk) c.loop-k.invariant.reads c.read_block.ensures.reads)
+    reads_as g.D.Disk.tells (IsErr c.read_block.result) _ (g.D.Disk.state c.args.disk.now) (g.D.Disk.state c.read_block.new.disk) (λ is. let e = is in cc) (λ is. cc)
+    (reads_both g.D.Disk.tells ⊥ (IsErr c.read_block.result) (g.D.Disk.state c.args.disk.now) (g.D.Disk.state c.loop-k.disk) (g.D.Disk.state c.read_block.new.disk) (λ none. none) c.loop-k.invariant.reads c.read_block.ensures.reads)
 
 pub returns-in-Err-clause-reads : goal.returns-in-Err-clause-reads
 returns-in-Err-clause-reads g c =
-    reads_as g.D.Disk.tells (IsErr c.read_block.result) _ (g.D.Disk.state c.args.disk.now) (g.D.Disk.state c.read_block.new.disk) (λ is. subst IsErr (sym c.in-Err.is) refl)
-    (reads_both g.D.Disk.tells ⊥ (IsErr c.read_block.result) (g.D.Disk.state c.args.disk.now) (g.D.Disk.state c.loop-k.disk) (g.D.Disk.state c.read_block.new.disk) c.loop-k.invariant.reads c.read_block.ensures.reads)
+    reads_as g.D.Disk.tells (IsErr c.read_block.result) _ (g.D.Disk.state c.args.disk.now) (g.D.Disk.state c.read_block.new.disk) (λ is. subst IsErr (sym c.in-Err.is) refl) (λ _. refl)
+    (reads_both g.D.Disk.tells ⊥ (IsErr c.read_block.result) (g.D.Disk.state c.args.disk.now) (g.D.Disk.state c.loop-k.disk) (g.D.Disk.state c.read_block.new.disk) (λ none. none) c.loop-k.invariant.reads c.read_block.ensures.reads)
 
 pub loop-k-preserved : goal.loop-k-preserved
 loop-k-preserved g c =
@@ -57,8 +57,8 @@ loop-k-preserved g c =
           subst (λ (n : ℕ). All (IsIntactBy v.shape v.digests old.files) (data_from first n)) next
           (intact_more (IsIntactBy v.shape v.digests old.files) first k (c.loop-k.invariant.intact told)
           (subst (λ (f : Files). IsIntactBy v.shape v.digests f (block_of (first + k) Datum)) (c.loop-k.invariant.reads.contents told) ((c.in-Ok-Intact.ensures.intact told).0 c.in-Ok-Intact.field-0-is)));
-      reads = reads_as g.D.Disk.tells (IsErr c.read_block.result) ⊥ old (g.D.Disk.state c.read_block.new.disk) (λ none. absurd none)
-          (reads_both g.D.Disk.tells ⊥ (IsErr c.read_block.result) old (g.D.Disk.state c.loop-k.disk) (g.D.Disk.state c.read_block.new.disk) c.loop-k.invariant.reads c.read_block.ensures.reads);
+      reads = reads_as g.D.Disk.tells (IsErr c.read_block.result) ⊥ old (g.D.Disk.state c.read_block.new.disk) (λ none. absurd none) (ok_fine c.in-Ok-Intact.is)
+          (reads_both g.D.Disk.tells ⊥ (IsErr c.read_block.result) old (g.D.Disk.state c.loop-k.disk) (g.D.Disk.state c.read_block.new.disk) (λ none. none) c.loop-k.invariant.reads c.read_block.ensures.reads);
     }
 
 pub returns-clause-found : goal.returns-clause-found

@@ -6,7 +6,7 @@ use Rattle.std.proofs.lemmas.Option.{slice_get_within}
 use Rattle.aea_catalog.specs.Catalogs.{Placed, Objects, part_at}
 use Rattle.aea_catalog.specs.declared.objects.Extent.{Extent}
 use Rattle.aea_disk.specs.Files.{Files}
-use Rattle.aea_disk.proofs.Frames.{reads_none, reads_both, reads_as}
+use Rattle.aea_disk.proofs.Frames.{ok_fine, reads_none, reads_both, reads_as}
 use Rattle.aea_ledger.proofs.Small.{few_parts}
 use Rattle.aea_archive.specs.Blocks.{IsIntactBy}
 use Rattle.aea_fetch.specs.Objects.{data_of, data_in, IsFirstDamaged}
@@ -52,13 +52,13 @@ returns-in-Ok-Some-clause-found g c p is =
 
 pub returns-in-Ok-Some-clause-reads : goal.returns-in-Ok-Some-clause-reads
 returns-in-Ok-Some-clause-reads g c =
-    reads_as g.D.Disk.tells (IsErr c.check_part.result) _ (g.D.Disk.state c.args.disk.now) (g.D.Disk.state c.check_part.new.disk) (λ is. let e = is in cc)
-    (reads_both g.D.Disk.tells ⊥ (IsErr c.check_part.result) (g.D.Disk.state c.args.disk.now) (g.D.Disk.state c.loop-part.disk) (g.D.Disk.state c.check_part.new.disk) c.loop-part.invariant.reads c.check_part.ensures.reads)
+    reads_as g.D.Disk.tells (IsErr c.check_part.result) _ (g.D.Disk.state c.args.disk.now) (g.D.Disk.state c.check_part.new.disk) (λ is. let e = is in cc) (λ is. cc)
+    (reads_both g.D.Disk.tells ⊥ (IsErr c.check_part.result) (g.D.Disk.state c.args.disk.now) (g.D.Disk.state c.loop-part.disk) (g.D.Disk.state c.check_part.new.disk) (λ none. none) c.loop-part.invariant.reads c.check_part.ensures.reads)
 
 pub returns-in-Err-clause-reads : goal.returns-in-Err-clause-reads
 returns-in-Err-clause-reads g c =
-    reads_as g.D.Disk.tells (IsErr c.check_part.result) _ (g.D.Disk.state c.args.disk.now) (g.D.Disk.state c.check_part.new.disk) (λ is. subst IsErr (sym c.in-Err.is) refl)
-    (reads_both g.D.Disk.tells ⊥ (IsErr c.check_part.result) (g.D.Disk.state c.args.disk.now) (g.D.Disk.state c.loop-part.disk) (g.D.Disk.state c.check_part.new.disk) c.loop-part.invariant.reads c.check_part.ensures.reads)
+    reads_as g.D.Disk.tells (IsErr c.check_part.result) _ (g.D.Disk.state c.args.disk.now) (g.D.Disk.state c.check_part.new.disk) (λ is. subst IsErr (sym c.in-Err.is) refl) (λ _. refl)
+    (reads_both g.D.Disk.tells ⊥ (IsErr c.check_part.result) (g.D.Disk.state c.args.disk.now) (g.D.Disk.state c.loop-part.disk) (g.D.Disk.state c.check_part.new.disk) (λ none. none) c.loop-part.invariant.reads c.check_part.ensures.reads)
 
 pub overflow_add-k : goal.overflow_add-k
 overflow_add-k g c =
@@ -94,8 +94,8 @@ loop-part-preserved g c =
           subst (λ (n : ℕ). All (IsIntactBy v.shape v.digests old.files) (data_of (take n p.parts))) next
           (intact_part v.shape v.digests old.files p.parts c.in-Some.part k (here p is) (c.loop-part.invariant.intact told p is)
           (subst (λ (f : Files). All (IsIntactBy v.shape v.digests f) (data_in c.in-Some.part)) (c.loop-part.invariant.reads.contents told) (subst (IsFound g.D.Disk.tells v.shape v.digests (g.D.Disk.state c.loop-part.disk).files (data_in c.in-Some.part)) c.in-Ok-None.field-0-is c.in-Ok-None.ensures.found told)));
-      reads = reads_as g.D.Disk.tells (IsErr c.check_part.result) ⊥ old (g.D.Disk.state c.check_part.new.disk) (λ none. absurd none)
-          (reads_both g.D.Disk.tells ⊥ (IsErr c.check_part.result) old (g.D.Disk.state c.loop-part.disk) (g.D.Disk.state c.check_part.new.disk) c.loop-part.invariant.reads c.check_part.ensures.reads);
+      reads = reads_as g.D.Disk.tells (IsErr c.check_part.result) ⊥ old (g.D.Disk.state c.check_part.new.disk) (λ none. absurd none) (ok_fine c.in-Ok-None.is)
+          (reads_both g.D.Disk.tells ⊥ (IsErr c.check_part.result) old (g.D.Disk.state c.loop-part.disk) (g.D.Disk.state c.check_part.new.disk) (λ none. none) c.loop-part.invariant.reads c.check_part.ensures.reads);
     }
 
 pub returns-clause-found : goal.returns-clause-found

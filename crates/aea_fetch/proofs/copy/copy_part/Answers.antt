@@ -1,4 +1,4 @@
-use Rattle.std.proofs.Common.{◌≡◌, ℕ, suc, ◌+◌, ◌-◌, ◌*◌, ◌<◌, List, [], ◌∷◌, ◌++◌, length, sym, ◌∙◌, ap, subst, arith, Err, append_assoc}
+use Rattle.std.proofs.Common.{◌≡◌, ℕ, suc, ◌+◌, ◌-◌, ◌*◌, ◌<◌, List, [], ◌∷◌, ◌++◌, length, refl, sym, ◌∙◌, ap, subst, arith, Err, append_assoc}
 use Rattle.std.proofs.lemmas.Bool.Decides.{nat_tests}
 use Rattle.aea_lattice.specs.declared.blocks.BlockId.{BlockId}
 use Rattle.aea_lattice.specs.declared.blocks.Class.TheVariants.{Datum}
@@ -18,6 +18,7 @@ loop-k-init g c = record {
   buffer = c.requires.buffer;
   left = omega arith;
   copied = copied_none g.D.Disk.tells c.args.ledger.now.shape c.args.ledger.now.digests (g.D.Disk.state c.args.disk.now).files c.args.most (g.O.Sink.state c.args.out.now) c.args.sheet.now;
+  still = refl;
   reads = reads_none g.D.Disk.tells ⊥ (g.D.Disk.state c.args.disk.now) (λ none. none);
 }
 
@@ -39,8 +40,8 @@ returns-in-Err-clause-broken g c =
 pub returns-in-Err-clause-reads : goal.returns-in-Err-clause-reads
 returns-in-Err-clause-reads g c =
     let mine = c.copy_datum.result ≡ Err DiskFault in
-    reads_as g.D.Disk.tells mine _ (g.D.Disk.state c.args.disk.now) (g.D.Disk.state c.copy_datum.new.disk) (λ is. c.in-Err.is ∙ (let h : c.in-Err.fault ≡ DiskFault = (let e = is in cc) in ap Err h))
-    (reads_both g.D.Disk.tells ⊥ mine (g.D.Disk.state c.args.disk.now) (g.D.Disk.state c.loop-k.disk) (g.D.Disk.state c.copy_datum.new.disk) c.loop-k.invariant.reads c.copy_datum.ensures.reads)
+    reads_as g.D.Disk.tells mine _ (g.D.Disk.state c.args.disk.now) (g.D.Disk.state c.copy_datum.new.disk) (λ is. c.in-Err.is ∙ (let h : c.in-Err.fault ≡ DiskFault = (let e = is in cc) in ap Err h)) (λ is. cc)
+    (reads_both g.D.Disk.tells ⊥ mine (g.D.Disk.state c.args.disk.now) (g.D.Disk.state c.loop-k.disk) (g.D.Disk.state c.copy_datum.new.disk) (λ none. none) c.loop-k.invariant.reads c.copy_datum.ensures.reads)
 
 pub loop-k-preserved : goal.loop-k-preserved
 loop-k-preserved g c =
@@ -62,6 +63,7 @@ loop-k-preserved g c =
       copied = subst (λ (bs : List BlockId). HasCopied g.D.Disk.tells v.shape v.digests old.files bs c.args.most (g.O.Sink.state c.args.out.now) c.args.sheet.now (g.O.Sink.state c.copy_datum.new.out) c.copy_datum.new.sheet)
           (sym (data_from-snoc first k) ∙ ap (data_from first) next)
           (copied_then g.D.Disk.tells v.shape v.digests old.files (data_from first k) (block_of (first + k) Datum ∷ []) c.args.most c.loop-k.left (g.O.Sink.state c.args.out.now) (g.O.Sink.state c.loop-k.out) (g.O.Sink.state c.copy_datum.new.out) c.args.sheet.now c.loop-k.sheet c.copy_datum.new.sheet left c.loop-k.invariant.copied here);
-      reads = reads_as g.D.Disk.tells (c.copy_datum.result ≡ Err DiskFault) ⊥ old (g.D.Disk.state c.copy_datum.new.disk) (λ none. absurd none)
-          (reads_both g.D.Disk.tells ⊥ (c.copy_datum.result ≡ Err DiskFault) old (g.D.Disk.state c.loop-k.disk) (g.D.Disk.state c.copy_datum.new.disk) c.loop-k.invariant.reads c.copy_datum.ensures.reads);
+      still = c.copy_datum.ensures.still (λ failed. let ok = c.in-Ok.is in cc) ∙ c.loop-k.invariant.still;
+      reads = reads_as g.D.Disk.tells (c.copy_datum.result ≡ Err DiskFault) ⊥ old (g.D.Disk.state c.copy_datum.new.disk) (λ none. absurd none) (λ is. absurd (cc))
+          (reads_both g.D.Disk.tells ⊥ (c.copy_datum.result ≡ Err DiskFault) old (g.D.Disk.state c.loop-k.disk) (g.D.Disk.state c.copy_datum.new.disk) (λ none. none) c.loop-k.invariant.reads c.copy_datum.ensures.reads);
     }

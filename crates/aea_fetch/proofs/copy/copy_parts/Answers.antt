@@ -1,4 +1,4 @@
-use Rattle.std.proofs.Common.{◌≡◌, ℕ, suc, ◌+◌, ◌*◌, List, ◌++◌, length, take, drop, sym, ◌∙◌, ap, subst, arith, Some, None, Option, Err, append_assoc}
+use Rattle.std.proofs.Common.{◌≡◌, ℕ, suc, ◌+◌, ◌*◌, List, ◌++◌, length, take, drop, refl, sym, ◌∙◌, ap, subst, arith, Some, None, Option, Err, append_assoc}
 use Rattle.std.specs.Prelude.{option_map, unwrap_or, slice_get}
 use Rattle.std.specs.FinMap.{get}
 use Rattle.std.proofs.lemmas.Option.{slice_get_within}
@@ -21,6 +21,7 @@ loop-part-init g c = record {
   buffer = c.requires.buffer;
   left = λ p is. omega arith;
   copied = λ p is. copied_none g.D.Disk.tells c.args.ledger.now.shape c.args.ledger.now.digests (g.D.Disk.state c.args.disk.now).files c.args.most (g.O.Sink.state c.args.out.now) c.args.sheet.now;
+  still = refl;
   reads = reads_none g.D.Disk.tells ⊥ (g.D.Disk.state c.args.disk.now) (λ none. none);
 }
 
@@ -58,8 +59,8 @@ returns-in-Err-clause-broken g c p is =
 pub returns-in-Err-clause-reads : goal.returns-in-Err-clause-reads
 returns-in-Err-clause-reads g c =
     let mine = c.copy_part.result ≡ Err DiskFault in
-    reads_as g.D.Disk.tells mine _ (g.D.Disk.state c.args.disk.now) (g.D.Disk.state c.copy_part.new.disk) (λ is. c.in-Err.is ∙ (let h : c.in-Err.fault ≡ DiskFault = (let e = is in cc) in ap Err h))
-    (reads_both g.D.Disk.tells ⊥ mine (g.D.Disk.state c.args.disk.now) (g.D.Disk.state c.loop-part.disk) (g.D.Disk.state c.copy_part.new.disk) c.loop-part.invariant.reads c.copy_part.ensures.reads)
+    reads_as g.D.Disk.tells mine _ (g.D.Disk.state c.args.disk.now) (g.D.Disk.state c.copy_part.new.disk) (λ is. c.in-Err.is ∙ (let h : c.in-Err.fault ≡ DiskFault = (let e = is in cc) in ap Err h)) (λ is. cc)
+    (reads_both g.D.Disk.tells ⊥ mine (g.D.Disk.state c.args.disk.now) (g.D.Disk.state c.loop-part.disk) (g.D.Disk.state c.copy_part.new.disk) (λ none. none) c.loop-part.invariant.reads c.copy_part.ensures.reads)
 
 pub overflow_add-k : goal.overflow_add-k
 overflow_add-k g c =
@@ -107,8 +108,9 @@ loop-part-preserved g c =
           (sym (parts-snoc p.parts part k (here p is)) ∙ ap (λ (m : ℕ). data_of (take m p.parts)) next)
           (copied_then tells v.shape v.digests old.files (data_of (take k p.parts)) (data_in part) c.args.most c.loop-part.left (g.O.Sink.state c.args.out.now) (g.O.Sink.state c.loop-part.out) (g.O.Sink.state c.copy_part.new.out) c.args.sheet.now c.loop-part.sheet c.copy_part.new.sheet
           (c.loop-part.invariant.left p is) (c.loop-part.invariant.copied p is) copied);
-      reads = reads_as tells (c.copy_part.result ≡ Err DiskFault) ⊥ old (g.D.Disk.state c.copy_part.new.disk) (λ none. absurd none)
-          (reads_both tells ⊥ (c.copy_part.result ≡ Err DiskFault) old (g.D.Disk.state c.loop-part.disk) (g.D.Disk.state c.copy_part.new.disk) c.loop-part.invariant.reads c.copy_part.ensures.reads);
+      still = c.copy_part.ensures.still (λ failed. let ok = c.in-Ok.is in cc) ∙ c.loop-part.invariant.still;
+      reads = reads_as tells (c.copy_part.result ≡ Err DiskFault) ⊥ old (g.D.Disk.state c.copy_part.new.disk) (λ none. absurd none) (λ is. absurd (cc))
+          (reads_both tells ⊥ (c.copy_part.result ≡ Err DiskFault) old (g.D.Disk.state c.loop-part.disk) (g.D.Disk.state c.copy_part.new.disk) (λ none. none) c.loop-part.invariant.reads c.copy_part.ensures.reads);
     }
 
 pub returns-clause-copied : goal.returns-clause-copied

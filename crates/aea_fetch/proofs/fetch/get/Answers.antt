@@ -1,10 +1,10 @@
-use Rattle.std.proofs.Common.{◌≡◌, inl, inr, ℕ, List, [], take, sym, ◌∙◌, ap, subst, arith, Some, None, Err}
+use Rattle.std.proofs.Common.{◌≡◌, inl, inr, ℕ, List, [], take, refl, sym, ◌∙◌, ap, subst, arith, Some, None, Err}
 use Rattle.std.specs.Prelude.{option_map, IsErr}
 use Rattle.std.specs.FinMap.{get}
 use Rattle.aea_catalog.specs.Catalogs.{Placed, Objects}
 use Rattle.aea_lattice.specs.declared.blocks.BlockId.{BlockId}
-use Rattle.aea_disk.proofs.Frames.{reads_none, reads_both, reads_as}
-use Rattle.aea_fetch.specs.Objects.{data_of, joined}
+use Rattle.aea_disk.proofs.Frames.{ok_fine, reads_none, reads_both, reads_as}
+use Rattle.aea_fetch.specs.Objects.{data_of, joined, IsOneOf, IsFirstDamaged}
 use Rattle.aea_fetch.specs.Gets.{IsFound, HasSent, HasGot, HasBroken}
 use Rattle.aea_fetch.specs.declared.fault.GetFault.TheVariants.{Damaged, DiskFault}
 use Rattle.std.specs.Io.KnownBytes.{Appends}
@@ -25,6 +25,16 @@ returns-in_default-cell_buffer-clause-reads g c = reads_none g.D.Disk.tells _ (g
 
 pub returns-in_default-new-clause-reads : goal.returns-in_default-new-clause-reads
 returns-in_default-new-clause-reads g c = reads_none g.D.Disk.tells _ (g.D.Disk.state c.args.disk.now) (λ is. let e = is in cc)
+
+pub returns-in-Ok-Some-clause-damaged : goal.returns-in-Ok-Some-clause-damaged
+returns-in-Ok-Some-clause-damaged g c b e =
+    let v = c.args.ledger.now in
+    let name = c.args.name.now in
+    let old = g.D.Disk.state c.args.disk.now in
+    let placed = placed_of (get v.objects name) c.in-Some.object (sym (ap (λ (m : Objects). option_map (λ p. p.object) (get m name)) c.catalog.ensures.objects) ∙ sym c.find.ensures ∙ c.in-Some.is) in
+    let found = subst (IsFound g.D.Disk.tells v.shape v.digests old.files (data_of placed.0.parts)) c.in-Ok-Some.field-0-is (c.in-Ok-Some.ensures.found placed.0 placed.1) in
+    let same : c.in-Ok-Some.block ≡ b = (let h = e in cc) in
+    (placed.0, placed.1, subst (IsOneOf (data_of placed.0.parts)) same found.0, λ told. (subst (IsFirstDamaged v.shape v.digests old.files (data_of placed.0.parts)) same (found.1 told), refl))
 
 pub returns-in-Ok-Some-clause-damage_refused : goal.returns-in-Ok-Some-clause-damage_refused
 returns-in-Ok-Some-clause-damage_refused g c told p b is first =
@@ -89,8 +99,8 @@ returns-in-Ok-send_object-clause-damage_refused g c told p b is first =
 pub returns-in-Ok-send_object-clause-reads : goal.returns-in-Ok-send_object-clause-reads
 returns-in-Ok-send_object-clause-reads g c =
     let mine = c.send_object.result ≡ Err DiskFault in
-    reads_as g.D.Disk.tells mine _ (g.D.Disk.state c.args.disk.now) (g.D.Disk.state c.send_object.new.disk) (λ is. let e = is in cc)
-    (reads_both g.D.Disk.tells (IsErr c.check_parts.result) mine (g.D.Disk.state c.args.disk.now) (g.D.Disk.state c.check_parts.new.disk) (g.D.Disk.state c.send_object.new.disk) c.check_parts.ensures.reads c.send_object.ensures.reads)
+    reads_as g.D.Disk.tells mine _ (g.D.Disk.state c.args.disk.now) (g.D.Disk.state c.send_object.new.disk) (λ is. let e = is in cc) (λ is. cc)
+    (reads_both g.D.Disk.tells (IsErr c.check_parts.result) mine (g.D.Disk.state c.args.disk.now) (g.D.Disk.state c.check_parts.new.disk) (g.D.Disk.state c.send_object.new.disk) (ok_fine c.in-Ok-None.is) c.check_parts.ensures.reads c.send_object.ensures.reads)
 
 pub returns-in-Ok-send_object-clause-out_kept : goal.returns-in-Ok-send_object-clause-out_kept
 returns-in-Ok-send_object-clause-out_kept g c =
@@ -173,8 +183,8 @@ returns-clause-part g c p is =
 pub returns-clause-reads : goal.returns-clause-reads
 returns-clause-reads g c =
     let mine = c.send_object.result ≡ Err DiskFault in
-    reads_as g.D.Disk.tells mine _ (g.D.Disk.state c.args.disk.now) (g.D.Disk.state c.send_object.new.disk) (λ is. c.in-Err-send_object.is ∙ (let h : c.in-Err-send_object.fault ≡ DiskFault = (let e = is in cc) in ap Err h))
-    (reads_both g.D.Disk.tells (IsErr c.check_parts.result) mine (g.D.Disk.state c.args.disk.now) (g.D.Disk.state c.check_parts.new.disk) (g.D.Disk.state c.send_object.new.disk) c.check_parts.ensures.reads c.send_object.ensures.reads)
+    reads_as g.D.Disk.tells mine _ (g.D.Disk.state c.args.disk.now) (g.D.Disk.state c.send_object.new.disk) (λ is. c.in-Err-send_object.is ∙ (let h : c.in-Err-send_object.fault ≡ DiskFault = (let e = is in cc) in ap Err h)) (λ is. cc)
+    (reads_both g.D.Disk.tells (IsErr c.check_parts.result) mine (g.D.Disk.state c.args.disk.now) (g.D.Disk.state c.check_parts.new.disk) (g.D.Disk.state c.send_object.new.disk) (ok_fine c.in-Ok-None.is) c.check_parts.ensures.reads c.send_object.ensures.reads)
 
 pub returns-clause-out_kept : goal.returns-clause-out_kept
 returns-clause-out_kept g c =

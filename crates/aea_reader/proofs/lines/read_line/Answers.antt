@@ -1,4 +1,4 @@
-use Rattle.std.proofs.Common.{◌≢◌, ◌≤◌, ◌++◌, inl, length, length-append, sym, ap, subst, arith}
+use Rattle.std.proofs.Common.{◌≢◌, ◌≤◌, ◌++◌, inl, length, length-append, refl, sym, ap, subst, arith}
 use Rattle.std.proofs.lemmas.List.Elements.{All-nil}
 use Rattle.aea_reader.specs.Words.{IsFree}
 use Rattle.aea_reader.proofs.Pieces.{gathers_none, gathers_most}
@@ -11,6 +11,7 @@ pieces-init g c = record {
   plain = subst (IsFree 10) (sym c.requires) (All-nil (λ x. x ≢ 10));
   room = inl c.requires;
   kept = omega arith;
+  still = refl;
 }
 
 pub returns-in_default-clause-most : goal.returns-in_default-clause-most

@@ -10,6 +10,7 @@ invariant-pieces g l = record {
   plain : IsFree 10 l.line.items;
   room : (l.line.items ≡ []) ⊎ (length l.line.items + length l.ahead ≤ greatest_line + 1);
   kept : (g.S.Source.state l.fn.source).faults ≤ (g.S.Source.state l.source).faults;
+  still : (g.S.Source.state l.source).faults ≡ (g.S.Source.state l.fn.source).faults;
 }
 
 abbrev pub decreases-pieces : goal.decreases-pieces

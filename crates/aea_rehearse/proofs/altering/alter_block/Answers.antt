@@ -10,7 +10,7 @@ use Rattle.aea_shelf.specs.Places.{HasAtHome}
 use Rattle.aea_shelf.specs.Writes.{ChangesHome}
 use Rattle.aea_shelf.proofs.Cells.{written_here}
 use Rattle.aea_rehearse.specs.Rehearsed.{turned, turned_cell}
-use Rattle.aea_rehearse.proofs.Homes.{block_in_shape, some_room, cells_room_stays, home_room, writes_home}
+use Rattle.aea_rehearse.proofs.Homes.{block_in_shape, cells_room_stays, home_room, writes_home}
 use Rattle.aea_rehearse.proofs.Turning.{turn_cell, turned_payload, keeps-true, keeps-false, struck_home, spared_home, judged_differ, judged_same}
 use Rattle.aea_rehearse.proofs.altering.alter_block.Goals as goal
 
@@ -29,7 +29,7 @@ write_home-requires-clause-room g c =
     let few : v.lattice.n ≤ 65536 = (let f = c.requires.few in omega (arith, f)) in
     home_room c.homes_are_in_rows.ensures c.homes_are_on_its_sites.ensures v.shape v.lattice.n c.args.b mid c.requires.shape
     (block_in_shape v.shape v.lattice c.args.b alpha c.requires.block) c.requires.block.last few
-    (cells_room_stays old mid c.read_intact.ensures.reads.time (c.read_intact.ensures.reads.sure (some_room old c.requires.room)).1 c.requires.room)
+    (cells_room_stays old mid c.read_intact.ensures.reads.time (c.read_intact.ensures.reads.still (λ none. none)) c.requires.room)
 
 pub returns-then-is_some-clause-turned : goal.returns-then-is_some-clause-turned
 returns-then-is_some-clause-turned g c payload wide digest here =

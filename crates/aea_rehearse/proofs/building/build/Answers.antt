@@ -3,7 +3,7 @@ use Rattle.aea_disk.proofs.Moments.{passes_both}
 use Rattle.aea_records.specs.Format.{nodes_for}
 use Rattle.aea_ledger.specs.Next.{AreItsRecords}
 use Rattle.aea_rehearse.specs.Rehearsed.{IsRehearsalShape}
-use Rattle.aea_rehearse.proofs.Homes.{rehearsal_room_stays}
+use Rattle.aea_rehearse.proofs.Homes.{rehearsal_room_stays, cells_willing, willing_after}
 use Rattle.aea_rehearse.proofs.Built.{empty_some, opened_new}
 use Rattle.aea_rehearse.proofs.building.build.Goals as goal
 
@@ -13,12 +13,17 @@ create-requires-clause-room g c = (c.requires.room c.rehearsal_shape-shape.resul
 pub open-requires-clause-archive : goal.open-requires-clause-archive
 open-requires-clause-archive g c = empty_some c.rehearsal_shape-shape.result ((g.D.Disk.state c.create.new.disk).files 0) c.create.ensures.made
 
-pub open-requires-clause-room : goal.open-requires-clause-room
-open-requires-clause-room g c = (0, 18, c.create.ensures.time.room 0 18 ((c.requires.room c.rehearsal_shape-shape.result c.rehearsal_shape-shape.ensures).ledger 18 (omega arith)))
+pub create-requires-clause-willing : goal.create-requires-clause-willing
+create-requires-clause-willing g c = cells_willing (g.D.Disk.state c.args.disk.now) (c.requires.room c.rehearsal_shape-shape.result c.rehearsal_shape-shape.ensures).cells
+
+pub open-requires-clause-willing : goal.open-requires-clause-willing
+open-requires-clause-willing g c =
+    willing_after (g.D.Disk.state c.args.disk.now) (g.D.Disk.state c.create.new.disk) c.create.ensures.time
+    (cells_willing (g.D.Disk.state c.args.disk.now) (c.requires.room c.rehearsal_shape-shape.result c.rehearsal_shape-shape.ensures).cells)
 
 pub returns-in_err-ledger-clause-steady : goal.returns-in_err-ledger-clause-steady
 returns-in_err-ledger-clause-steady g c =
-    (c.open.ensures.reads.sure (0, 18, c.create.ensures.time.room 0 18 ((c.requires.room c.rehearsal_shape-shape.result c.rehearsal_shape-shape.ensures).ledger 18 (omega arith)))).1 ∙ c.create.ensures.steady
+    c.open.ensures.reads.still (λ none. none) ∙ c.create.ensures.steady
 
 pub store-requires-clause-none : goal.store-requires-clause-none
 store-requires-clause-none g c =
@@ -35,16 +40,16 @@ store-requires-clause-room g c =
     let is : IsRehearsalShape v.shape = subst IsRehearsalShape (sym fresh.same) c.rehearsal_shape-shape.ensures in
     let nodes = nodes_for v.shape (length c.args.bytes.now) in
     let first = rehearsal_room_stays nodes old mid c.create.ensures.time c.create.ensures.steady (c.requires.room v.shape is) in
-    let steady = (c.open.ensures.reads.sure (0, 18, first.ledger 18 (omega arith))).1 in
+    let steady = c.open.ensures.reads.still (λ none. none) in
     rehearsal_room_stays nodes mid new c.open.ensures.reads.time steady first
 
 pub returns-in_err-store-clause-steady : goal.returns-in_err-store-clause-steady
 returns-in_err-store-clause-steady g c =
-    c.store.ensures.steady ∙ (c.open.ensures.reads.sure (0, 18, c.create.ensures.time.room 0 18 ((c.requires.room c.rehearsal_shape-shape.result c.rehearsal_shape-shape.ensures).ledger 18 (omega arith)))).1 ∙ c.create.ensures.steady
+    c.store.ensures.steady ∙ c.open.ensures.reads.still (λ none. none) ∙ c.create.ensures.steady
 
 pub returns-clause-steady : goal.returns-clause-steady
 returns-clause-steady g c =
-    c.store.ensures.steady ∙ (c.open.ensures.reads.sure (0, 18, c.create.ensures.time.room 0 18 ((c.requires.room c.rehearsal_shape-shape.result c.rehearsal_shape-shape.ensures).ledger 18 (omega arith)))).1 ∙ c.create.ensures.steady
+    c.store.ensures.steady ∙ c.open.ensures.reads.still (λ none. none) ∙ c.create.ensures.steady
 
 pub returns-clause-time : goal.returns-clause-time
 returns-clause-time g c =

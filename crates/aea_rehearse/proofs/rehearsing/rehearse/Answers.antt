@@ -5,6 +5,8 @@ pub rehearse_on-requires-clause-room : goal.rehearse_on-requires-clause-room
 rehearse_on-requires-clause-room c = record {
   cells = record {
     sites = λ f n first last small. le_trans small (c.requires.site_rooms f first last);
+    free = tt;
+    syncs = λ bytes. tt;
     count = c.requires.count;
   };
   ledger = λ n small. le_trans small c.requires.ledger_room;

@@ -1,4 +1,4 @@
-use Rattle.aea_rehearse.proofs.Homes.{cells_room_stays, some_room}
+use Rattle.aea_rehearse.proofs.Homes.{cells_room_stays, cells_willing}
 use Rattle.aea_rehearse.proofs.Ending.{altered_in, altered_some, is_ready, small_outcome, is_rehearsed}
 use Rattle.aea_rehearse.proofs.rehearsing.rehearse_on.Goals as goal
 
@@ -13,10 +13,10 @@ restore-requires-clause-ready g c v this =
     (cells_room_stays (g.D.Disk.state c.args.disk.now) mid c.damage.ensures.time c.damage.ensures.steady c.requires.room.cells)
     (altered_in c.ledgers_have_one_reading.ensures c.args.number c.args.nodes c.args.permille mid.files v a this)
 
-pub restore-requires-clause-room : goal.restore-requires-clause-room
-restore-requires-clause-room g c =
+pub restore-requires-clause-willing : goal.restore-requires-clause-willing
+restore-requires-clause-willing g c =
     let mid = g.D.Disk.state c.damage.new.disk in
-    some_room mid (cells_room_stays (g.D.Disk.state c.args.disk.now) mid c.damage.ensures.time c.damage.ensures.steady c.requires.room.cells)
+    cells_willing mid (cells_room_stays (g.D.Disk.state c.args.disk.now) mid c.damage.ensures.time c.damage.ensures.steady c.requires.room.cells)
 
 pub numbers-requires-clause-small : goal.numbers-requires-clause-small
 numbers-requires-clause-small g c =

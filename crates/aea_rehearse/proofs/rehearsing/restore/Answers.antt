@@ -2,7 +2,7 @@ use Rattle.std.proofs.Common.{ℕ, List, sym, ◌∙◌, subst}
 use Rattle.aea_disk.specs.Files.{Files}
 use Rattle.aea_report.specs.Grammar.{IsReport}
 use Rattle.aea_rehearse.specs.Altered.{IsMended}
-use Rattle.aea_rehearse.proofs.Homes.{room_after}
+use Rattle.aea_rehearse.proofs.Homes.{willing_after}
 use Rattle.aea_rehearse.proofs.Ending.{ready_later}
 use Rattle.aea_rehearse.proofs.rehearsing.restore.Goals as goal
 
@@ -11,10 +11,10 @@ mend-requires-clause-ready g c =
     ready_later g.D.Disk.tells c.in_ok-ledger.ledger (g.D.Disk.state c.args.disk.now) (g.D.Disk.state c.open.new.disk) c.args.report.now.room c.requires.tells c.open.ensures.reads
     (c.requires.ready c.in_ok-ledger.ledger c.in_ok-ledger.ensures.this)
 
-pub check-requires-clause-room : goal.check-requires-clause-room
-check-requires-clause-room g c =
-    room_after (g.D.Disk.state c.open.new.disk) (g.D.Disk.state c.mend.new.disk) c.mend.ensures.time
-    (room_after (g.D.Disk.state c.args.disk.now) (g.D.Disk.state c.open.new.disk) c.open.ensures.reads.time c.requires.room)
+pub check-requires-clause-willing : goal.check-requires-clause-willing
+check-requires-clause-willing g c =
+    willing_after (g.D.Disk.state c.open.new.disk) (g.D.Disk.state c.mend.new.disk) c.mend.ensures.time
+    (willing_after (g.D.Disk.state c.args.disk.now) (g.D.Disk.state c.open.new.disk) c.open.ensures.reads.time c.requires.willing)
 
 pub check-requires-clause-fits : goal.check-requires-clause-fits
 check-requires-clause-fits g c =
@@ -42,19 +42,13 @@ returns-clause-restored g c =
     }
 
 pub returns-in_err-ledger-clause-steady : goal.returns-in_err-ledger-clause-steady
-returns-in_err-ledger-clause-steady g c = (c.open.ensures.reads.sure c.requires.room).1
+returns-in_err-ledger-clause-steady g c = c.open.ensures.reads.still (λ none. none)
 
 pub returns-in_err-outcome-clause-steady : goal.returns-in_err-outcome-clause-steady
-returns-in_err-outcome-clause-steady g c = c.mend.ensures.steady ∙ (c.open.ensures.reads.sure c.requires.room).1
+returns-in_err-outcome-clause-steady g c = c.mend.ensures.steady ∙ c.open.ensures.reads.still (λ none. none)
 
 pub returns-in_err-check-clause-steady : goal.returns-in_err-check-clause-steady
-returns-in_err-check-clause-steady g c =
-    (c.check.ensures.reads.sure (room_after (g.D.Disk.state c.open.new.disk) (g.D.Disk.state c.mend.new.disk) c.mend.ensures.time
-    (room_after (g.D.Disk.state c.args.disk.now) (g.D.Disk.state c.open.new.disk) c.open.ensures.reads.time c.requires.room))).1
-    ∙ c.mend.ensures.steady ∙ (c.open.ensures.reads.sure c.requires.room).1
+returns-in_err-check-clause-steady g c = c.check.ensures.reads.still (λ none. none) ∙ c.mend.ensures.steady ∙ c.open.ensures.reads.still (λ none. none)
 
 pub returns-clause-steady : goal.returns-clause-steady
-returns-clause-steady g c =
-    (c.check.ensures.reads.sure (room_after (g.D.Disk.state c.open.new.disk) (g.D.Disk.state c.mend.new.disk) c.mend.ensures.time
-    (room_after (g.D.Disk.state c.args.disk.now) (g.D.Disk.state c.open.new.disk) c.open.ensures.reads.time c.requires.room))).1
-    ∙ c.mend.ensures.steady ∙ (c.open.ensures.reads.sure c.requires.room).1
+returns-clause-steady g c = c.check.ensures.reads.still (λ none. none) ∙ c.mend.ensures.steady ∙ c.open.ensures.reads.still (λ none. none)

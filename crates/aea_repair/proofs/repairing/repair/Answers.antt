@@ -2,7 +2,8 @@ use Rattle.std.proofs.Common.{◌≡◌, ◌≤◌, Err, Ok, Some, List, ℕ, le
 use Rattle.std.proofs.lemmas.Bool.{false≢true}
 use Rattle.aea_io.proofs.Printing.{prints_failed, prints_as}
 use Rattle.aea_lattice.specs.Blocks.{HasBlock}
-use Rattle.aea_archive.specs.Cells.{IsNoSite, HaveSitesRoom}
+use Rattle.aea_disk.specs.State.{IsReady}
+use Rattle.aea_archive.specs.Cells.{IsNoSite, FitsRows}
 use Rattle.aea_archive.proofs.Cells.{file_kept}
 use Rattle.aea_plan.specs.Plans.{head_by}
 use Rattle.aea_plan.specs.Verdicts.{lines_by}
@@ -10,7 +11,7 @@ use Rattle.aea_restore.specs.Repairs.{IsLeft}
 use Rattle.aea_repair.specs.declared.fault.RepairFault.TheVariants.{DiskFault}
 use Rattle.aea_repair.proofs.Survivors.{AreInside, block_in_archive}
 use Rattle.aea_repair.proofs.Frames.{blocks_as}
-use Rattle.aea_repair.proofs.Ends.{not_written, repairs_ok, repairs_unprinted, repairs_err, only_memory}
+use Rattle.aea_repair.proofs.Ends.{not_written, repairs_ok, repairs_unprinted, repairs_err, err_as, only_memory}
 use Rattle.aea_repair.proofs.Reporting.{report_fits, same_bytes}
 use Rattle.aea_repair.proofs.repairing.repair.Goals as goal
 
@@ -26,7 +27,7 @@ returns-in-Err-clause-durable g c written = absurd (not_written c.in-Err.fault c
 pub returns-in-Err-clause-ledger : goal.returns-in-Err-clause-ledger
 returns-in-Err-clause-ledger g c fixed =
     let v = c.args.ledger.now in
-    file_kept g.D.Disk.tells (HaveSitesRoom v.shape v.lattice.n (g.D.Disk.state c.args.disk.now)) _ v.shape v.lattice.n (IsLeft (HasBlock v.lattice)) (IsNoSite v.shape) (g.D.Disk.state c.args.disk.now) (g.D.Disk.state c.restore_archive.new.disk) 0 (inl refl) c.restore_archive.ensures.writes fixed
+    file_kept g.D.Disk.tells (IsReady (g.D.Disk.state c.args.disk.now)) (FitsRows v.shape v.lattice.n (g.D.Disk.state c.args.disk.now)) _ v.shape v.lattice.n (IsLeft (HasBlock v.lattice)) (IsNoSite v.shape) (g.D.Disk.state c.args.disk.now) (g.D.Disk.state c.restore_archive.new.disk) 0 (inl refl) c.restore_archive.ensures.writes fixed
 
 pub returns-in-Err-clause-reports : goal.returns-in-Err-clause-reports
 returns-in-Err-clause-reports g c written = absurd (not_written c.in-Err.fault c.in-Err.ensures.faults written)
@@ -50,10 +51,13 @@ returns-in-Err-clause-memory g c e = c.restore_archive.ensures.memory (c.in-Err.
 pub returns-in-Err-clause-writes : goal.returns-in-Err-clause-writes
 returns-in-Err-clause-writes g c =
     blocks_as g.D.Disk.tells (c.restore_archive.result ≡ Err DiskFault) _ c.args.ledger.now (IsLeft (HasBlock c.args.ledger.now.lattice)) (g.D.Disk.state c.args.disk.now) (g.D.Disk.state c.restore_archive.new.disk)
-    (λ e. c.in-Err.is ∙ ap Err (let h = e in cc)) c.restore_archive.ensures.writes
+    (λ e. c.in-Err.is ∙ ap Err (let h = e in cc)) (λ e. err_as (sym c.in-Err.is ∙ e)) c.restore_archive.ensures.writes
 
 pub returns-in-Err-clause-out_cause : goal.returns-in-Err-clause-out_cause
 returns-in-Err-clause-out_cause g c e = absurd (c.in-Err.ensures.faults (let h = e in cc))
+
+pub returns-in-Err-clause-out_still : goal.returns-in-Err-clause-out_still
+returns-in-Err-clause-out_still g c fine = refl
 
 pub returns-in-Err-clause-in_room : goal.returns-in-Err-clause-in_room
 returns-in-Err-clause-in_room g c told room known h lines is tell printed enough = (λ e. c.in-Err.ensures.faults (let same = e in cc), refl)
@@ -70,7 +74,7 @@ returns-in-Ok-print_plan-clause-durable g c written = c.in-Ok.ensures.durable
 pub returns-in-Ok-print_plan-clause-ledger : goal.returns-in-Ok-print_plan-clause-ledger
 returns-in-Ok-print_plan-clause-ledger g c fixed =
     let v = c.args.ledger.now in
-    file_kept g.D.Disk.tells (HaveSitesRoom v.shape v.lattice.n (g.D.Disk.state c.args.disk.now)) _ v.shape v.lattice.n (IsLeft (HasBlock v.lattice)) (IsNoSite v.shape) (g.D.Disk.state c.args.disk.now) (g.D.Disk.state c.restore_archive.new.disk) 0 (inl refl) c.restore_archive.ensures.writes fixed
+    file_kept g.D.Disk.tells (IsReady (g.D.Disk.state c.args.disk.now)) (FitsRows v.shape v.lattice.n (g.D.Disk.state c.args.disk.now)) _ v.shape v.lattice.n (IsLeft (HasBlock v.lattice)) (IsNoSite v.shape) (g.D.Disk.state c.args.disk.now) (g.D.Disk.state c.restore_archive.new.disk) 0 (inl refl) c.restore_archive.ensures.writes fixed
 
 pub returns-in-Ok-print_plan-clause-reports : goal.returns-in-Ok-print_plan-clause-reports
 returns-in-Ok-print_plan-clause-reports g c written =
@@ -92,10 +96,13 @@ returns-in-Ok-print_plan-clause-reports g c written =
 pub returns-in-Ok-print_plan-clause-writes : goal.returns-in-Ok-print_plan-clause-writes
 returns-in-Ok-print_plan-clause-writes g c =
     blocks_as g.D.Disk.tells (c.restore_archive.result ≡ Err DiskFault) _ c.args.ledger.now (IsLeft (HasBlock c.args.ledger.now.lattice)) (g.D.Disk.state c.args.disk.now) (g.D.Disk.state c.restore_archive.new.disk)
-    (λ e. absurd (let h = e in cc)) c.restore_archive.ensures.writes
+    (λ e. absurd (let h = e in cc)) (λ e. absurd (let h = sym c.in-Ok.is ∙ e in cc)) c.restore_archive.ensures.writes
 
 pub returns-in-Ok-print_plan-clause-out_kept : goal.returns-in-Ok-print_plan-clause-out_kept
 returns-in-Ok-print_plan-clause-out_kept g c = c.in-Ok-print_plan.ensures.prints.cause.kept
+
+pub returns-in-Ok-print_plan-clause-out_still : goal.returns-in-Ok-print_plan-clause-out_still
+returns-in-Ok-print_plan-clause-out_still g c fine = c.in-Ok-print_plan.ensures.prints.cause.still
 
 pub returns-in-Ok-print_plan-clause-in_room : goal.returns-in-Ok-print_plan-clause-in_room
 returns-in-Ok-print_plan-clause-in_room g c told room known h lines is tell printed enough =
@@ -116,7 +123,7 @@ returns-clause-durable g c written = c.in-Ok.ensures.durable
 pub returns-clause-ledger : goal.returns-clause-ledger
 returns-clause-ledger g c fixed =
     let v = c.args.ledger.now in
-    file_kept g.D.Disk.tells (HaveSitesRoom v.shape v.lattice.n (g.D.Disk.state c.args.disk.now)) _ v.shape v.lattice.n (IsLeft (HasBlock v.lattice)) (IsNoSite v.shape) (g.D.Disk.state c.args.disk.now) (g.D.Disk.state c.restore_archive.new.disk) 0 (inl refl) c.restore_archive.ensures.writes fixed
+    file_kept g.D.Disk.tells (IsReady (g.D.Disk.state c.args.disk.now)) (FitsRows v.shape v.lattice.n (g.D.Disk.state c.args.disk.now)) _ v.shape v.lattice.n (IsLeft (HasBlock v.lattice)) (IsNoSite v.shape) (g.D.Disk.state c.args.disk.now) (g.D.Disk.state c.restore_archive.new.disk) 0 (inl refl) c.restore_archive.ensures.writes fixed
 
 pub returns-clause-reports : goal.returns-clause-reports
 returns-clause-reports g c written =
@@ -141,13 +148,16 @@ returns-clause-complete g c told records datas has are own disk output = absurd 
 pub returns-clause-writes : goal.returns-clause-writes
 returns-clause-writes g c =
     blocks_as g.D.Disk.tells (c.restore_archive.result ≡ Err DiskFault) _ c.args.ledger.now (IsLeft (HasBlock c.args.ledger.now.lattice)) (g.D.Disk.state c.args.disk.now) (g.D.Disk.state c.restore_archive.new.disk)
-    (λ e. absurd (let h = e in cc)) c.restore_archive.ensures.writes
+    (λ e. absurd (let h = e in cc)) (λ e. absurd (let h = sym c.in-Ok.is ∙ e in cc)) c.restore_archive.ensures.writes
 
 pub returns-clause-out_kept : goal.returns-clause-out_kept
 returns-clause-out_kept g c = c.in-Err-print_plan.ensures.prints.cause.kept
 
 pub returns-clause-out_cause : goal.returns-clause-out_cause
 returns-clause-out_cause g c e = c.in-Err-print_plan.ensures.prints.cause.rose
+
+pub returns-clause-out_still : goal.returns-clause-out_still
+returns-clause-out_still g c fine = absurd (fine refl)
 
 pub returns-clause-in_room : goal.returns-clause-in_room
 returns-clause-in_room g c told room known h lines is tell printed enough =

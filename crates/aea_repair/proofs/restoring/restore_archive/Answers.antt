@@ -17,7 +17,7 @@ use Rattle.aea_restore.specs.Repairs.{IsLeft}
 use Rattle.aea_repair.specs.declared.fault.RepairFault.TheVariants.{DiskFault}
 use Rattle.aea_repair.proofs.Survivors.{AreInside, block_of_shape, block_in_archive, marks_agree, held_left}
 use Rattle.aea_repair.proofs.Frames.{blocks_read, read_then_blocks, blocks_as, held_on, held_read}
-use Rattle.aea_repair.proofs.Ends.{repairs_broken, repairs_unwritten, repairs_later, repairs_ok, repairs_err}
+use Rattle.aea_repair.proofs.Ends.{repairs_broken, repairs_unwritten, repairs_later, repairs_ok, repairs_err, err_as}
 use Rattle.aea_repair.proofs.restoring.restore_archive.Goals as goal
 
 -- ---- the scan failed
@@ -35,11 +35,11 @@ returns-in-Err-DiskFault-clause-held g c told b has =
 pub returns-in-Err-DiskFault-clause-writes : goal.returns-in-Err-DiskFault-clause-writes
 returns-in-Err-DiskFault-clause-writes g c =
     blocks_read c.homes_are_on_its_sites.ensures g.D.Disk.tells (c.scan.result ≡ Err scanning.DiskFault) _ c.args.ledger.now (IsLeft (HasBlock c.args.ledger.now.lattice)) (g.D.Disk.state c.args.disk.now) (g.D.Disk.state c.scan.new.disk)
-    (λ e. c.in-Err-DiskFault.is ∙ ap Err c.in-Err-DiskFault.field-0-is) c.scan.ensures.reads
+    (λ e. c.in-Err-DiskFault.is ∙ ap Err c.in-Err-DiskFault.field-0-is) (λ e. cc) c.scan.ensures.reads
 
 pub returns-in-Err-NoMemory-clause-repairs : goal.returns-in-Err-NoMemory-clause-repairs
 returns-in-Err-NoMemory-clause-repairs g c told known tell =
-    repairs_unwritten c.homes_are_on_its_sites.ensures g.D.Disk.tells (c.scan.result ≡ Err scanning.DiskFault) c.args.ledger.now known (g.D.Disk.state c.args.disk.now) (g.D.Disk.state c.scan.new.disk) told c.scan.ensures.reads
+    repairs_unwritten c.homes_are_on_its_sites.ensures g.D.Disk.tells (c.scan.result ≡ Err scanning.DiskFault) c.args.ledger.now known (g.D.Disk.state c.args.disk.now) (g.D.Disk.state c.scan.new.disk) told (λ is. absurd (let h = sym (c.in-Err-NoMemory.is ∙ ap Err c.in-Err-NoMemory.field-0-is) ∙ is in cc)) c.scan.ensures.reads
 
 pub returns-in-Err-NoMemory-clause-held : goal.returns-in-Err-NoMemory-clause-held
 returns-in-Err-NoMemory-clause-held g c told b has =
@@ -48,18 +48,18 @@ returns-in-Err-NoMemory-clause-held g c told b has =
 
 pub returns-in-Err-NoMemory-clause-memory : goal.returns-in-Err-NoMemory-clause-memory
 returns-in-Err-NoMemory-clause-memory g c e =
-    reads_as g.D.Disk.tells (c.scan.result ≡ Err scanning.DiskFault) ⊥ (g.D.Disk.state c.args.disk.now) (g.D.Disk.state c.scan.new.disk) (λ none. absurd none) c.scan.ensures.reads
+    reads_as g.D.Disk.tells (c.scan.result ≡ Err scanning.DiskFault) ⊥ (g.D.Disk.state c.args.disk.now) (g.D.Disk.state c.scan.new.disk) (λ none. absurd none) (λ is. absurd (let h = sym (c.in-Err-NoMemory.is ∙ ap Err c.in-Err-NoMemory.field-0-is) ∙ is in cc)) c.scan.ensures.reads
 
 pub returns-in-Err-NoMemory-clause-writes : goal.returns-in-Err-NoMemory-clause-writes
 returns-in-Err-NoMemory-clause-writes g c =
     blocks_read c.homes_are_on_its_sites.ensures g.D.Disk.tells (c.scan.result ≡ Err scanning.DiskFault) _ c.args.ledger.now (IsLeft (HasBlock c.args.ledger.now.lattice)) (g.D.Disk.state c.args.disk.now) (g.D.Disk.state c.scan.new.disk)
-    (λ e. absurd (let h = e in cc)) c.scan.ensures.reads
+    (λ e. absurd (let h = e in cc)) (λ is. absurd (let h = sym (c.in-Err-NoMemory.is ∙ ap Err c.in-Err-NoMemory.field-0-is) ∙ is in cc)) c.scan.ensures.reads
 
 -- ---- there was no memory for the plan
 
 pub returns-in_default-clause-repairs : goal.returns-in_default-clause-repairs
 returns-in_default-clause-repairs g c told known tell =
-    repairs_unwritten c.homes_are_on_its_sites.ensures g.D.Disk.tells (c.scan.result ≡ Err scanning.DiskFault) c.args.ledger.now known (g.D.Disk.state c.args.disk.now) (g.D.Disk.state c.scan.new.disk) told c.scan.ensures.reads
+    repairs_unwritten c.homes_are_on_its_sites.ensures g.D.Disk.tells (c.scan.result ≡ Err scanning.DiskFault) c.args.ledger.now known (g.D.Disk.state c.args.disk.now) (g.D.Disk.state c.scan.new.disk) told (λ is. absurd (let h = sym c.in-Ok.is ∙ is in cc)) c.scan.ensures.reads
 
 pub returns-in_default-clause-held : goal.returns-in_default-clause-held
 returns-in_default-clause-held g c told b has =
@@ -68,12 +68,12 @@ returns-in_default-clause-held g c told b has =
 
 pub returns-in_default-clause-memory : goal.returns-in_default-clause-memory
 returns-in_default-clause-memory g c e =
-    reads_as g.D.Disk.tells (c.scan.result ≡ Err scanning.DiskFault) ⊥ (g.D.Disk.state c.args.disk.now) (g.D.Disk.state c.scan.new.disk) (λ none. absurd none) c.scan.ensures.reads
+    reads_as g.D.Disk.tells (c.scan.result ≡ Err scanning.DiskFault) ⊥ (g.D.Disk.state c.args.disk.now) (g.D.Disk.state c.scan.new.disk) (λ none. absurd none) (λ is. absurd (let h = sym c.in-Ok.is ∙ is in cc)) c.scan.ensures.reads
 
 pub returns-in_default-clause-writes : goal.returns-in_default-clause-writes
 returns-in_default-clause-writes g c =
     blocks_read c.homes_are_on_its_sites.ensures g.D.Disk.tells (c.scan.result ≡ Err scanning.DiskFault) _ c.args.ledger.now (IsLeft (HasBlock c.args.ledger.now.lattice)) (g.D.Disk.state c.args.disk.now) (g.D.Disk.state c.scan.new.disk)
-    (λ e. absurd (let h = e in cc)) c.scan.ensures.reads
+    (λ e. absurd (let h = e in cc)) (λ is. absurd (let h = sym c.in-Ok.is ∙ is in cc)) c.scan.ensures.reads
 
 -- ---- the plan is carried out
 
@@ -95,7 +95,7 @@ returns-in-Ok-restore_planned-clause-repairs g c told known tell =
     let marked = subst (λ (f : Files). TellsSurvivors v.shape v.lattice.n v.digests f (is_marked c.in-Ok.marks)) same (c.in-Ok.ensures.survivors told) in
     let tells = subst (λ (f : Files). TellsSurvivors v.shape v.lattice.n v.digests f known) same tell in
     repairs_ok g.D.Disk.tells v known old new tt _
-    (repairs_later c.homes_are_on_its_sites.ensures g.D.Disk.tells (c.scan.result ≡ Err scanning.DiskFault) v known old mid new (Ok tt) told c.scan.ensures.reads (c.in-Ok-restore_planned.ensures.repairs told marked known tells))
+    (repairs_later c.homes_are_on_its_sites.ensures g.D.Disk.tells (c.scan.result ≡ Err scanning.DiskFault) v known old mid new (Ok tt) told (λ is. absurd (let h = sym c.in-Ok.is ∙ is in cc)) c.scan.ensures.reads (c.in-Ok-restore_planned.ensures.repairs told marked known tells))
 
 pub returns-in-Ok-restore_planned-clause-held : goal.returns-in-Ok-restore_planned-clause-held
 returns-in-Ok-restore_planned-clause-held g c told b has held =
@@ -115,8 +115,8 @@ returns-in-Ok-restore_planned-clause-writes g c =
     let keep = IsLeft (HasBlock v.lattice) in
     let old = g.D.Disk.state c.args.disk.now in
     let new = g.D.Disk.state c.restore_planned.new.disk in
-    blocks_as g.D.Disk.tells (c.restore_planned.result ≡ Err DiskFault) _ v keep old new (λ e. absurd (let h = e in cc))
-    (read_then_blocks c.homes_are_on_its_sites.ensures g.D.Disk.tells (c.scan.result ≡ Err scanning.DiskFault) (c.restore_planned.result ≡ Err DiskFault) v keep old (g.D.Disk.state c.scan.new.disk) new c.scan.ensures.reads c.restore_planned.ensures.writes)
+    blocks_as g.D.Disk.tells (c.restore_planned.result ≡ Err DiskFault) _ v keep old new (λ e. absurd (let h = e in cc)) (λ e. absurd (let h = sym c.in-Ok-restore_planned.is ∙ e in cc))
+    (read_then_blocks c.homes_are_on_its_sites.ensures g.D.Disk.tells (c.scan.result ≡ Err scanning.DiskFault) (c.restore_planned.result ≡ Err DiskFault) v keep old (g.D.Disk.state c.scan.new.disk) new (λ is. absurd (let h = sym c.in-Ok.is ∙ is in cc)) c.scan.ensures.reads c.restore_planned.ensures.writes)
 
 pub returns-in-Ok-restore_planned-clause-report : goal.returns-in-Ok-restore_planned-clause-report
 returns-in-Ok-restore_planned-clause-report g c =
@@ -145,7 +145,7 @@ returns-clause-repairs g c told known tell =
     let marked = subst (λ (f : Files). TellsSurvivors v.shape v.lattice.n v.digests f (is_marked c.in-Ok.marks)) same (c.in-Ok.ensures.survivors told) in
     let tells = subst (λ (f : Files). TellsSurvivors v.shape v.lattice.n v.digests f known) same tell in
     repairs_err {T = Unit {0}} g.D.Disk.tells v known old new c.in-Err.fault
-    (repairs_later c.homes_are_on_its_sites.ensures g.D.Disk.tells (c.scan.result ≡ Err scanning.DiskFault) v known old mid new (Err c.in-Err.fault) told c.scan.ensures.reads (c.in-Err.ensures.repairs told marked known tells))
+    (repairs_later c.homes_are_on_its_sites.ensures g.D.Disk.tells (c.scan.result ≡ Err scanning.DiskFault) v known old mid new (Err c.in-Err.fault) told (λ is. absurd (let h = sym c.in-Ok.is ∙ is in cc)) c.scan.ensures.reads (c.in-Err.ensures.repairs told marked known tells))
 
 pub returns-clause-held : goal.returns-clause-held
 returns-clause-held g c told b has held =
@@ -181,5 +181,5 @@ returns-clause-writes g c =
     let keep = IsLeft (HasBlock v.lattice) in
     let old = g.D.Disk.state c.args.disk.now in
     let new = g.D.Disk.state c.restore_planned.new.disk in
-    blocks_as g.D.Disk.tells (c.restore_planned.result ≡ Err DiskFault) _ v keep old new (λ e. c.in-Err.is ∙ ap Err (let h = e in cc))
-    (read_then_blocks c.homes_are_on_its_sites.ensures g.D.Disk.tells (c.scan.result ≡ Err scanning.DiskFault) (c.restore_planned.result ≡ Err DiskFault) v keep old (g.D.Disk.state c.scan.new.disk) new c.scan.ensures.reads c.restore_planned.ensures.writes)
+    blocks_as g.D.Disk.tells (c.restore_planned.result ≡ Err DiskFault) _ v keep old new (λ e. c.in-Err.is ∙ ap Err (let h = e in cc)) (λ e. err_as (sym c.in-Err.is ∙ e))
+    (read_then_blocks c.homes_are_on_its_sites.ensures g.D.Disk.tells (c.scan.result ≡ Err scanning.DiskFault) (c.restore_planned.result ≡ Err DiskFault) v keep old (g.D.Disk.state c.scan.new.disk) new (λ is. absurd (let h = sym c.in-Ok.is ∙ is in cc)) c.scan.ensures.reads c.restore_planned.ensures.writes)

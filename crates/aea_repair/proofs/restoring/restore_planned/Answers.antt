@@ -25,7 +25,7 @@ returns-in-Ok-clause-repairs g c told marked known tell =
     let mends = c.requires.mends known (marks_agree v old.files c.args.marks.now known c.requires.lattice inside marked tell) in
     repairs_done {T = Unit {0}} g.D.Disk.tells (c.restore.result ≡ Err stage.DiskFault) v known (is_given steps fates) (is_marked c.restore.new.marks) old new tt c.plain_damage_stays.ensures inside
     (λ b has. block_of_shape v c.lattice-lattice.result b c.lattice-lattice.ensures.value c.lattice-lattice.ensures.of_shape has)
-    tell mends (c.in-Ok.ensures.left told) c.restore.ensures.writes
+    tell mends (c.in-Ok.ensures.left told) (λ is. absurd (let h = sym c.in-Ok.is ∙ is in cc)) c.restore.ensures.writes
     (all_ready v known c.args.marks.now c.restore.new.marks (IsGiven steps fates) (tests_agree v old.files (is_marked c.args.marks.now) known inside marked tell) mends c.in-Ok.ensures.marks)
     (c.restore.ensures.marked told marked)
     (c.restore.ensures.honest told marked)
@@ -36,7 +36,7 @@ returns-in-Ok-clause-writes g c =
     let given = IsGiven c.args.plan.now.steps c.args.plan.now.verdicts.fates in
     blocks_less g.D.Disk.tells (c.restore.result ≡ Err stage.DiskFault) _ v (IsLeft given) (IsLeft (HasBlock v.lattice)) (g.D.Disk.state c.args.disk.now) (g.D.Disk.state c.restore.new.disk)
     (λ a left one. left ((c.requires.mends (is_marked c.args.marks.now) (λ b has. refl) a).0 one).block)
-    (λ e. absurd (let h = e in cc)) c.restore.ensures.writes
+    (λ e. absurd (let h = e in cc)) (λ e. absurd (let h = sym c.in-Ok.is ∙ e in cc)) c.restore.ensures.writes
 
 pub returns-in-Err-clause-repairs : goal.returns-in-Err-clause-repairs
 returns-in-Err-clause-repairs g c told marked known tell =
@@ -52,7 +52,7 @@ returns-in-Err-clause-repairs g c told marked known tell =
     (repairs_failed {T = Unit {0}} g.D.Disk.tells v known old new (fault_of fault) (is_of_stage fault).1
     (left_as v (IsRestorable v.lattice known) old.files new.files fault left)
     (blocks_less g.D.Disk.tells (c.restore.result ≡ Err stage.DiskFault) (fault_of fault ≡ DiskFault) v (IsLeft given) (IsLeft (IsRestorable v.lattice known)) old new
-    (λ a left one. left ((mends a).0 one)) (λ e. c.in-Err.is ∙ ap Err (was_disk fault e)) c.restore.ensures.writes)
+    (λ a left one. left ((mends a).0 one)) (λ e. c.in-Err.is ∙ ap Err (was_disk fault e)) (λ e. let is_disk : c.in-Err.fault ≡ stage.DiskFault = (let h = sym c.in-Err.is ∙ e in cc) in ap fault_of is_disk) c.restore.ensures.writes)
     (λ b t k e.
     let one = c.restore.ensures.computed told marked b t k (c.in-Err.is ∙ ap Err (was_clash fault b t k e)) in
     ((mends b).0 one.0, clash_as v (is_marked c.args.marks.now) known old.files b t k (tests_agree v old.files (is_marked c.args.marks.now) known inside marked tell) one.1)))
@@ -73,4 +73,4 @@ returns-in-Err-clause-writes g c =
     let given = IsGiven c.args.plan.now.steps c.args.plan.now.verdicts.fates in
     blocks_less g.D.Disk.tells (c.restore.result ≡ Err stage.DiskFault) _ v (IsLeft given) (IsLeft (HasBlock v.lattice)) (g.D.Disk.state c.args.disk.now) (g.D.Disk.state c.restore.new.disk)
     (λ a left one. left ((c.requires.mends (is_marked c.args.marks.now) (λ b has. refl) a).0 one).block)
-    (λ e. let is : c.repair_fault.result ≡ DiskFault = (let h = e in cc) in c.in-Err.is ∙ ap Err (was_disk c.in-Err.fault (sym c.repair_fault.ensures ∙ is))) c.restore.ensures.writes
+    (λ e. let is : c.repair_fault.result ≡ DiskFault = (let h = e in cc) in c.in-Err.is ∙ ap Err (was_disk c.in-Err.fault (sym c.repair_fault.ensures ∙ is))) (λ e. let is_disk : c.in-Err.fault ≡ stage.DiskFault = (let h = sym c.in-Err.is ∙ e in cc) in ap Err (c.repair_fault.ensures ∙ ap fault_of is_disk)) c.restore.ensures.writes

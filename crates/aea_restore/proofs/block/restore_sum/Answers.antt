@@ -17,7 +17,7 @@ returns-in-Err-clause-clash g c d told computed is tells known first all = absur
 
 pub returns-in-Err-clause-writes : goal.returns-in-Err-clause-writes
 returns-in-Err-clause-writes g c =
-    blocks_read c.homes_are_on_its_sites.ensures g.D.Disk.tells (c.add_equations.result ≡ Err DiskFault) _ c.args.ledger.now (λ a. a ≢ c.args.b) (g.D.Disk.state c.args.disk.now) (g.D.Disk.state c.add_equations.new.disk) (λ is. c.in-Err.is ∙ is) c.add_equations.ensures.reads
+    blocks_read c.homes_are_on_its_sites.ensures g.D.Disk.tells (c.add_equations.result ≡ Err DiskFault) _ c.args.ledger.now (λ a. a ≢ c.args.b) (g.D.Disk.state c.args.disk.now) (g.D.Disk.state c.add_equations.new.disk) (λ is. c.in-Err.is ∙ is) (λ is. sym c.in-Err.is ∙ is) c.add_equations.ensures.reads
 
 pub returns-clause-way : goal.returns-clause-way
 returns-clause-way g c fine told =
@@ -48,4 +48,4 @@ returns-clause-clash g c d told computed is tells known first all =
 pub returns-clause-writes : goal.returns-clause-writes
 returns-clause-writes g c =
     read_then_blocks c.homes_are_on_its_sites.ensures g.D.Disk.tells (c.add_equations.result ≡ Err DiskFault) (c.write_block.result ≡ Err DiskFault) c.args.ledger.now (λ a. a ≢ c.args.b) (g.D.Disk.state c.args.disk.now) (g.D.Disk.state c.add_equations.new.disk) (g.D.Disk.state c.write_block.new.disk)
-    c.add_equations.ensures.reads c.write_block.ensures.writes
+    (λ is. absurd (let e = sym c.in-Ok.is ∙ is in cc)) c.add_equations.ensures.reads c.write_block.ensures.writes

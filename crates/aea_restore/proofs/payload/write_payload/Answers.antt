@@ -2,8 +2,9 @@ use Rattle.std.proofs.Common.{◌≢◌, ◌+◌, refl, sym, subst}
 use Rattle.std.specs.Prelude.{IsErr}
 use Rattle.aea_lattice.specs.declared.shape.Shape.{Shape}
 use Rattle.aea_envelope.specs.Cells.{block_digest, cell_of}
-use Rattle.aea_disk.specs.State.{HasRoomTo}
+use Rattle.aea_disk.specs.State.{IsReady, HasRoomTo}
 use Rattle.aea_disk.specs.Frames.{OnlyWrites}
+use Rattle.aea_disk.proofs.Frames.{ok_fine}
 use Rattle.aea_shelf.specs.Places.{cell_size, home_file, home_place, HasAtHome}
 use Rattle.aea_shelf.specs.Writes.{ChangesHome, KeepsPadded}
 use Rattle.aea_archive.proofs.Honest.{stands}
@@ -26,8 +27,8 @@ returns-in-Err-clause-writes g c =
     let new = g.D.Disk.state c.write_cell.new.disk in
     block_written c.cells_are_apart.ensures c.homes_are_in_rows.ensures c.homes_are_on_its_sites.ensures g.D.Disk.tells (IsErr c.write_cell.result) _ v b old new
     (block_of_shape v c.lattice-lattice.result b c.lattice-lattice.ensures.value c.lattice-lattice.ensures.of_shape c.requires.block) c.requires.block
-    (λ f m n le room. g.met.D.Disk.smaller_fits c.args.disk.now f m n le room) (λ is. subst IsErr (sym c.in-Err.is) refl)
-    (subst (λ (s : Shape). OnlyWrites g.D.Disk.tells (HasRoomTo old (home_file s b) (home_place s b + cell_size s)) (IsErr c.write_cell.result) (ChangesHome s b) old new) c.shape-shape.ensures.value c.write_cell.ensures.writes)
+    (λ f m n le room. g.met.D.Disk.smaller_fits c.args.disk.now f m n le room) (λ is. subst IsErr (sym c.in-Err.is) refl) (λ is. cc)
+    (subst (λ (s : Shape). OnlyWrites g.D.Disk.tells (IsReady old) (HasRoomTo old (home_file s b) (home_place s b + cell_size s)) (IsErr c.write_cell.result) (ChangesHome s b) old new) c.shape-shape.ensures.value c.write_cell.ensures.writes)
 
 pub returns-in-Ok-clause-payload : goal.returns-in-Ok-clause-payload
 returns-in-Ok-clause-payload g c told =
@@ -53,5 +54,5 @@ returns-in-Ok-clause-writes g c =
     let new = g.D.Disk.state c.write_cell.new.disk in
     block_written c.cells_are_apart.ensures c.homes_are_in_rows.ensures c.homes_are_on_its_sites.ensures g.D.Disk.tells (IsErr c.write_cell.result) _ v b old new
     (block_of_shape v c.lattice-lattice.result b c.lattice-lattice.ensures.value c.lattice-lattice.ensures.of_shape c.requires.block) c.requires.block
-    (λ f m n le room. g.met.D.Disk.smaller_fits c.args.disk.now f m n le room) (λ is. absurd (let e = is in cc))
-    (subst (λ (s : Shape). OnlyWrites g.D.Disk.tells (HasRoomTo old (home_file s b) (home_place s b + cell_size s)) (IsErr c.write_cell.result) (ChangesHome s b) old new) c.shape-shape.ensures.value c.write_cell.ensures.writes)
+    (λ f m n le room. g.met.D.Disk.smaller_fits c.args.disk.now f m n le room) (λ is. absurd (let e = is in cc)) (λ is. absurd (ok_fine c.in-Ok.is is))
+    (subst (λ (s : Shape). OnlyWrites g.D.Disk.tells (IsReady old) (HasRoomTo old (home_file s b) (home_place s b + cell_size s)) (IsErr c.write_cell.result) (ChangesHome s b) old new) c.shape-shape.ensures.value c.write_cell.ensures.writes)

@@ -1,9 +1,10 @@
 use Rattle.std.proofs.Common.{◌≡◌, inl, Err, refl, sym, ◌∙◌, ap, subst}
 use Rattle.std.specs.Prelude.{IsErr}
 use Rattle.std.proofs.lemmas.Bool.{or_right}
-use Rattle.aea_disk.proofs.Frames.{reads_one}
+use Rattle.aea_disk.specs.State.{IsReady}
+use Rattle.aea_disk.proofs.Frames.{reads_one, ok_fine}
 use Rattle.aea_view.specs.Marked.{is_marked}
-use Rattle.aea_archive.specs.Cells.{IsNoSite, HaveSitesRoom}
+use Rattle.aea_archive.specs.Cells.{IsNoSite, FitsRows}
 use Rattle.aea_archive.proofs.Cells.{file_kept}
 use Rattle.aea_restore.specs.declared.fault.RestoreFault.TheVariants.{DiskFault}
 use Rattle.aea_restore.specs.Given.{is_given, IsGiven}
@@ -25,11 +26,11 @@ returns-in-Err-clause-left g c told =
 
 pub returns-in-Err-clause-writes : goal.returns-in-Err-clause-writes
 returns-in-Err-clause-writes g c =
-    blocks_less g.D.Disk.tells (c.restore_all.result ≡ Err DiskFault) _ c.args.ledger.now (IsLeft (IsGiven c.args.steps.now c.args.fates.now)) (IsLeft (IsGiven c.args.steps.now c.args.fates.now)) (g.D.Disk.state c.args.disk.now) (g.D.Disk.state c.restore_all.new.disk) (λ d left. left) (λ is. c.in-Err.is ∙ is) c.restore_all.ensures.writes
+    blocks_less g.D.Disk.tells (c.restore_all.result ≡ Err DiskFault) _ c.args.ledger.now (IsLeft (IsGiven c.args.steps.now c.args.fates.now)) (IsLeft (IsGiven c.args.steps.now c.args.fates.now)) (g.D.Disk.state c.args.disk.now) (g.D.Disk.state c.restore_all.new.disk) (λ d left. left) (λ is. c.in-Err.is ∙ is) (λ is. sym c.in-Err.is ∙ is) c.restore_all.ensures.writes
 
 pub returns-in-Err-clause-ledger : goal.returns-in-Err-clause-ledger
 returns-in-Err-clause-ledger g c fixed =
-    file_kept g.D.Disk.tells (HaveSitesRoom c.args.ledger.now.shape c.args.ledger.now.lattice.n (g.D.Disk.state c.args.disk.now)) _ c.args.ledger.now.shape c.args.ledger.now.lattice.n (IsLeft (IsGiven c.args.steps.now c.args.fates.now)) (IsNoSite c.args.ledger.now.shape) (g.D.Disk.state c.args.disk.now) (g.D.Disk.state c.restore_all.new.disk) 0 (inl refl) (returns-in-Err-clause-writes g c) fixed
+    file_kept g.D.Disk.tells (IsReady (g.D.Disk.state c.args.disk.now)) (FitsRows c.args.ledger.now.shape c.args.ledger.now.lattice.n (g.D.Disk.state c.args.disk.now)) _ c.args.ledger.now.shape c.args.ledger.now.lattice.n (IsLeft (IsGiven c.args.steps.now c.args.fates.now)) (IsNoSite c.args.ledger.now.shape) (g.D.Disk.state c.args.disk.now) (g.D.Disk.state c.restore_all.new.disk) 0 (inl refl) (returns-in-Err-clause-writes g c) fixed
 
 pub returns-in-Err-clause-marks : goal.returns-in-Err-clause-marks
 returns-in-Err-clause-marks g c =
@@ -72,13 +73,13 @@ returns-in-Ok-sync-clause-left g c told =
 
 pub returns-in-Ok-sync-clause-writes : goal.returns-in-Ok-sync-clause-writes
 returns-in-Ok-sync-clause-writes g c =
-    blocks_less g.D.Disk.tells (IsErr c.sync.result) _ c.args.ledger.now (IsLeft (IsGiven c.args.steps.now c.args.fates.now)) (IsLeft (IsGiven c.args.steps.now c.args.fates.now)) (g.D.Disk.state c.args.disk.now) (g.D.Disk.state c.sync.new.self) (λ d left. left) (λ is. absurd (let e = is in cc))
-    (blocks_then_read c.homes_are_on_its_sites.ensures g.D.Disk.tells (c.restore_all.result ≡ Err DiskFault) (IsErr c.sync.result) c.args.ledger.now (IsLeft (IsGiven c.args.steps.now c.args.fates.now)) (g.D.Disk.state c.args.disk.now) (g.D.Disk.state c.restore_all.new.disk) (g.D.Disk.state c.sync.new.self) c.restore_all.ensures.writes
+    blocks_less g.D.Disk.tells (IsErr c.sync.result) _ c.args.ledger.now (IsLeft (IsGiven c.args.steps.now c.args.fates.now)) (IsLeft (IsGiven c.args.steps.now c.args.fates.now)) (g.D.Disk.state c.args.disk.now) (g.D.Disk.state c.sync.new.self) (λ d left. left) (λ is. absurd (let e = is in cc)) (λ is. absurd (ok_fine c.in-Ok-sync.is is))
+    (blocks_then_read c.homes_are_on_its_sites.ensures g.D.Disk.tells (c.restore_all.result ≡ Err DiskFault) (IsErr c.sync.result) c.args.ledger.now (IsLeft (IsGiven c.args.steps.now c.args.fates.now)) (g.D.Disk.state c.args.disk.now) (g.D.Disk.state c.restore_all.new.disk) (g.D.Disk.state c.sync.new.self) (λ is. absurd (let e = sym c.in-Ok.is ∙ is in cc)) c.restore_all.ensures.writes
     (reads_one g.D.Disk.tells (g.D.Disk.state c.restore_all.new.disk) (g.D.Disk.state c.sync.new.self) c.sync.result c.sync.ensures.contents c.sync.ensures.crash c.sync.ensures.settled c.sync.ensures.time c.sync.ensures.cause c.sync.ensures.sure))
 
 pub returns-in-Ok-sync-clause-ledger : goal.returns-in-Ok-sync-clause-ledger
 returns-in-Ok-sync-clause-ledger g c fixed =
-    file_kept g.D.Disk.tells (HaveSitesRoom c.args.ledger.now.shape c.args.ledger.now.lattice.n (g.D.Disk.state c.args.disk.now)) _ c.args.ledger.now.shape c.args.ledger.now.lattice.n (IsLeft (IsGiven c.args.steps.now c.args.fates.now)) (IsNoSite c.args.ledger.now.shape) (g.D.Disk.state c.args.disk.now) (g.D.Disk.state c.sync.new.self) 0 (inl refl) (returns-in-Ok-sync-clause-writes g c) fixed
+    file_kept g.D.Disk.tells (IsReady (g.D.Disk.state c.args.disk.now)) (FitsRows c.args.ledger.now.shape c.args.ledger.now.lattice.n (g.D.Disk.state c.args.disk.now)) _ c.args.ledger.now.shape c.args.ledger.now.lattice.n (IsLeft (IsGiven c.args.steps.now c.args.fates.now)) (IsNoSite c.args.ledger.now.shape) (g.D.Disk.state c.args.disk.now) (g.D.Disk.state c.sync.new.self) 0 (inl refl) (returns-in-Ok-sync-clause-writes g c) fixed
 
 pub returns-in-Ok-sync-clause-marks : goal.returns-in-Ok-sync-clause-marks
 returns-in-Ok-sync-clause-marks g c =
@@ -107,13 +108,13 @@ returns-in-Err-sync-clause-left g c told =
 
 pub returns-in-Err-sync-clause-writes : goal.returns-in-Err-sync-clause-writes
 returns-in-Err-sync-clause-writes g c =
-    blocks_less g.D.Disk.tells (IsErr c.sync.result) _ c.args.ledger.now (IsLeft (IsGiven c.args.steps.now c.args.fates.now)) (IsLeft (IsGiven c.args.steps.now c.args.fates.now)) (g.D.Disk.state c.args.disk.now) (g.D.Disk.state c.sync.new.self) (λ d left. left) (λ is. subst IsErr (sym c.in-Err-sync.is) refl)
-    (blocks_then_read c.homes_are_on_its_sites.ensures g.D.Disk.tells (c.restore_all.result ≡ Err DiskFault) (IsErr c.sync.result) c.args.ledger.now (IsLeft (IsGiven c.args.steps.now c.args.fates.now)) (g.D.Disk.state c.args.disk.now) (g.D.Disk.state c.restore_all.new.disk) (g.D.Disk.state c.sync.new.self) c.restore_all.ensures.writes
+    blocks_less g.D.Disk.tells (IsErr c.sync.result) _ c.args.ledger.now (IsLeft (IsGiven c.args.steps.now c.args.fates.now)) (IsLeft (IsGiven c.args.steps.now c.args.fates.now)) (g.D.Disk.state c.args.disk.now) (g.D.Disk.state c.sync.new.self) (λ d left. left) (λ is. subst IsErr (sym c.in-Err-sync.is) refl) (λ is. cc)
+    (blocks_then_read c.homes_are_on_its_sites.ensures g.D.Disk.tells (c.restore_all.result ≡ Err DiskFault) (IsErr c.sync.result) c.args.ledger.now (IsLeft (IsGiven c.args.steps.now c.args.fates.now)) (g.D.Disk.state c.args.disk.now) (g.D.Disk.state c.restore_all.new.disk) (g.D.Disk.state c.sync.new.self) (λ is. absurd (let e = sym c.in-Ok.is ∙ is in cc)) c.restore_all.ensures.writes
     (reads_one g.D.Disk.tells (g.D.Disk.state c.restore_all.new.disk) (g.D.Disk.state c.sync.new.self) c.sync.result c.sync.ensures.contents c.sync.ensures.crash c.sync.ensures.settled c.sync.ensures.time c.sync.ensures.cause c.sync.ensures.sure))
 
 pub returns-in-Err-sync-clause-ledger : goal.returns-in-Err-sync-clause-ledger
 returns-in-Err-sync-clause-ledger g c fixed =
-    file_kept g.D.Disk.tells (HaveSitesRoom c.args.ledger.now.shape c.args.ledger.now.lattice.n (g.D.Disk.state c.args.disk.now)) _ c.args.ledger.now.shape c.args.ledger.now.lattice.n (IsLeft (IsGiven c.args.steps.now c.args.fates.now)) (IsNoSite c.args.ledger.now.shape) (g.D.Disk.state c.args.disk.now) (g.D.Disk.state c.sync.new.self) 0 (inl refl) (returns-in-Err-sync-clause-writes g c) fixed
+    file_kept g.D.Disk.tells (IsReady (g.D.Disk.state c.args.disk.now)) (FitsRows c.args.ledger.now.shape c.args.ledger.now.lattice.n (g.D.Disk.state c.args.disk.now)) _ c.args.ledger.now.shape c.args.ledger.now.lattice.n (IsLeft (IsGiven c.args.steps.now c.args.fates.now)) (IsNoSite c.args.ledger.now.shape) (g.D.Disk.state c.args.disk.now) (g.D.Disk.state c.sync.new.self) 0 (inl refl) (returns-in-Err-sync-clause-writes g c) fixed
 
 pub returns-in-Err-sync-clause-marks : goal.returns-in-Err-sync-clause-marks
 returns-in-Err-sync-clause-marks g c =

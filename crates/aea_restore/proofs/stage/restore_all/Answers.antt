@@ -34,7 +34,7 @@ returns-in-Err-clause-clash g c d told computed is tells known first all =
 pub returns-in-Err-clause-writes : goal.returns-in-Err-clause-writes
 returns-in-Err-clause-writes g c =
     blocks_less g.D.Disk.tells (c.restore_steps.result ≡ Err DiskFault) _ c.args.ledger.now (IsLeft (λ d. IsTrue (is_among (blocks_given c.args.steps.now) d))) (IsLeft (IsGiven c.args.steps.now c.args.fates.now)) (g.D.Disk.state c.args.disk.now) (g.D.Disk.state c.restore_steps.new.disk)
-    (λ d left is. left (or_left (is_among (blocks_given c.args.steps.now) d) (is_among (blocks_summed c.args.fates.now) d) is)) (λ is. c.in-Err.is ∙ is) c.restore_steps.ensures.writes
+    (λ d left is. left (or_left (is_among (blocks_given c.args.steps.now) d) (is_among (blocks_summed c.args.fates.now) d) is)) (λ is. c.in-Err.is ∙ is) (λ is. sym c.in-Err.is ∙ is) c.restore_steps.ensures.writes
 
 pub restore_sums-requires-clause-can : goal.restore_sums-requires-clause-can
 restore_sums-requires-clause-can g c =
@@ -78,6 +78,7 @@ returns-clause-clash g c d told computed is tells known first all =
 pub returns-clause-writes : goal.returns-clause-writes
 returns-clause-writes g c =
     blocks_then g.D.Disk.tells (c.restore_steps.result ≡ Err DiskFault) (c.restore_sums.result ≡ Err DiskFault) c.args.ledger.now (IsLeft (IsGiven c.args.steps.now c.args.fates.now)) (IsLeft (λ d. IsTrue (is_among (blocks_given c.args.steps.now) d))) (IsLeft (λ d. IsTrue (is_among (blocks_summed c.args.fates.now) d))) (g.D.Disk.state c.args.disk.now) (g.D.Disk.state c.restore_steps.new.disk) (g.D.Disk.state c.restore_sums.new.disk)
+    (λ is. absurd (let e = sym c.in-Ok.is ∙ is in cc))
     (λ d left is. left (or_left (is_among (blocks_given c.args.steps.now) d) (is_among (blocks_summed c.args.fates.now) d) is))
     (λ d left is. left (or_right (is_among (blocks_given c.args.steps.now) d) (is_among (blocks_summed c.args.fates.now) d) is))
     c.restore_steps.ensures.writes c.restore_sums.ensures.writes

@@ -36,7 +36,7 @@ returns-in-Sum-clause-clash g c d told computed is tells known first all =
 pub returns-in-Sum-clause-writes : goal.returns-in-Sum-clause-writes
 returns-in-Sum-clause-writes g c =
     blocks_less g.D.Disk.tells (c.restore_sum.result ≡ Err DiskFault) _ c.args.ledger.now (λ a. a ≢ c.in-Sum.block) (IsLeft (λ d. IsTrue (is_among (block_summed c.args.fate.now) d))) (g.D.Disk.state c.args.disk.now) (g.D.Disk.state c.restore_sum.new.disk)
-    (λ d left one. left (summed_one c.args.fate.now c.in-Sum.block c.in-Sum.eqs c.in-Sum.is d one)) (λ is. is) c.restore_sum.ensures.writes
+    (λ d left one. left (summed_one c.args.fate.now c.in-Sum.block c.in-Sum.eqs c.in-Sum.is d one)) (λ is. is) (λ is. is) c.restore_sum.ensures.writes
 
 pub returns-in-Word-clause-done : goal.returns-in-Word-clause-done
 returns-in-Word-clause-done g c d has = summed_none c.args.fate.now _ _ c.in-Word.is (is_marked c.args.marks.now d) d

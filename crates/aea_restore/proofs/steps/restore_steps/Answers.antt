@@ -67,9 +67,9 @@ returns-in-Err-clause-clash g c d told computed is tells known first all =
 
 pub returns-in-Err-clause-writes : goal.returns-in-Err-clause-writes
 returns-in-Err-clause-writes g c =
-    blocks_less g.D.Disk.tells (c.restore_step.result ≡ Err DiskFault) _ c.args.ledger.now (IsLeft (λ d. IsTrue (is_among (blocks_given c.args.steps.now) d))) (IsLeft (λ d. IsTrue (is_among (blocks_given c.args.steps.now) d))) (g.D.Disk.state c.args.disk.now) (g.D.Disk.state c.restore_step.new.disk) (λ d left. left) (λ is. c.in-Err.is ∙ is)
+    blocks_less g.D.Disk.tells (c.restore_step.result ≡ Err DiskFault) _ c.args.ledger.now (IsLeft (λ d. IsTrue (is_among (blocks_given c.args.steps.now) d))) (IsLeft (λ d. IsTrue (is_among (blocks_given c.args.steps.now) d))) (g.D.Disk.state c.args.disk.now) (g.D.Disk.state c.restore_step.new.disk) (λ d left. left) (λ is. c.in-Err.is ∙ is) (λ is. sym c.in-Err.is ∙ is)
     (blocks_then g.D.Disk.tells ⊥ (c.restore_step.result ≡ Err DiskFault) c.args.ledger.now (IsLeft (λ d. IsTrue (is_among (blocks_given c.args.steps.now) d))) (IsLeft (λ d. IsTrue (is_among (blocks_given c.args.steps.now) d))) (λ d. d ≡ c.in-Some.step.block → ⊥) (g.D.Disk.state c.args.disk.now) (g.D.Disk.state c.loop-k.disk) (g.D.Disk.state c.restore_step.new.disk)
-    (λ d left. left) (λ d left one. left (subst (λ (e : BlockId). IsTrue (is_among (blocks_given c.args.steps.now) e)) (sym one) (step_given c.args.steps.now c.in-Some.step c.loop-k.k (sym c.get.ensures ∙ c.in-Some.is)))) c.loop-k.invariant.writes c.restore_step.ensures.writes)
+    (λ none. none) (λ d left. left) (λ d left one. left (subst (λ (e : BlockId). IsTrue (is_among (blocks_given c.args.steps.now) e)) (sym one) (step_given c.args.steps.now c.in-Some.step c.loop-k.k (sym c.get.ensures ∙ c.in-Some.is)))) c.loop-k.invariant.writes c.restore_step.ensures.writes)
 
 pub loop-k-preserved : goal.loop-k-preserved
 loop-k-preserved g c = record {
@@ -82,9 +82,9 @@ loop-k-preserved g c = record {
       (c.loop-k.invariant.way told) (c.restore_step.ensures.way (λ bad. absurd (let is = c.in-Ok.is in cc)) told);
   drawn = λ told. stays_both c.args.ledger.now (is_marked c.args.marks.now) (is_marked c.loop-k.marks) (is_marked c.restore_step.new.marks) (g.D.Disk.state c.args.disk.now).files (g.D.Disk.state c.loop-k.disk).files (g.D.Disk.state c.restore_step.new.disk).files
       (c.loop-k.invariant.drawn told) (c.restore_step.ensures.drawn told);
-  writes = blocks_less g.D.Disk.tells (c.restore_step.result ≡ Err DiskFault) ⊥ c.args.ledger.now (IsLeft (λ d. IsTrue (is_among (blocks_given c.args.steps.now) d))) (IsLeft (λ d. IsTrue (is_among (blocks_given c.args.steps.now) d))) (g.D.Disk.state c.args.disk.now) (g.D.Disk.state c.restore_step.new.disk) (λ d left. left) (λ none. absurd none)
+  writes = blocks_less g.D.Disk.tells (c.restore_step.result ≡ Err DiskFault) ⊥ c.args.ledger.now (IsLeft (λ d. IsTrue (is_among (blocks_given c.args.steps.now) d))) (IsLeft (λ d. IsTrue (is_among (blocks_given c.args.steps.now) d))) (g.D.Disk.state c.args.disk.now) (g.D.Disk.state c.restore_step.new.disk) (λ d left. left) (λ none. absurd none) (λ is. absurd (let e = sym c.in-Ok.is ∙ is in cc))
       (blocks_then g.D.Disk.tells ⊥ (c.restore_step.result ≡ Err DiskFault) c.args.ledger.now (IsLeft (λ d. IsTrue (is_among (blocks_given c.args.steps.now) d))) (IsLeft (λ d. IsTrue (is_among (blocks_given c.args.steps.now) d))) (λ d. d ≡ c.in-Some.step.block → ⊥) (g.D.Disk.state c.args.disk.now) (g.D.Disk.state c.loop-k.disk) (g.D.Disk.state c.restore_step.new.disk)
-      (λ d left. left) (λ d left one. left (subst (λ (e : BlockId). IsTrue (is_among (blocks_given c.args.steps.now) e)) (sym one) (step_given c.args.steps.now c.in-Some.step c.loop-k.k (sym c.get.ensures ∙ c.in-Some.is)))) c.loop-k.invariant.writes c.restore_step.ensures.writes);
+      (λ none. none) (λ d left. left) (λ d left one. left (subst (λ (e : BlockId). IsTrue (is_among (blocks_given c.args.steps.now) e)) (sym one) (step_given c.args.steps.now c.in-Some.step c.loop-k.k (sym c.get.ensures ∙ c.in-Some.is)))) c.loop-k.invariant.writes c.restore_step.ensures.writes);
 }
 
 pub returns-clause-done : goal.returns-clause-done
@@ -95,4 +95,4 @@ returns-clause-some g c = steps_some c.args.ledger.now.lattice c.args.steps.now 
 
 pub returns-clause-writes : goal.returns-clause-writes
 returns-clause-writes g c =
-    blocks_less g.D.Disk.tells ⊥ _ c.args.ledger.now (IsLeft (λ d. IsTrue (is_among (blocks_given c.args.steps.now) d))) (IsLeft (λ d. IsTrue (is_among (blocks_given c.args.steps.now) d))) (g.D.Disk.state c.args.disk.now) (g.D.Disk.state c.loop-k.disk) (λ d left. left) (λ is. absurd (let e = is in cc)) c.loop-k.invariant.writes
+    blocks_less g.D.Disk.tells ⊥ _ c.args.ledger.now (IsLeft (λ d. IsTrue (is_among (blocks_given c.args.steps.now) d))) (IsLeft (λ d. IsTrue (is_among (blocks_given c.args.steps.now) d))) (g.D.Disk.state c.args.disk.now) (g.D.Disk.state c.loop-k.disk) (λ d left. left) (λ is. absurd (let e = is in cc)) (λ none. absurd none) c.loop-k.invariant.writes

@@ -11,8 +11,8 @@ use Rattle.aea_restore.proofs.sum.add_equation.Goals as goal
 
 pub returns-in-Err-add_other-clause-reads : goal.returns-in-Err-add_other-clause-reads
 returns-in-Err-add_other-clause-reads g c =
-    reads_as g.D.Disk.tells (c.add_other.result ≡ Err DiskFault) _ (g.D.Disk.state c.args.disk.now) (g.D.Disk.state c.add_other.new.disk) (λ is. c.in-Err-add_other.is ∙ is)
-    (reads_both g.D.Disk.tells (c.add_input.result ≡ Err DiskFault) (c.add_other.result ≡ Err DiskFault) (g.D.Disk.state c.args.disk.now) (g.D.Disk.state c.add_input.new.disk) (g.D.Disk.state c.add_other.new.disk) c.add_input.ensures.reads c.add_other.ensures.reads)
+    reads_as g.D.Disk.tells (c.add_other.result ≡ Err DiskFault) _ (g.D.Disk.state c.args.disk.now) (g.D.Disk.state c.add_other.new.disk) (λ is. c.in-Err-add_other.is ∙ is) (λ is. cc)
+    (reads_both g.D.Disk.tells (c.add_input.result ≡ Err DiskFault) (c.add_other.result ≡ Err DiskFault) (g.D.Disk.state c.args.disk.now) (g.D.Disk.state c.add_input.new.disk) (g.D.Disk.state c.add_other.new.disk) (λ is. absurd (cc)) c.add_input.ensures.reads c.add_other.ensures.reads)
 
 pub returns-in-Ok-add_other-2-clause-sum : goal.returns-in-Ok-add_other-2-clause-sum
 returns-in-Ok-add_other-2-clause-sum g c told all =
@@ -32,9 +32,9 @@ returns-in-Ok-add_other-2-clause-sum g c told all =
 
 pub returns-in-Ok-add_other-2-clause-reads : goal.returns-in-Ok-add_other-2-clause-reads
 returns-in-Ok-add_other-2-clause-reads g c =
-    reads_as g.D.Disk.tells (c.add_other-2.result ≡ Err DiskFault) _ (g.D.Disk.state c.args.disk.now) (g.D.Disk.state c.add_other-2.new.disk) (λ is. absurd (let e = is in cc))
-    (reads_both g.D.Disk.tells (c.add_other.result ≡ Err DiskFault) (c.add_other-2.result ≡ Err DiskFault) (g.D.Disk.state c.args.disk.now) (g.D.Disk.state c.add_other.new.disk) (g.D.Disk.state c.add_other-2.new.disk)
-    (reads_both g.D.Disk.tells (c.add_input.result ≡ Err DiskFault) (c.add_other.result ≡ Err DiskFault) (g.D.Disk.state c.args.disk.now) (g.D.Disk.state c.add_input.new.disk) (g.D.Disk.state c.add_other.new.disk) c.add_input.ensures.reads c.add_other.ensures.reads)
+    reads_as g.D.Disk.tells (c.add_other-2.result ≡ Err DiskFault) _ (g.D.Disk.state c.args.disk.now) (g.D.Disk.state c.add_other-2.new.disk) (λ is. absurd (let e = is in cc)) (λ is. absurd (cc))
+    (reads_both g.D.Disk.tells (c.add_other.result ≡ Err DiskFault) (c.add_other-2.result ≡ Err DiskFault) (g.D.Disk.state c.args.disk.now) (g.D.Disk.state c.add_other.new.disk) (g.D.Disk.state c.add_other-2.new.disk) (λ is. absurd (cc))
+    (reads_both g.D.Disk.tells (c.add_input.result ≡ Err DiskFault) (c.add_other.result ≡ Err DiskFault) (g.D.Disk.state c.args.disk.now) (g.D.Disk.state c.add_input.new.disk) (g.D.Disk.state c.add_other.new.disk) (λ is. absurd (cc)) c.add_input.ensures.reads c.add_other.ensures.reads)
     c.add_other-2.ensures.reads)
 
 pub returns-in-Err-add_other-2-clause-damaged : goal.returns-in-Err-add_other-2-clause-damaged
@@ -44,7 +44,7 @@ returns-in-Err-add_other-2-clause-damaged g c d told computed is tells all =
 
 pub returns-in-Err-add_other-2-clause-reads : goal.returns-in-Err-add_other-2-clause-reads
 returns-in-Err-add_other-2-clause-reads g c =
-    reads_as g.D.Disk.tells (c.add_other-2.result ≡ Err DiskFault) _ (g.D.Disk.state c.args.disk.now) (g.D.Disk.state c.add_other-2.new.disk) (λ is. c.in-Err-add_other-2.is ∙ is)
-    (reads_both g.D.Disk.tells (c.add_other.result ≡ Err DiskFault) (c.add_other-2.result ≡ Err DiskFault) (g.D.Disk.state c.args.disk.now) (g.D.Disk.state c.add_other.new.disk) (g.D.Disk.state c.add_other-2.new.disk)
-    (reads_both g.D.Disk.tells (c.add_input.result ≡ Err DiskFault) (c.add_other.result ≡ Err DiskFault) (g.D.Disk.state c.args.disk.now) (g.D.Disk.state c.add_input.new.disk) (g.D.Disk.state c.add_other.new.disk) c.add_input.ensures.reads c.add_other.ensures.reads)
+    reads_as g.D.Disk.tells (c.add_other-2.result ≡ Err DiskFault) _ (g.D.Disk.state c.args.disk.now) (g.D.Disk.state c.add_other-2.new.disk) (λ is. c.in-Err-add_other-2.is ∙ is) (λ is. cc)
+    (reads_both g.D.Disk.tells (c.add_other.result ≡ Err DiskFault) (c.add_other-2.result ≡ Err DiskFault) (g.D.Disk.state c.args.disk.now) (g.D.Disk.state c.add_other.new.disk) (g.D.Disk.state c.add_other-2.new.disk) (λ is. absurd (cc))
+    (reads_both g.D.Disk.tells (c.add_input.result ≡ Err DiskFault) (c.add_other.result ≡ Err DiskFault) (g.D.Disk.state c.args.disk.now) (g.D.Disk.state c.add_input.new.disk) (g.D.Disk.state c.add_other.new.disk) (λ is. absurd (cc)) c.add_input.ensures.reads c.add_other.ensures.reads)
     c.add_other-2.ensures.reads)

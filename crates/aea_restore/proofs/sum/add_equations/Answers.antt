@@ -24,8 +24,8 @@ add_equation-requires-clause-equation g c = item_has (HasEquation c.args.ledger.
 
 pub returns-in-Err-clause-reads : goal.returns-in-Err-clause-reads
 returns-in-Err-clause-reads g c =
-    reads_as g.D.Disk.tells (c.add_equation.result ≡ Err DiskFault) _ (g.D.Disk.state c.args.disk.now) (g.D.Disk.state c.add_equation.new.disk) (λ is. c.in-Err.is ∙ is)
-    (reads_both g.D.Disk.tells ⊥ (c.add_equation.result ≡ Err DiskFault) (g.D.Disk.state c.args.disk.now) (g.D.Disk.state c.loop-k.disk) (g.D.Disk.state c.add_equation.new.disk) c.loop-k.invariant.reads c.add_equation.ensures.reads)
+    reads_as g.D.Disk.tells (c.add_equation.result ≡ Err DiskFault) _ (g.D.Disk.state c.args.disk.now) (g.D.Disk.state c.add_equation.new.disk) (λ is. c.in-Err.is ∙ is) (λ is. cc)
+    (reads_both g.D.Disk.tells ⊥ (c.add_equation.result ≡ Err DiskFault) (g.D.Disk.state c.args.disk.now) (g.D.Disk.state c.loop-k.disk) (g.D.Disk.state c.add_equation.new.disk) (λ none. none) c.loop-k.invariant.reads c.add_equation.ensures.reads)
 
 pub loop-k-preserved : goal.loop-k-preserved
 loop-k-preserved g c =
@@ -41,6 +41,6 @@ loop-k-preserved g c =
           (c.loop-k.invariant.added told all)
           (subst (λ (f : Files). c.add_equation.new.sum ≡ added_up v.shape f c.loop-k.sum (other_blocks v.lattice picks c.args.b (c.in-Some.e ∷ []))) same
           (c.in-Ok.ensures.sum told (subst (AreAllIntact v picks) (sym same) all)));
-      reads = reads_as g.D.Disk.tells (c.add_equation.result ≡ Err DiskFault) ⊥ (g.D.Disk.state c.args.disk.now) (g.D.Disk.state c.add_equation.new.disk) (λ none. absurd none)
-          (reads_both g.D.Disk.tells ⊥ (c.add_equation.result ≡ Err DiskFault) (g.D.Disk.state c.args.disk.now) (g.D.Disk.state c.loop-k.disk) (g.D.Disk.state c.add_equation.new.disk) c.loop-k.invariant.reads c.add_equation.ensures.reads);
+      reads = reads_as g.D.Disk.tells (c.add_equation.result ≡ Err DiskFault) ⊥ (g.D.Disk.state c.args.disk.now) (g.D.Disk.state c.add_equation.new.disk) (λ none. absurd none) (λ is. absurd (cc))
+          (reads_both g.D.Disk.tells ⊥ (c.add_equation.result ≡ Err DiskFault) (g.D.Disk.state c.args.disk.now) (g.D.Disk.state c.loop-k.disk) (g.D.Disk.state c.add_equation.new.disk) (λ none. none) c.loop-k.invariant.reads c.add_equation.ensures.reads);
     }

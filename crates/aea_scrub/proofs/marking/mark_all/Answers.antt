@@ -4,7 +4,7 @@ use Rattle.std.proofs.lemmas.Bool.Decides.{nat_tests}
 use Rattle.aea_lattice.specs.declared.grid.Lattice.{Lattice}
 use Rattle.aea_lattice.specs.Blocks.{HasBlock, blocks_count, number_of}
 use Rattle.aea_disk.specs.Files.{Files}
-use Rattle.aea_disk.proofs.Frames.{reads_none, reads_both, reads_as}
+use Rattle.aea_disk.proofs.Frames.{ok_fine, reads_none, reads_both, reads_as}
 use Rattle.aea_archive.specs.Blocks.{IsIntactBy}
 use Rattle.aea_scrub.proofs.Scanned.{marked_none, marked_next, marked_all, marks_tell}
 use Rattle.aea_scrub.proofs.marking.mark_all.Goals as goal
@@ -21,8 +21,8 @@ loop-k-init g c = record {
 
 pub returns-in-Err-clause-reads : goal.returns-in-Err-clause-reads
 returns-in-Err-clause-reads g c =
-    reads_as g.D.Disk.tells (IsErr c.is_intact.result) _ (g.D.Disk.state c.args.disk.now) (g.D.Disk.state c.is_intact.new.disk) (λ is. subst IsErr (sym c.in-Err.is) refl)
-    (reads_both g.D.Disk.tells ⊥ (IsErr c.is_intact.result) (g.D.Disk.state c.args.disk.now) (g.D.Disk.state c.loop-k.disk) (g.D.Disk.state c.is_intact.new.disk) c.loop-k.invariant.reads c.is_intact.ensures.reads)
+    reads_as g.D.Disk.tells (IsErr c.is_intact.result) _ (g.D.Disk.state c.args.disk.now) (g.D.Disk.state c.is_intact.new.disk) (λ is. subst IsErr (sym c.in-Err.is) refl) (λ _. refl)
+    (reads_both g.D.Disk.tells ⊥ (IsErr c.is_intact.result) (g.D.Disk.state c.args.disk.now) (g.D.Disk.state c.loop-k.disk) (g.D.Disk.state c.is_intact.new.disk) (λ none. none) c.loop-k.invariant.reads c.is_intact.ensures.reads)
 
 pub loop-k-preserved : goal.loop-k-preserved
 loop-k-preserved g c =
@@ -45,7 +45,7 @@ loop-k-preserved g c =
           c.loop-k.invariant.lattice c.set.ensures.lattice c.loop-k.invariant.whole inside number c.set.ensures.marks
           (subst (λ (f : Files). IsTrue c.in-Ok.intact ↔ IsIntactBy v.shape v.digests f b) (c.loop-k.invariant.reads.contents told) (c.in-Ok.ensures.intact told))
           (c.loop-k.invariant.intact told);
-      reads = reads_as tells (IsErr c.is_intact.result) ⊥ old new (λ none. absurd none) (reads_both tells ⊥ (IsErr c.is_intact.result) old mid new c.loop-k.invariant.reads c.is_intact.ensures.reads);
+      reads = reads_as tells (IsErr c.is_intact.result) ⊥ old new (λ none. absurd none) (ok_fine c.in-Ok.is) (reads_both tells ⊥ (IsErr c.is_intact.result) old mid new (λ none. none) c.loop-k.invariant.reads c.is_intact.ensures.reads);
     }
 
 pub returns-clause-intact : goal.returns-clause-intact

@@ -1,4 +1,4 @@
-use Rattle.std.proofs.Common.{Option, Ok, ap, subst, arith}
+use Rattle.std.proofs.Common.{Option, Ok, refl, ◌∙◌, ap, subst, arith}
 use Rattle.std.specs.Io.KnownBytes.{IsAtEnd}
 use Rattle.std.specs.Prelude.{IfNone}
 use Rattle.aea_lattice.specs.Blocks.{blocks_count}
@@ -16,6 +16,7 @@ lines-init g c = record {
   reads = λ input h reading. some-first c.args.judged c.args.marks.now.lattice (is_marked c.args.marks.now) input h c.args.reader.now (g.S.Source.state c.args.source.now).left c.begin-tally.result
       reading (c.begin-tally.ensures.tally c.args.marks.now.lattice (is_marked c.args.marks.now));
   kept = omega arith;
+  still = refl;
 }
 
 pub lines-preserved : goal.lines-preserved
@@ -30,6 +31,7 @@ lines-preserved g c =
           subst (λ (o : Option Tally). LineSays c.args.judged c.args.marks.now.lattice (is_marked c.args.marks.now) input h c.read_line.new.reader (g.S.Source.state c.read_line.new.source).left c.lines.tally (Ok o)) c.in-Some.is
           (c.in-Ok.ensures.reads input h (c.lines.invariant.reads input h reading));
       kept = (let before = c.lines.invariant.kept in let after = c.read_line.ensures.kept in omega arith);
+      still = c.read_line.ensures.still (λ failed. let same = c.in-Ok.is in cc) ∙ c.lines.invariant.still;
     }
 
 pub lines-smaller : goal.lines-smaller

@@ -14,6 +14,7 @@ invariant-lines g l = record {
   reads : (input : List ℕ) (h : Head) → IsReading input h [] l.fn.reader (g.S.Source.state l.fn.source).left
       → HasSome l.judged l.marks.lattice (is_marked l.marks) input h l.reader (g.S.Source.state l.source).left l.tally;
   kept : (g.S.Source.state l.fn.source).faults ≤ (g.S.Source.state l.source).faults;
+  still : (g.S.Source.state l.source).faults ≡ (g.S.Source.state l.fn.source).faults;
 }
 
 abbrev pub decreases-lines : goal.decreases-lines

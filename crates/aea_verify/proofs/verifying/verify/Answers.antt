@@ -2,7 +2,7 @@ use Rattle.std.proofs.Common.{Err, inl, inr, refl, subst, sym}
 use Rattle.aea_view.specs.Marked.{is_marked}
 use Rattle.aea_verify.specs.declared.verdict.VerifyFault.{VerifyFault}
 use Rattle.aea_verify.specs.declared.verdict.VerifyFault.TheVariants.{DiskFault, NoMemory}
-use Rattle.aea_verify.specs.Answers.{IsAnswered, IsReadAs}
+use Rattle.aea_verify.specs.Answers.{IsReadAs}
 use Rattle.aea_verify.proofs.Verified.{are-inside, judged, verdict-here, answered-ok, answered-err, read-free, read-err, read-ok}
 use Rattle.aea_verify.proofs.verifying.verify.Goals as goal
 

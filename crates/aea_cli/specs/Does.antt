@@ -1,11 +1,12 @@
 -- The table of the commands: what each touches, why it is refused, and what a run of it does.
 use Rattle.std.specs.Prelude.{◌≡◌, ◌≢◌, ◌≤◌, ℕ, Bool, List, [], ◌++◌, length, Err, IsSome, unwrap_or}
 use Rattle.aea_disk.specs.Files.{KeepsFiles}
-use Rattle.aea_disk.specs.State.{KeepsWhere, HasRoom, HasRoomTo}
+use Rattle.aea_disk.specs.State.{IsReady, IsRoomy, KeepsWhere}
 use Rattle.aea_lattice.specs.declared.blocks.BlockId.{BlockId}
 use Rattle.aea_lattice.specs.declared.grid.Lattice.{Lattice}
 use Rattle.aea_lattice.specs.declared.shape.Shape.{Shape}
 use Rattle.aea_records.specs.Format.{Record, nodes_of}
+use Rattle.aea_ledger.specs.Taking.{FitsMaking}
 use Rattle.aea_ledger.specs.Stops.{HasOpening, HasLedger}
 use Rattle.aea_cli.specs.declared.command.Command.{Command}
 use Rattle.aea_cli.specs.declared.command.Command.TheVariants as command
@@ -117,21 +118,21 @@ Causes (Explain word) w = ExplainCauses word (w.disk.files 0)
 Causes Verify w = VerifyCauses (w.disk.files 0) (input_of w)
 Causes (Rehearse number nodes permille) w = NeverRefused
 
--- the disk has room for all that a run of the command writes
+-- the disk has room for all that a run of the command writes, and to sync
 abbrev pub FitsDisk : Command → World → Type 0
 FitsDisk (Drill l) w = Unit {0}
-FitsDisk (Create shape) w = HasRoomTo w.disk 0 18
-FitsDisk Stat w = HasRoom w.disk
-FitsDisk command.List w = HasRoom w.disk
+FitsDisk (Create shape) w = FitsMaking w.disk shape
+FitsDisk Stat w = IsRoomy w.disk
+FitsDisk command.List w = IsRoomy w.disk
 FitsDisk (Put name) w = FitsPut name w.tells w.input.left w.disk
 FitsDisk Ingest w = FitsIngest w.tells w.input.left w.disk
-FitsDisk (Get name) w = HasRoom w.disk
+FitsDisk (Get name) w = IsRoomy w.disk
 FitsDisk Fence w = FitsRecord next_fence w.tells w.disk
 FitsDisk Upgrade w = FitsRecord next_raise w.tells w.disk
-FitsDisk Scrub w = HasRoom w.disk
+FitsDisk Scrub w = IsRoomy w.disk
 FitsDisk Repair w = FitsRepair w.tells w.disk
-FitsDisk (Explain word) w = HasRoom w.disk
-FitsDisk Verify w = HasRoom w.disk
+FitsDisk (Explain word) w = IsRoomy w.disk
+FitsDisk Verify w = IsRoomy w.disk
 FitsDisk (Rehearse number nodes permille) w = Unit {0}
 
 -- the output has room for all that a run of the command prints
@@ -190,8 +191,8 @@ pub record Runs (command : Command) (old new : World) (answer : Answer) : Type 0
   pub does : Does command old new answer
   -- when it is refused
   pub refuses : (PrintsEarly command → answer ≢ Err failure.Output) → Refuses (IsTold command old) (Causes command old) answer
-  -- it does not fail where there is room
-  pub disk_fits : FitsDisk command old → answer ≢ Err failure.Disk
+  -- it does not fail where there is room, on a disk that is ready and tells its contents
+  pub disk_fits : old.tells → IsReady old.disk → FitsDisk command old → answer ≢ Err failure.Disk
   pub output_fits : IsTold command old → FitsOutput command old → answer ≢ Err failure.Output
   -- no digests clash where the intact blocks are honest
   pub honest : IsTold command old → IsHonest command old → NeverClashes answer

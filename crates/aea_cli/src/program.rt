@@ -3,7 +3,7 @@
 ghost use Rattle.std.specs.Prelude.{◌≡◌, ◌≢◌, ◌⊎◌, ◌≤◌, ◌↔◌, map, string_bytes};
 ghost use Rattle.aea_faults.specs.Faults.{Rose};
 ghost use Rattle.aea_io.specs.Written.{IsFlushed};
-ghost use Rattle.aea_disk.specs.State.{Passes};
+ghost use Rattle.aea_disk.specs.State.{Passes, IsReady};
 ghost use Rattle.aea_cli.specs.declared.command.Command.{Command};
 ghost use Rattle.aea_command.specs.declared.refusal.Refusal.{Refusal};
 ghost use Rattle.aea_command.specs.Causes.{IsFirst};
@@ -133,21 +133,25 @@ pub fn run<D: Disk, S: Source, O: Sink, E: Sink>(
     ensures flushed { IsWell result → IsFlushed (O.state out.new) }
     ensures err_unused { IsWell result → err.new ≡ err.old }
 
-    // Where nothing stands against it and no count rises, all work is done, but for want of memory; of a repair where the
-    // intact blocks are honest.
+    // Where nothing stands against it and no count rises, of a ready disk not the one beneath, all work is done, but for want
+    // of memory; of a repair where the intact blocks are honest.
     ensures complete { (command : Command) → Means (map string_bytes words.now) command
         → IsTold command (world D.tells (D.state disk.old) (S.state input.old) (O.state out.old))
         → ((why : Refusal) → IsFirst (Causes command (world D.tells (D.state disk.old) (S.state input.old) (O.state out.old))) why → ⊥)
         → IsHonest command (world D.tells (D.state disk.old) (S.state input.old) (O.state out.old))
-        → (Rose (D.state disk.old).faults (D.state disk.new).faults → ⊥)
+        → (Rose (D.state disk.old).faults (D.state disk.new).faults → ⊥) ⊎ (IsReady (D.state disk.old) × (Rose (D.state disk.old).beneath (D.state disk.new).beneath → ⊥))
         → (Rose (S.state input.old).faults (S.state input.new).faults → ⊥)
         → (Rose (O.state out.old).faults (O.state out.new).faults → ⊥)
         → IsWell result ⊎ (result ≡ Status.Memory) }
 
-    // Where something failed.
+    // Where something failed: what did not, has the count that it had; so has each where memory was wanting.
     ensures disk_cause { result ≡ Status.Disk → Rose (D.state disk.old).faults (D.state disk.new).faults }
+    ensures disk_beneath { result ≡ Status.Disk → D.tells → IsReady (D.state disk.old) → Rose (D.state disk.old).beneath (D.state disk.new).beneath }
+    ensures disk_still { result ≢ Status.Disk → (D.state disk.new).faults ≡ (D.state disk.old).faults }
     ensures input_cause { result ≡ Status.Input → Rose (S.state input.old).faults (S.state input.new).faults }
+    ensures input_still { result ≢ Status.Input → (S.state input.new).faults ≡ (S.state input.old).faults }
     ensures out_cause { result ≡ Status.Output → Rose (O.state out.old).faults (O.state out.new).faults }
+    ensures out_still { result ≢ Status.Output → (O.state out.new).faults ≡ (O.state out.old).faults }
     ensures disk_kept { (D.state disk.old).faults ≤ (D.state disk.new).faults }
     ensures input_kept { (S.state input.old).faults ≤ (S.state input.new).faults }
     ensures out_kept { (O.state out.old).faults ≤ (O.state out.new).faults }

@@ -31,15 +31,16 @@ use Rattle.aea_command_loss.specs.Explain.{ExplainsBlock, ExplainsOpened, HasExp
 use Rattle.aea_command.specs.Failures.{Answer, explain_failure}
 use Rattle.aea_command.specs.Openings.{Opens}
 use Rattle.aea_command_loss.proofs.DrillLemmas.DamageLines.{text_of-injective}
-use Rattle.aea_command.proofs.Opened.{opens_reading}
+use Rattle.aea_command.proofs.Opened.{opens_reading, opens_alone}
+use Rattle.aea_command.proofs.OpeningCases.{opened_never}
 
 -- ---- the archive was not opened
 
 pub explains_unopened : (word : List ℕ) (tells : Type 0) (old new : State) (out : SinkState) (f : Failure) → Opens tells old new (Err f) → ExplainsBlock word tells old new out out (Err f)
 explains_unopened word tells old new out f opens = record {
   opening = Err f;
-  opens = opens;
-  reads = reads_as tells _ _ old new (λ e. cc) opens.reads;
+  opens = opens_alone tells old new (Err f) opens;
+  reads = reads_as tells _ _ old new (λ e. cc) (λ is. cc) opens.reads;
   unopened = (refl, refl);
   explains = tt;
 }
@@ -48,11 +49,11 @@ explains_unopened word tells old new out f opens = record {
 
 -- calls behind the opening that only read, and what is said of the answer
 behind : (word : List ℕ) (tells fault : Type 0) (v : Opened) (old mid new : State) (before after : SinkState) (answer : Answer) → Opens tells old mid (Ok v) → OnlyReads tells fault mid new
-    → (answer ≡ Err failure.Disk → fault) → ExplainsOpened word tells v old.files before after answer → ExplainsBlock word tells old new before after answer
-behind word tells fault v old mid new before after answer opens late of_disk does = record {
+    → (answer ≡ Err failure.Disk → fault) → (fault → answer ≡ Err failure.Disk) → ExplainsOpened word tells v old.files before after answer → ExplainsBlock word tells old new before after answer
+behind word tells fault v old mid new before after answer opens late of_disk is_disk does = record {
   opening = Ok v;
   opens = opens_reading tells fault old mid new v opens late;
-  reads = reads_as tells fault _ old new of_disk (reads_both tells _ fault old mid new opens.reads late);
+  reads = reads_as tells fault _ old new of_disk is_disk (reads_both tells _ fault old mid new (λ is. opened_never v failure.Disk is) opens.reads late);
   unopened = tt;
   explains = does;
 }
@@ -67,8 +68,8 @@ pub explains_unnamed : (word : List ℕ) (tells : Type 0) (v : Opened) (old mid 
     → ExplainsBlock word tells old mid out out (Err (failure.Refused NoSuchBlock))
 explains_unnamed word tells v old mid out opens none = record {
   opening = Ok v;
-  opens = opens;
-  reads = reads_as tells _ _ old mid (λ e. let h : (let answer : Answer = Err (failure.Refused NoSuchBlock) in answer ≡ Err failure.Disk) = e in cc) opens.reads;
+  opens = opens_alone tells old mid (Ok v) opens;
+  reads = reads_as tells _ _ old mid (λ e. let h : (let answer : Answer = Err (failure.Refused NoSuchBlock) in answer ≡ Err failure.Disk) = e in cc) (λ is. absurd (opened_never v failure.Disk is)) opens.reads;
   unopened = tt;
   explains = record {
     kinds = inr (inl refl);
@@ -81,8 +82,8 @@ explains_unnamed word tells v old mid out opens none = record {
 
 -- it is that of one, which was not explained
 pub explains_failed : (word : List ℕ) (tells fault : Type 0) (v : Opened) (old mid new : State) (out : SinkState) (f : Failure) → Opens tells old mid (Ok v) → NamesBlock v.lattice word
-    → OnlyReads tells fault mid new → (f ≡ failure.Disk → fault) → (f ≡ failure.Disk) ⊎ (f ≡ failure.Memory) → ExplainsBlock word tells old new out out (Err f)
-explains_failed word tells fault v old mid new out f opens names late of_disk kinds =
+    → OnlyReads tells fault mid new → (f ≡ failure.Disk → fault) → (fault → f ≡ failure.Disk) → (f ≡ failure.Disk) ⊎ (f ≡ failure.Memory) → ExplainsBlock word tells old new out out (Err f)
+explains_failed word tells fault v old mid new out f opens names late of_disk is_disk kinds =
     let not_output : f ≢ failure.Output = λ e. elim kinds [
       | inl disk ↦ let h : failure.Disk ≡ failure.Output = sym disk ∙ e in cc
       | inr memory ↦ let h : failure.Memory ≡ failure.Output = sym memory ∙ e in cc
@@ -91,7 +92,7 @@ explains_failed word tells fault v old mid new out f opens names late of_disk ki
       | inl disk ↦ let h : Err failure.Disk ≡ Err (failure.Refused NoSuchBlock) = sym (ap Err disk) ∙ e in cc
       | inr memory ↦ let h : Err failure.Memory ≡ Err (failure.Refused NoSuchBlock) = sym (ap Err memory) ∙ e in cc
     ] in
-    behind word tells fault v old mid new out out (Err f) opens late (λ e. of_disk cc) (record {
+    behind word tells fault v old mid new out out (Err f) opens late (λ e. of_disk cc) (λ is. ap Err (is_disk is)) (record {
       kinds = elim kinds [ inl disk ↦ inr (inr (inl (ap Err disk))) | inr memory ↦ inr (inr (inr (inr (ap Err memory)))) ];
       unknown = (λ e. absurd (not_refused e), λ never. absurd (never names));
       some = λ printed. absurd (never_printed f not_output printed);
@@ -107,6 +108,9 @@ failure_kinds fault.NoMemory = inr refl
 pub failure_disk : (f : ExplainFault) → explain_failure f ≡ failure.Disk → f ≡ fault.DiskFault
 failure_disk fault.DiskFault e = refl
 failure_disk fault.NoMemory e = let h : failure.Memory ≡ failure.Disk = e in cc
+
+pub fault_disk : (f : ExplainFault) → f ≡ fault.DiskFault → explain_failure f ≡ failure.Disk
+fault_disk f e = ap explain_failure e
 
 pub failure_never : (f : ExplainFault) (why : Refusal) → (let answer : Answer = Err (explain_failure f) in answer ≡ Err (failure.Refused why)) → ⊥
 failure_never fault.DiskFault why e = let h : Err failure.Disk ≡ Err (failure.Refused why) = e in cc
@@ -164,6 +168,7 @@ module _ (one : ExplanationsAreOne) (word : List ℕ) (tells : Type 0) (v : Open
   explains_printed =
       behind word tells ⊥ v old mid new before after answer gave.opens gave.reads
       (λ e. ends_never gave.explanation.fate answer failure.Disk gave.ends (λ d. let h : failure.Disk ≡ failure.Output = d in cc) e)
+      (λ none. absurd none)
       (record {
         kinds = ends_kinds gave.explanation.fate answer gave.ends;
         unknown = (λ e. absurd (not_refused e), λ never. absurd (never (gave.block, gave.inside, gave.named)));

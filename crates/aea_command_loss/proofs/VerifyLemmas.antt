@@ -18,8 +18,9 @@ use Rattle.aea_command.specs.declared.refusal.Failure.TheVariants as failure
 use Rattle.aea_command.specs.Failures.{Answer, verify_failure}
 use Rattle.aea_command.specs.Openings.{Opens}
 use Rattle.aea_command_loss.specs.Verify.{Judges, PrintsVerdict, Verifies}
-use Rattle.aea_command.proofs.Opened.{opens_reading}
-use Rattle.aea_command_loss.proofs.VerifyLemmas.Answering.{IsAnswerTo, from_disk}
+use Rattle.aea_command.proofs.Opened.{opens_reading, opens_alone}
+use Rattle.aea_command.proofs.OpeningCases.{opened_never}
+use Rattle.aea_command_loss.proofs.VerifyLemmas.Answering.{IsAnswerTo, from_disk, answer_is}
 
 -- what the check of the report gave behind the opening
 pub record HasChecked (tells : Type 0) (v : Opened) (old mid new : State) (input rest : SourceState) (r : Result Verdict VerifyFault) : Type 1 where
@@ -39,8 +40,8 @@ verifies_checked tells v old mid new input rest before after r answer gave to =
     record {
       opening = Ok v;
       opens = opens_reading tells (r ≡ Err fault.DiskFault) old mid new v gave.opens gave.reads;
-      reads = reads_as tells (r ≡ Err fault.DiskFault) _ old new (from_disk r before after answer to)
-          (reads_both tells _ (r ≡ Err fault.DiskFault) old mid new gave.opens.reads gave.reads);
+      reads = reads_as tells (r ≡ Err fault.DiskFault) _ old new (from_disk r before after answer to) (answer_is r fault.DiskFault before after answer to)
+          (reads_both tells _ (r ≡ Err fault.DiskFault) old mid new (λ is. opened_never v failure.Disk is) gave.opens.reads gave.reads);
       unopened = tt;
       judges = (
         r,
@@ -60,8 +61,8 @@ verifies_checked tells v old mid new input rest before after r answer gave to =
 pub verifies_unopened : (tells : Type 0) (old new : State) (input : SourceState) (out : SinkState) (f : Failure) → Opens tells old new (Err f) → Verifies tells old new input input out out (Err f)
 verifies_unopened tells old new input out f opens = record {
   opening = Err f;
-  opens = opens;
-  reads = reads_as tells _ _ old new (λ e. cc) opens.reads;
+  opens = opens_alone tells old new (Err f) opens;
+  reads = reads_as tells _ _ old new (λ e. cc) (λ is. cc) opens.reads;
   unopened = record { is = refl; unread = refl; unused = refl };
   judges = tt;
   unread = λ e. refl;

@@ -30,7 +30,7 @@ use Rattle.aea_command.specs.declared.status.Status.{Status}
 use Rattle.aea_command.specs.declared.status.Status.TheVariants.{Done, Damage}
 use Rattle.aea_command_loss.specs.Drill.{NamesBlock}
 use Rattle.aea_command.specs.Failures.{Answer}
-use Rattle.aea_command.specs.Openings.{IsUnbegun, Opens}
+use Rattle.aea_command.specs.Openings.{IsUnbegun, HasOpened}
 use Rattle.aea_command.specs.Lines.{newline}
 use Rattle.aea_command.specs.Printed.{PrintsText}
 
@@ -116,7 +116,7 @@ pub record ExplainsOpened (word : List ℕ) (tells : Type 0) (v : Opened) (c : F
 pub record ExplainsBlock (word : List ℕ) (tells : Type 0) (old new : State) (before after : SinkState) (answer : Answer) : Type 0 where
   -- the archive is opened, and from the first call to the last the disk is only read
   pub opening : Result Opened Failure
-  pub opens : Opens tells old new opening
+  pub opens : HasOpened tells old new opening
   pub reads : OnlyReads tells (answer ≡ Err failure.Disk) old new
   -- where it is not opened, that is the answer
   pub unopened : IfErr opening (λ f. (answer ≡ Err f) × (after ≡ before))

@@ -7,7 +7,7 @@ use Rattle.aea_lattice.specs.declared.grid.Lattice.{Lattice}
 use Rattle.aea_lattice.specs.declared.shape.Shape.{Shape}
 use Rattle.aea_lattice.specs.Blocks.{HasBlock}
 use Rattle.aea_disk.specs.Files.{Files}
-use Rattle.aea_disk.specs.State.{State, During, AtEachMoment, IsSynced, HasRoom, NeverFails}
+use Rattle.aea_disk.specs.State.{State, During, AtEachMoment, IsSynced, IsReady, IsRoomy, NeverFails}
 use Rattle.aea_disk.specs.Frames.{OnlyReads}
 use Rattle.aea_shelf.specs.Intact.{IsHeldIn}
 use Rattle.aea_records.specs.Format.{Record, nodes_of, fences_of, digests_of, spelled}
@@ -83,10 +83,10 @@ pub record HasNodeCount (shape : Shape) (nodes : ℕ) (bytes : List ℕ) : Type 
   pub ledger : HasLedger shape records bytes
   pub is : nodes ≡ nodes_of records
 
--- The disk has some room; and where it has an archive, room for the rows of its nodes, of a disk that does not tell the
+-- The disk has some room, and to sync; and where it has an archive, room for the rows of its nodes, of a disk that does not tell the
 -- ledger whatever archive that is.
 pub record FitsRepair (tells : Type 0) (s : State) : Type 0 where
-  pub some : HasRoom s
+  pub some : IsRoomy s
   pub sites : (shape : Shape) (nodes : ℕ) → (tells → HasNodeCount shape nodes (s.files 0)) → HaveSitesRoom shape nodes s
 
 -- the file is that of a site, of whichever archive
@@ -135,5 +135,5 @@ pub record RepairsArchive (tells : Type 0) (old new : State) (before after : Sin
   pub unopened : IfErr opening (λ f. IsUnopened tells f old new before after answer)
   -- where one is, it is repaired
   pub opened : IfOk opening (λ v. RepairsThen tells v old new before after answer)
-  -- within the room of the disk nothing fails
-  pub in_room : NeverFails (FitsRepair tells old) (answer ≢ Err failure.Disk) old new
+  -- where the disk is ready and has the room nothing fails
+  pub in_room : tells → IsReady old → NeverFails (FitsRepair tells old) (answer ≢ Err failure.Disk) old new

@@ -19,7 +19,7 @@ use Rattle.aea_records.specs.Laws.{HasOneReading}
 use Rattle.aea_ledger.specs.declared.open.OpenFault.{OpenFault}
 use Rattle.aea_ledger.specs.Stops.{IsOpened, StaysAll}
 use Rattle.aea_ledger.specs.Values.{Opened}
-use Rattle.aea_command.proofs.Opened.{opens_reading}
+use Rattle.aea_command.proofs.Opened.{opens_reading, opens_alone}
 use Rattle.aea_command.specs.declared.refusal.Refusal.{Refusal}
 use Rattle.aea_command.specs.declared.refusal.Failure.{Failure}
 use Rattle.aea_command.specs.declared.refusal.Failure.TheVariants as failure
@@ -47,8 +47,8 @@ scrubs_unopened tells old new out f opens =
     let differs : f ≢ failure.Output = λ e. opening_not_output opens.kinds.0 (sym opens.kinds.1 ∙ e) in
     record {
       opening = Err f;
-      opens = opens;
-      reads = reads_as tells _ _ old new (λ e. cc) opens.reads;
+      opens = opens_alone tells old new (Err f) opens;
+      reads = reads_as tells _ _ old new (λ e. cc) (λ is. cc) opens.reads;
       unopened = (refl, refl);
       kinds = tt;
       damage = λ told l intact is. unused_damage out f l intact differs;
@@ -67,7 +67,7 @@ scrubs_unread tells old mid new out v f opens late faults =
     record {
       opening = Ok v;
       opens = opens_reading tells _ old mid new v opens late;
-      reads = reads_both tells _ _ old mid new opens.reads late;
+      reads = reads_both tells _ _ old mid new (λ is. absurd (cc)) opens.reads late;
       unopened = tt;
       kinds = elim faults [ inl disk ↦ inl disk | inr memory ↦ inr (inr memory) ];
       damage = λ told l intact is. unused_damage out f l intact differs;
@@ -109,7 +109,7 @@ scrubs_marked reading tells old mid new before after v m l answer of_v marked sc
     record {
       opening = Ok v;
       opens = opens_reading tells ⊥ old mid new v opens marked.reads;
-      reads = reads_as tells ⊥ _ old new fine (reads_both tells _ ⊥ old mid new opens.reads marked.reads);
+      reads = reads_as tells ⊥ _ old new fine (λ none. absurd none) (reads_both tells _ ⊥ old mid new (λ is. absurd (cc)) opens.reads marked.reads);
       unopened = tt;
       kinds = scanned;
       damage = λ told l intact is.

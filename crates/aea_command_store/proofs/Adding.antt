@@ -3,19 +3,20 @@ pub mod Running
 use Rattle.std.proofs.Common.{◌≡◌, ◌≢◌, ◌⊎◌, inl, inr, ℕ, ◌+◌, ◌≤◌, List, [], ◌∷◌, ◌++◌, length, refl, sym, ◌∙◌, ap, subst, arith, max, Result, Ok, Err}
 use Rattle.std.specs.Prelude.{IsOk, IsErrAnd}
 use Rattle.std.proofs.lemmas.Bool.{false≢true}
-use Rattle.aea_faults.specs.Faults.{Rose}
 use Rattle.aea_lattice.specs.declared.shape.Shape.{Shape}
 use Rattle.aea_disk.specs.Files.{Files, ChangesOnly}
 use Rattle.aea_disk.specs.Frames.{OnlyWrites}
-use Rattle.aea_disk.specs.State.{State, IsSynced, IsFixed, During, HasRoomTo}
-use Rattle.aea_disk.proofs.Frames.{writes_others}
-use Rattle.aea_disk.proofs.Moments.{passes_both, others_kept, others_both}
+use Rattle.aea_disk.specs.State.{State, Passes, IsReady, IsRoomy, During}
+use Rattle.aea_disk.proofs.Frames.{ready_later, reads_then_writes, writes_others}
+use Rattle.aea_disk.proofs.Moments.{others_kept}
 use Rattle.aea_records.specs.Format.{Record, body, entry, spelled}
 use Rattle.aea_records.specs.Grammar.{IsNext, IsLedger, AreRecords}
 use Rattle.aea_records.specs.Laws.{IsSomeLedger, HasOneReading}
 use Rattle.aea_ledger.specs.Committing.{LeavesOldOrNew, HasCommitted}
 use Rattle.aea_ledger.specs.Next.{AreItsRecords}
 use Rattle.aea_ledger.specs.Recorded.{AreRecordsOf}
+use Rattle.aea_ledger.specs.Taking.{FitsAdding}
+use Rattle.aea_ledger.proofs.Readying.{adding_later}
 use Rattle.aea_ledger.specs.Stops.{HasLedger, HasOldOrNew, StaysAll, committed}
 use Rattle.aea_ledger.specs.Values.{Opened, HasRecords, IsThisOne}
 use Rattle.aea_command.specs.declared.refusal.Refusal.{Refusal}
@@ -72,7 +73,7 @@ adds_as {T} {U} adds tells old new gave answer agrees does = record {
   opened = λ differs. does.opened (λ is. differs (agrees.back failure.Disk (λ d. cc) is));
   reads = does.reads;
   long = does.long;
-  in_room = λ fits. (λ is. (does.in_room fits).0 (agrees.there failure.Disk (λ d. cc) is), (does.in_room fits).1);
+  in_room = λ told ready fits. (λ is. (does.in_room told ready fits).0 (agrees.there failure.Disk (λ d. cc) is), (does.in_room told ready fits).1);
 }
 
 -- the archive was opened, or not, and then nothing was written
@@ -86,15 +87,18 @@ adds_read {T} adds tells old new opening f opens output there back = record {
   opened = λ differs told. opened_more old new _ _ (λ c same. may_stay adds old.files c same) (opens.opened (λ d. differs (ap Err (back d))) told);
   reads = λ told. may_stay adds old.files new.files (λ k. ap (λ (c : Files). c k) (opens.reads.contents told));
   long = λ told shape records has. let same = ap (λ (c : Files). length (c 0)) (opens.reads.contents told) in omega arith;
-  in_room = λ fits. let sure = opens.reads.sure fits.some in (λ is. sure.0 (there (err_same {T = T} f failure.Disk is)), sure.1);
+  in_room = λ told ready fits. let sure = opens.reads.sure told ready fits.some in (λ is. sure.0 (there (err_same {T = T} f failure.Disk is)), sure.1);
 }
 
-pub rest_read : {T : Type 0} (tells : Type 0) (old new : State) (opening : Result Opened Failure) (answer : Result T Failure) → Opens tells old new opening → (answer ≡ Err failure.Disk → opening ≡ Err failure.Disk) → KeepsTheRest tells (answer ≡ Err failure.Disk) old new
-rest_read tells old new opening answer opens there = record {
+pub rest_read : {T : Type 0} (tells : Type 0) (old new : State) (opening : Result Opened Failure) (answer : Result T Failure) → Opens tells old new opening → (answer ≡ Err failure.Disk → opening ≡ Err failure.Disk) → (opening ≡ Err failure.Disk → answer ≡ Err failure.Disk)
+    → KeepsTheRest tells (answer ≡ Err failure.Disk) old new
+rest_read tells old new opening answer opens there back = record {
   others = others_kept tells 0 old new opens.reads.crash opens.reads.contents;
   time = opens.reads.time;
   kept = opens.reads.kept;
   cause = λ is. opens.reads.cause (there is);
+  still = λ fine. opens.reads.still (λ is. fine (back is));
+  beneath = λ told ready is. opens.reads.beneath told ready (there is);
 }
 
 -- the archive was not opened
@@ -108,7 +112,7 @@ pub record IsCommitting (adds : List Record → Record) (tells : Type 0) (v : Op
   pub is : (records : List Record) → HasRecords v records → adds records ≡ r
   pub next : (records : List Record) → HasRecords v records → IsNext v.shape records r
   pub leaves : LeavesOldOrNew tells v r mid new
-  pub writes : OnlyWrites tells (HasRoomTo mid 0 (v.end + length (entry r) + 1)) fault (ChangesOnly 0) mid new
+  pub writes : OnlyWrites tells (IsReady mid) (FitsAdding mid 1 (v.end + length (entry r))) fault (ChangesOnly 0) mid new
 
 opened_not : (v : Opened) (f : Failure) → Ok v ≡ Err f → ⊥
 opened_not v f e = cc
@@ -163,11 +167,11 @@ adds_long reading adds tells v r fault old mid new does told shape records has =
     let end : v.end ≡ length (spelled shape records) = same.1.1 in
     rw (← before, e, ← end) long
 
--- the commit fits where the record fits
-fits_commit : (adds : List Record → Record) (tells : Type 0) (v : Opened) (r : Record) (fault : Type 0) (old mid new : State) → IsCommitting adds tells v r fault old mid new → FitsRecord adds tells old → HasRoomTo mid 0 (v.end + length (entry r) + 1)
+-- the record fits the disk behind the opening
+fits_commit : (adds : List Record → Record) (tells : Type 0) (v : Opened) (r : Record) (fault : Type 0) (old mid new : State) → IsCommitting adds tells v r fault old mid new → FitsRecord adds tells old → FitsAdding old 1 (v.end + length (entry r))
 fits_commit adds tells v r fault old mid new does fits =
     let opens = does.opens in
-    opens.reads.time.room 0 (v.end + length (entry r) + 1) (fits.behind (v.end + length (entry r)) (λ told.
+    fits.behind (v.end + length (entry r)) (λ told.
     let one = opens.this_one told in
     let is = does.is one.records one.has in
     record {
@@ -176,13 +180,21 @@ fits_commit adds tells v r fault old mid new does fits =
       ledger = subst (λ (n : ℕ). IsLedger (old.files 0) v.shape one.records n) one.has.end one.ledger;
       next = subst (λ (q : Record). IsNext v.shape one.records q) (sym is) (does.next one.records one.has);
       place = ap (λ (n : ℕ). n + length (entry r)) one.has.end ∙ ap (λ (q : Record). length (spelled v.shape one.records) + length (entry q)) (sym is);
-    }))
+    })
 
--- within the room neither the opening nor the commit fails
-commit_sure : (adds : List Record → Record) (tells : Type 0) (v : Opened) (r : Record) (fault : Type 0) (old mid new : State) → IsCommitting adds tells v r fault old mid new → FitsRecord adds tells old → (fault → ⊥) × (new.faults ≡ old.faults)
-commit_sure adds tells v r fault old mid new does fits =
-    let then = does.writes.sure (fits_commit adds tells v r fault old mid new does fits) in
-    (then.0, then.1 ∙ (does.opens.reads.sure fits.some).1)
+-- calls behind the opening that change the ledger file alone, as a part of the whole run
+frame_behind : (tells fits late_fits fault : Type 0) (v : Opened) (old mid new : State) → Opens tells old mid (Ok v) → (fits → IsRoomy old) → (tells → fits → mid.files ≡ old.files → Passes old mid → late_fits)
+    → OnlyWrites tells (IsReady mid) late_fits fault (ChangesOnly 0) mid new → OnlyWrites tells (IsReady old) fits fault (ChangesOnly 0) old new
+frame_behind tells fits late_fits fault v old mid new opens room late writes =
+    reads_then_writes tells (IsReady old) (IsReady mid) fits late_fits (let opening : Result Opened Failure = Ok v in opening ≡ Err failure.Disk) fault (ChangesOnly 0) old mid new
+    (opened_not v failure.Disk) (λ c f apart. refl) (λ ready. ready) (λ told ready same goes. ready_later old mid same goes ready) room late opens.reads writes
+
+-- the opening and the commit: within the room neither fails
+commit_frame : (adds : List Record → Record) (tells : Type 0) (v : Opened) (r : Record) (fault : Type 0) (old mid new : State) → IsCommitting adds tells v r fault old mid new → OnlyWrites tells (IsReady old) (FitsRecord adds tells old) fault (ChangesOnly 0) old new
+commit_frame adds tells v r fault old mid new does =
+    frame_behind tells (FitsRecord adds tells old) (FitsAdding mid 1 (v.end + length (entry r))) fault v old mid new does.opens (λ fits. fits.some)
+    (λ told fits same time. adding_later old mid 1 (v.end + length (entry r)) (ap (λ (c : Files). c 0) same) time (fits_commit adds tells v r fault old mid new does fits))
+    does.writes
 
 -- the disk failed at the commit
 pub adds_failed : {T : Type 0} → HasOneReading → (adds : List Record → Record) (tells : Type 0) (v : Opened) (r : Record) (fault : Type 0) (old mid new : State) → IsCommitting adds tells v r fault old mid new → fault → AddsRecord {T = T} adds tells old new (Err failure.Disk)
@@ -194,7 +206,7 @@ adds_failed {T} reading adds tells v r fault old mid new does failed = record {
   opened = λ differs. absurd (differs refl);
   reads = adds_reads reading adds tells v r fault old mid new does;
   long = adds_long reading adds tells v r fault old mid new does;
-  in_room = λ fits. absurd ((commit_sure adds tells v r fault old mid new does fits).0 failed);
+  in_room = λ told ready fits. absurd (((commit_frame adds tells v r fault old mid new does).sure told ready fits).0 failed);
 }
 
 -- what the ledger records, it records with the record behind it
@@ -229,17 +241,26 @@ adds_done {T} reading adds keeps tells v w r fault old mid new value does done =
   opened = λ differs told. opened_then old mid new _ _ does.opens.reads.time does.writes.time (λ c same. may_stay adds old.files c same) (adds_during reading adds tells v r fault old mid new does told) (does.opens.opened (opened_not v failure.Disk) told);
   reads = adds_reads reading adds tells v r fault old mid new does;
   long = adds_long reading adds tells v r fault old mid new does;
-  in_room = λ fits. (λ is. let h : Ok value ≡ Err failure.Disk = is in cc, (commit_sure adds tells v r fault old mid new does fits).1);
+  in_room = λ told ready fits. (λ is. let h : Ok value ≡ Err failure.Disk = is in cc, ((commit_frame adds tells v r fault old mid new does).sure told ready fits).1);
 }
+
+-- where calls behind the opening changed the ledger file alone, each other file stays, and a fault of the answer, which
+-- is one where these failed, has its cause
+pub rest_behind : (tells late_fits fault other : Type 0) (v : Opened) (old mid new : State) → Opens tells old mid (Ok v) → OnlyWrites tells (IsReady mid) late_fits fault (ChangesOnly 0) mid new
+    → (other → fault) → (fault → other) → KeepsTheRest tells other old new
+rest_behind tells late_fits fault other v old mid new opens writes so back =
+    let frame = frame_behind tells ⊥ late_fits fault v old mid new opens (λ none. absurd none) (λ told none. absurd none) writes in
+    record {
+      others = writes_others tells _ _ fault (ChangesOnly 0) 0 old new (λ c d keeps. keeps) frame;
+      time = frame.time;
+      kept = frame.kept;
+      cause = λ is. frame.cause (so is);
+      still = λ fine. frame.still (λ is. fine (back is));
+      beneath = λ told ready is. frame.beneath told ready (so is);
+    }
 
 -- where a record was committed, or the disk failed at that, each other file stays, and a fault of the answer has
 -- its cause if it is one of the commit
-pub rest_committed : (adds : List Record → Record) (tells : Type 0) (v : Opened) (r : Record) (fault other : Type 0) (old mid new : State) → IsCommitting adds tells v r fault old mid new → (other → fault) → KeepsTheRest tells other old new
-rest_committed adds tells v r fault other old mid new does so = record {
-  others = others_both tells 0 old mid new does.opens.reads.time does.writes.time
-      (others_kept tells 0 old mid does.opens.reads.crash does.opens.reads.contents)
-      (writes_others tells _ fault (ChangesOnly 0) 0 mid new (λ c d keeps. keeps) does.writes);
-  time = passes_both old mid new does.opens.reads.time does.writes.time;
-  kept = omega (arith, does.opens.reads.kept, does.writes.kept);
-  cause = λ is. let rose : Rose mid.faults new.faults = does.writes.cause (so is) in omega (arith, does.opens.reads.kept, rose);
-}
+pub rest_committed : (adds : List Record → Record) (tells : Type 0) (v : Opened) (r : Record) (fault other : Type 0) (old mid new : State) → IsCommitting adds tells v r fault old mid new → (other → fault) → (fault → other) → KeepsTheRest tells other old new
+rest_committed adds tells v r fault other old mid new does so back =
+    rest_behind tells (FitsAdding mid 1 (v.end + length (entry r))) fault other v old mid new does.opens does.writes so back

@@ -2,16 +2,14 @@
 pub mod Running
 use Rattle.std.proofs.Common.{◌≡◌, ◌≢◌, ◌⊎◌, ◌↔◌, inl, inr, ℕ, ◌+◌, ◌<◌, ◌≤◌, List, length, refl, sym, ◌∙◌, ap, subst, arith, Result, Ok, Err}
 use Rattle.std.proofs.lemmas.Bool.{cases_lt}
-use Rattle.aea_faults.specs.Faults.{Rose}
 use Rattle.aea_lattice.specs.declared.shape.Shape.{Shape}
 use Rattle.aea_lattice.specs.Fences.{greatest_fences, last_fence}
 use Rattle.aea_lattice.specs.Facts.{BlocksAreInside}
 use Rattle.aea_lattice.proofs.Parted.{last_fence-within, fences_few}
-use Rattle.aea_disk.specs.State.{State, HasRoomTo}
+use Rattle.aea_disk.specs.State.{State, IsReady}
 use Rattle.aea_disk.specs.Files.{ChangesOnly}
 use Rattle.aea_disk.specs.Frames.{OnlyWrites}
-use Rattle.aea_disk.proofs.Frames.{writes_as, writes_others}
-use Rattle.aea_disk.proofs.Moments.{passes_both, others_kept, others_both}
+use Rattle.aea_disk.proofs.Frames.{writes_as}
 use Rattle.aea_records.specs.Format.{Record, Fence, nodes_of, fences_of, entry, spelled}
 use Rattle.aea_records.specs.Grammar.{IsNext, IsLedger}
 use Rattle.aea_records.specs.Laws.{IsSomeLedger, HasOneReading, FencesMayFollow, RecordsAreFew}
@@ -19,6 +17,7 @@ use Rattle.aea_ledger.specs.declared.fences.FenceFault.{FenceFault}
 use Rattle.aea_ledger.specs.declared.fences.FenceFault.TheVariants as fencing
 use Rattle.aea_ledger.specs.Committing.{LeavesOldOrNew, HasCommitted}
 use Rattle.aea_ledger.specs.Stops.{HasLedger}
+use Rattle.aea_ledger.specs.Taking.{FitsAdding}
 use Rattle.aea_ledger.specs.Values.{Opened, HasRecords, IsThisOne}
 use Rattle.aea_command.specs.declared.refusal.Refusal.{Refusal}
 use Rattle.aea_command.specs.declared.refusal.Refusal.TheVariants.{NoArchive, LedgerBad, AlreadyFenced, TooManyFences, Occupied}
@@ -29,7 +28,7 @@ use Rattle.aea_command.specs.Causes.{place_of, IsFirst, Refuses}
 use Rattle.aea_command.specs.Failures.{fence_failure}
 use Rattle.aea_command_store.specs.Fence.{next_fence, IsFencedAtEnd, HasAllFences, FenceCauses}
 use Rattle.aea_command.specs.Openings.{OpeningCauses, Opens}
-use Rattle.aea_command_store.proofs.Adding.{IsCommitting, adds_read, adds_failed, adds_done, rest_committed}
+use Rattle.aea_command_store.proofs.Adding.{IsCommitting, adds_read, adds_failed, adds_done, rest_behind, rest_committed}
 use Rattle.aea_command.proofs.Behind.{AreBehindOpening, some_ledger, opened_no_opening}
 use Rattle.aea_command_store.proofs.Recording.{fence_records}
 use Rattle.aea_command.proofs.Refusing.{refuses_none, refuses_one, refuses_stopped}
@@ -152,7 +151,7 @@ pub record IsUnfenced (tells : Type 0) (v : Opened) (fault : FenceFault) (old mi
   pub many : (fault ≡ fencing.TooManyFences) ↔ ((length v.lattice.fences ≡ greatest_fences) × (StandsFenced v → ⊥))
   pub unchanged : fault ≢ fencing.DiskFault → new ≡ mid
   pub leaves : LeavesOldOrNew tells v (Fence v.lattice.n) mid new
-  pub writes : OnlyWrites tells (HasRoomTo mid 0 (v.end + 11)) (fault ≡ fencing.DiskFault) (ChangesOnly 0) mid new
+  pub writes : OnlyWrites tells (IsReady mid) (FitsAdding mid 1 (v.end + 10)) (fault ≡ fencing.DiskFault) (ChangesOnly 0) mid new
 
 same_fault : (a b : FenceFault) → (let one : Result ℕ FenceFault = Err a in one ≡ Err b) → a ≡ b
 same_fault a b e = cc
@@ -165,14 +164,14 @@ pub unfenced_of : (tells : Type 0) (v : Opened) (fault : FenceFault) (old mid ne
     → ((n : ℕ) → (let one : Result ℕ FenceFault = Err fault in one ≡ Err (fencing.AlreadyFenced n)) ↔ ((n ≡ v.lattice.n) × StandsFenced v))
     → ((let one : Result ℕ FenceFault = Err fault in one ≡ Err fencing.TooManyFences) ↔ ((length v.lattice.fences ≡ greatest_fences) × (StandsFenced v → ⊥)))
     → ((let one : Result ℕ FenceFault = Err fault in one ≢ Err fencing.DiskFault) → new ≡ mid) → LeavesOldOrNew tells v (Fence v.lattice.n) mid new
-    → OnlyWrites tells (HasRoomTo mid 0 (v.end + 11)) (let one : Result ℕ FenceFault = Err fault in one ≡ Err fencing.DiskFault) (ChangesOnly 0) mid new → IsUnfenced tells v fault old mid new
+    → OnlyWrites tells (IsReady mid) (FitsAdding mid 1 (v.end + 10)) (let one : Result ℕ FenceFault = Err fault in one ≡ Err fencing.DiskFault) (ChangesOnly 0) mid new → IsUnfenced tells v fault old mid new
 unfenced_of tells v fault old mid new opens already many unchanged leaves writes = record {
   opens = opens;
   already = λ n. (λ e. (already n).0 (as_err fault (fencing.AlreadyFenced n) e), λ h. same_fault fault (fencing.AlreadyFenced n) ((already n).1 h));
   many = (λ e. many.0 (as_err fault fencing.TooManyFences e), λ h. same_fault fault fencing.TooManyFences (many.1 h));
   unchanged = λ differs. unchanged (λ e. differs (same_fault fault fencing.DiskFault e));
   leaves = leaves;
-  writes = writes_as tells (HasRoomTo mid 0 (v.end + 11)) _ _ (ChangesOnly 0) mid new (as_err fault fencing.DiskFault) writes;
+  writes = writes_as tells _ (FitsAdding mid 1 (v.end + 10)) _ _ (ChangesOnly 0) mid new (as_err fault fencing.DiskFault) (λ is. cc) writes;
 }
 
 -- it was committed, or the disk failed at that
@@ -185,7 +184,7 @@ unfenced_committing follow tells v old mid new gave =
       is = fence_is v;
       next = fence_next follow v free few;
       leaves = gave.leaves;
-      writes = subst (λ (n : ℕ). OnlyWrites tells (HasRoomTo mid 0 n) (fencing.DiskFault ≡ fencing.DiskFault) (ChangesOnly 0) mid new) (let e : v.end + 11 ≡ v.end + length (entry (Fence v.lattice.n)) + 1 = omega arith in e) gave.writes;
+      writes = subst (λ (n : ℕ). OnlyWrites tells (IsReady mid) (FitsAdding mid 1 n) (fencing.DiskFault ≡ fencing.DiskFault) (ChangesOnly 0) mid new) (let e : v.end + 10 ≡ v.end + length (entry (Fence v.lattice.n)) = omega arith in e) gave.writes;
     }
 
 opened_not_disk : (v : Opened) → Ok v ≡ Err failure.Disk → ⊥
@@ -229,14 +228,9 @@ err_same f g e = cc
 
 -- where the call that adds a fence failed, each other file stays, and an answered fault of the disk has its cause
 pub unfenced_rest : {T : Type 0} (tells : Type 0) (v : Opened) (fault : FenceFault) (old mid new : State) → IsUnfenced tells v fault old mid new → KeepsTheRest tells (let answer : Result T Failure = Err (fence_failure fault) in answer ≡ Err failure.Disk) old new
-unfenced_rest {T} tells v fault old mid new gave = record {
-  others = others_both tells 0 old mid new gave.opens.reads.time gave.writes.time
-      (others_kept tells 0 old mid gave.opens.reads.crash gave.opens.reads.contents)
-      (writes_others tells _ (fault ≡ fencing.DiskFault) (ChangesOnly 0) 0 mid new (λ c d keeps. keeps) gave.writes);
-  time = passes_both old mid new gave.opens.reads.time gave.writes.time;
-  kept = omega (arith, gave.opens.reads.kept, gave.writes.kept);
-  cause = λ is. let rose : Rose mid.faults new.faults = gave.writes.cause (failure_disk fault (err_same {T = T} (fence_failure fault) failure.Disk is)) in omega (arith, gave.opens.reads.kept, rose);
-}
+unfenced_rest {T} tells v fault old mid new gave =
+    rest_behind tells _ (fault ≡ fencing.DiskFault) (let answer : Result T Failure = Err (fence_failure fault) in answer ≡ Err failure.Disk) v old mid new gave.opens gave.writes
+    (λ is. failure_disk fault (err_same {T = T} (fence_failure fault) failure.Disk is)) (λ is. ap (λ (a : FenceFault). Err (fence_failure a)) is)
 
 -- what it gave where it was done
 pub record IsFencedNow (tells : Type 0) (v w : Opened) (nodes : ℕ) (old mid new : State) : Type 1 where
@@ -246,7 +240,7 @@ pub record IsFencedNow (tells : Type 0) (v w : Opened) (nodes : ℕ) (old mid ne
   pub few : length v.lattice.fences ≢ greatest_fences
   pub leaves : LeavesOldOrNew tells v (Fence v.lattice.n) mid new
   pub committed : HasCommitted tells v w (Fence v.lattice.n) mid new
-  pub writes : OnlyWrites tells (HasRoomTo mid 0 (v.end + 11)) ⊥ (ChangesOnly 0) mid new
+  pub writes : OnlyWrites tells (IsReady mid) (FitsAdding mid 1 (v.end + 10)) ⊥ (ChangesOnly 0) mid new
 
 fenced_committing : FencesMayFollow → (tells : Type 0) (v w : Opened) (nodes : ℕ) (old mid new : State) → IsFencedNow tells v w nodes old mid new → IsCommitting next_fence tells v (Fence v.lattice.n) ⊥ old mid new
 fenced_committing follow tells v w nodes old mid new gave = record {
@@ -254,7 +248,7 @@ fenced_committing follow tells v w nodes old mid new gave = record {
   is = fence_is v;
   next = fence_next follow v gave.free gave.few;
   leaves = gave.leaves;
-  writes = subst (λ (n : ℕ). OnlyWrites tells (HasRoomTo mid 0 n) ⊥ (ChangesOnly 0) mid new) (let e : v.end + 11 ≡ v.end + length (entry (Fence v.lattice.n)) + 1 = omega arith in e) gave.writes;
+  writes = subst (λ (n : ℕ). OnlyWrites tells (IsReady mid) (FitsAdding mid 1 n) ⊥ (ChangesOnly 0) mid new) (let e : v.end + 10 ≡ v.end + length (entry (Fence v.lattice.n)) = omega arith in e) gave.writes;
 }
 
 -- where a fence was added, what holds of a run that adds one holds with any value as its answer
@@ -272,7 +266,7 @@ fenced_refuses reading tells v w nodes old mid new value gave =
 -- where a fence was added, each other file stays, time goes on, and the count of faults does not fall
 pub fenced_rest : {T : Type 0} → FencesMayFollow → (tells : Type 0) (v w : Opened) (nodes : ℕ) (old mid new : State) (value : T) → IsFencedNow tells v w nodes old mid new → KeepsTheRest tells (let answer : Result T Failure = Ok value in answer ≡ Err failure.Disk) old new
 fenced_rest {T} follow tells v w nodes old mid new value gave =
-    rest_committed next_fence tells v (Fence v.lattice.n) ⊥ _ old mid new (fenced_committing follow tells v w nodes old mid new gave) (λ is. let h : (let answer : Result T Failure = Ok value in answer ≡ Err failure.Disk) = is in cc)
+    rest_committed next_fence tells v (Fence v.lattice.n) ⊥ _ old mid new (fenced_committing follow tells v w nodes old mid new gave) (λ is. let h : (let answer : Result T Failure = Ok value in answer ≡ Err failure.Disk) = is in cc) (λ none. absurd none)
 
 -- where a fence was added and the disk tells, the number that was given is that of the ledger's nodes
 pub fenced_nodes : HasOneReading → (tells : Type 0) (v w : Opened) (nodes : ℕ) (old mid new : State) → IsFencedNow tells v w nodes old mid new → tells → (shape : Shape) (records : List Record) → HasLedger shape records (old.files 0) → nodes ≡ nodes_of records

@@ -2,18 +2,16 @@
 pub mod Running
 use Rattle.std.proofs.Common.{◌≡◌, ◌≢◌, ◌⊎◌, ◌↔◌, inl, inr, ℕ, ◌+◌, ◌<◌, ◌≤◌, List, Bool, true, false, length, refl, sym, ◌∙◌, ap, subst, arith, Result, Ok, Err}
 use Rattle.std.specs.List.{list_any}
-use Rattle.aea_faults.specs.Faults.{Rose}
-use Rattle.aea_disk.specs.State.{State, HasRoomTo}
+use Rattle.aea_disk.specs.State.{State, IsReady}
 use Rattle.aea_disk.specs.Files.{ChangesOnly}
 use Rattle.aea_disk.specs.Frames.{OnlyWrites}
-use Rattle.aea_disk.proofs.Frames.{writes_others}
-use Rattle.aea_disk.proofs.Moments.{passes_both, others_kept, others_both}
 use Rattle.aea_records.specs.Format.{Record, Raise, is_raise, limit_when, raised_limit, entry, spelled}
 use Rattle.aea_records.specs.Grammar.{IsNext, IsLedger}
 use Rattle.aea_records.specs.Laws.{IsSomeLedger, HasOneReading}
 use Rattle.aea_ledger.specs.declared.raise.UpgradeFault.{UpgradeFault}
 use Rattle.aea_ledger.specs.declared.raise.UpgradeFault.TheVariants as raising
 use Rattle.aea_ledger.specs.Committing.{LeavesOldOrNew, HasCommitted}
+use Rattle.aea_ledger.specs.Taking.{FitsAdding}
 use Rattle.aea_ledger.specs.Values.{Opened, HasRecords, IsThisOne}
 use Rattle.aea_command.specs.declared.refusal.Refusal.{Refusal}
 use Rattle.aea_command.specs.declared.refusal.Refusal.TheVariants.{NoArchive, LedgerBad, AlreadyUpgraded, Occupied}
@@ -24,7 +22,7 @@ use Rattle.aea_command.specs.Causes.{place_of, IsFirst, Refuses}
 use Rattle.aea_command.specs.Failures.{upgrade_failure}
 use Rattle.aea_command.specs.Openings.{OpeningCauses, Opens}
 use Rattle.aea_command_store.specs.Upgrade.{next_raise, IsRaised, UpgradeCauses}
-use Rattle.aea_command_store.proofs.Adding.{IsCommitting, adds_read, adds_failed, adds_done, rest_committed}
+use Rattle.aea_command_store.proofs.Adding.{IsCommitting, adds_read, adds_failed, adds_done, rest_behind, rest_committed}
 use Rattle.aea_command.proofs.Behind.{AreBehindOpening, some_ledger, opened_no_opening}
 use Rattle.aea_command_store.proofs.Recording.{raise_records}
 use Rattle.aea_command.proofs.Refusing.{refuses_none, refuses_one, refuses_stopped}
@@ -97,7 +95,7 @@ pub record IsUnraised (tells : Type 0) (v : Opened) (fault : UpgradeFault) (old 
   pub already : (fault ≡ raising.AlreadyUpgraded) ↔ (v.raised ≡ true)
   pub unchanged : fault ≡ raising.AlreadyUpgraded → new ≡ mid
   pub leaves : LeavesOldOrNew tells v Raise mid new
-  pub writes : OnlyWrites tells (HasRoomTo mid 0 (v.end + 11)) (fault ≡ raising.DiskFault) (ChangesOnly 0) mid new
+  pub writes : OnlyWrites tells (IsReady mid) (FitsAdding mid 1 (v.end + 10)) (fault ≡ raising.DiskFault) (ChangesOnly 0) mid new
 
 unraised_committing : (tells : Type 0) (v : Opened) (old mid new : State) → IsUnraised tells v raising.DiskFault old mid new → IsCommitting next_raise tells v Raise (raising.DiskFault ≡ raising.DiskFault) old mid new
 unraised_committing tells v old mid new gave = record {
@@ -105,7 +103,7 @@ unraised_committing tells v old mid new gave = record {
   is = raise_is v;
   next = raise_next v (λ raised. let h : raising.DiskFault ≡ raising.AlreadyUpgraded = gave.already.1 raised in cc);
   leaves = gave.leaves;
-  writes = subst (λ (n : ℕ). OnlyWrites tells (HasRoomTo mid 0 n) (raising.DiskFault ≡ raising.DiskFault) (ChangesOnly 0) mid new) (let e : v.end + 11 ≡ v.end + length (entry Raise) + 1 = omega arith in e) gave.writes;
+  writes = subst (λ (n : ℕ). OnlyWrites tells (IsReady mid) (FitsAdding mid 1 n) (raising.DiskFault ≡ raising.DiskFault) (ChangesOnly 0) mid new) (let e : v.end + 10 ≡ v.end + length (entry Raise) = omega arith in e) gave.writes;
 }
 
 -- where the call that raises the limit failed, with the failure of that fault what holds of a run that adds the
@@ -135,14 +133,9 @@ err_same f g e = cc
 -- where the call that raises the limit failed, each other file stays, and an answered fault of the disk has its
 -- cause
 pub unraised_rest : {T : Type 0} (tells : Type 0) (v : Opened) (fault : UpgradeFault) (old mid new : State) → IsUnraised tells v fault old mid new → KeepsTheRest tells (let answer : Result T Failure = Err (upgrade_failure fault) in answer ≡ Err failure.Disk) old new
-unraised_rest {T} tells v fault old mid new gave = record {
-  others = others_both tells 0 old mid new gave.opens.reads.time gave.writes.time
-      (others_kept tells 0 old mid gave.opens.reads.crash gave.opens.reads.contents)
-      (writes_others tells _ (fault ≡ raising.DiskFault) (ChangesOnly 0) 0 mid new (λ c d keeps. keeps) gave.writes);
-  time = passes_both old mid new gave.opens.reads.time gave.writes.time;
-  kept = omega (arith, gave.opens.reads.kept, gave.writes.kept);
-  cause = λ is. let rose : Rose mid.faults new.faults = gave.writes.cause (failure_disk fault (err_same {T = T} (upgrade_failure fault) failure.Disk is)) in omega (arith, gave.opens.reads.kept, rose);
-}
+unraised_rest {T} tells v fault old mid new gave =
+    rest_behind tells _ (fault ≡ raising.DiskFault) (let answer : Result T Failure = Err (upgrade_failure fault) in answer ≡ Err failure.Disk) v old mid new gave.opens gave.writes
+    (λ is. failure_disk fault (err_same {T = T} (upgrade_failure fault) failure.Disk is)) (λ is. ap (λ (a : UpgradeFault). Err (upgrade_failure a)) is)
 
 -- what it gave where it was done
 pub record IsRaisedNow (tells : Type 0) (v w : Opened) (old mid new : State) : Type 1 where
@@ -150,7 +143,7 @@ pub record IsRaisedNow (tells : Type 0) (v w : Opened) (old mid new : State) : T
   pub free : v.raised ≡ true → ⊥
   pub leaves : LeavesOldOrNew tells v Raise mid new
   pub committed : HasCommitted tells v w Raise mid new
-  pub writes : OnlyWrites tells (HasRoomTo mid 0 (v.end + 11)) ⊥ (ChangesOnly 0) mid new
+  pub writes : OnlyWrites tells (IsReady mid) (FitsAdding mid 1 (v.end + 10)) ⊥ (ChangesOnly 0) mid new
 
 raised_committing : (tells : Type 0) (v w : Opened) (old mid new : State) → IsRaisedNow tells v w old mid new → IsCommitting next_raise tells v Raise ⊥ old mid new
 raised_committing tells v w old mid new gave = record {
@@ -158,7 +151,7 @@ raised_committing tells v w old mid new gave = record {
   is = raise_is v;
   next = raise_next v gave.free;
   leaves = gave.leaves;
-  writes = subst (λ (n : ℕ). OnlyWrites tells (HasRoomTo mid 0 n) ⊥ (ChangesOnly 0) mid new) (let e : v.end + 11 ≡ v.end + length (entry Raise) + 1 = omega arith in e) gave.writes;
+  writes = subst (λ (n : ℕ). OnlyWrites tells (IsReady mid) (FitsAdding mid 1 n) ⊥ (ChangesOnly 0) mid new) (let e : v.end + 10 ≡ v.end + length (entry Raise) = omega arith in e) gave.writes;
 }
 
 -- where the limit was raised, what holds of a run that adds the raise holds with any value as its answer
@@ -176,4 +169,4 @@ raised_refuses reading tells v w old mid new value gave =
 -- where the limit was raised, each other file stays, time goes on, and the count of faults does not fall
 pub raised_rest : {T : Type 0} → (tells : Type 0) (v w : Opened) (old mid new : State) (value : T) → IsRaisedNow tells v w old mid new → KeepsTheRest tells (let answer : Result T Failure = Ok value in answer ≡ Err failure.Disk) old new
 raised_rest {T} tells v w old mid new value gave =
-    rest_committed next_raise tells v Raise ⊥ _ old mid new (raised_committing tells v w old mid new gave) (λ is. let h : (let answer : Result T Failure = Ok value in answer ≡ Err failure.Disk) = is in cc)
+    rest_committed next_raise tells v Raise ⊥ _ old mid new (raised_committing tells v w old mid new gave) (λ is. let h : (let answer : Result T Failure = Ok value in answer ≡ Err failure.Disk) = is in cc) (λ none. absurd none)

@@ -3,11 +3,12 @@ use Rattle.std.specs.Prelude.{◌≡◌, ◌≢◌, ◌⊎◌, ◌≤◌, ◌+�
 use Rattle.aea_lattice.specs.declared.shape.Shape.{Shape}
 use Rattle.aea_disk.specs.Files.{Files, ChangesOnly}
 use Rattle.aea_faults.specs.Faults.{Rose}
-use Rattle.aea_disk.specs.State.{State, Passes, KeepsOthers, IsSynced, HasRoom, HasRoomTo, NeverFails}
+use Rattle.aea_disk.specs.State.{State, Passes, KeepsOthers, IsSynced, IsReady, IsRoomy, NeverFails}
 use Rattle.aea_records.specs.Format.{Record, body, entry, spelled}
 use Rattle.aea_records.specs.Grammar.{IsNext}
 use Rattle.aea_records.specs.Laws.{IsSomeLedger}
 use Rattle.aea_ledger.specs.Recorded.{AreRecordsOf}
+use Rattle.aea_ledger.specs.Taking.{FitsAdding}
 use Rattle.aea_ledger.specs.Stops.{HasLedger, HasOldOrNew, IsOpened, HasOpening, committed}
 use Rattle.aea_command.specs.Openings.{IsUntouched}
 use Rattle.aea_command.specs.declared.refusal.Refusal.{Refusal}
@@ -40,11 +41,11 @@ pub record WouldEndAt (adds : List Record → Record) (bytes : List ℕ) (end : 
   pub next : IsNext shape records (adds records)
   pub place : end ≡ length (spelled shape records) + length (entry (adds records))
 
--- The disk has some room; and where the record may follow those of the file, it has room up to the gate that is to end the
--- new ledger, of a disk that does not tell the file wherever that is.
+-- The disk has some room, and to sync; and where the record may follow those of the file, it has room for it up to the place
+-- at which the new ledger is to end, of a disk that does not tell the file wherever that is.
 pub record FitsRecord (adds : List Record → Record) (tells : Type 0) (s : State) : Type 0 where
-  pub some : HasRoom s
-  pub behind : (end : ℕ) → (tells → WouldEndAt adds (s.files 0) end) → HasRoomTo s 0 (end + 1)
+  pub some : IsRoomy s
+  pub behind : (end : ℕ) → (tells → WouldEndAt adds (s.files 0) end) → FitsAdding s 1 end
 
 -- Of a run that adds the record, with the disk before and after it, and what it answers:
 pub record AddsRecord {T : Type 0} (adds : List Record → Record) (tells : Type 0) (old new : State) (answer : Result T Failure) : Type 0 where
@@ -61,13 +62,16 @@ pub record AddsRecord {T : Type 0} (adds : List Record → Record) (tells : Type
   -- no write ends past the gate that ends the new ledger
   pub long : tells → (shape : Shape) (records : List Record) → HasLedger shape records (old.files 0)
       → length (new.files 0) ≤ max (length (old.files 0)) (length (spelled shape records) + length (entry (adds records)) + 1)
-  -- within the room of the disk nothing fails
-  pub in_room : NeverFails (FitsRecord adds tells old) (answer ≢ Err failure.Disk) old new
+  -- where the disk is ready and has the room nothing fails
+  pub in_room : tells → IsReady old → NeverFails (FitsRecord adds tells old) (answer ≢ Err failure.Disk) old new
 
 -- Of calls that change the ledger file alone, whatever they answer: each other file stays, time goes on, and a fault of the
--- disk is answered only where the count rose, which never falls.
+-- disk is answered only where the count rose, which never falls, and is what it was where none is; a ready disk that tells
+-- its contents is at fault only where the count beneath rose.
 pub record KeepsTheRest (tells fault : Type 0) (old new : State) : Type 0 where
   pub others : KeepsOthers tells 0 old new
   pub time : Passes old new
   pub kept : old.faults ≤ new.faults
   pub cause : fault → Rose old.faults new.faults
+  pub still : (fault → ⊥) → new.faults ≡ old.faults
+  pub beneath : tells → IsReady old → fault → Rose old.beneath new.beneath

@@ -6,15 +6,16 @@ use Rattle.aea_io.specs.Streams.{SinkState}
 use Rattle.aea_lattice.specs.declared.blocks.BlockId.{BlockId}
 use Rattle.aea_lattice.specs.declared.shape.Shape.{Shape}
 use Rattle.aea_disk.specs.Files.{Files}
-use Rattle.aea_disk.specs.State.{State, EveryImage, KeepsImages, HasRoom, HasRoomTo, NeverFails}
+use Rattle.aea_disk.specs.State.{State, EveryImage, KeepsImages, IsReady, IsRoomy, NeverFails}
 use Rattle.aea_catalog.specs.Names.{IsName}
 use Rattle.aea_records.specs.Faults.{IsNoArchive, IsBadAt}
 use Rattle.aea_records.specs.Format.{Record, Stored, Object, greatest_objects, nodes_for, nodes_of, stored_of, limit_of, limit_when, spelled}
 use Rattle.aea_records.specs.Laws.{IsSomeLedger}
+use Rattle.aea_ledger.specs.Taking.{FitsAdding}
 use Rattle.aea_ledger.specs.Stops.{HasLedger}
 use Rattle.aea_ledger.specs.Next.{AreItsRecords}
 use Rattle.aea_ledger.specs.Values.{Opened, HasRecords}
-use Rattle.aea_archive.specs.Cells.{HaveSitesRoom}
+use Rattle.aea_archive.specs.Cells.{HaveSitesRoom, FitsRows}
 use Rattle.aea_archive.specs.Next.{NewObject}
 use Rattle.aea_archive.specs.Stretches.{HasAtLeast}
 use Rattle.aea_append.specs.Causes.{next_end}
@@ -178,8 +179,8 @@ AreOfObjects shape (o ∷ objects) [] = ⊥
 AreOfObjects shape (o ∷ objects) (r ∷ records) = IsOfObject shape o r × AreOfObjects shape objects records
 
 -- the bytes are a ledger; and with the records of objects that the source can begin with, and that of one more, whose head
--- it can have behind them and whose nodes fit, it has its ending gate at this place
-pub record WouldReach (left : Option (List ℕ)) (bytes : List ℕ) (end : ℕ) : Type 0 where
+-- it can have behind them and whose nodes fit, it has so many records more and its ending gate at this place
+pub record WouldReach (left : Option (List ℕ)) (bytes : List ℕ) (more end : ℕ) : Type 0 where
   pub shape : Shape
   pub records : List Record
   pub ledger : HasLedger shape records bytes
@@ -191,22 +192,23 @@ pub record WouldReach (left : Option (List ℕ)) (bytes : List ℕ) (end : ℕ) 
   pub rest : Option (List ℕ)
   pub framed : Consumes left rest (frames_of objects ++ frame_head name size)
   pub fits : nodes_of (records ++ added) + nodes_for shape size ≤ limit_of records
+  pub count : more ≡ length added + 1
   pub place : end ≡ next_end (length (spelled shape (records ++ added))) (length name) (nodes_for shape size * (1 + shape.alpha))
 
--- The disk has some room; and where it has an archive, room for the rows that its sites may have, and up to each gate that
--- may end its ledger in such a run, of a disk that does not tell the file wherever that is.
+-- The disk has some room, and to sync; and where it has an archive, room for the rows that its sites may have, and for the
+-- records up to each place at which its ledger may end in such a run, of a disk that does not tell the file wherever that is.
 pub record FitsIngest (tells : Type 0) (left : Option (List ℕ)) (s : State) : Type 0 where
-  pub some : HasRoom s
+  pub some : IsRoomy s
   pub sites : (shape : Shape) (limit : ℕ) → (tells → HasLimit shape limit (s.files 0)) → HaveSitesRoom shape limit s
-  pub behind : (end : ℕ) → (tells → WouldReach left (s.files 0) end) → HasRoomTo s 0 (end + 1)
+  pub behind : (more end : ℕ) → (tells → WouldReach left (s.files 0) more end) → FitsAdding s more end
 
 -- the disk has room for all that a run may write that stores the frames of the source into an opened archive
 pub record FitsFrames (v : Opened) (left : Option (List ℕ)) (s : State) : Type 0 where
-  pub sites : HaveSitesRoom v.shape (limit_when v.raised) s
+  pub sites : FitsRows v.shape (limit_when v.raised) s
   pub ledger : (records : List Record) → HasRecords v records → (objects : List NewObject) (added : List Record) (name : List ℕ) (size : ℕ) (rest : Option (List ℕ))
       → AreOfObjects v.shape objects added → Consumes left rest (frames_of objects ++ frame_head name size)
       → nodes_of (records ++ added) + nodes_for v.shape size ≤ limit_of records
-      → HasRoomTo s 0 (next_end (length (spelled v.shape (records ++ added))) (length name) (nodes_for v.shape size * (1 + v.shape.alpha)) + 1)
+      → FitsAdding s (length added + 1) (next_end (length (spelled v.shape (records ++ added))) (length name) (nodes_for v.shape size * (1 + v.shape.alpha)))
 
 -- ---- what a run leaves
 
@@ -252,8 +254,8 @@ pub record StoresFrames {T : Type 0} (tells : Type 0) (old new : State) (left re
       × (IsNotOpened old new (printed ++ more) answer ⊎ OpensThen old new (GrowsSurely shape records ((printed ++ more) ++ last) (length (printed ++ more))))
   -- where there is no ledger, nothing is stored
   pub none : tells → (IsSomeLedger (old.files 0) → ⊥) → KeepsImages old new × (new.files ≡ old.files)
-  -- within the room of the disk nothing fails
-  pub in_room : NeverFails (FitsIngest tells left old) (answer ≢ Err failure.Disk) old new
+  -- where the disk is ready and has the room nothing fails
+  pub in_room : tells → IsReady old → NeverFails (FitsIngest tells left old) (answer ≢ Err failure.Disk) old new
 
 -- The same of a run behind its opening, from where the files have the opened ledger.
 pub record StoresOpened {T : Type 0} (tells : Type 0) (v : Opened) (old new : State) (left rest : Option (List ℕ)) (printed more : List NewObject) (answer : Result T Failure) : Type 0 where

@@ -9,12 +9,13 @@ use Rattle.aea_lattice.specs.declared.blocks.BlockId.{BlockId}
 use Rattle.aea_lattice.specs.declared.grid.Lattice.{Lattice}
 use Rattle.aea_lattice.specs.declared.shape.Shape.{Shape}
 use Rattle.aea_disk.specs.Files.{Files}
-use Rattle.aea_disk.specs.State.{State, KeepsImages, HasRoom, HasRoomTo, NeverFails}
+use Rattle.aea_disk.specs.State.{State, KeepsImages, IsReady, IsRoomy, NeverFails}
 use Rattle.aea_catalog.specs.Names.{IsName}
 use Rattle.aea_shelf.specs.Writes.{KeepsPadded}
 use Rattle.aea_records.specs.Faults.{IsNoArchive, IsBadAt}
 use Rattle.aea_records.specs.Format.{Record, greatest_objects, nodes_for, nodes_of, fences_of, digests_of, stored_of, limit_of, spelled}
 use Rattle.aea_records.specs.Laws.{IsSomeLedger}
+use Rattle.aea_ledger.specs.Taking.{FitsAdding}
 use Rattle.aea_ledger.specs.Recorded.{IsLatticeOf}
 use Rattle.aea_ledger.specs.Stops.{HasLedger, HasOpening}
 use Rattle.aea_archive.specs.Blocks.{IsBlockIn}
@@ -108,12 +109,13 @@ pub record WouldEndAt (name : List ℕ) (left : Option (List ℕ)) (bytes : List
   pub fits : nodes_of records + nodes_for shape (length taken) ≤ limit_of records
   pub place : end ≡ next_end (length (spelled shape records)) (length name) (nodes_for shape (length taken) * (1 + shape.alpha))
 
--- The disk has some room; and where it has an archive, room for the rows that its sites may have, and up to the gate that is
--- to end the new ledger, of a disk that does not tell the file whatever and wherever that is.
+-- The disk has some room, and to sync; and where it has an archive, room for the rows that its sites may have, and for the
+-- record up to the place at which the new ledger is to end, of a disk that does not tell the file whatever and wherever that
+-- is.
 pub record FitsPut (name : List ℕ) (tells : Type 0) (left : Option (List ℕ)) (s : State) : Type 0 where
-  pub some : HasRoom s
+  pub some : IsRoomy s
   pub sites : (shape : Shape) (limit : ℕ) → (tells → HasLimit shape limit (s.files 0)) → HaveSitesRoom shape limit s
-  pub behind : (end : ℕ) → (tells → WouldEndAt name left (s.files 0) end) → HasRoomTo s 0 (end + 1)
+  pub behind : (end : ℕ) → (tells → WouldEndAt name left (s.files 0) end) → FitsAdding s 1 end
 
 -- a refusal that comes before the input is read
 abbrev pub IsEarly : Refusal → Type 0
@@ -153,8 +155,8 @@ pub record Stores {T : Type 0} (name : List ℕ) (tells : Type 0) (old new : Sta
   -- no more of the input is taken than the nodes that are left hold, and one byte
   pub takes : tells → (shape : Shape) (records : List Record) → HasLedger shape records (old.files 0)
       → TakesAtMost left rest ((limit_of records - nodes_of records) * shape.block + 1)
-  -- within the room of the disk nothing fails
-  pub in_room : NeverFails (FitsPut name tells left old) (answer ≢ Err failure.Disk) old new
+  -- where the disk is ready and has the room nothing fails
+  pub in_room : tells → IsReady old → NeverFails (FitsPut name tells left old) (answer ≢ Err failure.Disk) old new
 
 -- The text is the line of the object with all that the input had, under the name, in an archive of some shape, which is
 -- that of the ledger where the disk tells it.

@@ -24,7 +24,7 @@ pub drill_runs : (l : Lattice) (tells : Type 0) (disk : State) (old new : Source
 drill_runs l tells disk old new before after answer drills refuses never honest = record {
   does = drills;
   refuses = λ early. refuses_told _ _ _ _ (λ told. told.input tt) refuses;
-  disk_fits = λ fits. never;
+  disk_fits = λ told ready fits. never;
   output_fits = λ told fits e.
       let is = told_is old.left (told.input tt) in
       let outcome = (drills.planned (inr e) (unwrap_or old.left []) is).1 in

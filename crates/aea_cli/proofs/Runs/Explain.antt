@@ -61,10 +61,10 @@ explain_runs reading word tells old new input before after answer explains refus
     record {
       does = inr explains;
       refuses = λ early. refuses_told _ _ _ _ (λ told. told.disk tt) refuses;
-      disk_fits = λ room. (explains.reads.sure room).0;
+      disk_fits = λ told ready room. (explains.reads.sure told ready room).0;
       output_fits = λ told fits. explain_fits reading word tells old.files before after answer explains.opening (told.disk tt) opens.this_one opens.kinds explains.unopened explains.explains fits;
       honest = λ told is. honest;
-      stays = where_kept tells _ old old new (passes_none old) opens.reads.time opens.reads.crash opens.reads.contents (where_none tells _ old);
+      stays = where_kept tells _ old old new (passes_none old) explains.reads.time explains.reads.crash explains.reads.contents (where_none tells _ old);
       opens = λ told. opening_more old new _ _ (λ c stays f keep. stays f) (opens.stops told);
     }
 
@@ -73,7 +73,7 @@ pub unworded_runs : (word : List ℕ) (tells : Type 0) (s : State) (input : Sour
 unworded_runs word tells s input out = record {
   does = inl (record { is = refl; images = images_same s; files = refl; disk = refl; out = refl });
   refuses = λ early. refuses_stopped _ _ (Err failure.Memory) (inr (inr refl));
-  disk_fits = λ room e. let h : (let answer : Answer = Err failure.Memory in answer ≡ Err failure.Disk) = e in cc;
+  disk_fits = λ told ready room e. let h : (let answer : Answer = Err failure.Memory in answer ≡ Err failure.Disk) = e in cc;
   output_fits = λ told fits e. let h : (let answer : Answer = Err failure.Memory in answer ≡ Err failure.Output) = e in cc;
   honest = λ told is b recorded computed e. let h : (let answer : Answer = Err failure.Memory in answer ≡ Err (failure.Clash b recorded computed)) = e in cc;
   stays = where_none tells _ s;

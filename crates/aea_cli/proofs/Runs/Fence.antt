@@ -21,7 +21,7 @@ pub fence_runs : (tells : Type 0) (old new : State) (input : SourceState) (befor
 fence_runs tells old new input before after answer fences refuses rest honest = record {
   does = fences;
   refuses = λ early. refuses_told _ _ _ _ (λ told. told.disk tt) refuses;
-  disk_fits = λ fits. (fences.adds.in_room fits).0;
+  disk_fits = λ told ready fits. (fences.adds.in_room told ready fits).0;
   output_fits = λ told fits e.
       let stands = fences.adds.stands (inr e) (told.disk tt) in
       let room = fits stands.0.shape stands.0.records stands.0.before in

@@ -62,10 +62,10 @@ get_runs reading name tells old new input before after answer gets refuses hones
     record {
       does = inr gets;
       refuses = λ early. refuses_told _ _ _ _ (λ told. told.disk tt) refuses;
-      disk_fits = λ room. (gets.reads.sure room).0;
+      disk_fits = λ told ready room. (gets.reads.sure told ready room).0;
       output_fits = λ told fits. get_fits name tells old.files before after answer gets.opening reading (told.disk tt) opens.this_one opens.kinds gets.unopened gets.fetches fits;
       honest = λ told is. honest;
-      stays = where_kept tells _ old old new (passes_none old) opens.reads.time opens.reads.crash opens.reads.contents (where_none tells _ old);
+      stays = where_kept tells _ old old new (passes_none old) gets.reads.time gets.reads.crash gets.reads.contents (where_none tells _ old);
       opens = λ told. opening_more old new _ _ (λ c stays f keep. stays f) (opens.stops told);
     }
 
@@ -74,7 +74,7 @@ pub unnamed_runs : (name : List ℕ) (tells : Type 0) (s : State) (input : Sourc
 unnamed_runs name tells s input out = record {
   does = inl (record { is = refl; images = images_same s; files = refl; disk = refl; out = refl });
   refuses = λ early. refuses_stopped _ _ (Err failure.Memory) (inr (inr refl));
-  disk_fits = λ room e. let h : (let answer : Answer = Err failure.Memory in answer ≡ Err failure.Disk) = e in cc;
+  disk_fits = λ told ready room e. let h : (let answer : Answer = Err failure.Memory in answer ≡ Err failure.Disk) = e in cc;
   output_fits = λ told fits e. let h : (let answer : Answer = Err failure.Memory in answer ≡ Err failure.Output) = e in cc;
   honest = λ told is b recorded computed e. let h : (let answer : Answer = Err failure.Memory in answer ≡ Err (failure.Clash b recorded computed)) = e in cc;
   stays = where_none tells _ s;

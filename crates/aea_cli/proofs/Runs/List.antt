@@ -23,7 +23,7 @@ list_runs tells old new input before after answer lists refuses honest =
     record {
       does = lists;
       refuses = λ early. refuses_told _ _ _ _ (λ told. told.disk tt) refuses;
-      disk_fits = λ room. list_disk answer before after lists.opening (opens.reads.sure room).0 lists.unopened (ok_on lists.opening (IsListing answer) lists.kinds);
+      disk_fits = λ told ready room. list_disk answer before after lists.opening (opens.reads.sure told ready room).0 lists.unopened (ok_on lists.opening (IsListing answer) lists.kinds);
       output_fits = λ told fits. list_fits tells (old.files 0) before after answer lists.opening (told.disk tt) opens.this_one opens.kinds lists.unopened lists.prints fits;
       honest = λ told is. honest;
       stays = where_kept tells _ old old new (passes_none old) opens.reads.time opens.reads.crash opens.reads.contents (where_none tells _ old);

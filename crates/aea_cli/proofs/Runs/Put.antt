@@ -25,7 +25,7 @@ pub put_runs : (name : List ℕ) (tells : Type 0) (old new : State) (input input
 put_runs name tells old new input input_after before after answer puts refuses rest honest = record {
   does = puts;
   refuses = λ early. refuses_told _ _ _ _ (λ told. (told.disk tt, told.input tt)) refuses;
-  disk_fits = λ fits. (puts.stores.in_room fits).0;
+  disk_fits = λ told ready fits. (puts.stores.in_room told ready fits).0;
   output_fits = λ told fits e.
       let line = puts.line (inr e) in
       let ledger = puts.stores.archive (inr e) (told.disk tt) in
@@ -56,5 +56,7 @@ unparsed_runs name tells s input out =
       time = passes_none s;
       kept = omega arith;
       cause = λ is. let h : (let answer : Answer = Err failure.Memory in answer ≡ Err failure.Disk) = is in cc;
+      still = λ fine. refl;
+      beneath = λ told ready is. let h : (let answer : Answer = Err failure.Memory in answer ≡ Err failure.Disk) = is in cc;
     })
     (λ b recorded computed e. let h : (let answer : Answer = Err failure.Memory in answer ≡ Err (failure.Clash b recorded computed)) = e in cc)

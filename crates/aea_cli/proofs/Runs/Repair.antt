@@ -95,7 +95,7 @@ pub repair_runs : HasOneReading → (tells : Type 0) (old new : State) (input : 
 repair_runs reading tells old new input before after answer repairs refuses rest = record {
   does = repairs;
   refuses = λ early. refuses_told _ _ _ _ (λ told. told.disk tt) refuses;
-  disk_fits = λ fits. (repairs.in_room fits).0;
+  disk_fits = λ told ready fits. (repairs.in_room told ready fits).0;
   output_fits = λ told fits. repair_fits reading tells old new before after answer repairs.opening (told.disk tt) repairs.this_one repairs.unopened repairs.opened fits;
   honest = λ told is. repair_honest reading tells old new before after answer repairs.opening (told.disk tt) repairs.this_one repairs.unopened repairs.opened is;
   stays = rest.others;

@@ -58,7 +58,7 @@ stat_runs tells old new input before after answer stats refuses honest =
     record {
       does = stats;
       refuses = λ early. refuses_told _ _ _ _ (λ told. told.disk tt) refuses;
-      disk_fits = λ room. no_disk answer stats.opening (opens.reads.sure room).0 answered stats.kinds;
+      disk_fits = λ told ready room. no_disk answer stats.opening (opens.reads.sure told ready room).0 answered stats.kinds;
       output_fits = λ told fits. no_output answer stats.opening (old.files 0) before after (ok_told tells stats.opening (old.files 0) (told.disk tt) opens.this_one) opens.kinds answered stats.prints fits;
       honest = λ told is. honest;
       stays = where_kept tells _ old old new (passes_none old) opens.reads.time opens.reads.crash opens.reads.contents (where_none tells _ old);

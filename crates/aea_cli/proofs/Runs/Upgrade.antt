@@ -21,7 +21,7 @@ pub upgrade_runs : (tells : Type 0) (old new : State) (input : SourceState) (bef
 upgrade_runs tells old new input before after answer upgrades refuses rest honest = record {
   does = upgrades;
   refuses = λ early. refuses_told _ _ _ _ (λ told. told.disk tt) refuses;
-  disk_fits = λ fits. (upgrades.adds.in_room fits).0;
+  disk_fits = λ told ready fits. (upgrades.adds.in_room told ready fits).0;
   output_fits = λ told fits. (upgrades.prints.in_room fits.room fits.told fits.enough).0;
   honest = λ told is. honest;
   stays = rest_stays tells _ old new rest;

@@ -83,9 +83,9 @@ verify_runs reading tells old new input rest before after answer verifies refuse
     record {
       does = verifies;
       refuses = λ early. refuses_told _ _ _ _ (λ told. (told.disk tt, told.input tt)) refuses;
-      disk_fits = λ room. (verifies.reads.sure room).0;
+      disk_fits = λ told ready room. (verifies.reads.sure told ready room).0;
       output_fits = λ told fits. verify_fits reading tells old.files input rest before after answer verifies.opening (told.disk tt) (told.input tt) opens.this_one opens.kinds verifies.unopened verifies.judges fits;
       honest = λ told is. honest;
-      stays = where_kept tells _ old old new (passes_none old) opens.reads.time opens.reads.crash opens.reads.contents (where_none tells _ old);
+      stays = where_kept tells _ old old new (passes_none old) verifies.reads.time verifies.reads.crash verifies.reads.contents (where_none tells _ old);
       opens = λ told. opening_more old new _ _ (λ c stays f keep. stays f) (opens.stops told);
     }

@@ -1,18 +1,17 @@
 -- A repair behind the opening, as a part of the whole run.
-use Rattle.std.proofs.Common.{◌≡◌, ◌≢◌, inl, inr, ℕ, zero, suc, ◌≤◌, List, length, refl, sym, ◌∙◌, ap, subst, arith, Bool, Some, Result, Ok, Err}
+use Rattle.std.proofs.Common.{◌≡◌, ◌≢◌, inl, inr, ℕ, zero, suc, ◌≤◌, List, length, refl, sym, ap, subst, arith, Bool, Some, Result, Ok, Err}
 use Rattle.std.specs.Prelude.{IsErr}
 use Rattle.std.proofs.lemmas.Bool.{cases_lt}
 use Rattle.std.proofs.lemmas.Bool.Decides.{nat_tests}
-use Rattle.aea_faults.specs.Faults.{Rose}
 use Rattle.aea_io.specs.Streams.{SinkState}
 use Rattle.aea_lattice.specs.declared.blocks.BlockId.{BlockId}
 use Rattle.aea_lattice.specs.declared.shape.Shape.{Shape}
 use Rattle.aea_lattice.specs.Blocks.{HasBlock}
 use Rattle.aea_disk.specs.Files.{Files, KeepsFiles}
-use Rattle.aea_disk.specs.Frames.{OnlyReads}
-use Rattle.aea_disk.specs.State.{State, Passes, During, AtEachMoment, IsSynced}
-use Rattle.aea_disk.proofs.Frames.{reads_as, writes_where}
-use Rattle.aea_disk.proofs.Moments.{passes_none, passes_both, where_none, where_both, where_kept}
+use Rattle.aea_disk.specs.Frames.{OnlyReads, OnlyWrites}
+use Rattle.aea_disk.specs.State.{State, Passes, During, AtEachMoment, IsSynced, IsReady, IsRoomy}
+use Rattle.aea_disk.proofs.Frames.{reads_as, ready_later, reads_then_writes, writes_where}
+use Rattle.aea_disk.proofs.Moments.{passes_none, where_none, where_kept}
 use Rattle.aea_shelf.specs.Intact.{IsHeldIn}
 use Rattle.aea_shelf.proofs.Runs.{synced_held}
 use Rattle.aea_records.specs.Format.{Record}
@@ -20,7 +19,8 @@ use Rattle.aea_records.specs.Laws.{HasOneReading}
 use Rattle.aea_ledger.specs.Recorded.{AreRecordsOf}
 use Rattle.aea_ledger.specs.Values.{Opened, HasRecords}
 use Rattle.aea_archive.specs.Blocks.{recorded_in, IsIntactBy, IsHeldBy, TellsSurvivors}
-use Rattle.aea_archive.specs.Cells.{IsNoSite, ChangesArchive, HaveSitesRoom}
+use Rattle.aea_archive.specs.Cells.{IsNoSite, ChangesArchive, FitsRows}
+use Rattle.aea_archive.proofs.Cells.{changes_none, rows_later}
 use Rattle.aea_archive.specs.Data.{AreSurvivorsHonest, IsDamagePlain}
 use Rattle.aea_report.specs.declared.head.Head.{Head}
 use Rattle.aea_report.specs.declared.line.Line.{Line}
@@ -39,7 +39,7 @@ use Rattle.aea_command.specs.declared.refusal.Failure.TheVariants as failure
 use Rattle.aea_command.specs.Failures.{Answer}
 use Rattle.aea_command.specs.Openings.{Opens, KeepsAllBut}
 use Rattle.aea_command_loss.specs.Repair.{repair_answer, RepairsOpened, FitsRepair, IsSiteFile, RepairsArchive}
-use Rattle.aea_command.proofs.OpeningCases.{opening_more}
+use Rattle.aea_command.proofs.OpeningCases.{opening_more, opened_never}
 use Rattle.aea_command.proofs.Opened.{opening_synced, image_is, opens_then, opening_then, untouched_by}
 use Rattle.aea_command.proofs.Reading.{has_ledger_of}
 use Rattle.aea_command_loss.proofs.RepairLemmas.Answering.{from_disk}
@@ -78,6 +78,17 @@ module _ (tells : Type 0) (v : Opened) (old mid new : State) (opens : Opens tell
   changed keep fault writes told t c from to here =
       let was = writes.crash t c from to here in
       subst (λ (d : Files). ChangesArchive v.shape v.lattice.n keep (IsNoSite v.shape) d c) (image_is tells v old mid new opens told was.0 was.1) was.2
+
+  -- the whole run changes what the repair changes, where the disk is ready and fits the rows of the opened archive
+  repairing : (result : Result Outcome RepairFault) → WritesBlocks tells v (IsLeft (HasBlock v.lattice)) (result ≡ Err repair.DiskFault) mid new
+      → OnlyWrites tells (IsReady old) (IsRoomy old × FitsRows v.shape v.lattice.n old) (result ≡ Err repair.DiskFault) (ChangesArchive v.shape v.lattice.n (IsLeft (HasBlock v.lattice)) (IsNoSite v.shape)) old new
+  repairing result writes =
+      reads_then_writes tells (IsReady old) (IsReady mid) (IsRoomy old × FitsRows v.shape v.lattice.n old) (FitsRows v.shape v.lattice.n mid)
+      (let opening : Result Opened Failure = Ok v in opening ≡ Err failure.Disk) (result ≡ Err repair.DiskFault) (ChangesArchive v.shape v.lattice.n (IsLeft (HasBlock v.lattice)) (IsNoSite v.shape)) old mid new
+      (λ e. opened_never v failure.Disk e) (changes_none v.shape v.lattice.n (IsLeft (HasBlock v.lattice)) (IsNoSite v.shape))
+      (λ ready. ready) (λ told ready same goes. ready_later old mid same goes ready)
+      (λ fits. fits.0) (λ told fits same time. rows_later v.shape v.lattice.n old mid (ap (λ (c : Files). c 0) same) time fits.1)
+      opens.reads writes
 
 module _ (reading : HasOneReading) (tells : Type 0) (v : Opened) (old mid new : State) (before after : SinkState) (result : Result Outcome RepairFault) (opens : Opens tells old mid (Ok v)) (gave : HasRepaired tells v mid new before after result) where
   same : tells → mid.files ≡ old.files
@@ -131,14 +142,17 @@ module _ (reading : HasOneReading) (tells : Type 0) (v : Opened) (old mid new : 
   }
 
   -- the room that the run asks for is that of the rows of the opened archive
-  room : FitsRepair tells old → HaveSitesRoom v.shape v.lattice.n mid
-  room fits f first last = opens.reads.time.room f _ (fits.sites v.shape v.lattice.n (λ told.
-      let one = opens.this_one told in
-      record {
-        records = one.records;
-        ledger = has_ledger_of reading v (old.files 0) one;
-        is = one.has.lattice.n;
-      }) f first last)
+  rows : FitsRepair tells old → FitsRows v.shape v.lattice.n old
+  rows fits = record {
+    sites = fits.sites v.shape v.lattice.n (λ told.
+        let one = opens.this_one told in
+        record {
+          records = one.records;
+          ledger = has_ledger_of reading v (old.files 0) one;
+          is = one.has.lattice.n;
+        });
+    sync = fits.some.sync;
+  }
 
   pub repairs_done : RepairsArchive tells old new before after (repair_answer result)
   repairs_done = record {
@@ -147,27 +161,29 @@ module _ (reading : HasOneReading) (tells : Type 0) (v : Opened) (old mid new : 
     this_one = opens.this_one;
     unopened = tt;
     opened = (result, refl, repairs_opened);
-    in_room = λ fits.
-        let early = opens.reads.sure fits.some in
-        let rest = gave.writes.sure (room fits) in
-        (λ e. rest.0 (from_disk result e), rest.1 ∙ early.1);
+    in_room = λ told ready fits.
+        let sure = (repairing tells v old mid new opens result gave.writes).sure told ready (fits.some, rows fits) in
+        (λ e. sure.0 (from_disk result e), sure.1);
   }
 
 -- the files that a repair may not change, by its frame alone
 module _ (tells : Type 0) (v : Opened) (old mid new : State) (before after : SinkState) (result : Result Outcome RepairFault) (opens : Opens tells old mid (Ok v))
     (writes : WritesBlocks tells v (IsLeft (HasBlock v.lattice)) (result ≡ Err repair.DiskFault) mid new) where
   pub repairing_rest : KeepsAllBut IsSiteFile tells (repair_answer result ≡ Err failure.Disk) old new
-  repairing_rest = record {
-    others = where_both tells _ old mid new opens.reads.time writes.time
-        (where_kept tells _ old old mid (passes_none old) opens.reads.time opens.reads.crash opens.reads.contents (where_none tells _ old))
-        (writes_where tells _ _ (ChangesArchive v.shape v.lattice.n (IsLeft (HasBlock v.lattice)) (IsNoSite v.shape)) _ mid new (λ c d step f past. step.stay f (no_site v.shape f past)) writes);
-    opens = λ told.
-        opening_then tells v old mid new opens told (KeepsFiles (λ f. IsSiteFile f → ⊥) old.files) (λ c stays f past. stays f) writes.time
-        (λ t c from to here f past. (changed tells v old mid new opens (IsLeft (HasBlock v.lattice)) (result ≡ Err repair.DiskFault) writes told t c from to here).stay f (no_site v.shape f past));
-    time = passes_both old mid new opens.reads.time writes.time;
-    kept = let a = opens.reads.kept in let b = writes.kept in omega (arith, a, b);
-    cause = λ is. let rose : Rose mid.faults new.faults = writes.cause (from_disk result is) in omega (arith, opens.reads.kept, rose);
-  }
+  repairing_rest =
+      let all = repairing tells v old mid new opens result writes in
+      record {
+        others = writes_where tells (IsReady old) (IsRoomy old × FitsRows v.shape v.lattice.n old) (result ≡ Err repair.DiskFault) (ChangesArchive v.shape v.lattice.n (IsLeft (HasBlock v.lattice)) (IsNoSite v.shape))
+            (λ f. IsSiteFile f → ⊥) old new (λ c d step f past. step.stay f (no_site v.shape f past)) all;
+        opens = λ told.
+            opening_then tells v old mid new opens told (KeepsFiles (λ f. IsSiteFile f → ⊥) old.files) (λ c stays f past. stays f) writes.time
+            (λ t c from to here f past. (changed tells v old mid new opens (IsLeft (HasBlock v.lattice)) (result ≡ Err repair.DiskFault) writes told t c from to here).stay f (no_site v.shape f past));
+        time = all.time;
+        kept = all.kept;
+        cause = λ is. all.cause (from_disk result is);
+        still = λ fine. all.still (λ is. fine (ap repair_answer is));
+        beneath = λ told ready is. all.beneath told ready (from_disk result is);
+      }
 
 -- the archive was not opened
 module _ (tells : Type 0) (old new : State) (out : SinkState) (f : Failure) (opens : Opens tells old new (Err f)) where
@@ -180,10 +196,10 @@ module _ (tells : Type 0) (old new : State) (out : SinkState) (f : Failure) (ope
       is = refl;
       why = opens.kinds;
       unused = refl;
-      reads = reads_as tells _ _ old new (λ e. ap Err e) opens.reads;
+      reads = reads_as tells _ _ old new (λ e. ap Err e) (λ is. cc) opens.reads;
     };
     opened = tt;
-    in_room = λ fits. let sure = opens.reads.sure fits.some in (λ e. sure.0 (let h : (let answer : Answer = Err f in answer ≡ Err failure.Disk) = e in cc), sure.1);
+    in_room = λ told ready fits. let sure = opens.reads.sure told ready fits.some in (λ e. sure.0 (let h : (let answer : Answer = Err f in answer ≡ Err failure.Disk) = e in cc), sure.1);
   }
 
   pub unopened_repair : KeepsAllBut IsSiteFile tells (let answer : Answer = Err f in answer ≡ Err failure.Disk) old new
@@ -193,4 +209,6 @@ module _ (tells : Type 0) (old new : State) (out : SinkState) (f : Failure) (ope
     time = opens.reads.time;
     kept = opens.reads.kept;
     cause = λ is. opens.reads.cause (let h : (let answer : Answer = Err f in answer ≡ Err failure.Disk) = is in cc);
+    still = λ fine. opens.reads.still (λ is. let h : (let opening : Result Opened Failure = Err f in opening ≡ Err failure.Disk) = is in let same : f ≡ failure.Disk = cc in fine (ap Err same));
+    beneath = λ told ready is. opens.reads.beneath told ready (let h : (let answer : Answer = Err f in answer ≡ Err failure.Disk) = is in cc);
   }

@@ -87,7 +87,7 @@ refused_by (Err f) before after answer why to e =
     ]
 
 -- the answer to a fault
-answer_is : (r : Result Verdict VerifyFault) (f : VerifyFault) (before after : SinkState) (answer : Answer) → IsAnswerTo r before after answer → r ≡ Err f → answer ≡ Err (verify_failure f)
+pub answer_is : (r : Result Verdict VerifyFault) (f : VerifyFault) (before after : SinkState) (answer : Answer) → IsAnswerTo r before after answer → r ≡ Err f → answer ≡ Err (verify_failure f)
 answer_is (Ok verdict) f before after answer to e = let h : Ok verdict ≡ Err f = e in cc
 answer_is (Err g) f before after answer to e = let h : Err g ≡ Err f = e in let same : g ≡ f = cc in to.unjudged.0 ∙ ap (λ (x : VerifyFault). Err (verify_failure x)) same
 

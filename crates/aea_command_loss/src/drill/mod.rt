@@ -36,6 +36,7 @@ fn read_list<S: Source>(alloc: Global, input: &mut S) -> Result<Vec<u8>, Failure
     ensures long { result ≡ Err (Failure.Refused Refusal.InputTooLong) → (bytes : List ℕ) → (S.state input.old).left ≡ Some bytes → greatest_input < length bytes }
     ensures faults { IfErr result (λ f. (f ≡ Failure.Input) ⊎ ((f ≡ Failure.Memory) ⊎ (f ≡ Failure.Refused Refusal.InputTooLong))) }
     ensures cause { result ≡ Err Failure.Input → Rose (S.state input.old).faults (S.state input.new).faults }
+    ensures still { result ≢ Err Failure.Input → (S.state input.new).faults ≡ (S.state input.old).faults }
     ensures most { TakesAtMost (S.state input.old).left (S.state input.new).left (greatest_input + 1) }
     ensures kept { (S.state input.old).faults ≤ (S.state input.new).faults }
 {
@@ -79,6 +80,7 @@ fn prepare<S: Source>(alloc: Global, lattice: &Lattice, input: &mut S) -> Result
     ensures refused { (why : Refusal) → result ≡ Err (Failure.Refused why) → (bytes : List ℕ) → (S.state input.old).left ≡ Some bytes → IsFirst (DamageCauses lattice.now bytes) why }
     ensures faults { IfErr result (λ f. (f ≡ Failure.Input) ⊎ ((f ≡ Failure.Memory) ⊎ ((why : Refusal) × (f ≡ Failure.Refused why)))) }
     ensures cause { result ≡ Err Failure.Input → Rose (S.state input.old).faults (S.state input.new).faults }
+    ensures still { result ≢ Err Failure.Input → (S.state input.new).faults ≡ (S.state input.old).faults }
     ensures most { TakesAtMost (S.state input.old).left (S.state input.new).left (greatest_input + 1) }
     ensures kept { (S.state input.old).faults ≤ (S.state input.new).faults }
 {
@@ -105,8 +107,10 @@ pub fn drill<S: Source, O: Sink>(
     // The streams in any case.
     ensures input_kept { (S.state input.old).faults ≤ (S.state input.new).faults }
     ensures input_cause { result ≡ Err Failure.Input → Rose (S.state input.old).faults (S.state input.new).faults }
+    ensures input_still { result ≢ Err Failure.Input → (S.state input.new).faults ≡ (S.state input.old).faults }
     ensures out_kept { (O.state out.old).faults ≤ (O.state out.new).faults }
     ensures out_cause { result ≡ Err Failure.Output → Rose (O.state out.old).faults (O.state out.new).faults }
+    ensures out_still { result ≢ Err Failure.Output → (O.state out.new).faults ≡ (O.state out.old).faults }
 {
     printed_are_one();
     let mut planned = prepare(alloc, lattice, input)?;

@@ -63,6 +63,7 @@ pub fn rehearse_line<O: Sink>(
     // The output in any case.
     ensures out_kept { (O.state out.old).faults ≤ (O.state out.new).faults }
     ensures out_cause { result ≡ Err Failure.Output → Rose (O.state out.old).faults (O.state out.new).faults }
+    ensures out_still { result ≢ Err Failure.Output → (O.state out.new).faults ≡ (O.state out.old).faults }
 {
     let rehearsal = rehearse_once(alloc, number, nodes, permille)?;
     put_rehearsal(out, nodes, &rehearsal)?;

@@ -72,6 +72,7 @@ pub fn list<D: Disk, O: Sink>(alloc: Global, disk: &mut D, out: &mut O) -> Resul
     ensures reads { OnlyReads D.tells (result ≡ Err Failure.Disk) (D.state disk.old) (D.state disk.new) }
     ensures out_kept { (O.state out.old).faults ≤ (O.state out.new).faults }
     ensures out_cause { result ≡ Err Failure.Output → Rose (O.state out.old).faults (O.state out.new).faults }
+    ensures out_still { result ≢ Err Failure.Output → (O.state out.new).faults ≡ (O.state out.old).faults }
 {
     let ledger = open(alloc, disk)?;
     put_objects(out, ledger.catalog())?;

@@ -1,28 +1,28 @@
 -- What a run leaves that stores the frames of a stream, its opening included.
-use Rattle.std.proofs.Common.{◌≡◌, ◌⊎◌, inl, inr, ℕ, ◌+◌, ◌*◌, ◌≤◌, List, [], ◌++◌, length, refl, sym, ◌∙◌, ap, subst, arith, Option, Some, Result, Ok, Err, length-append}
+use Rattle.std.proofs.Common.{◌≡◌, ◌⊎◌, inl, inr, ℕ, ◌+◌, ◌*◌, ◌≤◌, List, [], ◌++◌, length, refl, sym, ◌∙◌, ap, subst, arith, Option, Some, Result, Ok, Err}
 use Rattle.std.specs.Prelude.{IsSome, unwrap_or}
 use Rattle.std.specs.Io.KnownBytes.{Consumes}
-use Rattle.std.specs.List.{flat_map}
-use Rattle.std.proofs.lemmas.List.Concat.{flat_map-append}
 use Rattle.std.proofs.KnownBytes.{Consumes-nil}
 use Rattle.std.proofs.lemmas.Bool.{cases_lt, false≢true}
-use Rattle.aea_faults.specs.Faults.{Rose}
 use Rattle.aea_io.specs.Streams.{SinkState}
 use Rattle.aea_lattice.specs.declared.shape.Shape.{Shape}
 use Rattle.aea_disk.specs.Files.{Files, KeepsFiles}
 use Rattle.aea_disk.specs.Frames.{OnlyWrites}
-use Rattle.aea_disk.specs.State.{State}
-use Rattle.aea_disk.proofs.Frames.{writes_where}
-use Rattle.aea_disk.proofs.Moments.{passes_both, passes_none, where_both, where_kept, where_none}
+use Rattle.aea_disk.specs.State.{State, IsReady}
+use Rattle.aea_disk.proofs.Frames.{ready_later, reads_then_writes, writes_where}
+use Rattle.aea_disk.proofs.Moments.{passes_none, where_both, where_kept, where_none}
 use Rattle.aea_shelf.specs.Places.{site_bytes}
-use Rattle.aea_records.specs.Format.{Record, limit_when, limit_of, nodes_for, nodes_of, spelled, digests_of, header, entry}
+use Rattle.aea_records.specs.Format.{Record, limit_when, limit_of, nodes_for, nodes_of, spelled, digests_of}
 use Rattle.aea_records.specs.Laws.{HasOneReading, IsSomeLedger}
 use Rattle.aea_ledger.specs.Stops.{HasLedger}
 use Rattle.aea_ledger.specs.Values.{Opened, HasRecords}
+use Rattle.aea_ledger.proofs.Readying.{adding_later}
+use Rattle.aea_archive.specs.Blocks.{IsBlockIn}
 use Rattle.aea_archive.specs.Cells.{IsBesides}
 use Rattle.aea_archive.specs.Data.{AreSurvivorsHonest, IsDamagePlain}
 use Rattle.aea_archive.specs.Lasts.{AreLastsAtHome, AreLastsHonest}
 use Rattle.aea_archive.specs.Next.{NewObject}
+use Rattle.aea_archive.proofs.Cells.{changes_none}
 use Rattle.aea_archive.proofs.Stretches.{nodes_of-append}
 use Rattle.aea_append.specs.Causes.{next_end}
 use Rattle.aea_command.specs.declared.refusal.Refusal.{Refusal}
@@ -41,10 +41,11 @@ use Rattle.aea_command.proofs.Behind.{AreBehindOpening, some_ledger, unopened_re
 use Rattle.aea_command_store.proofs.PutLemmas.Opening.{changes, adds_at, changed}
 use Rattle.aea_command.proofs.Opened.{opens_then, opening_then}
 use Rattle.aea_command.proofs.Reading.{has_ledger_of, by_reading}
+use Rattle.aea_command_store.proofs.IngestLemmas.Rooming.{spelled_long}
 use Rattle.aea_command_store.proofs.PutLemmas.Running.{unopened_not_output}
 use Rattle.aea_command_store.proofs.PutLemmas.Storing.{sites_most}
 use Rattle.aea_command.proofs.Refusing.{refuses_told}
-use Rattle.aea_command.proofs.OpeningCases.{opening_not_input}
+use Rattle.aea_command.proofs.OpeningCases.{opening_not_input, opened_never}
 
 -- ---- a stretch from the end of the opening, as one of the whole run
 
@@ -90,43 +91,52 @@ same_nodes : (v : Opened) (one two added : List Record) → HasRecords v one →
 same_nodes v one two added has other size few =
     omega (arith, few, nodes_of-append one added, nodes_of-append two added, has.lattice.n, other.lattice.n, ap limit_when (sym has.raised ∙ other.raised))
 
-spelled_long : (shape : Shape) (records added : List Record) → length (spelled shape (records ++ added)) ≡ length (spelled shape records) + length (flat_map entry added)
-spelled_long shape records added =
-    ap (λ (l : List ℕ). length (header shape ++ l)) (flat_map-append entry records added)
-    ∙ omega (arith, length-append (header shape) (flat_map entry records ++ flat_map entry added), length-append (flat_map entry records) (flat_map entry added), length-append (header shape) (flat_map entry records))
-
 same_length : (v : Opened) (one two added : List Record) → HasRecords v one → HasRecords v two → length (spelled v.shape (two ++ added)) ≡ length (spelled v.shape (one ++ added))
 same_length v one two added has other = omega (arith, has.end, other.end, spelled_long v.shape one added, spelled_long v.shape two added)
 
 -- ---- behind the opening
 
 module _ (reading : HasOneReading) (tells : Type 0) (v : Opened) (left rest : Option (List ℕ)) (old mid new : State) (before after : SinkState) (answer : Answer)
-    (opens : Opens tells old mid (Ok v)) (writes : OnlyWrites tells (FitsFrames v left mid) (answer ≡ Err failure.Disk) (changes v) mid new) where
+    (opens : Opens tells old mid (Ok v)) (writes : OnlyWrites tells (IsReady mid) (FitsFrames v left mid) (answer ≡ Err failure.Disk) (changes v) mid new) where
   -- the room of the disk is the room that the frames need
-  fits_frames : FitsIngest tells left old → FitsFrames v left mid
-  fits_frames fits = record {
-    sites = λ f some within.
-        opens.reads.time.room f (site_bytes v.shape (limit_when v.raised)) (fits.sites v.shape (limit_when v.raised)
-        (λ told. let one = opens.this_one told in record { records = one.records; ledger = has_ledger_of reading v (old.files 0) one; is = ap limit_when one.has.raised }) f some within);
-    ledger = λ records has objects added name size rest' are framed few.
-        let end : ℕ = next_end (length (spelled v.shape (records ++ added))) (length name) (nodes_for v.shape size * (1 + v.shape.alpha)) in
-        opens.reads.time.room 0 (end + 1) (fits.behind end (λ told.
-        let one = opens.this_one told in
-        record {
-          shape = v.shape;
-          records = one.records;
-          ledger = has_ledger_of reading v (old.files 0) one;
-          objects = objects;
-          added = added;
-          are = are;
-          name = name;
-          size = size;
-          rest = rest';
-          framed = framed;
-          fits = same_nodes v one.records records added one.has has size few;
-          place = ap (λ (n : ℕ). next_end n (length name) (nodes_for v.shape size * (1 + v.shape.alpha))) (same_length v one.records records added one.has has);
-        }));
-  }
+  fits_frames : tells → FitsIngest tells left old → FitsFrames v left mid
+  fits_frames told fits =
+      let same : mid.files 0 ≡ old.files 0 = ap (λ (c : Files). c 0) (opens.reads.contents told) in
+      let one = opens.this_one told in
+      record {
+        sites = record {
+          sites = λ f some within.
+              opens.reads.time.room f (site_bytes v.shape (limit_when v.raised)) (fits.sites v.shape (limit_when v.raised)
+              (λ told. record { records = one.records; ledger = has_ledger_of reading v (old.files 0) one; is = ap limit_when one.has.raised }) f some within);
+          sync = subst (λ (l : List ℕ). mid.keeps l) (sym same) (opens.reads.time.syncs (old.files 0) fits.some.sync);
+        };
+        ledger = λ records has objects added name size rest' are framed few.
+            let end : ℕ = next_end (length (spelled v.shape (records ++ added))) (length name) (nodes_for v.shape size * (1 + v.shape.alpha)) in
+            adding_later old mid (length added + 1) end same opens.reads.time (fits.behind (length added + 1) end (λ told. record {
+              shape = v.shape;
+              records = one.records;
+              ledger = has_ledger_of reading v (old.files 0) one;
+              objects = objects;
+              added = added;
+              are = are;
+              name = name;
+              size = size;
+              rest = rest';
+              framed = framed;
+              fits = same_nodes v one.records records added one.has has size few;
+              count = refl;
+              place = ap (λ (n : ℕ). next_end n (length name) (nodes_for v.shape size * (1 + v.shape.alpha))) (same_length v one.records records added one.has has);
+            }));
+      }
+
+  -- all the calls of the run, as those behind its opening
+  frame : OnlyWrites tells (IsReady old) (FitsIngest tells left old) (answer ≡ Err failure.Disk) (changes v) old new
+  frame =
+      reads_then_writes tells (IsReady old) (IsReady mid) (FitsIngest tells left old) (FitsFrames v left mid) (let r : Result Opened Failure = Ok v in r ≡ Err failure.Disk) (answer ≡ Err failure.Disk) (changes v) old mid new
+      (opened_never v failure.Disk) (λ c. changes_none v.shape (limit_when v.raised) (IsBlockIn v.shape v.lattice.n) (IsBesides v.shape) c)
+      (λ ready. ready) (λ told ready same goes. ready_later old mid same goes ready)
+      (λ fits. fits.some) (λ told fits same time. fits_frames told fits)
+      opens.reads writes
 
   -- what the run leaves, from what it left behind its opening
   pub ingests_behind : IngestsOpened tells v mid new left rest before after answer → Ingests tells old new left rest before after answer
@@ -156,7 +166,7 @@ module _ (reading : HasOneReading) (tells : Type 0) (v : Opened) (left rest : Op
                 (surely_at v.shape one.records ((does.printed ++ does.more) ++ stops.0) (length (does.printed ++ does.more)) old mid new (opens.reads.contents told) stops.2)),
           ));
       none = λ told never. let one = opens.this_one told in absurd (never (record { shape = v.shape; records = one.records; end = v.end; ledger = one.ledger }));
-      in_room = λ fits. let sure = writes.sure (fits_frames fits) in (sure.0, sure.1 ∙ (opens.reads.sure fits.some).1);
+      in_room = frame.sure;
     };
     early = record {
       refused = λ told input is why e. subst (λ (c : Files). EndCauses c input does.printed why) (opens.reads.contents told) (does.early.refused told input is why e);
@@ -174,13 +184,15 @@ module _ (reading : HasOneReading) (tells : Type 0) (v : Opened) (left rest : Op
   ingests_rest = record {
     others = where_both tells _ old mid new opens.reads.time writes.time
         (where_kept tells _ old old mid (passes_none old) opens.reads.time opens.reads.crash opens.reads.contents (where_none tells _ old))
-        (writes_where tells _ _ (changes v) _ mid new (λ c d step f past. step.stay f (few_sites f past)) writes);
+        (writes_where tells _ _ _ (changes v) _ mid new (λ c d step f past. step.stay f (few_sites f past)) writes);
     opens = λ told.
         opening_then tells v old mid new opens told (KeepsFiles (λ file. file ≤ greatest_sites → ⊥) old.files) (λ c stays f past. stays f) writes.time
-        (λ t c from to here f past. (changed tells v old mid new opens told _ _ writes t c from to here).stay f (few_sites f past));
-    time = passes_both old mid new opens.reads.time writes.time;
-    kept = let a = opens.reads.kept in let b = writes.kept in omega (arith, a, b);
-    cause = λ is. let rose : Rose mid.faults new.faults = writes.cause is in omega (arith, opens.reads.kept, rose);
+        (λ t c from to here f past. (changed tells v old mid new opens told _ _ _ writes t c from to here).stay f (few_sites f past));
+    time = frame.time;
+    kept = frame.kept;
+    cause = frame.cause;
+    still = frame.still;
+    beneath = frame.beneath;
   }
 
   -- the causes of its refusals are those behind the opening
@@ -221,7 +233,7 @@ ingests_unopened tells old new left out f opens = record {
     stands = λ stored. absurd (not_stored stored);
     stops = λ told shape records ledger. ([], inl refl, inl (record { by = not_opened told shape records ledger; none = refl; images = opens.reads.crash; reads = opens.reads.contents told }));
     none = λ told never. (opens.reads.crash, opens.reads.contents told);
-    in_room = λ fits. let sure = opens.reads.sure fits.some in (λ is. sure.0 (let same = same_failure failure.Disk is in ap Err same), sure.1);
+    in_room = λ told ready fits. let sure = opens.reads.sure told ready fits.some in (λ is. sure.0 (let same = same_failure failure.Disk is in ap Err same), sure.1);
   };
   early = record {
     refused = λ told input is why e. at_opening input why (opens.refuses.only why (let same = same_failure (failure.Refused why) e in ap Err same) told).stands;

@@ -15,7 +15,7 @@ use Rattle.aea_lattice.specs.declared.shape.Shape.{Shape}
 use Rattle.aea_envelope.specs.Facts.{CellsHaveLengths, CellsHaveParts}
 use Rattle.aea_disk.specs.Files.{Files}
 use Rattle.aea_disk.specs.Frames.{OnlyWrites}
-use Rattle.aea_disk.specs.State.{State, IsSynced}
+use Rattle.aea_disk.specs.State.{State, IsReady, IsSynced}
 use Rattle.aea_disk.proofs.Frames.{writes_none}
 use Rattle.aea_disk.proofs.Moments.{during_none}
 use Rattle.aea_records.specs.Format.{Record, Object, digests_of, limit_when}
@@ -76,12 +76,12 @@ never_stored {T} f output (inr e) = output (same_failure {T = T} f failure.Outpu
 grown_none : (tells : Type 0) (told : tells) (v : Opened) (list : List Record) (s : State) → HasOneReading → AreItsRecords v list (s.files 0) → IsSynced s → HasGrown v.shape list [] s s
 unfolding grows_no_more
 grown_none tells told v list s reading its synced =
-    let writes = writes_none tells ⊥ (changes v) s (λ c. changes_none v.shape (limit_when v.raised) (IsBlockIn v.shape v.lattice.n) (IsBesides v.shape) c) in
+    let writes = writes_none tells (IsReady s) ⊥ (changes v) s (λ c. changes_none v.shape (limit_when v.raised) (IsBlockIn v.shape v.lattice.n) (IsBesides v.shape) c) in
     let leaves : LeavesLedger s s = record { images = during_none s (λ c. c 0 ≡ s.files 0) (λ c here. synced c here 0); reads = refl } in
     let ledger : HasLedger v.shape list (s.files 0) = has_ledger v list (s.files 0) its in
     let nil : list ≡ list ++ [] = sym (append-nil list) in
     record {
-      grows = grows_no_more tells told v list s s its synced ⊥ ⊥ writes reading leaves;
+      grows = grows_no_more tells told v list s s its synced (IsReady s) ⊥ ⊥ writes reading leaves;
       all = record {
         ledger = subst (λ (l : List Record). HasLedger v.shape l (s.files 0)) nil ledger;
         synced = synced;
@@ -215,7 +215,7 @@ module _ (reading : HasOneReading) (lengths : CellsHaveLengths) (parts : CellsHa
   surely_none next list ys has = subst (λ (xs : List NewObject). GrowsSurely v.shape list (xs ++ ys) (length xs) old next) (sym (append-nil objects)) has
 
   -- a frame was not taken, for another reason than the disk
-  pub refused_opened : (fault : IngestFault) (next : State) (rest2 : Option (List ℕ)) (bad : Type 0) → OnlyWrites tells (HasFrameRoom w rest now) bad (changes w) now next → (tells → LeavesLedger now next)
+  pub refused_opened : (fault : IngestFault) (next : State) (rest2 : Option (List ℕ)) (bad : Type 0) → OnlyWrites tells (IsReady now) (HasFrameRoom w rest now) bad (changes w) now next → (tells → LeavesLedger now next)
       → EndsEarly {T = Status} tells old.files left rest2 objects (Err (ingest_failure fault))
       → IngestsOpened tells v old next left rest2 before after (Err (ingest_failure fault))
   refused_opened fault next rest2 bad writes leaves early = record {
@@ -232,7 +232,7 @@ module _ (reading : HasOneReading) (lengths : CellsHaveLengths) (parts : CellsHa
         inl refl,
         surely_none next list []
             (surely tells same v w some left rest old now before after objects gone still is_this reading lengths parts values record_more counts next bad writes told list its []
-            (grows_no_more tells told w (list ++ gone.added) now next (gone.its told list its) (gone.synced told) (HasFrameRoom w rest now) bad writes reading (leaves told))),
+            (grows_no_more tells told w (list ++ gone.added) now next (gone.its told list its) (gone.synced told) (IsReady now) (HasFrameRoom w rest now) bad writes reading (leaves told))),
       );
     };
     early = early;
@@ -240,7 +240,7 @@ module _ (reading : HasOneReading) (lengths : CellsHaveLengths) (parts : CellsHa
   }
 
   -- the disk failed
-  pub failed_opened : (next : State) (rest2 : Option (List ℕ)) (bad : Type 0) → OnlyWrites tells (HasFrameRoom w rest now) bad (changes w) now next → (tells → MayHaveStored w (IsFramed rest rest2) now next)
+  pub failed_opened : (next : State) (rest2 : Option (List ℕ)) (bad : Type 0) → OnlyWrites tells (IsReady now) (HasFrameRoom w rest now) bad (changes w) now next → (tells → MayHaveStored w (IsFramed rest rest2) now next)
       → IngestsOpened tells v old next left rest2 before after (Err failure.Disk)
   failed_opened next rest2 bad writes may = record {
     done = tt;
@@ -258,7 +258,7 @@ module _ (reading : HasOneReading) (lengths : CellsHaveLengths) (parts : CellsHa
             (may told).most,
         surely_none next list (may told).objects
             (surely tells same v w some left rest old now before after objects gone still is_this reading lengths parts values record_more counts next bad writes told list its (may told).objects
-            (grows_maybe tells told w (list ++ gone.added) now next (gone.its told list its) (gone.synced told) (HasFrameRoom w rest now) bad writes (IsFramed rest rest2) (may told))),
+            (grows_maybe tells told w (list ++ gone.added) now next (gone.its told list its) (gone.synced told) (IsReady now) (HasFrameRoom w rest now) bad writes (IsFramed rest rest2) (may told))),
       );
     };
     early = early_failed tells old.files left rest2 objects failure.Disk (λ why e. let h : failure.Disk ≡ failure.Refused why = e in cc) (λ e. cc);
@@ -267,7 +267,7 @@ module _ (reading : HasOneReading) (lengths : CellsHaveLengths) (parts : CellsHa
 
   -- the output failed in the line of an object that was stored
   pub unprinted_opened : (w2 : Opened) (o : NewObject) (next : State) (stored : StoredObject) (has : HasStored tells w w2 o now next stored) (bad : Type 0) (rest2 : Option (List ℕ)) (last : SinkState) (fault : WriteFault)
-      → OnlyWrites tells (HasFrameRoom w rest now) bad (changes w) now next → IsFramed rest rest2 o
+      → OnlyWrites tells (IsReady now) (HasFrameRoom w rest now) bad (changes w) now next → IsFramed rest rest2 o
       → Prints {T = Unit {0}} {E = WriteFault} after [] last [] (Err fault) (stored_line v.shape o)
       → IngestsOpened tells v old next left rest2 before last (Err failure.Output)
   unprinted_opened w2 o next stored has bad rest2 last fault writes framed line =
@@ -309,9 +309,9 @@ module _ (reading : HasOneReading) (lengths : CellsHaveLengths) (parts : CellsHa
   stops_now told list its = ⊎_elim
       (λ none.
       let start : IsSynced old = subst IsSynced (still none.2) (gone.synced told) in
-      let writes = writes_none tells ⊥ (changes v) old (λ c. changes_none v.shape (limit_when v.raised) (IsBlockIn v.shape v.lattice.n) (IsBesides v.shape) c) in
+      let writes = writes_none tells (IsReady old) ⊥ (changes v) old (λ c. changes_none v.shape (limit_when v.raised) (IsBlockIn v.shape v.lattice.n) (IsBesides v.shape) c) in
       let leaves : LeavesLedger old old = record { images = during_none old (λ c. c 0 ≡ old.files 0) (λ c here. start c here 0); reads = refl } in
-      let grows = grows_no_more tells told v list old old its start ⊥ ⊥ writes reading leaves in
+      let grows = grows_no_more tells told v list old old its start (IsReady old) ⊥ ⊥ writes reading leaves in
       subst (λ (xs : List NewObject). GrowsSurely v.shape list xs (length xs) old now) (sym none.0)
       (subst (λ (s : State). GrowsSurely v.shape list [] 0 old s) (sym (still none.2))
       (record { grows = grows; first = λ c here. grows.adds.prefix old.moment c (omega arith) (omega arith) here; reads = grows.adds.reads })))

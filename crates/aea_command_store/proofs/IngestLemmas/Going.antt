@@ -13,18 +13,21 @@ use Rattle.aea_lattice.specs.declared.shape.Shape.{Shape}
 use Rattle.aea_envelope.specs.Facts.{CellsHaveLengths, CellsHaveParts}
 use Rattle.aea_disk.specs.Files.{Files}
 use Rattle.aea_disk.specs.Frames.{OnlyWrites}
-use Rattle.aea_disk.specs.State.{State, Passes, IsSynced, HasRoomTo}
+use Rattle.aea_disk.specs.Ends.{EndsAt}
+use Rattle.aea_disk.specs.State.{State, Passes, KeepsTaking, IsReady, IsSynced}
 use Rattle.aea_shelf.specs.Writes.{KeepsShelf}
 use Rattle.aea_disk.proofs.Frames.{writes_none, writes_both, writes_as}
 use Rattle.aea_records.specs.Format.{Record, Object, nodes_for, nodes_of, limit_of, limit_when, spelled, is_raise}
-use Rattle.aea_records.specs.Grammar.{IsLedger}
+use Rattle.aea_records.specs.Grammar.{IsLedger, IsNext, MayFollow, MayBeStored}
 use Rattle.aea_records.specs.Laws.{HasOneReading, DigestsAreCounted}
 use Rattle.aea_ledger.specs.Next.{AreItsRecords}
 use Rattle.aea_ledger.specs.Stops.{HasLedger}
 use Rattle.aea_ledger.specs.Values.{Opened, HasRecords, HasSomeRecords, IsThisOne}
+use Rattle.aea_ledger.specs.Taking.{FitsAdding}
+use Rattle.aea_ledger.proofs.Readying.{ready_after}
 use Rattle.aea_ledger.proofs.Records.{raised_stays}
 use Rattle.aea_archive.specs.Blocks.{IsBlockIn}
-use Rattle.aea_archive.specs.Cells.{IsBesides, ChangesArchive, HaveSitesRoom}
+use Rattle.aea_archive.specs.Cells.{IsBesides, ChangesArchive, FitsRows}
 use Rattle.aea_archive.specs.Laws.{LastsAreValues, ObjectsRecordMore}
 use Rattle.aea_archive.specs.Next.{NewObject}
 use Rattle.aea_archive.proofs.Cells.{changes_none, changes_both, changes_less, changes_shelf, room_later}
@@ -36,9 +39,10 @@ use Rattle.aea_append.specs.declared.store.StoredObject.{StoredObject}
 use Rattle.aea_command_store.specs.Growing.{Grows, HasGrown}
 use Rattle.aea_command_store.specs.Ingest.{GrowsSurely, frames_of, stored_lines, IsOfObject, AreOfObjects, FitsFrames}
 use Rattle.aea_command_store.specs.Put.{stored_line, stored_text}
-use Rattle.aea_command_store.proofs.Growing.{grows_both, first_of_both, grown_both, grown_added}
+use Rattle.aea_command_store.proofs.Growing.{follow_behind, grows_both, first_of_both, grown_both, grown_added}
 use Rattle.aea_command_store.proofs.PutLemmas.Opening.{changes}
 use Rattle.aea_command_store.proofs.IngestLemmas.One.{grown_by_one}
+use Rattle.aea_command_store.proofs.IngestLemmas.Rooming.{adding_after, kept_after, spelled_next, takes_front}
 use Rattle.sha2.specs.Sha256.{sha256}
 
 -- ---- lists
@@ -90,7 +94,9 @@ pub record HasGone (tells same : Type 0) (v w : Opened) (left rest : Option (Lis
   pub live : w.live ≡ true
   pub its : tells → (records : List Record) → AreItsRecords v records (old.files 0) → AreItsRecords w (records ++ added) (now.files 0)
   pub synced : tells → IsSynced now
-  pub writes : OnlyWrites tells (FitsFrames v left old) ⊥ (changes v) old now
+  pub writes : OnlyWrites tells (IsReady old) (FitsFrames v left old) ⊥ (changes v) old now
+  -- with the room for all there is room to sync the ledger that stands now
+  pub kept : tells → FitsFrames v left old → now.keeps (now.files 0)
   pub grew : tells → (records : List Record) → AreItsRecords v records (old.files 0) → IsGone same v.shape records old now objects added
   pub printed : Prints {T = Unit {0}} {E = WriteFault} before [] after [] (Ok tt) (stored_lines v.shape objects)
 
@@ -105,7 +111,8 @@ gone_none tells same is v left s out live synced = record {
   live = live;
   its = λ told records its. subst (λ (rs : List Record). AreItsRecords v rs (s.files 0)) (sym (append-nil records)) its;
   synced = synced;
-  writes = writes_none tells (FitsFrames v left s) (changes v) s (λ c. changes_none v.shape (limit_when v.raised) (IsBlockIn v.shape v.lattice.n) (IsBesides v.shape) c);
+  kept = λ told fits. fits.sites.sync;
+  writes = writes_none tells (IsReady s) (FitsFrames v left s) (changes v) s (λ c. changes_none v.shape (limit_when v.raised) (IsBlockIn v.shape v.lattice.n) (IsBesides v.shape) c);
   grew = λ told records its. inl (refl, refl, is);
   printed = prints_none out [] tt;
 }
@@ -136,29 +143,47 @@ module _ (tells same : Type 0) (v w : Opened) (some : HasSomeRecords v) (left re
       changes_less v.shape (limit_when v.raised) (IsBlockIn v.shape w.lattice.n) (IsBlockIn v.shape v.lattice.n) (IsBesides v.shape) (IsBesides v.shape) c d
       (λ a on. record { after = on.after; most = (let m = on.most in let n = no_fewer in omega (arith, m, n)); used = on.used }) (λ f past. past) as_limit
 
+  -- the records of the disk's ledger, and those of the objects behind them
+  its_start : (told : tells) → AreItsRecords v (is_this told).records (old.files 0)
+  its_start told = let one = is_this told in record { has = one.has; ledger = one.ledger }
+
+  its_now : (told : tells) → AreItsRecords w ((is_this told).records ++ gone.added) (now.files 0)
+  its_now told = gone.its told (is_this told).records (its_start told)
+
   -- the room of a frame is within that of all
-  room_of_frame : FitsFrames v left old → Passes old now → HasFrameRoom w rest now
-  room_of_frame fits time = record {
-    sites = subst (λ (b : Bool). HaveSitesRoom w.shape (limit_when b) now) (sym same_raised)
-        (subst (λ (s : Shape). HaveSitesRoom s (limit_when v.raised) now) (sym gone.same_shape) (room_later v.shape (limit_when v.raised) old now time fits.sites));
-    ledger = λ name size begins.
-        subst (λ (s : Shape). w.lattice.n + nodes_for s size ≤ limit_when w.raised → HasRoomTo now 0 (next_end w.end (length name) (nodes_for s size * (1 + s.alpha)) + 1)) (sym gone.same_shape)
-        (λ few.
-        let all : Consumes left begins.0 (frames_of objects ++ frame_head name size) = Consumes-trans left rest begins.0 (frames_of objects) (frame_head name size) gone.framed begins.1 in
-        let end : w.end ≡ length (spelled v.shape (records ++ gone.added)) = has_now.end ∙ ap (λ (s : Shape). length (spelled s (records ++ gone.added))) gone.same_shape in
-        let limit : limit_when w.raised ≡ limit_of records = ap limit_when (same_raised ∙ start.raised) in
-        let there = time.room 0 (next_end (length (spelled v.shape (records ++ gone.added))) (length name) (nodes_for v.shape size * (1 + v.shape.alpha)) + 1)
-        (fits.ledger some.0 start objects gone.added name size begins.0 gone.are all (omega (arith, few, limit, has_now.lattice.n))) in
-        subst (λ (e : ℕ). HasRoomTo now 0 (next_end e (length name) (nodes_for v.shape size * (1 + v.shape.alpha)) + 1)) (sym end) there);
-  }
+  room_of_frame : tells → FitsFrames v left old → HasFrameRoom w rest now
+  room_of_frame told fits =
+      let time = gone.writes.time in
+      let one = is_this told in
+      let its = its_now told in
+      let rows : FitsRows v.shape (limit_when v.raised) now = record { sites = room_later v.shape (limit_when v.raised) old now time fits.sites.sites; sync = gone.kept told fits } in
+      record {
+        sites = subst (λ (b : Bool). FitsRows w.shape (limit_when b) now) (sym same_raised) (subst (λ (s : Shape). FitsRows s (limit_when v.raised) now) (sym gone.same_shape) rows);
+        ledger = λ name size begins.
+            subst (λ (s : Shape). w.lattice.n + nodes_for s size ≤ limit_when w.raised → FitsAdding now 1 (next_end w.end (length name) (nodes_for s size * (1 + s.alpha)))) (sym gone.same_shape)
+            (λ few.
+            let all : Consumes left begins.0 (frames_of objects ++ frame_head name size) = Consumes-trans left rest begins.0 (frames_of objects) (frame_head name size) gone.framed begins.1 in
+            let end : w.end ≡ length (spelled v.shape (one.records ++ gone.added)) = its.has.end ∙ ap (λ (s : Shape). length (spelled s (one.records ++ gone.added))) gone.same_shape in
+            let limit : limit_when w.raised ≡ limit_of one.records = ap limit_when (same_raised ∙ one.has.raised) in
+            let there = adding_after old now v.shape w.shape one.records v.end w.end one.ledger time gone.added its.ledger (gone.kept told fits)
+            (next_end (length (spelled v.shape (one.records ++ gone.added))) (length name) (nodes_for v.shape size * (1 + v.shape.alpha)))
+            (fits.ledger one.records one.has objects gone.added name size begins.0 gone.are all (omega (arith, few, limit, its.has.lattice.n))) in
+            subst (λ (e : ℕ). FitsAdding now 1 (next_end e (length name) (nodes_for v.shape size * (1 + v.shape.alpha)))) (sym end) there);
+      }
+
+  -- and the disk is ready for it
+  ready_now : ((b c : List ℕ) (m n : ℕ) → EndsAt c n → now.takes 0 b m → now.takes 0 c n) → tells → IsReady old → KeepsTaking old now → IsReady now
+  ready_now ended told ready goes = ready_after old now w.shape ((is_this told).records ++ gone.added) w.end ended (its_now told).ledger goes ready
 
   -- all the writes up to the end of one more call
-  pub writes_more : (fault : Type 0) (next : State) → OnlyWrites tells (HasFrameRoom w rest now) fault (changes w) now next → OnlyWrites tells (FitsFrames v left old) fault (changes v) old next
-  writes_more fault next writes =
-      writes_both tells (FitsFrames v left old) (FitsFrames v left old) (HasFrameRoom w rest now) ⊥ fault (changes v) (changes w) (changes v) old now next
+  pub writes_more : ((b c : List ℕ) (m n : ℕ) → EndsAt c n → now.takes 0 b m → now.takes 0 c n) → (fault : Type 0) (next : State)
+      → OnlyWrites tells (IsReady now) (HasFrameRoom w rest now) fault (changes w) now next → OnlyWrites tells (IsReady old) (FitsFrames v left old) fault (changes v) old next
+  writes_more ended fault next writes =
+      writes_both tells (IsReady old) (IsReady old) (IsReady now) (FitsFrames v left old) (FitsFrames v left old) (HasFrameRoom w rest now) ⊥ fault (changes v) (changes w) (changes v) old now next (λ none. none)
       (λ c d step. step)
       (λ c d e one two. changes_both v.shape (limit_when v.raised) (IsBlockIn v.shape v.lattice.n) (IsBesides v.shape) c d e one (narrow d e two))
-      (λ fits. fits) room_of_frame gone.writes writes
+      (λ told ready. ready) (λ told ready step goes. ready_now ended told ready goes)
+      (λ told fits. fits) (λ told fits step time. room_of_frame told fits) gone.writes writes
 
   -- the line of what was stored
   pub line_of_stored : (w2 : Opened) (o : NewObject) (next : State) (stored : StoredObject) (name : List ℕ) → o.name ≡ name → HasStored tells w w2 o now next stored → stored_text stored.nodes stored.length stored.digest name ≡ stored_line v.shape o
@@ -172,7 +197,7 @@ module _ (tells same : Type 0) (v w : Opened) (some : HasSomeRecords v) (left re
   -- ---- a stretch behind what was stored
 
   module _ (reading : HasOneReading) (lengths : CellsHaveLengths) (parts : CellsHaveParts) (values : LastsAreValues) (record_more : ObjectsRecordMore) (counts : DigestsAreCounted)
-      (next : State) (fault : Type 0) (writes : OnlyWrites tells (HasFrameRoom w rest now) fault (changes w) now next) where
+      (next : State) (fault : Type 0) (writes : OnlyWrites tells (IsReady now) (HasFrameRoom w rest now) fault (changes w) now next) where
     -- a stretch that grows by some objects behind those that stand: these stand in every image, whatever becomes of the others
     pub surely : tells → (list : List Record) → AreItsRecords v list (old.files 0) → (ys : List NewObject) → Grows w.shape (list ++ gone.added) ys now next → GrowsSurely v.shape list (objects ++ ys) (length objects) old next
     surely told list its ys second = ⊎_elim
@@ -195,7 +220,7 @@ module _ (tells same : Type 0) (v w : Opened) (some : HasSomeRecords v) (left re
         subst (λ (l : List Record). Grows v.shape (list ++ l) ys now next) (sym is) (subst (λ (s : Shape). Grows s (list ++ gone.added) ys now next) gone.same_shape second) in
         let nodes : w.lattice.n ≡ nodes_of (list ++ first.grows.added) = (gone.its told list its).has.lattice.n ∙ ap (λ (l : List Record). nodes_of (list ++ l)) (sym is) in
         let shelf = subst (λ (n : ℕ). KeepsShelf tells v.shape (IsBlockIn v.shape n) now next) nodes
-        (subst (λ (s : Shape). KeepsShelf tells s (IsBlockIn s w.lattice.n) now next) gone.same_shape (changes_shelf tells (HasFrameRoom w rest now) fault w.shape (limit_when w.raised) (IsBlockIn w.shape w.lattice.n) (IsBesides w.shape) now next writes)) in
+        (subst (λ (s : Shape). KeepsShelf tells s (IsBlockIn s w.lattice.n) now next) gone.same_shape (changes_shelf tells _ (HasFrameRoom w rest now) fault w.shape (limit_when w.raised) (IsBlockIn w.shape w.lattice.n) (IsBesides w.shape) now next writes)) in
         let few : length objects ≤ length first.grows.added = (let n = are_many v.shape objects gone.added gone.are in omega (arith, n, ap length is)) in
         record {
           grows = grows_both reading lengths parts values record_more counts tells v.shape list objects ys some.0 old now next gone.writes.time writes.time gone.writes.earlier first late shelf;
@@ -210,12 +235,12 @@ module _ (tells same : Type 0) (v w : Opened) (some : HasSomeRecords v) (left re
   -- ---- one more object
 
   module _ (reading : HasOneReading) (lengths : CellsHaveLengths) (parts : CellsHaveParts) (values : LastsAreValues) (record_more : ObjectsRecordMore) (counts : DigestsAreCounted)
-      (w2 : Opened) (o : NewObject) (next : State) (stored : StoredObject) (has : HasStored tells w w2 o now next stored) (fault : Type 0) (writes : OnlyWrites tells (HasFrameRoom w rest now) fault (changes w) now next) where
+      (w2 : Opened) (o : NewObject) (next : State) (stored : StoredObject) (has : HasStored tells w w2 o now next stored) (fault : Type 0) (writes : OnlyWrites tells (IsReady now) (HasFrameRoom w rest now) fault (changes w) now next) where
     -- the stretch of this frame
     second : (told : tells) (list : List Record) → AreItsRecords v list (old.files 0) → (g : HasGrown v.shape (list ++ gone.added) (o ∷ []) now next) × (g.grows.added ≡ Object has.r ∷ [])
     second told list its =
         subst (λ (s : Shape). (g : HasGrown s (list ++ gone.added) (o ∷ []) now next) × (g.grows.added ≡ Object has.r ∷ [])) gone.same_shape
-        (grown_by_one tells told w (list ++ gone.added) now next (gone.its told list its) (gone.synced told) (HasFrameRoom w rest now) fault writes w2 o stored has)
+        (grown_by_one tells told w (list ++ gone.added) now next (gone.its told list its) (gone.synced told) (IsReady now) (HasFrameRoom w rest now) fault writes w2 o stored has)
 
     pub grew_more : (told : tells) (list : List Record) → AreItsRecords v list (old.files 0) → (g : HasGrown v.shape list (objects ++ o ∷ []) old next) × (g.grows.added ≡ gone.added ++ Object has.r ∷ [])
     grew_more told list its = ⊎_elim
@@ -233,7 +258,7 @@ module _ (tells same : Type 0) (v w : Opened) (some : HasSomeRecords v) (left re
         let late = subst (λ (l : List Record). (g : HasGrown v.shape (list ++ l) (o ∷ []) now next) × (g.grows.added ≡ Object has.r ∷ [])) (sym is) (second told list its) in
         let nodes : w.lattice.n ≡ nodes_of (list ++ first.grows.added) = (gone.its told list its).has.lattice.n ∙ ap (λ (l : List Record). nodes_of (list ++ l)) (sym is) in
         let shelf = subst (λ (n : ℕ). KeepsShelf tells v.shape (IsBlockIn v.shape n) now next) nodes
-        (subst (λ (s : Shape). KeepsShelf tells s (IsBlockIn s w.lattice.n) now next) gone.same_shape (changes_shelf tells (HasFrameRoom w rest now) fault w.shape (limit_when w.raised) (IsBlockIn w.shape w.lattice.n) (IsBesides w.shape) now next writes)) in (
+        (subst (λ (s : Shape). KeepsShelf tells s (IsBlockIn s w.lattice.n) now next) gone.same_shape (changes_shelf tells _ (HasFrameRoom w rest now) fault w.shape (limit_when w.raised) (IsBlockIn w.shape w.lattice.n) (IsBesides w.shape) now next writes)) in (
           grown_both reading lengths parts values record_more counts tells told v.shape list objects (o ∷ []) some.0 old now next gone.writes.time writes.time gone.writes.earlier first late.0 shelf,
           grown_added reading lengths parts values record_more counts tells told v.shape list objects (o ∷ []) some.0 old now next gone.writes.time writes.time gone.writes.earlier first late.0 shelf
               ∙ ap (λ (l : List Record). first.grows.added ++ l) late.1 ∙ ap (λ (l : List Record). l ++ Object has.r ∷ []) is,
@@ -247,10 +272,28 @@ module _ (tells same : Type 0) (v w : Opened) (some : HasSomeRecords v) (left re
     some_more [] e = let h : o ∷ [] ≡ [] = e in cc
     some_more (x ∷ xs) e = let h : x ∷ (xs ++ o ∷ []) ≡ [] = e in cc
 
+    -- there is room to sync the ledger with its record
+    kept_more : (rest2 : Option (List ℕ)) → IsFramed rest rest2 o → tells → FitsFrames v left old → next.keeps (next.files 0)
+    kept_more rest2 framed told fits =
+        let its = its_now told in
+        let list : List Record = (is_this told).records ++ gone.added in
+        let added = has.added told list its in
+        let valid : MayFollow w.shape [] (list ++ Object has.r ∷ []) = subst (λ (s : Shape). MayFollow s [] (list ++ Object has.r ∷ [])) has.same_shape (has.value list its.has).valid in
+        let behind : IsNext w.shape list (Object has.r) = (follow_behind w.shape [] list (Object has.r ∷ []) valid).0 in
+        let may : MayBeStored w.shape list has.r = behind.stored in
+        let size : next_end w.end (length o.name) (nodes_for w.shape (length o.bytes) * (1 + w.shape.alpha)) ≡ length (spelled w.shape (list ++ Object has.r ∷ [])) =
+        ap (λ (n : ℕ). next_end n (length o.name) (nodes_for w.shape (length o.bytes) * (1 + w.shape.alpha))) its.has.end
+        ∙ ap (λ (l : List ℕ). next_end (length (spelled w.shape list)) (length l) (nodes_for w.shape (length o.bytes) * (1 + w.shape.alpha))) (sym has.next.name_is)
+        ∙ ap (λ (n : ℕ). next_end (length (spelled w.shape list)) (length has.r.name) (n * (1 + w.shape.alpha))) (sym has.next.count)
+        ∙ sym (spelled_next w.shape list has.r may) in
+        let few : w.lattice.n + nodes_for w.shape (length o.bytes) ≤ limit_when w.raised = omega (arith, may.fits, has.next.count, its.has.lattice.n, ap limit_when its.has.raised) in
+        kept_after now next w.shape w.shape list w.end (length (spelled w.shape (list ++ Object has.r ∷ []))) its.ledger writes.time (Object has.r) added.ledger
+        (subst (FitsAdding now 1) size ((room_of_frame told fits).ledger o.name (length o.bytes) (takes_front rest rest2 (frame_head o.name (length o.bytes)) o.bytes framed) few))
+
     -- with its line
-    pub gone_more : (other : Type 0) (rest2 : Option (List ℕ)) (after2 : SinkState) → IsFramed rest rest2 o → (fault → ⊥) → Prints {T = Unit {0}} {E = WriteFault} after [] after2 [] (Ok tt) (stored_line v.shape o)
+    pub gone_more : ((b c : List ℕ) (m n : ℕ) → EndsAt c n → now.takes 0 b m → now.takes 0 c n) → (other : Type 0) (rest2 : Option (List ℕ)) (after2 : SinkState) → IsFramed rest rest2 o → (fault → ⊥) → Prints {T = Unit {0}} {E = WriteFault} after [] after2 [] (Ok tt) (stored_line v.shape o)
         → HasGone tells other v w2 left rest2 old next before after2 (objects ++ o ∷ [])
-    gone_more other rest2 after2 framed fine line =
+    gone_more ended other rest2 after2 framed fine line =
         let behind : (list : List Record) → (list ++ gone.added) ++ Object has.r ∷ [] ≡ list ++ (gone.added ++ Object has.r ∷ []) = λ list. append_assoc list gone.added (Object has.r ∷ []) in
         let now_has : (list : List Record) → HasRecords v list → HasRecords w2 (list ++ (gone.added ++ Object has.r ∷ [])) =
         λ list had. subst (HasRecords w2) (behind list) (has.value (list ++ gone.added) (gone.has list had)) in
@@ -268,7 +311,8 @@ module _ (tells same : Type 0) (v w : Opened) (some : HasSomeRecords v) (left re
               let as_shape = subst (λ (s : Shape). HasLedger s (list ++ (gone.added ++ Object has.r ∷ [])) (next.files 0)) (sym has.same_shape) as_records in
               record { has = all; ledger = subst (λ (n : ℕ). IsLedger (next.files 0) w2.shape (list ++ (gone.added ++ Object has.r ∷ [])) n) (sym all.end) as_shape };
           synced = λ told. synced_more told;
-          writes = writes_as tells (FitsFrames v left old) fault ⊥ (changes v) old next (λ none. absurd none) (writes_more fault next writes);
+          writes = writes_as tells (IsReady old) (FitsFrames v left old) fault ⊥ (changes v) old next (λ none. absurd none) fine (writes_more ended fault next writes);
+          kept = kept_more rest2 framed;
           grew = λ told list its. inr (some_more objects, grew_more told list its);
           printed = subst (λ (l : List ℕ). Prints {T = Unit {0}} {E = WriteFault} before [] after2 [] (Ok tt) l) (lines_more v.shape objects o) (prints_then gone.printed line);
         }

@@ -9,7 +9,8 @@ use Rattle.aea_io.specs.Streams.{SinkState}
 use Rattle.aea_lattice.specs.declared.blocks.BlockId.{BlockId}
 use Rattle.aea_envelope.specs.Facts.{CellsHaveLengths, CellsHaveParts}
 use Rattle.aea_disk.specs.Frames.{OnlyWrites}
-use Rattle.aea_disk.specs.State.{State, IsFixed}
+use Rattle.aea_disk.specs.Ends.{EndsAt}
+use Rattle.aea_disk.specs.State.{State, IsReady, IsFixed}
 use Rattle.aea_disk.proofs.Frames.{writes_as}
 use Rattle.aea_records.specs.Format.{Object, greatest_objects}
 use Rattle.aea_records.specs.Laws.{HasOneReading, DigestsAreCounted}
@@ -96,6 +97,9 @@ fault_disk ingest.NoMemory e = let h : failure.Memory ≡ failure.Disk = e in cc
 pub ingest_disk : (fault : IngestFault) → (let one : Answer = Err (ingest_failure fault) in one ≡ Err failure.Disk) → (let one : Result Ingest IngestFault = Err fault in one ≡ Err ingest.DiskFault)
 ingest_disk fault e = ap Err (fault_disk fault (same_answer (ingest_failure fault) failure.Disk e))
 
+pub disk_ingest : (fault : IngestFault) → (let one : Result Ingest IngestFault = Err fault in one ≡ Err ingest.DiskFault) → (let one : Answer = Err (ingest_failure fault) in one ≡ Err failure.Disk)
+disk_ingest fault e = ap (λ (f : IngestFault). let one : Answer = Err (ingest_failure f) in one) (same_fault fault ingest.DiskFault e)
+
 fault_input : (fault : IngestFault) → ingest_failure fault ≡ failure.Input → fault ≡ ingest.ReadFault
 fault_input ingest.BadName e = let h : failure.Refused refusal.BadName ≡ failure.Input = e in cc
 fault_input ingest.NameTaken e = let h : failure.Refused refusal.NameTaken ≡ failure.Input = e in cc
@@ -109,6 +113,13 @@ fault_input ingest.NoMemory e = let h : failure.Memory ≡ failure.Input = e in 
 
 pub ingest_input : (fault : IngestFault) → (let one : Answer = Err (ingest_failure fault) in one ≡ Err failure.Input) → (let one : Result Ingest IngestFault = Err fault in one ≡ Err ingest.ReadFault)
 ingest_input fault e = ap Err (fault_input fault (same_answer (ingest_failure fault) failure.Input e))
+
+pub input_ingest : (fault : IngestFault) → (let one : Result Ingest IngestFault = Err fault in one ≡ Err ingest.ReadFault) → (let one : Answer = Err (ingest_failure fault) in one ≡ Err failure.Input)
+input_ingest fault e = ap (λ (f : IngestFault). let one : Answer = Err (ingest_failure f) in one) (same_fault fault ingest.ReadFault e)
+
+-- what was stored, or the end, is no fault of the source
+pub not_read : (value : Ingest) → (let one : Result Ingest IngestFault = Ok value in one ≢ Err ingest.ReadFault)
+not_read value e = let h : (let one : Result Ingest IngestFault = Ok value in one ≡ Err ingest.ReadFault) = e in cc
 
 -- it is no refusal of the opening
 fault_no_opening : (fault : IngestFault) (why : Refusal) → place_of why < place_of refusal.Occupied → ingest_failure fault ≡ failure.Refused why → ⊥
@@ -165,16 +176,16 @@ module _ (reading : HasOneReading) (lengths : CellsHaveLengths) (parts : CellsHa
   -- ---- a frame that was stored
 
   module _ (w2 : Opened) (rest2 : Option (List ℕ)) (next : State) (name : List ℕ) (stored : StoredObject) (fault : Type 0)
-      (has : (o : NewObject) × (o.name ≡ name) × IsFramed rest rest2 o × HasStored tells w w2 o now next stored) (writes : OnlyWrites tells (HasFrameRoom w rest now) fault (changes w) now next) where
+      (has : (o : NewObject) × (o.name ≡ name) × IsFramed rest rest2 o × HasStored tells w w2 o now next stored) (writes : OnlyWrites tells (IsReady now) (HasFrameRoom w rest now) fault (changes w) now next) where
     -- its line is that of the object
     line_is : stored_text stored.nodes stored.length stored.digest name ≡ stored_line v.shape has.0
     line_is = line_of_stored tells same v w some left rest old now before after objects gone still is_this w2 has.0 next stored name has.1 has.3
 
     -- the run goes on, with one object more
-    pub goes_on : (other : Type 0) (after2 : SinkState) → (fault → ⊥) → Prints {T = Unit {0}} {E = WriteFault} after [] after2 [] (Ok tt) (stored_text stored.nodes stored.length stored.digest name)
+    pub goes_on : ((b c : List ℕ) (m n : ℕ) → EndsAt c n → now.takes 0 b m → now.takes 0 c n) → (other : Type 0) (after2 : SinkState) → (fault → ⊥) → Prints {T = Unit {0}} {E = WriteFault} after [] after2 [] (Ok tt) (stored_text stored.nodes stored.length stored.digest name)
         → HasGone tells other v w2 left rest2 old next before after2 (objects ++ has.0 ∷ [])
-    goes_on other after2 fine line =
-        gone_more tells same v w some left rest old now before after objects gone still is_this reading lengths parts values record_more counts w2 has.0 next stored has.3 fault writes other rest2 after2 has.2 fine
+    goes_on ended other after2 fine line =
+        gone_more tells same v w some left rest old now before after objects gone still is_this reading lengths parts values record_more counts w2 has.0 next stored has.3 fault writes ended other rest2 after2 has.2 fine
         (subst (λ (l : List ℕ). Prints {T = Unit {0}} {E = WriteFault} after [] after2 [] (Ok tt) l) line_is line)
 
     -- the output failed in its line
@@ -204,14 +215,14 @@ module _ (reading : HasOneReading) (lengths : CellsHaveLengths) (parts : CellsHa
     at_most_more at next_at count few taken = at_more w at (length taken.bytes) next_at count few taken.counted taken.most
 
   -- all its writes
-  pub writes_by : (next : State) (fault disk : Type 0) → (disk → fault) → OnlyWrites tells (HasFrameRoom w rest now) fault (changes w) now next → OnlyWrites tells (FitsFrames v left old) disk (changes v) old next
-  writes_by next fault disk so writes =
-      writes_as tells (FitsFrames v left old) fault disk (changes v) old next so
-      (writes_more tells same v w some left rest old now before after objects gone still is_this fault next writes)
+  pub writes_by : ((b c : List ℕ) (m n : ℕ) → EndsAt c n → now.takes 0 b m → now.takes 0 c n) → (next : State) (fault disk : Type 0) → (disk → fault) → (fault → disk) → OnlyWrites tells (IsReady now) (HasFrameRoom w rest now) fault (changes w) now next → OnlyWrites tells (IsReady old) (FitsFrames v left old) disk (changes v) old next
+  writes_by ended next fault disk so back writes =
+      writes_as tells (IsReady old) (FitsFrames v left old) fault disk (changes v) old next so back
+      (writes_more tells same v w some left rest old now before after objects gone still is_this ended fault next writes)
 
   -- ---- a frame that was not stored
 
-  pub fails_by : (fault : IngestFault) (next : State) (rest2 : Option (List ℕ)) (bad : Type 0) → OnlyWrites tells (HasFrameRoom w rest now) bad (changes w) now next
+  pub fails_by : (fault : IngestFault) (next : State) (rest2 : Option (List ℕ)) (bad : Type 0) → OnlyWrites tells (IsReady now) (HasFrameRoom w rest now) bad (changes w) now next
       → ((let r : Result Ingest IngestFault = Err fault in r ≢ Err ingest.DiskFault) → ((name : List ℕ) (stored : StoredObject) → (let r : Result Ingest IngestFault = Err fault in r ≢ Ok (frame.Stored name stored))) → tells → LeavesLedger now next)
       → ((let r : Result Ingest IngestFault = Err fault in r ≡ Err ingest.DiskFault) → tells → MayHaveStored w (IsFramed rest rest2) now next)
       → EndsEarly {T = Status} tells old.files left rest2 objects (Err (ingest_failure fault))
@@ -242,6 +253,6 @@ module _ (reading : HasOneReading) (lengths : CellsHaveLengths) (parts : CellsHa
       (subst (λ (k : ℕ). Prints {T = Unit {0}} {E = WriteFault} after [] last [] (Err broken) (end_line k)) is line))
 
   -- the writes up to there
-  pub writes_then : (next : State) (disk : Type 0) → next ≡ now → (disk → ⊥) → OnlyWrites tells (FitsFrames v left old) disk (changes v) old next
+  pub writes_then : (next : State) (disk : Type 0) → next ≡ now → (disk → ⊥) → OnlyWrites tells (IsReady old) (FitsFrames v left old) disk (changes v) old next
   writes_then next disk unchanged none =
-      subst (λ (s : State). OnlyWrites tells (FitsFrames v left old) disk (changes v) old s) (sym unchanged) (writes_as tells (FitsFrames v left old) ⊥ disk (changes v) old now none gone.writes)
+      subst (λ (s : State). OnlyWrites tells (IsReady old) (FitsFrames v left old) disk (changes v) old s) (sym unchanged) (writes_as tells (IsReady old) (FitsFrames v left old) ⊥ disk (changes v) old now none (λ none. absurd none) gone.writes)

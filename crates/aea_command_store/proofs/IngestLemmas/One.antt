@@ -23,7 +23,7 @@ use Rattle.aea_command_store.specs.Growing.{LeavesArchive, Grows, HasGrown}
 use Rattle.aea_command_store.proofs.PutLemmas.Opening.{changes, leaves_is, none_more}
 
 module _ (tells : Type 0) (told : tells) (w : Opened) (rs : List Record) (now next : State) (its : AreItsRecords w rs (now.files 0)) (synced : IsSynced now)
-    (fits fault : Type 0) (writes : OnlyWrites tells fits fault (changes w) now next) where
+    (taken fits fault : Type 0) (writes : OnlyWrites tells taken fits fault (changes w) now next) where
   -- an image of now is the files as they read
   image_now : (d : Files) → now.image now.moment d → d ≡ now.files
   image_now d here = λ i f. synced d here f i

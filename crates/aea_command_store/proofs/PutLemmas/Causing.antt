@@ -7,7 +7,7 @@ use Rattle.aea_lattice.specs.declared.blocks.BlockId.{BlockId}
 use Rattle.aea_lattice.specs.Facts.{NumbersTellBlocks}
 use Rattle.aea_disk.specs.Files.{Files}
 use Rattle.aea_disk.specs.Frames.{OnlyReads, OnlyWrites}
-use Rattle.aea_disk.specs.State.{State}
+use Rattle.aea_disk.specs.State.{State, IsReady}
 use Rattle.aea_catalog.specs.Names.{IsName, is_name}
 use Rattle.aea_shelf.specs.Writes.{KeepsPadded}
 use Rattle.aea_records.specs.Format.{greatest_objects, nodes_for, limit_when}
@@ -53,7 +53,7 @@ pub record HasPutting (tells : Type 0) (v w : Opened) (name : List ℕ) (left re
       → (r ≡ Err (put.Full v.lattice.n)) ⊎ ((r ≡ Err put.ReadFault) ⊎ IsHeadRefused r)
   pub leaves : IsErr r → r ≢ Err put.DiskFault → tells → LeavesLedger mid new
   pub stopped : r ≡ Err put.DiskFault → tells → MayHaveStored v (IsWhole name left rest) mid new
-  pub writes : OnlyWrites tells (HasPutRoom v name left rest mid) (r ≡ Err put.DiskFault) (changes v) mid new
+  pub writes : OnlyWrites tells (IsReady mid) (HasPutRoom v name left rest mid) (r ≡ Err put.DiskFault) (changes v) mid new
   pub padded : r ≢ Err put.DiskFault → tells → KeepsPadded v.shape (IsBlockIn v.shape v.lattice.n) mid.files new.files
   pub reads : TakesAtMost left rest (room_left v + 1)
 

@@ -13,6 +13,7 @@ use Rattle.aea_command.specs.declared.refusal.Failure.{Failure}
 use Rattle.aea_command.specs.declared.refusal.Failure.TheVariants as failure
 use Rattle.aea_disk.specs.Files.{Files, KeepsFiles}
 use Rattle.aea_ledger.specs.Stops.{StaysAll}
+use Rattle.aea_ledger.specs.Values.{Opened}
 use Rattle.aea_command_store.proofs.CreateLemmas.{IsPrinting, printing_done}
 use Rattle.std.specs.Prelude.{IsSome, unwrap_or}
 use Rattle.aea_command.specs.Printed.{PrintsText}
@@ -31,6 +32,9 @@ never_stored {T} f output (inr e) = let h : (let one : Result T Failure = Err f 
 
 pub unopened_not_output : (tells : Type 0) (old new : State) (f : Failure) → Opens tells old new (Err f) → f ≢ failure.Output
 unopened_not_output tells old new f opens e = let kind = opens.kinds in opening_not_output kind.0 (sym kind.1 ∙ e)
+
+opening_same : (f g : Failure) → (let one : Result Opened Failure = Err f in one ≡ Err g) → f ≡ g
+opening_same f g e = cc
 
 module _ {T : Type 0} (name : List ℕ) (tells : Type 0) (old new : State) (left : Option (List ℕ)) (f : Failure) (opens : Opens tells old new (Err f)) where
   same_failure : (g : Failure) → (let one : Result T Failure = Err f in one ≡ Err g) → f ≡ g
@@ -58,7 +62,7 @@ module _ {T : Type 0} (name : List ℕ) (tells : Type 0) (old new : State) (left
     none = λ told never. (opens.reads.crash, opens.reads.contents told);
     padded = λ differs told shape records ledger a on keep. ap (λ (c : Files). padded_home shape a c) (opens.reads.contents told);
     takes = λ told shape records ledger. ([], Consumes-nil left, omega arith);
-    in_room = λ fits. let sure = opens.reads.sure fits.some in (λ is. sure.0 (let same = same_failure failure.Disk is in ap Err same), sure.1);
+    in_room = λ told ready fits. let sure = opens.reads.sure told ready fits.some in (λ is. sure.0 (let same = same_failure failure.Disk is in ap Err same), sure.1);
   }
 
   pub unopened_rest : KeepsOtherFiles tells (let answer : Result T Failure = Err f in answer ≡ Err failure.Disk) old new
@@ -68,6 +72,8 @@ module _ {T : Type 0} (name : List ℕ) (tells : Type 0) (old new : State) (left
     time = opens.reads.time;
     kept = opens.reads.kept;
     cause = λ is. opens.reads.cause (ap Err (same_failure failure.Disk is));
+    still = λ fine. opens.reads.still (λ is. fine (let same : f ≡ failure.Disk = opening_same f failure.Disk is in ap Err same));
+    beneath = λ told ready is. opens.reads.beneath told ready (ap Err (same_failure failure.Disk is));
   }
 
 -- ---- another answer to what is left
@@ -89,7 +95,7 @@ stores_as {T} {U} name tells old new left rest gave answer agrees does = record 
   none = does.none;
   padded = λ differs. does.padded (λ is. differs (agrees.back failure.Disk (λ d. cc) is));
   takes = does.takes;
-  in_room = λ fits. (λ is. (does.in_room fits).0 (agrees.there failure.Disk (λ d. cc) is), (does.in_room fits).1);
+  in_room = λ told ready fits. (λ is. (does.in_room told ready fits).0 (agrees.there failure.Disk (λ d. cc) is), (does.in_room told ready fits).1);
 }
 
 -- nothing was stored
@@ -132,5 +138,5 @@ nothing_stores name tells s left = record {
   none = λ told never. (images_same s, refl);
   padded = λ differs told shape records ledger a on keep. refl;
   takes = λ told shape records ledger. ([], Consumes-nil left, omega arith);
-  in_room = λ fits. (λ is. let h : Err failure.Memory ≡ Err failure.Disk = is in cc, refl);
+  in_room = λ told ready fits. (λ is. let h : Err failure.Memory ≡ Err failure.Disk = is in cc, refl);
 }

@@ -17,27 +17,27 @@ use Rattle.aea_command_store.proofs.PutLemmas.Opening.{changes, ledger_left, cha
 use Rattle.aea_command.proofs.Opened.{opens_then, opening_then, untouched_by}
 use Rattle.aea_append.specs.declared.fault.PutFault.TheVariants as put
 use Rattle.aea_archive.specs.Cells.{IsBesides}
+use Rattle.aea_archive.proofs.Cells.{changes_none, rows_later}
+use Rattle.aea_ledger.proofs.Readying.{adding_later}
+use Rattle.aea_command.proofs.OpeningCases.{opened_never}
 use Rattle.aea_archive.specs.Blocks.{IsBlockIn}
 use Rattle.std.specs.Prelude.{IsOk}
 use Rattle.aea_shelf.specs.Writes.{KeepsPadded}
 use Rattle.aea_archive.specs.Next.{NewObject}
-use Rattle.aea_disk.specs.Frames.{OnlyReads}
+use Rattle.aea_disk.specs.Frames.{OnlyReads, OnlyWrites}
 use Rattle.aea_ledger.specs.Values.{Opened}
-use Rattle.aea_disk.specs.State.{Passes, State}
+use Rattle.aea_disk.specs.State.{State, Passes, IsReady}
 use Rattle.aea_append.specs.declared.fault.PutFault.{PutFault}
 use Rattle.aea_records.specs.Format.{Record, limit_of, limit_when, nodes_for, nodes_of}
 use Rattle.aea_command.specs.declared.refusal.Refusal.{Refusal}
-use Rattle.aea_faults.specs.Faults.{Rose}
 use Rattle.aea_lattice.specs.declared.shape.Shape.{Shape}
 use Rattle.aea_append.specs.declared.store.StoredObject.{StoredObject}
 use Rattle.aea_io.specs.Taken.{TakesAtMost}
 use Rattle.std.proofs.lemmas.Bool.{cases_lt, false≢true}
 use Rattle.aea_command.proofs.Reading.{has_ledger_of, by_reading}
 use Rattle.std.proofs.lemmas.Bool.Decides.{nat_tests}
-use Rattle.aea_disk.proofs.Moments.{passes_both, passes_none, where_both, where_kept, where_none}
 use Rattle.aea_command.specs.Failures.{put_failure}
-use Rattle.aea_disk.proofs.Frames.{reads_none, writes_where}
-use Rattle.aea_shelf.specs.Places.{site_bytes}
+use Rattle.aea_disk.proofs.Frames.{ready_later, reads_none, reads_then_writes, writes_where}
 use Rattle.sha2.specs.Sha256.{sha256}
 
 same_fault : {T : Type 0} (f g : Failure) → (let one : Result T Failure = Err f in one ≡ Err g) → f ≡ g
@@ -129,7 +129,7 @@ module _ (reading : HasOneReading) (tells : Type 0) (v w : Opened) (name : List 
         has.0,
         has.1,
         opens_then tells v old mid new gave.opens told (HasGrown v.shape (gave.opens.this_one told).records (has.0 ∷ [])) late
-            (grows_stored tells v old mid new gave.opens told _ _ gave.writes w has.0 s.0 (gave.opens.this_one told) has.2),
+            (grows_stored tells v old mid new gave.opens told _ _ _ gave.writes w has.0 s.0 (gave.opens.this_one told) has.2),
       )
 
   -- what a stop leaves, by the answer
@@ -140,7 +140,7 @@ module _ (reading : HasOneReading) (tells : Type 0) (v w : Opened) (name : List 
         has.0 ∷ [],
         inr (inl (inl refl), (has.0, has.1, refl)),
         inr (opens_then tells v old mid new gave.opens told (Grows v.shape one.records (has.0 ∷ [])) late
-            (grows_stored tells v old mid new gave.opens told _ _ gave.writes w has.0 s one has.2).grows),
+            (grows_stored tells v old mid new gave.opens told _ _ _ gave.writes w has.0 s one has.2).grows),
       )
   stops_by told (Err put.DiskFault) is =
       let may = gave.stopped is told in
@@ -152,7 +152,7 @@ module _ (reading : HasOneReading) (tells : Type 0) (v w : Opened) (name : List 
         may.objects,
         most,
         inr (opens_then tells v old mid new gave.opens told (Grows v.shape one.records may.objects) late
-            (grows_may tells v old mid new gave.opens told _ _ gave.writes one (IsWhole name left rest) may)),
+            (grows_may tells v old mid new gave.opens told _ _ _ gave.writes one (IsWhole name left rest) may)),
       )
   stops_by told (Err fault) is =
       let one = gave.opens.this_one told in
@@ -160,7 +160,7 @@ module _ (reading : HasOneReading) (tells : Type 0) (v w : Opened) (name : List 
         [],
         inl refl,
         inr (opens_then tells v old mid new gave.opens told (Grows v.shape one.records []) late
-            (grows_none tells v old mid new gave.opens told _ _ gave.writes reading one (gave.leaves (subst IsErr (sym is) refl) differs told))),
+            (grows_none tells v old mid new gave.opens told _ _ _ gave.writes reading one (gave.leaves (subst IsErr (sym is) refl) differs told))),
       )
 
   -- refusals before the input is read
@@ -197,26 +197,39 @@ module _ (reading : HasOneReading) (tells : Type 0) (v w : Opened) (name : List 
       ledger_left tells v old mid new gave.opens told late (gave.leaves (subst IsErr (sym is) refl) apart told)
 
   -- the room of the disk is the room that the put needs
-  fits_rest : FitsPut name tells left old → HasPutRoom v name left rest mid
-  fits_rest fits = record {
-    sites = λ f some within.
-        gave.opens.reads.time.room f (site_bytes v.shape (limit_when v.raised)) (fits.sites v.shape (limit_when v.raised)
-        (λ told. let one = gave.opens.this_one told in record { records = one.records; ledger = has_ledger_of reading v (old.files 0) one; is = ap limit_when one.has.raised }) f some within);
-    ledger = λ bytes taken few.
-        let end : ℕ = next_end v.end (length name) (nodes_for v.shape (length bytes) * (1 + v.shape.alpha)) in
-        gave.opens.reads.time.room 0 (end + 1) (fits.behind end (λ told.
-        let one = gave.opens.this_one told in
-        record {
-          shape = v.shape;
-          records = one.records;
-          ledger = has_ledger_of reading v (old.files 0) one;
-          rest = rest;
-          taken = bytes;
-          takes = taken;
-          fits = omega (arith, few, one.has.lattice.n, ap limit_when one.has.raised);
-          place = omega (arith, one.has.end);
-        }));
-  }
+  fits_rest : mid.files ≡ old.files → Passes old mid → FitsPut name tells left old → HasPutRoom v name left rest mid
+  fits_rest same time fits =
+      let ledger_same : mid.files 0 ≡ old.files 0 = ap (λ (c : Files). c 0) same in
+      record {
+        sites = rows_later v.shape (limit_when v.raised) old mid ledger_same time (record {
+          sites = fits.sites v.shape (limit_when v.raised)
+              (λ told. let one = gave.opens.this_one told in record { records = one.records; ledger = has_ledger_of reading v (old.files 0) one; is = ap limit_when one.has.raised });
+          sync = fits.some.sync;
+        });
+        ledger = λ bytes taken few.
+            let end : ℕ = next_end v.end (length name) (nodes_for v.shape (length bytes) * (1 + v.shape.alpha)) in
+            adding_later old mid 1 end ledger_same time (fits.behind end (λ told.
+            let one = gave.opens.this_one told in
+            record {
+              shape = v.shape;
+              records = one.records;
+              ledger = has_ledger_of reading v (old.files 0) one;
+              rest = rest;
+              taken = bytes;
+              takes = taken;
+              fits = omega (arith, few, one.has.lattice.n, ap limit_when one.has.raised);
+              place = omega (arith, one.has.end);
+            }));
+      }
+
+  -- the opening and the put
+  putting_frame : OnlyWrites tells (IsReady old) (FitsPut name tells left old) (r ≡ Err put.DiskFault) (changes v) old new
+  putting_frame =
+      reads_then_writes tells (IsReady old) (IsReady mid) (FitsPut name tells left old) (HasPutRoom v name left rest mid) (let opening : Result Opened Failure = Ok v in opening ≡ Err failure.Disk) (r ≡ Err put.DiskFault) (changes v) old mid new
+      (λ e. opened_never v failure.Disk e) (λ c. changes_none v.shape (limit_when v.raised) (IsBlockIn v.shape v.lattice.n) (IsBesides v.shape) c)
+      (λ ready. ready) (λ told ready same goes. ready_later old mid same goes ready)
+      (λ fits. fits.some) (λ told fits same time. fits_rest same time fits)
+      gave.opens.reads gave.writes
 
   -- what becomes of the archive
   pub putting_stores : Stores name tells old new left rest (answer_of r)
@@ -240,9 +253,9 @@ module _ (reading : HasOneReading) (tells : Type 0) (v w : Opened) (name : List 
         by_reading reading v (old.files 0) one (λ shape records. TakesAtMost left rest ((limit_of records - nodes_of records) * shape.block + 1))
         (subst (λ (n : ℕ). TakesAtMost left rest ((limit_of one.records - n) * v.shape.block + 1)) one.has.lattice.n
         (subst (λ (n : ℕ). TakesAtMost left rest ((n - v.lattice.n) * v.shape.block + 1)) (ap limit_when one.has.raised) gave.reads));
-    in_room = λ fits.
-        let sure = gave.writes.sure (fits_rest fits) in
-        (λ is. sure.0 (answer_disk r is), sure.1 ∙ (gave.opens.reads.sure fits.some).1);
+    in_room = λ told ready fits.
+        let sure = putting_frame.sure told ready fits in
+        (λ is. sure.0 (answer_disk r is), sure.1);
   }
 
   -- the other files stay
@@ -251,15 +264,15 @@ module _ (reading : HasOneReading) (tells : Type 0) (v w : Opened) (name : List 
 
   pub putting_rest : KeepsOtherFiles tells (answer_of r ≡ Err failure.Disk) old new
   putting_rest = record {
-    others = where_both tells _ old mid new gave.opens.reads.time late
-        (where_kept tells _ old old mid (passes_none old) gave.opens.reads.time gave.opens.reads.crash gave.opens.reads.contents (where_none tells _ old))
-        (writes_where tells _ _ (changes v) _ mid new (λ c d step f past. step.stay f (sites_few f past)) gave.writes);
+    others = writes_where tells _ _ _ (changes v) _ old new (λ c d step f past. step.stay f (sites_few f past)) putting_frame;
     opens = λ told.
         opening_then tells v old mid new gave.opens told (KeepsFiles (λ file. file ≤ greatest_sites → ⊥) old.files) (λ c stays f past. stays f) late
-        (λ t c from to here f past. (changed tells v old mid new gave.opens told _ _ gave.writes t c from to here).stay f (sites_few f past));
-    time = passes_both old mid new gave.opens.reads.time late;
-    kept = let a = gave.opens.reads.kept in let b = gave.writes.kept in omega (arith, a, b);
-    cause = λ is. let rose : Rose mid.faults new.faults = gave.writes.cause (answer_disk r is) in omega (arith, gave.opens.reads.kept, rose);
+        (λ t c from to here f past. (changed tells v old mid new gave.opens told _ _ _ gave.writes t c from to here).stay f (sites_few f past));
+    time = putting_frame.time;
+    kept = putting_frame.kept;
+    cause = λ is. putting_frame.cause (answer_disk r is);
+    still = λ fine. putting_frame.still (λ is. fine (ap answer_of is));
+    beneath = λ told ready is. putting_frame.beneath told ready (answer_disk r is);
   }
 
   -- the line of the object that was stored

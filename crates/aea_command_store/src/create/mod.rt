@@ -5,7 +5,8 @@ ghost use Rattle.aea_faults.specs.Faults.{Rose};
 ghost use Rattle.aea_io.specs.Written.{IsFlushed};
 ghost use Rattle.aea_disk.specs.Files.{ChangesOnly};
 ghost use Rattle.aea_disk.specs.Frames.{OnlyWrites};
-ghost use Rattle.aea_disk.specs.State.{HasRoomTo};
+ghost use Rattle.aea_disk.specs.State.{IsReady};
+ghost use Rattle.aea_ledger.specs.Taking.{FitsMaking};
 ghost use Rattle.aea_command.specs.Causes.{Refuses};
 ghost use Rattle.aea_command_store.specs.Create.{created_line, CreateCauses, Creates};
 ghost use Rattle.aea_command.specs.Failures.{NeverClashes};
@@ -44,9 +45,10 @@ pub fn create<D: Disk, O: Sink>(
     ensures flushed { OnOk result (IsFlushed (O.state out.new)) }
 
     // The disk and the output in any case.
-    ensures writes { OnlyWrites D.tells (HasRoomTo (D.state disk.old) 0 18) (result ≡ Err Failure.Disk) (ChangesOnly 0) (D.state disk.old) (D.state disk.new) }
+    ensures writes { OnlyWrites D.tells (IsReady (D.state disk.old)) (FitsMaking (D.state disk.old) shape.now) (result ≡ Err Failure.Disk) (ChangesOnly 0) (D.state disk.old) (D.state disk.new) }
     ensures out_kept { (O.state out.old).faults ≤ (O.state out.new).faults }
     ensures out_cause { result ≡ Err Failure.Output → Rose (O.state out.old).faults (O.state out.new).faults }
+    ensures out_still { result ≢ Err Failure.Output → (O.state out.new).faults ≡ (O.state out.old).faults }
 {
     let line = line_of(alloc, shape)?;
     create_ledger(disk, shape)?;

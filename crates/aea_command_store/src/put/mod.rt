@@ -34,6 +34,7 @@ fn store<D: Disk, S: Source>(
     ensures rest { KeepsOtherFiles D.tells (result ≡ Err Failure.Disk) (D.state disk.old) (D.state disk.new) }
     ensures input_kept { (S.state input.old).faults ≤ (S.state input.new).faults }
     ensures input_cause { result ≡ Err Failure.Input → Rose (S.state input.old).faults (S.state input.new).faults }
+    ensures input_still { result ≢ Err Failure.Input → (S.state input.new).faults ≡ (S.state input.old).faults }
 {
     ledgers_have_one_reading();
     objects_are_counted();
@@ -63,8 +64,10 @@ pub fn put_input<D: Disk, S: Source, O: Sink>(
     ensures rest { KeepsOtherFiles D.tells (result ≡ Err Failure.Disk) (D.state disk.old) (D.state disk.new) }
     ensures input_kept { (S.state input.old).faults ≤ (S.state input.new).faults }
     ensures input_cause { result ≡ Err Failure.Input → Rose (S.state input.old).faults (S.state input.new).faults }
+    ensures input_still { result ≢ Err Failure.Input → (S.state input.new).faults ≡ (S.state input.old).faults }
     ensures out_kept { (O.state out.old).faults ≤ (O.state out.new).faults }
     ensures out_cause { result ≡ Err Failure.Output → Rose (O.state out.old).faults (O.state out.new).faults }
+    ensures out_still { result ≢ Err Failure.Output → (O.state out.new).faults ≡ (O.state out.old).faults }
 {
     let stored = store(alloc, name, disk, input)?;
     put_line(out, &stored, name)?;

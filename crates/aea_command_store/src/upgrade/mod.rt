@@ -48,6 +48,7 @@ pub fn upgrade<D: Disk, O: Sink>(
     ensures rest { KeepsTheRest D.tells (result ≡ Err Failure.Disk) (D.state disk.old) (D.state disk.new) }
     ensures out_kept { (O.state out.old).faults ≤ (O.state out.new).faults }
     ensures out_cause { result ≡ Err Failure.Output → Rose (O.state out.old).faults (O.state out.new).faults }
+    ensures out_still { result ≢ Err Failure.Output → (O.state out.new).faults ≡ (O.state out.old).faults }
 {
     add_raise(alloc, disk)?;
     put_text(out, b"upgraded 1048576\n")?;

@@ -10,7 +10,7 @@ use Rattle.aea_command.specs.declared.refusal.Refusal.TheVariants.{NoSuchBlock}
 use Rattle.aea_command.specs.declared.refusal.Failure.TheVariants as failure
 use Rattle.aea_command_loss.specs.Drill.{NamesBlock}
 use Rattle.aea_command.specs.Failures.{explain_failure}
-use Rattle.aea_command_loss.proofs.ExplainLemmas.{HasExplanation, explains_failed, explains_printed, failure_kinds, failure_disk, failure_never, names_in}
+use Rattle.aea_command_loss.proofs.ExplainLemmas.{HasExplanation, explains_failed, explains_printed, failure_kinds, failure_disk, fault_disk, failure_never, names_in}
 use Rattle.aea_command_loss.proofs.ExplainLemmas.Causing.{unopened_explain, unnamed_refuses, named_refuses}
 use Rattle.aea_command.proofs.OpeningCases.{err_with}
 use Rattle.aea_command.proofs.Texts.{text_printed, text_broken}
@@ -34,7 +34,7 @@ returns-in_err-explanation-clause-explains g c =
     let names : NamesBlock c.in_ok-ledger.ledger.lattice c.args.word.now = names_in c.lattice.result c.in_ok-ledger.ledger.lattice c.args.word.now c.in-Some.block c.lattice.ensures.value c.in-Some.ensures.block c.in-Some.ensures.text in
     rw (err_with c.from_residual-in_err-explanation.result (explain_failure fault) c.from_residual-in_err-explanation.ensures.1)
     (explains_failed c.args.word.now g.D.Disk.tells (let r : Result Explanation ExplainFault = Err fault in r ≡ Err is.DiskFault) c.in_ok-ledger.ledger (g.D.Disk.state c.args.disk.now) (g.D.Disk.state c.open.new.disk) (g.D.Disk.state c.explain.new.disk) (g.O.Sink.state c.args.out.now) (explain_failure fault)
-    c.in_ok-ledger.ensures names c.in_err-explanation.ensures.reads (λ e. ap Err (failure_disk fault e)) (failure_kinds fault))
+    c.in_ok-ledger.ensures names c.in_err-explanation.ensures.reads (λ e. ap Err (failure_disk fault e)) (λ e. let h : (let r : Result Explanation ExplainFault = Err fault in r ≡ Err is.DiskFault) = e in fault_disk fault cc) (failure_kinds fault))
 
 pub returns-in_err-explanation-clause-refuses : goal.returns-in_err-explanation-clause-refuses
 returns-in_err-explanation-clause-refuses g c =
@@ -56,7 +56,7 @@ returns-in_err-put_explanation-clause-explains g c =
     let after = g.O.Sink.state c.put_explanation.new.out in
     let gave : HasExplanation c.args.word.now g.D.Disk.tells v (g.D.Disk.state c.args.disk.now) mid new before after (Err failure.Output) = record {
       opens = c.in_ok-ledger.ensures;
-      reads = reads_as g.D.Disk.tells _ ⊥ mid new (λ none. absurd none) c.in_ok-explanation.ensures.reads;
+      reads = reads_as g.D.Disk.tells _ ⊥ mid new (λ none. absurd none) (λ is. absurd (cc)) c.in_ok-explanation.ensures.reads;
       block = c.in-Some.block;
       inside = subst (λ (l : Lattice). HasBlock l c.in-Some.block) c.lattice.ensures.value c.in-Some.ensures.block;
       named = c.in-Some.ensures.text;
@@ -88,7 +88,7 @@ returns-clause-explains g c =
     let status = c.in_ok-put_explanation.field-0 in
     let gave : HasExplanation c.args.word.now g.D.Disk.tells v (g.D.Disk.state c.args.disk.now) mid new before after (Ok status) = record {
       opens = c.in_ok-ledger.ensures;
-      reads = reads_as g.D.Disk.tells _ ⊥ mid new (λ none. absurd none) c.in_ok-explanation.ensures.reads;
+      reads = reads_as g.D.Disk.tells _ ⊥ mid new (λ none. absurd none) (λ is. absurd (cc)) c.in_ok-explanation.ensures.reads;
       block = c.in-Some.block;
       inside = subst (λ (l : Lattice). HasBlock l c.in-Some.block) c.lattice.ensures.value c.in-Some.ensures.block;
       named = c.in-Some.ensures.text;

@@ -29,7 +29,7 @@ returns-in_err-damaged-clause-scrubs g c =
     let gave = c.in_err-damaged.ensures in
     rw (err_with c.from_residual-in_err-damaged.result f c.from_residual-in_err-damaged.ensures.1)
     (scrubs_unread g.D.Disk.tells (g.D.Disk.state c.args.disk.now) (g.D.Disk.state c.open.new.disk) (g.D.Disk.state c.damaged_marks.new.disk) (g.O.Sink.state c.args.out.now) c.in_ok-ledger.ledger f
-    c.in_ok-ledger.ensures (reads_as g.D.Disk.tells _ _ (g.D.Disk.state c.open.new.disk) (g.D.Disk.state c.damaged_marks.new.disk) (λ e. cc) gave.reads) gave.faults)
+    c.in_ok-ledger.ensures (reads_as g.D.Disk.tells _ _ (g.D.Disk.state c.open.new.disk) (g.D.Disk.state c.damaged_marks.new.disk) (λ e. cc) (λ is. cc) gave.reads) gave.faults)
 
 pub returns-in_err-damaged-clause-refuses : goal.returns-in_err-damaged-clause-refuses
 returns-in_err-damaged-clause-refuses g c =
@@ -47,7 +47,7 @@ returns-in_err-put_damage-clause-scrubs g c =
     let gave = c.in_ok-damaged.ensures in
     let marked : IsMarked g.D.Disk.tells (g.D.Disk.state c.args.disk.now) mid new c.in_ok-ledger.ledger c.in_ok-damaged.damaged = record {
       opens = c.in_ok-ledger.ensures;
-      reads = reads_as g.D.Disk.tells _ ⊥ mid new (λ none. absurd none) gave.reads;
+      reads = reads_as g.D.Disk.tells _ ⊥ mid new (λ none. absurd none) (λ is. absurd (cc)) gave.reads;
       lattice = gave.lattice;
       damaged = gave.damaged;
     } in
@@ -76,7 +76,7 @@ returns-clause-scrubs g c =
     let status = c.in_ok-put_damage.field-0 in
     let marked : IsMarked g.D.Disk.tells (g.D.Disk.state c.args.disk.now) mid new c.in_ok-ledger.ledger c.in_ok-damaged.damaged = record {
       opens = c.in_ok-ledger.ensures;
-      reads = reads_as g.D.Disk.tells _ ⊥ mid new (λ none. absurd none) gave.reads;
+      reads = reads_as g.D.Disk.tells _ ⊥ mid new (λ none. absurd none) (λ is. absurd (cc)) gave.reads;
       lattice = gave.lattice;
       damaged = gave.damaged;
     } in
@@ -90,3 +90,8 @@ pub returns-clause-out_kept : goal.returns-clause-out_kept
 returns-clause-out_kept g c =
     let m = c.in_ok-damaged.damaged in
     (c.in_ok-put_damage.ensures.prints (λ b. not (is_marked m b)) (marks_themselves c.lattice.result m (c.in_ok-damaged.ensures.lattice ∙ sym c.lattice.ensures.value))).cause.kept
+
+pub returns-clause-out_still : goal.returns-clause-out_still
+returns-clause-out_still g c fine =
+    let m = c.in_ok-damaged.damaged in
+    (c.in_ok-put_damage.ensures.prints (λ b. not (is_marked m b)) (marks_themselves c.lattice.result m (c.in_ok-damaged.ensures.lattice ∙ sym c.lattice.ensures.value))).cause.still

@@ -4,8 +4,8 @@ use Rattle.aea_ledger.specs.declared.create.CreateFault.TheVariants as creation
 use Rattle.aea_command.specs.declared.refusal.Failure.TheVariants as failure
 use Rattle.aea_command.specs.declared.status.Status.TheVariants.{Done}
 use Rattle.aea_disk.specs.Files.{ChangesOnly}
-use Rattle.aea_disk.specs.State.{HasRoomTo}
 use Rattle.aea_disk.proofs.Frames.{writes_none, writes_as}
+use Rattle.aea_ledger.specs.Taking.{FitsMaking}
 use Rattle.aea_command.specs.Failures.{Answer, creation_failure}
 use Rattle.aea_command.proofs.OpeningCases.{err_with}
 use Rattle.aea_command.proofs.Refusing.{refuses_stopped}
@@ -28,9 +28,9 @@ memory_not_disk answer one two = let h : Err failure.Memory ≡ Err failure.Disk
 pub returns-in_err-line-clause-writes : goal.returns-in_err-line-clause-writes
 returns-in_err-line-clause-writes g c =
     let s = g.D.Disk.state c.args.disk.now in
-    writes_as g.D.Disk.tells (HasRoomTo s 0 18) ⊥ _ (ChangesOnly 0) s s
-    (memory_not_disk c.from_residual.result (err_with c.from_residual.result failure.Memory c.from_residual.ensures.1))
-    (writes_none g.D.Disk.tells (HasRoomTo s 0 18) (ChangesOnly 0) s (λ files f keep. refl))
+    writes_as g.D.Disk.tells _ (FitsMaking s c.args.shape.now) ⊥ _ (ChangesOnly 0) s s
+    (memory_not_disk c.from_residual.result (err_with c.from_residual.result failure.Memory c.from_residual.ensures.1)) (λ none. absurd none)
+    (writes_none g.D.Disk.tells _ (FitsMaking s c.args.shape.now) (ChangesOnly 0) s (λ files f keep. refl))
 
 pub returns-in_err-line-clause-creates : goal.returns-in_err-line-clause-creates
 returns-in_err-line-clause-creates g c =
@@ -56,8 +56,8 @@ returns-in_err-create_ledger-clause-creates g c =
       opened = λ e told.
           let other : Err fault ≡ Err creation.DiskFault → ⊥ = λ d. occupied_not_disk fault e (fault_same fault creation.DiskFault d) in
           (gave.opened other told, gave.durable other told);
-      sure = λ room. (λ e. (gave.writes.sure room).0 (ap Err e), (gave.writes.sure room).1);
-      refused = λ told header room. let r = gave.refused told header room in let h = r.0 in (cc, r.1);
+      sure = λ told ready room. (λ e. (gave.writes.sure told ready room).0 (ap Err e), (gave.writes.sure told ready room).1);
+      refused = λ told header ready room. let r = gave.refused told header ready room in let h = r.0 in (cc, r.1);
     } in
     rw (err_with c.from_residual-in_err-create_ledger.result (creation_failure fault) c.from_residual-in_err-create_ledger.ensures.1)
     (creates_failed c.args.shape.now g.D.Disk.tells old new (g.O.Sink.state c.args.out.now) fault unmade)
@@ -79,7 +79,7 @@ returns-in_err-put_text-clause-creates g c =
       opened = λ told. (gave.opened (ok_not_err c.in_ok-create_ledger.field-0 creation.DiskFault) told, gave.durable (ok_not_err c.in_ok-create_ledger.field-0 creation.DiskFault) told);
       reads = gave.reads;
       long = gave.length;
-      sure = λ room. (gave.writes.sure room).1;
+      sure = λ told ready room. (gave.writes.sure told ready room).1;
     } in
     rw (err_with c.from_residual-in_err-put_text.result failure.Output c.from_residual-in_err-put_text.ensures.1)
     (creates_made c.args.shape.now g.D.Disk.tells old new (g.O.Sink.state c.args.out.now) (g.O.Sink.state c.put_text.new.out) (Err failure.Output) (inr refl) made
@@ -96,7 +96,7 @@ returns-in_err-put_text-clause-refuses g c =
       opened = λ told. (gave.opened (ok_not_err c.in_ok-create_ledger.field-0 creation.DiskFault) told, gave.durable (ok_not_err c.in_ok-create_ledger.field-0 creation.DiskFault) told);
       reads = gave.reads;
       long = gave.length;
-      sure = λ room. (gave.writes.sure room).1;
+      sure = λ told ready room. (gave.writes.sure told ready room).1;
     } in
     rw (err_with c.from_residual-in_err-put_text.result failure.Output c.from_residual-in_err-put_text.ensures.1)
     (made_refuses c.args.shape.now g.D.Disk.tells old new (Err failure.Output) (inr refl) made)
@@ -112,7 +112,7 @@ returns-clause-creates g c =
       opened = λ told. (gave.opened (ok_not_err c.in_ok-create_ledger.field-0 creation.DiskFault) told, gave.durable (ok_not_err c.in_ok-create_ledger.field-0 creation.DiskFault) told);
       reads = gave.reads;
       long = gave.length;
-      sure = λ room. (gave.writes.sure room).1;
+      sure = λ told ready room. (gave.writes.sure told ready room).1;
     } in
     creates_made c.args.shape.now g.D.Disk.tells old new (g.O.Sink.state c.args.out.now) (g.O.Sink.state c.put_text.new.out) (Ok Done) (inl refl) made
     (text_printed Done (rw (c.as_bytes.ensures.value ∙ c.in_ok-line.ensures) at c.in_ok-put_text.ensures.prints))
@@ -128,6 +128,6 @@ returns-clause-refuses g c =
       opened = λ told. (gave.opened (ok_not_err c.in_ok-create_ledger.field-0 creation.DiskFault) told, gave.durable (ok_not_err c.in_ok-create_ledger.field-0 creation.DiskFault) told);
       reads = gave.reads;
       long = gave.length;
-      sure = λ room. (gave.writes.sure room).1;
+      sure = λ told ready room. (gave.writes.sure told ready room).1;
     } in
     made_refuses c.args.shape.now g.D.Disk.tells old new (Ok Done) (inl refl) made

@@ -1,7 +1,7 @@
 use Rattle.std.proofs.Common.{◌≡◌, ℕ, ◌+◌, Ok, Err, ap, refl}
 use Rattle.aea_disk.specs.Files.{ChangesOnly}
-use Rattle.aea_disk.specs.State.{HasRoomTo}
 use Rattle.aea_disk.proofs.Frames.{writes_as}
+use Rattle.aea_ledger.specs.Taking.{FitsAdding}
 use Rattle.aea_ledger.specs.declared.fences.FenceFault.{FenceFault}
 use Rattle.aea_ledger.specs.declared.fences.FenceFault.TheVariants as fencing
 use Rattle.aea_command.specs.Failures.{fence_failure}
@@ -80,7 +80,7 @@ returns-clause-adds g c =
       few = λ all. ok_not n fencing.TooManyFences (gave.many.1 (all, free));
       leaves = gave.leaves;
       committed = gave.committed;
-      writes = writes_as g.D.Disk.tells (HasRoomTo mid 0 (v.end + 11)) _ ⊥ (ChangesOnly 0) mid new (λ none. absurd none) gave.writes;
+      writes = writes_as g.D.Disk.tells _ (FitsAdding mid 1 (v.end + 10)) _ ⊥ (ChangesOnly 0) mid new (λ none. absurd none) (λ is. absurd (cc)) gave.writes;
     } in
     fenced_adds c.ledgers_have_one_reading.ensures c.fences_may_follow.ensures c.blocks_are_inside.ensures c.records_are_few.ensures g.D.Disk.tells v c.append_fence.new.self n old mid new n now
 
@@ -100,7 +100,7 @@ returns-clause-refuses g c =
       few = λ all. ok_not n fencing.TooManyFences (gave.many.1 (all, free));
       leaves = gave.leaves;
       committed = gave.committed;
-      writes = writes_as g.D.Disk.tells (HasRoomTo mid 0 (v.end + 11)) _ ⊥ (ChangesOnly 0) mid new (λ none. absurd none) gave.writes;
+      writes = writes_as g.D.Disk.tells _ (FitsAdding mid 1 (v.end + 10)) _ ⊥ (ChangesOnly 0) mid new (λ none. absurd none) (λ is. absurd (cc)) gave.writes;
     } in
     fenced_refuses c.ledgers_have_one_reading.ensures g.D.Disk.tells v c.append_fence.new.self n old mid new n now
 
@@ -120,7 +120,7 @@ returns-clause-nodes g c =
       few = λ all. ok_not n fencing.TooManyFences (gave.many.1 (all, free));
       leaves = gave.leaves;
       committed = gave.committed;
-      writes = writes_as g.D.Disk.tells (HasRoomTo mid 0 (v.end + 11)) _ ⊥ (ChangesOnly 0) mid new (λ none. absurd none) gave.writes;
+      writes = writes_as g.D.Disk.tells _ (FitsAdding mid 1 (v.end + 10)) _ ⊥ (ChangesOnly 0) mid new (λ none. absurd none) (λ is. absurd (cc)) gave.writes;
     } in
     fenced_nodes c.ledgers_have_one_reading.ensures g.D.Disk.tells v c.append_fence.new.self n old mid new now
 
@@ -140,6 +140,6 @@ returns-clause-rest g c =
       few = λ all. ok_not n fencing.TooManyFences (gave.many.1 (all, free));
       leaves = gave.leaves;
       committed = gave.committed;
-      writes = writes_as g.D.Disk.tells (HasRoomTo mid 0 (v.end + 11)) _ ⊥ (ChangesOnly 0) mid new (λ none. absurd none) gave.writes;
+      writes = writes_as g.D.Disk.tells _ (FitsAdding mid 1 (v.end + 10)) _ ⊥ (ChangesOnly 0) mid new (λ none. absurd none) (λ is. absurd (cc)) gave.writes;
     } in
     fenced_rest c.fences_may_follow.ensures g.D.Disk.tells v c.append_fence.new.self n old mid new n now

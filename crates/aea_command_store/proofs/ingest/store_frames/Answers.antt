@@ -11,7 +11,7 @@ use Rattle.aea_command.specs.Failures.{Answer, ingest_failure}
 use Rattle.aea_command.proofs.OpeningCases.{err_with}
 use Rattle.aea_command_store.proofs.IngestLemmas.Answering.{HasTried, done_refuses, fault_refuses, fault_ends}
 use Rattle.aea_command_store.proofs.IngestLemmas.Going.{gone_none}
-use Rattle.aea_command_store.proofs.IngestLemmas.Looping.{this_now, goes_on, breaks_off, count_more, few_more, exact_more, at_most_more, writes_by, fails_by, ends_by, cut_by, writes_then, ingest_not_words, ingest_no_clash, ingest_no_output, ingest_disk, ingest_input}
+use Rattle.aea_command_store.proofs.IngestLemmas.Looping.{this_now, goes_on, breaks_off, count_more, few_more, exact_more, at_most_more, writes_by, fails_by, ends_by, cut_by, writes_then, ingest_not_words, ingest_no_clash, ingest_no_output, ingest_disk, disk_ingest, ingest_input, input_ingest, not_read}
 use Rattle.aea_command_store.proofs.IngestLemmas.Telling.{counted_none}
 use Rattle.aea_command_store.proofs.ingest.store_frames.Given.{Over}
 use Rattle.aea_command_store.proofs.ingest.store_frames.Goals.{After-from_residual}
@@ -28,6 +28,7 @@ loop-name-init g c = record {
   at = omega arith;
   exact = refl;
   input_kept = omega arith;
+  input_still = refl;
   out_kept = omega arith;
 }
 
@@ -94,7 +95,7 @@ loop-name-preserved g c =
       objects = inv.objects ++ has.0 ∷ [];
       gone = goes_on c.ledgers_have_one_reading.ensures c.cells_have_lengths.ensures c.cells_have_parts.ensures c.lasts_are_values.ensures c.objects_record_more.ensures c.digests_are_counted.ensures
           tells (c.loop-name.disk ≡ c.args.disk.now) v w c.requires.opened left rest old now before after inv.objects inv.gone (λ e. ap g.D.Disk.state e) c.requires.this
-          w2 rest2 next c.in-Stored.name c.in-Stored.stored (let r : Result Ingest IngestFault = Ok c.in_ok-name.field-0 in r ≡ Err ingest.DiskFault) has gave.writes (c.ingest_one.new.disk ≡ c.args.disk.now) (g.O.Sink.state c.put_line.new.out) (λ e. let h : (let r : Result Ingest IngestFault = Ok c.in_ok-name.field-0 in r ≡ Err ingest.DiskFault) = e in cc)
+          w2 rest2 next c.in-Stored.name c.in-Stored.stored (let r : Result Ingest IngestFault = Ok c.in_ok-name.field-0 in r ≡ Err ingest.DiskFault) has gave.writes (g.met.D.Disk.ended_taken c.loop-name.disk) (c.ingest_one.new.disk ≡ c.args.disk.now) (g.O.Sink.state c.put_line.new.out) (λ e. let h : (let r : Result Ingest IngestFault = Ok c.in_ok-name.field-0 in r ≡ Err ingest.DiskFault) = e in cc)
           (prints_as tt (rw c.bytes.ensures at c.in_ok-put_line.ensures.prints));
       counted = count_more c.ledgers_have_one_reading.ensures c.cells_have_lengths.ensures c.cells_have_parts.ensures c.lasts_are_values.ensures c.objects_record_more.ensures c.digests_are_counted.ensures
           tells (c.loop-name.disk ≡ c.args.disk.now) v w c.requires.opened left rest old now before after inv.objects inv.gone (λ e. ap g.D.Disk.state e) c.requires.this
@@ -107,6 +108,7 @@ loop-name-preserved g c =
           tells (c.loop-name.disk ≡ c.args.disk.now) v w c.requires.opened left rest old now before after inv.objects inv.gone (λ e. ap g.D.Disk.state e) c.requires.this
           w2 rest2 next c.in-Stored.name c.in-Stored.stored (let r : Result Ingest IngestFault = Ok c.in_ok-name.field-0 in r ≡ Err ingest.DiskFault) has gave.writes c.loop-name.at c.ingest_one.new.at inv.exact (gave.exact c.in-Stored.name c.in-Stored.stored (ap Ok c.in-Stored.is));
       input_kept = omega (arith, inv.input_kept, source);
+      input_still = gave.source_still (not_read c.in_ok-name.field-0) ∙ inv.input_still;
       out_kept = omega (arith, inv.out_kept, sink);
     }
 
@@ -197,8 +199,8 @@ returns-in_err-name-clause-writes g c =
     rw (err_with c.from_residual.result (ingest_failure c.in_err-name.field-0.0) c.from_residual.ensures.1)
     (writes_by c.ledgers_have_one_reading.ensures c.cells_have_lengths.ensures c.cells_have_parts.ensures c.lasts_are_values.ensures c.objects_record_more.ensures c.digests_are_counted.ensures
     tells (c.loop-name.disk ≡ c.args.disk.now) v w c.requires.opened left rest old now before after inv.objects inv.gone (λ e. ap g.D.Disk.state e) c.requires.this
-    (g.D.Disk.state c.ingest_one.new.disk) (let r : Result Ingest IngestFault = Err c.in_err-name.field-0.0 in r ≡ Err ingest.DiskFault) (let a : Answer = Err (ingest_failure c.in_err-name.field-0.0) in a ≡ Err failure.Disk)
-    (ingest_disk c.in_err-name.field-0.0) c.in_err-name.ensures.writes)
+    (g.met.D.Disk.ended_taken c.loop-name.disk) (g.D.Disk.state c.ingest_one.new.disk) (let r : Result Ingest IngestFault = Err c.in_err-name.field-0.0 in r ≡ Err ingest.DiskFault) (let a : Answer = Err (ingest_failure c.in_err-name.field-0.0) in a ≡ Err failure.Disk)
+    (ingest_disk c.in_err-name.field-0.0) (disk_ingest c.in_err-name.field-0.0) c.in_err-name.ensures.writes)
 
 pub returns-in_err-name-clause-input_cause : goal.returns-in_err-name-clause-input_cause
 returns-in_err-name-clause-input_cause g c e =
@@ -206,6 +208,11 @@ returns-in_err-name-clause-input_cause g c e =
     let rose : Rose (g.S.Source.state c.loop-name.input).faults (g.S.Source.state c.ingest_one.new.source).faults =
     c.in_err-name.ensures.read_cause (ingest_input c.in_err-name.field-0.0 (sym (err_with c.from_residual.result (ingest_failure c.in_err-name.field-0.0) c.from_residual.ensures.1) ∙ e)) in
     omega (arith, kept, rose)
+
+pub returns-in_err-name-clause-input_still : goal.returns-in_err-name-clause-input_still
+returns-in_err-name-clause-input_still g c fine =
+    c.in_err-name.ensures.source_still (λ e. fine (err_with c.from_residual.result (ingest_failure c.in_err-name.field-0.0) c.from_residual.ensures.1 ∙ input_ingest c.in_err-name.field-0.0 e))
+    ∙ c.loop-name.invariant.input_still
 
 pub returns-in_err-name-clause-out_cause : goal.returns-in_err-name-clause-out_cause
 returns-in_err-name-clause-out_cause g c e =
@@ -254,10 +261,20 @@ returns-in_err-put_line-clause-writes g c =
     rw (err_with c.from_residual-in_err-put_line.result failure.Output c.from_residual-in_err-put_line.ensures.1)
     (writes_by c.ledgers_have_one_reading.ensures c.cells_have_lengths.ensures c.cells_have_parts.ensures c.lasts_are_values.ensures c.objects_record_more.ensures c.digests_are_counted.ensures
     tells (c.loop-name.disk ≡ c.args.disk.now) v w c.requires.opened left rest old now before after inv.objects inv.gone (λ e. ap g.D.Disk.state e) c.requires.this
-    (g.D.Disk.state c.ingest_one.new.disk) (let r : Result Ingest IngestFault = Ok c.in_ok-name.field-0 in r ≡ Err ingest.DiskFault) (let a : Answer = Err failure.Output in a ≡ Err failure.Disk)
-    (λ e. let h : (let a : Answer = Err failure.Output in a ≡ Err failure.Disk) = e in absurd (cc)) c.in_ok-name.ensures.writes)
+    (g.met.D.Disk.ended_taken c.loop-name.disk) (g.D.Disk.state c.ingest_one.new.disk) (let r : Result Ingest IngestFault = Ok c.in_ok-name.field-0 in r ≡ Err ingest.DiskFault) (let a : Answer = Err failure.Output in a ≡ Err failure.Disk)
+    (λ e. let h : (let a : Answer = Err failure.Output in a ≡ Err failure.Disk) = e in absurd (cc))
+    (λ e. let h : (let r : Result Ingest IngestFault = Ok c.in_ok-name.field-0 in r ≡ Err ingest.DiskFault) = e in absurd (cc)) c.in_ok-name.ensures.writes)
+
+pub returns-in_err-put_line-clause-input_still : goal.returns-in_err-put_line-clause-input_still
+returns-in_err-put_line-clause-input_still g c fine = c.in_ok-name.ensures.source_still (not_read c.in_ok-name.field-0) ∙ c.loop-name.invariant.input_still
 
 -- ---- the end of the stream
+
+pub returns-in_err-put_end-clause-input_still : goal.returns-in_err-put_end-clause-input_still
+returns-in_err-put_end-clause-input_still g c fine = c.in_ok-name.ensures.source_still (not_read c.in_ok-name.field-0) ∙ c.loop-name.invariant.input_still
+
+pub returns-clause-input_still : goal.returns-clause-input_still
+returns-clause-input_still g c fine = c.in_ok-name.ensures.source_still (not_read c.in_ok-name.field-0) ∙ c.loop-name.invariant.input_still
 
 pub returns-in_err-put_end-clause-ingests : goal.returns-in_err-put_end-clause-ingests
 returns-in_err-put_end-clause-ingests g c =

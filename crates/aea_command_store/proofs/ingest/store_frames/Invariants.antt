@@ -17,6 +17,7 @@ invariant-loop-name g l = record {
   at : l.at ≤ l.count * most_of_frame;
   exact : l.at ≡ length (frames_of objects);
   input_kept : (g.S.Source.state l.fn.input).faults ≤ (g.S.Source.state l.input).faults;
+  input_still : (g.S.Source.state l.input).faults ≡ (g.S.Source.state l.fn.input).faults;
   out_kept : (g.O.Sink.state l.fn.out).faults ≤ (g.O.Sink.state l.out).faults;
 }
 

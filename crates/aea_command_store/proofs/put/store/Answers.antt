@@ -1,8 +1,10 @@
-use Rattle.std.proofs.Common.{Ok, Err, ap, refl}
+use Rattle.std.proofs.Common.{◌∙◌, Result, Ok, Err, ap, refl}
+use Rattle.aea_append.specs.declared.fault.PutFault.{PutFault}
+use Rattle.aea_append.specs.declared.store.StoredObject.{StoredObject}
 use Rattle.aea_command.specs.Failures.{put_failure}
 use Rattle.aea_command.proofs.OpeningCases.{err_with}
 use Rattle.aea_command_store.proofs.PutLemmas.Behind.{unopened_put}
-use Rattle.aea_command_store.proofs.PutLemmas.Causing.{HasPutting, putting_refuses}
+use Rattle.aea_command_store.proofs.PutLemmas.Causing.{HasPutting, answer_of, putting_refuses}
 use Rattle.aea_command_store.proofs.PutLemmas.Running.{unopened_stores, unopened_rest}
 use Rattle.aea_command_store.proofs.PutLemmas.Storing.{putting_stores, putting_rest, putting_line}
 use Rattle.aea_command_store.proofs.put.store.Goals as goal
@@ -123,6 +125,12 @@ returns-in_err-put-clause-rest g c =
     } in
     rw (err_with c.from_residual-in_err-put.result (put_failure fault) c.from_residual-in_err-put.ensures.1)
     (putting_rest c.ledgers_have_one_reading.ensures g.D.Disk.tells v w c.args.name.now left rest old mid new (Err fault) putting)
+
+pub returns-in_err-put-clause-input_still : goal.returns-in_err-put-clause-input_still
+returns-in_err-put-clause-input_still g c =
+    let fault = c.in_err-put.field-0.0 in
+    let gave : Result StoredObject PutFault = Err fault in
+    λ differs. c.in_err-put.ensures.source_still (λ e. differs (err_with c.from_residual-in_err-put.result (put_failure fault) c.from_residual-in_err-put.ensures.1 ∙ ap answer_of {x = gave} e))
 
 pub returns-clause-stores : goal.returns-clause-stores
 returns-clause-stores g c =

@@ -1,7 +1,7 @@
 use Rattle.std.proofs.Common.{◌≡◌, ◌+◌, Result, Ok, Err, ap}
 use Rattle.aea_disk.specs.Files.{ChangesOnly}
-use Rattle.aea_disk.specs.State.{HasRoomTo}
 use Rattle.aea_disk.proofs.Frames.{writes_as}
+use Rattle.aea_ledger.specs.Taking.{FitsAdding}
 use Rattle.aea_ledger.specs.declared.raise.UpgradeFault.{UpgradeFault}
 use Rattle.aea_ledger.specs.declared.raise.UpgradeFault.TheVariants as raising
 use Rattle.aea_command.specs.Failures.{upgrade_failure}
@@ -47,7 +47,7 @@ returns-in_err-append_upgrade-clause-adds g c =
       already = (λ e. gave.already.0 (as_err fault raising.AlreadyUpgraded e), λ h. same_fault fault raising.AlreadyUpgraded (gave.already.1 h));
       unchanged = λ e. ap g.D.Disk.state (gave.unchanged (as_err fault raising.AlreadyUpgraded e)).1;
       leaves = gave.leaves;
-      writes = writes_as g.D.Disk.tells (HasRoomTo mid 0 (v.end + 11)) _ _ (ChangesOnly 0) mid new (as_err fault raising.DiskFault) gave.writes;
+      writes = writes_as g.D.Disk.tells _ (FitsAdding mid 1 (v.end + 10)) _ _ (ChangesOnly 0) mid new (as_err fault raising.DiskFault) (λ is. cc) gave.writes;
     } in
     rw (err_with c.from_residual-in_err-append_upgrade.result (upgrade_failure fault) c.from_residual-in_err-append_upgrade.ensures.1)
     (unraised_adds c.ledgers_have_one_reading.ensures g.D.Disk.tells v fault old mid new unraised)
@@ -65,7 +65,7 @@ returns-in_err-append_upgrade-clause-refuses g c =
       already = (λ e. gave.already.0 (as_err fault raising.AlreadyUpgraded e), λ h. same_fault fault raising.AlreadyUpgraded (gave.already.1 h));
       unchanged = λ e. ap g.D.Disk.state (gave.unchanged (as_err fault raising.AlreadyUpgraded e)).1;
       leaves = gave.leaves;
-      writes = writes_as g.D.Disk.tells (HasRoomTo mid 0 (v.end + 11)) _ _ (ChangesOnly 0) mid new (as_err fault raising.DiskFault) gave.writes;
+      writes = writes_as g.D.Disk.tells _ (FitsAdding mid 1 (v.end + 10)) _ _ (ChangesOnly 0) mid new (as_err fault raising.DiskFault) (λ is. cc) gave.writes;
     } in
     rw (err_with c.from_residual-in_err-append_upgrade.result (upgrade_failure fault) c.from_residual-in_err-append_upgrade.ensures.1)
     (unraised_refuses c.ledgers_have_one_reading.ensures g.D.Disk.tells v fault old mid new unraised)
@@ -83,7 +83,7 @@ returns-in_err-append_upgrade-clause-rest g c =
       already = (λ e. gave.already.0 (as_err fault raising.AlreadyUpgraded e), λ h. same_fault fault raising.AlreadyUpgraded (gave.already.1 h));
       unchanged = λ e. ap g.D.Disk.state (gave.unchanged (as_err fault raising.AlreadyUpgraded e)).1;
       leaves = gave.leaves;
-      writes = writes_as g.D.Disk.tells (HasRoomTo mid 0 (v.end + 11)) _ _ (ChangesOnly 0) mid new (as_err fault raising.DiskFault) gave.writes;
+      writes = writes_as g.D.Disk.tells _ (FitsAdding mid 1 (v.end + 10)) _ _ (ChangesOnly 0) mid new (as_err fault raising.DiskFault) (λ is. cc) gave.writes;
     } in
     rw (err_with c.from_residual-in_err-append_upgrade.result (upgrade_failure fault) c.from_residual-in_err-append_upgrade.ensures.1)
     (unraised_rest g.D.Disk.tells v fault old mid new unraised)
@@ -101,7 +101,7 @@ returns-clause-adds g c =
       free = λ raised. ok_not value raising.AlreadyUpgraded (gave.already.1 raised);
       leaves = gave.leaves;
       committed = gave.committed;
-      writes = writes_as g.D.Disk.tells (HasRoomTo mid 0 (v.end + 11)) _ ⊥ (ChangesOnly 0) mid new (λ none. absurd none) gave.writes;
+      writes = writes_as g.D.Disk.tells _ (FitsAdding mid 1 (v.end + 10)) _ ⊥ (ChangesOnly 0) mid new (λ none. absurd none) (λ is. absurd (cc)) gave.writes;
     } in
     raised_adds c.ledgers_have_one_reading.ensures g.D.Disk.tells v c.append_upgrade.new.self old mid new value now
 
@@ -118,7 +118,7 @@ returns-clause-refuses g c =
       free = λ raised. ok_not value raising.AlreadyUpgraded (gave.already.1 raised);
       leaves = gave.leaves;
       committed = gave.committed;
-      writes = writes_as g.D.Disk.tells (HasRoomTo mid 0 (v.end + 11)) _ ⊥ (ChangesOnly 0) mid new (λ none. absurd none) gave.writes;
+      writes = writes_as g.D.Disk.tells _ (FitsAdding mid 1 (v.end + 10)) _ ⊥ (ChangesOnly 0) mid new (λ none. absurd none) (λ is. absurd (cc)) gave.writes;
     } in
     raised_refuses c.ledgers_have_one_reading.ensures g.D.Disk.tells v c.append_upgrade.new.self old mid new value now
 
@@ -135,6 +135,6 @@ returns-clause-rest g c =
       free = λ raised. ok_not value raising.AlreadyUpgraded (gave.already.1 raised);
       leaves = gave.leaves;
       committed = gave.committed;
-      writes = writes_as g.D.Disk.tells (HasRoomTo mid 0 (v.end + 11)) _ ⊥ (ChangesOnly 0) mid new (λ none. absurd none) gave.writes;
+      writes = writes_as g.D.Disk.tells _ (FitsAdding mid 1 (v.end + 10)) _ ⊥ (ChangesOnly 0) mid new (λ none. absurd none) (λ is. absurd (cc)) gave.writes;
     } in
     raised_rest g.D.Disk.tells v c.append_upgrade.new.self old mid new value now

@@ -39,6 +39,20 @@ impl<D: Disk> Disk for TurningDisk<D> {
 
     ghost as_it_reads = { λ d t c told here. absurd told };
 
+    ghost later_taken = { λ d f b m n le has. D.later_taken d.inner f b m n le has };
+
+    ghost site_taken = { λ d f b m n some within has. D.site_taken d.inner f b m n some within has };
+
+    ghost ended_taken = { λ d b c m n ends has. D.ended_taken d.inner b c m n ends has };
+
+    ghost bare_taken = { λ d b c m bare has. D.bare_taken d.inner b c m bare has };
+
+    ghost free_taken = { λ d f b m is. D.free_taken d.inner f b m is };
+
+    ghost alike_kept = { λ d b c n one two same has. D.alike_kept d.inner b c n one two same has };
+
+    ghost bare_kept = { λ d b c none also has. D.bare_kept d.inner b c none also has };
+
     ghost smaller_fits = { λ d f m n le has. D.smaller_fits d.inner f m n le has };
 
     fn len(&mut self, file: u8) -> Result<u64, DiskFault> {

@@ -1,10 +1,10 @@
 //! Writes behind a closed gate, and then opens the gate.
 
-ghost use Rattle.std.specs.Prelude.{◌≡◌, ◌+◌, ◌^◌, ◌≤◌, ℕ, List, length, OnOk};
+ghost use Rattle.std.specs.Prelude.{◌≡◌, ◌+◌, ◌^◌, ◌≤◌, ℕ, List, [], ◌∷◌, length, OnOk};
 ghost use Rattle.aea_faults.specs.Faults.{HasCause};
 ghost use Rattle.aea_disk.specs.Files.{overwritten};
 ghost use Rattle.aea_disk.specs.State.{During, EveryImage, Stays, Passes, IsFixed, IsHeld, KeepsOthers, HasRange, IsSure};
-ghost use Rattle.aea_system_trials.specs.Gate.{IsClosed, HasOld, HasNew, HasOldOrNew, IsApart};
+ghost use Rattle.aea_system_trials.specs.Gate.{IsClosed, HasOld, HasNew, HasOldOrNew, IsApart, TakesWrite, FitsWrite, TakesGate, FitsGate};
 
 use aea_disk::{Disk, DiskFault};
 
@@ -33,7 +33,7 @@ pub fn write_body<D: Disk>(disk: &mut D, gate: u64, body: &[u8]) -> Result<(), D
     ensures others { KeepsOthers D.tells 0 (D.state disk.old) (D.state disk.new) }
     ensures time { Passes (D.state disk.old) (D.state disk.new) }
     ensures cause { HasCause (D.state disk.old).faults (D.state disk.new).faults result }
-    ensures sure { IsSure ((D.state disk.old).room 0 (gate + 1 + length body.now)) (D.state disk.old) (D.state disk.new) result }
+    ensures sure { IsSure (D.tells × TakesWrite (D.state disk.old) 0 (gate + 1) body.now) (FitsWrite (D.state disk.old) 0 (gate + 1) body.now) (D.state disk.old) (D.state disk.new) result }
 {
     disk.write(0, gate + 1, body)?;
     disk.sync()
@@ -55,7 +55,7 @@ pub fn open_gate<D: Disk>(disk: &mut D, gate: u64, body: &[u8]) -> Result<(), Di
     ensures others { KeepsOthers D.tells 0 (D.state disk.old) (D.state disk.new) }
     ensures time { Passes (D.state disk.old) (D.state disk.new) }
     ensures cause { HasCause (D.state disk.old).faults (D.state disk.new).faults result }
-    ensures sure { IsSure ((D.state disk.old).room 0 (gate + 1)) (D.state disk.old) (D.state disk.new) result }
+    ensures sure { IsSure (D.tells × TakesWrite (D.state disk.old) 0 gate (1 ∷ [])) (FitsWrite (D.state disk.old) 0 gate (1 ∷ [])) (D.state disk.old) (D.state disk.new) result }
 {
     disk.write(0, gate, &[1])?;
     disk.sync()
@@ -76,7 +76,7 @@ pub fn commit<D: Disk>(disk: &mut D, gate: u64, body: &[u8]) -> Result<(), DiskF
     ensures others { KeepsOthers D.tells 0 (D.state disk.old) (D.state disk.new) }
     ensures time { Passes (D.state disk.old) (D.state disk.new) }
     ensures cause { HasCause (D.state disk.old).faults (D.state disk.new).faults result }
-    ensures sure { IsSure ((D.state disk.old).room 0 (gate + 1 + length body.now)) (D.state disk.old) (D.state disk.new) result }
+    ensures sure { IsSure (D.tells × TakesGate (D.state disk.old) gate body.now) (FitsGate (D.state disk.old) gate body.now) (D.state disk.old) (D.state disk.new) result }
 {
     write_body(disk, gate, body)?;
     open_gate(disk, gate, body)
@@ -92,7 +92,7 @@ pub fn write_apart<D: Disk>(disk: &mut D, file: u8, at: u64, bytes: &[u8]) -> Re
     ensures others { KeepsOthers D.tells file (D.state disk.old) (D.state disk.new) }
     ensures time { Passes (D.state disk.old) (D.state disk.new) }
     ensures cause { HasCause (D.state disk.old).faults (D.state disk.new).faults result }
-    ensures sure { IsSure ((D.state disk.old).room file (at + length bytes.now)) (D.state disk.old) (D.state disk.new) result }
+    ensures sure { IsSure (D.tells × TakesWrite (D.state disk.old) file at bytes.now) (FitsWrite (D.state disk.old) file at bytes.now) (D.state disk.old) (D.state disk.new) result }
 {
     disk.write(file, at, bytes)?;
     disk.sync()

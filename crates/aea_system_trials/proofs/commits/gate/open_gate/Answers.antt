@@ -1,8 +1,11 @@
+use Rattle.std.proofs.Common.{◌+◌, ℕ, List, [], ◌∷◌, length}
 use Rattle.std.proofs.lemmas.Result.{on_ok_weaker}
 use Rattle.aea_disk.specs.Files.{Files, ChangesFile, Torn}
+use Rattle.aea_disk.specs.State.{TakesFrom}
 use Rattle.aea_disk.proofs.Moments.{during_change, during_then_kept, stays_step, stays_kept, stays_both, others_change, others_then_kept, synced_fixed}
-use Rattle.aea_system_trials.specs.Gate.{HasOldOrNew, HasNew}
+use Rattle.aea_system_trials.specs.Gate.{HasOldOrNew, HasNew, TakesWrite, FitsWrite}
 use Rattle.aea_system_trials.proofs.Gates.{torn_gate, old_same, not_new}
+use Rattle.aea_system_trials.proofs.Surely.{sure_failed, sure_written}
 use Rattle.aea_system_trials.proofs.commits.gate.open_gate.Goals as goal
 
 pub returns-in_err-write-clause-any_moment : goal.returns-in_err-write-clause-any_moment
@@ -61,3 +64,15 @@ returns-in_err-write-clause-stays g c told =
     let P : Files → Type 0 = λ d. HasNew c.args.gate body (first.files 0) (d 0) in
     stays_step (ChangesFile 0 (Torn c.args.gate 1)) first second P c.write.ensures.crash c.write.ensures.settled
     (λ d e was new step. absurd (not_new c.args.gate body (first.files 0) (first.files 0) (d 0) (old_same c.args.gate (first.files 0) (d 0) (c.requires.closed told) (c.requires.fixed told d was)) new)) c.write.ensures.time
+
+pub returns-in_err-write-clause-sure : goal.returns-in_err-write-clause-sure
+returns-in_err-write-clause-sure g c =
+    let first = g.D.Disk.state c.args.disk.now in
+    let bytes : List ℕ = 1 ∷ [] in
+    sure_failed (g.D.Disk.tells × TakesFrom first 0 (c.args.gate)) (g.D.Disk.tells × TakesWrite first 0 (c.args.gate) bytes) (first.room 0 (c.args.gate + length bytes)) (FitsWrite first 0 (c.args.gate) bytes) first (g.D.Disk.state c.write.new.self) c.from_residual.result (cc)
+    (λ is. (is.0, is.1.here)) (λ is fit. fit.room) c.in_err-write.ensures.sure
+
+pub returns-clause-sure : goal.returns-clause-sure
+returns-clause-sure g c =
+    let e = c.in_ok-write.ensures in
+    sure_written g.D.Disk.tells 0 (c.args.gate) (1 ∷ []) (g.D.Disk.state c.args.disk.now) (g.D.Disk.state c.write.new.self) (g.D.Disk.state c.sync.new.self) c.sync.result e.written e.time e.sure c.sync.ensures.sure

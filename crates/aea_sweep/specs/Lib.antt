@@ -1,0 +1,10 @@
+pub mod Sweep
+pub mod Heads
+pub mod Words
+pub mod Tables
+pub mod States
+pub mod Labels
+pub mod Stretches
+pub mod Firsts
+pub mod Entries
+pub mod Losses

@@ -1,0 +1,71 @@
+ghost use Rattle.std.specs.Prelude.{◌≡◌, ◌<◌, Some, None, length, slice_get, IfOk, MatchOption};
+ghost use Rattle.aea_view.specs.Marked.{is_marked};
+ghost use Rattle.aea_sweep.specs.Losses.{AreLosses};
+
+use crate::marking::first_words;
+use crate::sweep::{places, sweep};
+use crate::word::Word;
+use aea_lattice::Lattice;
+use aea_view::Marks;
+use std::alloc::{AllocError, Global};
+use std::marker::Model;
+
+/// For each block of a lattice, by its number, the nodes of the least end whose codeword contains it, if there is one. One
+/// list of nodes an end is kept, which its blocks share.
+#[derive(Drop)]
+pub struct LossList {
+    words: Vec<Word>,
+    // the place of the word of each block, 0 where it has none
+    first: Vec<u32>,
+}
+
+impl Model for LossList {
+    ghost use Rattle.std.specs.Prelude.{ℕ, ◌<◌, List, Option, map, length, get_or};
+    ghost use Rattle.aea_sweep.specs.Entries.{entry_of};
+
+    ghost Value = { List (Option (List ℕ)) };
+
+    ghost view = { λ s. map (entry_of s.words.items) s.first.items };
+
+    ghost invariant = { λ s. (k : ℕ) → get_or s.first.items k 0 < length s.words.items };
+}
+
+impl LossList {
+    /// The number of blocks.
+    pub fn len(&self) -> usize
+        ensures { result ≡ length self.now }
+    {
+        self.first.len()
+    }
+
+    /// The nodes of the block of this number, in rising order; None where the known blocks determine it.
+    pub fn nodes(&self, k: usize) -> Option<&[u32]>
+        requires { k < length self.now }
+        ensures { MatchOption result (slice_get self.now k ≡ Some None) (λ nodes. slice_get self.now k ≡ Some (Some nodes.now)) }
+    {
+        let word = self.first[k];
+        if word == 0 {
+            None
+        } else {
+            Some(self.words[word as usize].as_slice())
+        }
+    }
+}
+
+/// What becomes of each block of the lattice where the marked ones are known: the nodes of its least end, or that it is
+/// determined. One pass over the nodes keeps at most one open word a strand, and for each end its nodes are kept once. So time
+/// and memory grow with the lattice and with the nodes of the words: beside the open words it asks for at most 20 bytes a block
+/// and 4 bytes a node of a word, in a list of its own for each end. An error is want of memory.
+pub fn losses(alloc: Global, lattice: &Lattice, known: &Marks) -> Result<LossList, AllocError>
+    requires { known.now.lattice ≡ lattice.now }
+    ensures { IfOk result (λ list. AreLosses lattice.now (is_marked known.now) list) }
+{
+    let words = sweep(alloc, lattice, known)?;
+    let first = first_words(
+        alloc,
+        lattice,
+        words.as_slice(),
+        places(lattice) as usize + 1,
+    )?;
+    Ok(LossList { words, first })
+}

@@ -13,6 +13,8 @@ pub mod States
 pub mod Cleaning
 pub mod Moves
 pub mod Passing
+pub mod Cutting
+pub mod Behind
 pub mod Settling
 pub mod Stepping
 pub mod Meeting

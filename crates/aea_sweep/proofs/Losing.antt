@@ -16,7 +16,7 @@ use Rattle.aea_lattice.proofs.Codewords.{codeword-after, codeword-begin}
 use Rattle.aea_sweep.specs.declared.heads.Heads.{Heads}
 use Rattle.aea_sweep.specs.Heads.{has_head, no_heads, head_in}
 use Rattle.aea_sweep.specs.Words.{RiseWithin, has_odd, word_in}
-use Rattle.aea_sweep.specs.Tables.{SameSize, IsSized, HasPlaces}
+use Rattle.aea_sweep.specs.Tables.{SameSize, HasPlaces}
 use Rattle.aea_sweep.specs.Sweep.{AreWords}
 use Rattle.aea_sweep.proofs.StepLaws.{with_node, moved}
 use Rattle.aea_sweep.specs.States.{places_of, place_at, is_place_of, seen_to, IsPassed, IsLive, AreHeads, AreClosed, AreOpen, AreSwept, IsCleanTo}
@@ -24,7 +24,7 @@ use Rattle.aea_sweep.proofs.Codes.{codeword-late}
 use Rattle.aea_sweep.proofs.Steps.{adds_datum}
 use Rattle.aea_sweep.proofs.Moving.{moves_word, empty_matters}
 use Rattle.aea_sweep.proofs.Merging.{odd-append, rise-more, rise-append}
-use Rattle.aea_sweep.proofs.States.{same_rows, few_places, place_few, place_below, one_strand}
+use Rattle.aea_sweep.proofs.States.{same_rows, place_few, place_below, one_strand}
 use Rattle.aea_sweep.proofs.Passing.{just_before, none_above}
 use Rattle.aea_sweep.proofs.Datums.{same_seen, sees_none, seen_low, not_here, node_live, node_only, closed_later, place_true, place_is}
 
@@ -256,8 +256,3 @@ places_clean l known i q words heads s r t r_less past in_t = elim (cases_Bool (
       absurd (omega arith))
   | inr lacks ↦ lacks
 ]
-
-pub sized_swept : (l : Lattice) (known : BlockId → Bool) (i q : ℕ) (words : List (List ℕ)) (heads : List Heads) → AreOpen l known i q words heads → IsSized (places_of l) words heads
-sized_swept l known i q words heads s =
-    let a = s.slots in let b = s.rows in
-    record { heads_long = omega arith; words_long = omega arith; few = few_places l }

@@ -3,6 +3,7 @@ use Rattle.std.proofs.Common.{◌≡◌, ◌≢◌, ℕ, suc, ◌-◌, ◌<◌, 
 use Rattle.std.specs.Prelude.{nat_le, slice_set}
 use Rattle.std.proofs.lemmas.Bool.{eqb-true, ne_eqb}
 use Rattle.std.proofs.lemmas.Bool.Decides.{nat_tests}
+use Rattle.std.proofs.lemmas.List.{get_or_append_left, set-append_left}
 use Rattle.aea_lattice.specs.declared.blocks.Class.{Class}
 use Rattle.aea_lattice.specs.declared.blocks.Class.TheVariants.{Datum, Horiz, Right, Left}
 use Rattle.aea_lattice.specs.declared.blocks.BlockId.{BlockId}
@@ -127,12 +128,15 @@ pub few_classes : (l : Lattice) → l.alpha ≤ 3
 few_classes l = let h = l.in_profile in grind (arith, nat_tests)
 
 -- the spare word is that of the node, by what was read
-pub lost_at : (l : Lattice) (known : BlockId → Bool) (node spare : ℕ) (words : List (List ℕ)) (z x : List ℕ) (heads : List Heads) (g : Heads) → spare ≡ places_of l
+pub lost_at : (l : Lattice) (known : BlockId → Bool) (node spare : ℕ) (words closed : List (List ℕ)) (z x : List ℕ) (heads : List Heads) (g : Heads) → spare ≡ places_of l
     → IsSized spare words heads → HasNode l node → known (block_of node Datum) ≡ false → z ≡ x ++ node ∷ [] → x ≡ get_or words spare x
     → ((t : ℕ) → t < 192 → has_head g t ≡ is_place_of l node t)
-    → AreSwept l known (node - 1) l.alpha words heads → IsCleanTo l known node 0 (block_of node Datum) 0 (slice_set words spare z) (slice_set heads spare g)
-lost_at l known node spare words z x heads g same sized n unknown pushed read are s =
+    → AreSwept l known (node - 1) l.alpha (words ++ closed) heads
+    → IsCleanTo l known node 0 (block_of node Datum) 0 (slice_set words spare z ++ closed) (slice_set heads spare g)
+lost_at l known node spare words closed z x heads g same sized n unknown pushed read are s =
     let inside : spare < length words = (let a = sized.heads_long in let b = sized.words_long in omega arith) in
-    subst (λ (k : ℕ). IsCleanTo l known node 0 (block_of node Datum) 0 (slice_set words k z) (slice_set heads k g)) (sym same)
-    (lost_node l known node words z x heads g n (some_class l) unknown pushed
-    (subst (λ (k : ℕ). x ≡ get_or words k []) same (element_is words spare x read inside)) are s)
+    let here = element_is words spare x read inside ∙ sym (get_or_append_left words closed [] spare inside) in
+    subst (λ (xs : List (List ℕ)). IsCleanTo l known node 0 (block_of node Datum) 0 xs (slice_set heads spare g)) (set-append_left words closed spare z inside)
+    (subst (λ (k : ℕ). IsCleanTo l known node 0 (block_of node Datum) 0 (slice_set (words ++ closed) k z) (slice_set heads k g)) (sym same)
+    (lost_node l known node (words ++ closed) z x heads g n (some_class l) unknown pushed
+    (subst (λ (k : ℕ). x ≡ get_or (words ++ closed) k []) same here) are s))

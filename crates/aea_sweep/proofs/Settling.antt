@@ -39,8 +39,3 @@ pub sized_same : (spare : ℕ) (words new : List (List ℕ)) (heads headed : Lis
 sized_same spare words new heads headed same s =
     let a = same.words_long in let b = same.heads_long in let d = s.heads_long in let e = s.words_long in
     record { heads_long = omega arith; words_long = omega arith; few = s.few }
-
-pub sized_close : (spare : ℕ) (words new : List (List ℕ)) (heads : List Heads) → Closes spare words new → IsSized spare words heads → IsSized spare new heads
-sized_close spare words new heads closes s =
-    let a = closes.long in let e = s.words_long in
-    record { heads_long = s.heads_long; words_long = omega arith; few = s.few }

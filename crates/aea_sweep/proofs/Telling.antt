@@ -1,5 +1,5 @@
 -- What the words of the ends and the first word of each block tell.
-use Rattle.std.proofs.Common.{◌≡◌, ℕ, zero, suc, ◌+◌, ◌-◌, ◌*◌, ◌^◌, ◌<◌, ◌≤◌, inl, inr, Bool, true, false, ◌&&◌, ◌||◌, ◌==◌, List, [], ◌∷◌, ◌++◌, map, filter, length, get_or, Option, None, refl, sym, ◌∙◌, ap, subst, arith}
+use Rattle.std.proofs.Common.{◌≡◌, ℕ, zero, suc, ◌+◌, ◌*◌, ◌^◌, ◌<◌, ◌≤◌, inl, inr, Bool, true, false, ◌&&◌, ◌||◌, ◌==◌, List, [], ◌∷◌, ◌++◌, map, filter, length, get_or, Option, None, refl, sym, ◌∙◌, ap, subst, arith}
 use Rattle.std.specs.Prelude.{nat_le}
 use Rattle.std.proofs.lemmas.Bool.{cases_Bool, cases_eq, cases_lt, eq-eqb, ne_eqb, true≢false, false≢true, le-leb}
 use Rattle.std.proofs.lemmas.Bool.Decides.{nat_tests}
@@ -18,7 +18,7 @@ use Rattle.aea_lattice.proofs.Odd.{odd-cons, odd-filter}
 use Rattle.aea_sweep.specs.Words.{has_odd, RiseWithin, word_in}
 use Rattle.aea_sweep.specs.Sweep.{AreEnds}
 use Rattle.aea_sweep.proofs.StepLaws.{TellWords}
-use Rattle.aea_sweep.specs.States.{places_of, AreSlotsAndEnds}
+use Rattle.aea_sweep.specs.States.{AreEndWords}
 use Rattle.aea_sweep.specs.Labels.{label_of}
 use Rattle.aea_sweep.specs.Firsts.{IsFirst, AreFirst}
 use Rattle.aea_sweep.specs.Entries.{entry_of}
@@ -29,7 +29,7 @@ use Rattle.std.proofs.Math.ListN.{get_or-eq_default}
 use Rattle.aea_fates.specs.Live.{block_at}
 use Rattle.aea_gauss_laws.proofs.Given.{given, escaped, one_or_other, block_at-inside, number-block_at}
 use Rattle.aea_gauss_laws.proofs.Bits.{given-determined}
-use Rattle.aea_sweep.proofs.States.{same_words, few_places}
+use Rattle.aea_sweep.proofs.States.{same_words}
 use Rattle.aea_sweep.proofs.Places.{few_classes}
 use Rattle.aea_sweep.proofs.Passing.{none_above}
 use Rattle.aea_sweep.proofs.Stretching.{one_node}
@@ -130,10 +130,9 @@ ends_few l known (suc r) words ends e =
     let high = number_below l (ends r) (e.end r (omega arith)).block in
     omega arith
 
-pub few_words : (l : Lattice) (known : BlockId → Bool) (words : List (List ℕ)) → AreSlotsAndEnds l known words → length words < 2 ^ 32
+pub few_words : (l : Lattice) (known : BlockId → Bool) (words : List (List ℕ)) → AreEndWords l known words → length words < 2 ^ 32
 few_words l known words s =
-    let few = ends_few l known (length words - suc (places_of l)) (λ r. word_in words (suc (places_of l) + r)) (λ r. s.ends (suc (places_of l) + r)) s.are_ends in
-    let places = few_places l in
+    let few = ends_few l known (length words) (word_in words) s.ends s.are_ends in
     let nodes = l.in_range in
     let classes = few_classes l in
     let blocks : blocks_count l ≤ 1048576 * 4 = most l.n l.alpha nodes classes in
@@ -152,33 +151,24 @@ determined_by l known b hb none = elim (cases_Bool (known b)) [
   ]
 ]
 
-module _ (l : Lattice) (known : BlockId → Bool) (words : List (List ℕ)) (labels : List ℕ) (s : AreSlotsAndEnds l known words)
-    (f : AreFirst l (suc (places_of l)) (length words) (word_in words) labels) where
-  tells : TellWords l known (length words - suc (places_of l)) (λ r. word_in words (suc (places_of l) + r)) (λ r. s.ends (suc (places_of l) + r))
-  tells = ends_tell_words l known (length words - suc (places_of l)) (λ r. word_in words (suc (places_of l) + r)) (λ r. s.ends (suc (places_of l) + r)) s.are_ends
+module _ (l : Lattice) (known : BlockId → Bool) (words : List (List ℕ)) (labels : List ℕ) (s : AreEndWords l known words)
+    (f : AreFirst l 1 (length words + 1) (word_in ([] ∷ words)) labels) where
+  tells : TellWords l known (length words) (word_in words) s.ends
+  tells = ends_tell_words l known (length words) (word_in words) s.ends s.are_ends
 
   loss : (b : BlockId) → HasBlock l b → (label : ℕ) → label_of l labels b ≡ label → IsLoss l known b (entry_of words label)
-  loss b hb zero is =
-      determined_by l known b hb
-      (tells.none b hb (λ r less. (f b hb).none is (suc (places_of l) + r) (omega arith) (let h = s.rows in omega arith)))
+  loss b hb zero is = determined_by l known b hb (tells.none b hb (λ r less. (f b hb).none is (suc r) (omega arith) (omega arith)))
   loss b hb (suc r) is =
-      let first = subst (λ (k : ℕ). IsFirst l (suc (places_of l)) (length words) (word_in words) b k) is (f b hb) in
+      let first = subst (λ (k : ℕ). IsFirst l 1 (length words + 1) (word_in ([] ∷ words)) b k) is (f b hb) in
       let some = first.some (λ h. omega arith) in
-      let low = some.0 in
       let high = some.1 in
-      let q = suc r - suc (places_of l) in
-      let place : suc (places_of l) + (suc r - suc (places_of l)) ≡ suc r = omega arith in
-      let nodes = get_or words (suc r) [] in
-      let least =
-      tells.least b (suc r - suc (places_of l)) hb (omega arith)
-      (ap (λ (k : ℕ). is_in_codeword l (word_in words k) b) place ∙ some.2)
-      (λ k less. some.3 (suc (places_of l) + k) (omega arith) (omega arith)) in
-      let chosen : IsLeastWord l known b (s.ends (suc (places_of l) + (suc r - suc (places_of l)))) (has_odd nodes) =
-      subst (λ (k : ℕ). IsLeastWord l known b (s.ends (suc (places_of l) + (suc r - suc (places_of l)))) (word_in words k)) place least in
-      let same : has_odd nodes ≡ has_node nodes = same_words (has_odd nodes) (has_node nodes) (λ i. sym (node_odd 1 nodes (suc l.n) i (s.rising (suc r)))) in
+      let nodes = get_or words r [] in
+      let chosen : IsLeastWord l known b (s.ends r) (has_odd nodes) =
+      tells.least b r hb (omega arith) some.2 (λ k less. some.3 (suc k) (omega arith) (omega arith)) in
+      let same : has_odd nodes ≡ has_node nodes = same_words (has_odd nodes) (has_node nodes) (λ i. sym (node_odd 1 nodes (suc l.n) i (s.rising r))) in
       record {
-        chosen = (s.ends (suc (places_of l) + (suc r - suc (places_of l))), subst (λ (t : ℕ → Bool). IsLeastWord l known b (s.ends (suc (places_of l) + (suc r - suc (places_of l)))) t) same chosen);
-        ordered = subst (λ (t : ℕ → Bool). nodes ≡ filter t (nodes_to l.n)) same (rising_filter nodes l.n (s.rising (suc r)));
+        chosen = (s.ends r, subst (λ (t : ℕ → Bool). IsLeastWord l known b (s.ends r) t) same chosen);
+        ordered = subst (λ (t : ℕ → Bool). nodes ≡ filter t (nodes_to l.n)) same (rising_filter nodes l.n (s.rising r));
       }
 
   pub losses_are : length labels ≡ blocks_count l → AreLosses l known (map (entry_of words) labels)
@@ -198,10 +188,10 @@ module _ (l : Lattice) (known : BlockId → Bool) (words : List (List ℕ)) (lab
       entry_at g (x ∷ xs) zero less = refl
       entry_at g (x ∷ xs) (suc k) less = entry_at g xs k (omega arith)
 
-  -- each label is the place of a word
-  pub labels_within : length labels ≡ blocks_count l → (k : ℕ) → get_or labels k 0 < length words
+  -- each label is that of a word
+  pub labels_within : length labels ≡ blocks_count l → (k : ℕ) → get_or labels k 0 ≤ length words
   labels_within long k = elim (cases_eq (get_or labels k 0) 0) [
-    | inl none ↦ (let h = s.rows in omega arith)
+    | inl none ↦ omega arith
     | inr has ↦ elim (cases_lt k (length labels)) [
       | inl inside ↦
           (let within : k < blocks_count l = omega arith in
@@ -214,10 +204,3 @@ module _ (l : Lattice) (known : BlockId → Bool) (words : List (List ℕ)) (lab
       | inr past ↦ absurd (has (get_or-eq_default labels 0 past))
     ]
   ]
-
--- the first words as the code has them
-pub first_moved : (l : Lattice) (from : ℕ) (seen words : List (List ℕ)) (labels : List ℕ) → from ≡ suc (places_of l) → seen ≡ words
-    → AreFirst l from (length seen) (word_in seen) labels → AreFirst l (suc (places_of l)) (length words) (word_in words) labels
-first_moved l from seen words labels at same f =
-    subst (λ (n : ℕ). AreFirst l n (length words) (word_in words) labels) at
-    (subst (λ (xs : List (List ℕ)). AreFirst l from (length xs) (word_in xs) labels) same f)

@@ -1,6 +1,7 @@
 -- The pass begins and ends.
-use Rattle.std.proofs.Common.{◌≡◌, ℕ, zero, suc, ◌+◌, ◌-◌, ◌<◌, inl, inr, Bool, true, false, ◌&&◌, List, [], length, get_or, refl, sym, ◌∙◌, ap, subst, arith}
+use Rattle.std.proofs.Common.{◌≡◌, ℕ, zero, suc, ◌+◌, ◌-◌, ◌<◌, inl, inr, Bool, true, false, ◌&&◌, List, [], ◌++◌, length, get_or, refl, sym, ◌∙◌, ap, subst, arith}
 use Rattle.std.proofs.lemmas.Bool.{cases_Bool, cases_eq, true≢false}
+use Rattle.std.proofs.lemmas.List.{length-append, get_or-append-add}
 use Rattle.aea_lattice.specs.declared.blocks.BlockId.{BlockId}
 use Rattle.aea_lattice.specs.declared.blocks.Class.TheVariants.{Datum}
 use Rattle.aea_lattice.specs.declared.grid.Lattice.{Lattice}
@@ -11,10 +12,10 @@ use Rattle.aea_gauss_laws.proofs.Columns.{odd_below-none, and-false}
 use Rattle.aea_sweep.specs.declared.heads.Heads.{Heads}
 use Rattle.aea_sweep.specs.Heads.{head_in}
 use Rattle.aea_sweep.specs.Words.{RiseWithin, has_odd, word_in}
-use Rattle.aea_sweep.specs.Sweep.{IsOpen, AreWords}
-use Rattle.aea_sweep.specs.States.{places_of, IsPassed, seen_to, AreSwept, AreSlotsAndEnds}
+use Rattle.aea_sweep.specs.Sweep.{IsOpen, AreWords, AreEnds}
+use Rattle.aea_sweep.specs.States.{places_of, IsPassed, seen_to, AreSwept, AreEndWords}
 use Rattle.aea_sweep.proofs.Steps.{open_none}
-use Rattle.aea_sweep.proofs.States.{same_words, few_places}
+use Rattle.aea_sweep.proofs.States.{same_words, same_rows, few_places}
 use Rattle.aea_sweep.proofs.Passing.{passed_true}
 use Rattle.aea_sweep.proofs.Datums.{same_seen}
 
@@ -118,18 +119,33 @@ module _ (l : Lattice) (known : BlockId → Bool) (words : List (List ℕ)) (hea
         );
   }
 
-  pub end_swept : AreSlotsAndEnds l known words
-  end_swept =
+  are_ends : AreEnds l known (length words - suc (places_of l)) (λ r. word_in words (suc (places_of l) + r)) (λ r. s.are_open.ends (suc (places_of l) + r))
+  are_ends =
       let closed = s.are_open.closed in
       record {
-        rows = s.are_open.rows;
-        rising = s.are_open.rising;
-        ends = s.are_open.ends;
-        are_ends = record {
-          words_are = shifted;
-          end = λ r less. closed.end (suc (places_of l) + r) (omega arith) (let h = total in omega arith);
-          alone = λ r q r_less q_less apart.
-              closed.alone (suc (places_of l) + q) (suc (places_of l) + r) (omega arith) (let h = total in omega arith) (let h = total in omega arith) (λ h. apart (omega arith));
-          rise = λ r q less q_less. closed.rise (suc (places_of l) + r) (suc (places_of l) + q) (omega arith) (omega arith) (let h = total in omega arith);
-        };
+        words_are = shifted;
+        end = λ r less. closed.end (suc (places_of l) + r) (omega arith) (let h = total in omega arith);
+        alone = λ r q r_less q_less apart.
+            closed.alone (suc (places_of l) + q) (suc (places_of l) + r) (omega arith) (let h = total in omega arith) (let h = total in omega arith) (λ h. apart (omega arith));
+        rise = λ r q less q_less. closed.rise (suc (places_of l) + r) (suc (places_of l) + q) (omega arith) (omega arith) (let h = total in omega arith);
       }
+
+-- The closed words are those of the ends.
+pub end_swept : (l : Lattice) (known : BlockId → Bool) (slots closed : List (List ℕ)) (heads : List Heads) → length slots ≡ suc (places_of l)
+    → AreSwept l known l.n l.alpha (slots ++ closed) heads → AreEndWords l known closed
+end_swept l known slots closed heads long s =
+    record {
+      rising = λ r. subst (λ (xs : List ℕ). RiseWithin 1 xs (suc l.n)) (row r) (s.are_open.rising (suc (places_of l) + r));
+      ends = λ r. s.are_open.ends (suc (places_of l) + r);
+      are_ends =
+          subst (λ (n : ℕ). AreEnds l known n (word_in closed) (λ r. s.are_open.ends (suc (places_of l) + r))) count_is
+          (subst (λ (f : ℕ → ℕ → Bool). AreEnds l known (length (slots ++ closed) - suc (places_of l)) f (λ r. s.are_open.ends (suc (places_of l) + r)))
+          (same_rows (λ r. word_in (slots ++ closed) (suc (places_of l) + r)) (word_in closed) (λ r n. ap (λ (xs : List ℕ). has_odd xs n) (row r)))
+          (are_ends l known (slots ++ closed) heads s));
+    }
+  where
+    row : (r : ℕ) → get_or (slots ++ closed) (suc (places_of l) + r) [] ≡ get_or closed r []
+    row r = ap (λ (n : ℕ). get_or (slots ++ closed) (n + r) []) (sym long) ∙ get_or-append-add slots closed r []
+
+    count_is : length (slots ++ closed) - suc (places_of l) ≡ length closed
+    count_is = let h = length-append slots closed in let g = long in omega arith

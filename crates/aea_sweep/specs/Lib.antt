@@ -6,5 +6,6 @@ pub mod States
 pub mod Labels
 pub mod Stretches
 pub mod Firsts
+pub mod Cuts
 pub mod Entries
 pub mod Losses

@@ -1,5 +1,5 @@
 -- What the pass over the blocks holds when it has come to a block: words that are open so far, and their heads.
-use Rattle.std.specs.Prelude.{◌≡◌, ◌≢◌, ◌⊎◌, ℕ, suc, ◌+◌, ◌-◌, ◌*◌, ◌<◌, ◌≤◌, Bool, true, false, ◌&&◌, ◌||◌, ◌==◌, nat_lt, nat_le, Some, List, [], length, get_or}
+use Rattle.std.specs.Prelude.{◌≡◌, ◌≢◌, ◌⊎◌, ℕ, suc, ◌+◌, ◌*◌, ◌<◌, ◌≤◌, Bool, true, false, ◌&&◌, ◌||◌, ◌==◌, nat_lt, nat_le, Some, List, [], length, get_or}
 use Rattle.aea_lattice.specs.declared.blocks.Class.{Class}
 use Rattle.aea_lattice.specs.declared.blocks.Class.TheVariants.{Datum, Horiz, Right, Left}
 use Rattle.aea_lattice.specs.declared.blocks.BlockId.{BlockId}
@@ -118,9 +118,8 @@ pub record IsAt (l : Lattice) (i q place : ℕ) (b : BlockId) : Type 0 where
   pub class : class_number b.class ≡ suc q
   pub strand : place ≡ place_at l b
 
--- Behind the slots and the spare word, which have no nodes, the words are those of the ends.
-pub record AreSlotsAndEnds (l : Lattice) (known : BlockId → Bool) (words : List (List ℕ)) : Type 0 where
-  pub rows : suc (places_of l) ≤ length words
+-- The words are those of the ends.
+pub record AreEndWords (l : Lattice) (known : BlockId → Bool) (words : List (List ℕ)) : Type 0 where
   pub rising : (r : ℕ) → RiseWithin 1 (get_or words r []) (suc l.n)
   pub ends : ℕ → BlockId
-  pub are_ends : AreEnds l known (length words - suc (places_of l)) (λ r. word_in words (suc (places_of l) + r)) (λ r. ends (suc (places_of l) + r))
+  pub are_ends : AreEnds l known (length words) (word_in words) ends

@@ -43,10 +43,10 @@ pub record Closes (row : ℕ) (words new : List (List ℕ)) : Type 0 where
   pub long : length new ≡ length words + 1
   pub words_are : (r : ℕ) → get_or new r [] ≡ cond (r == row) [] (cond (r == length words) (get_or words row []) (get_or words r []))
 
--- There is a head for each slot and for the spare word, whose place it is, and a word for each head.
+-- There are heads for each slot and for the spare word, whose place it is, and a word for each of them.
 pub record IsSized (spare : ℕ) (words : List (List ℕ)) (heads : List Heads) : Type 0 where
   pub heads_long : length heads ≡ spare + 1
-  pub words_long : length heads ≤ length words
+  pub words_long : length heads ≡ length words
   pub few : spare < 192
 
 -- no word in a slot and not the spare one has a head behind the places of slots

@@ -8,8 +8,8 @@
 //!
 //! Read in `specs/`: `Losses`, and `Sweep` for the laws. How it is computed is in `States`, what the pass holds when it has come
 //! to a block (`AreOpen`, `AreHeads`, `AreClosed`); in `Labels` and `Stretches`, how each block gets the first word whose codeword
-//! contains it; and in `Words`, `Heads`, `Tables`, `Firsts` and `Entries`, the forms of these. It rests on `aea_lattice` and
-//! `aea_view`, on the proofs of `aea_gauss_laws`, `aea_gauss_words` and `aea_readings`, and on `aea_fates` for what a sum is.
+//! contains it; and in `Words`, `Heads`, `Tables`, `Cuts`, `Firsts` and `Entries`, the forms of these. It rests on `aea_lattice`
+//! and `aea_view`, on the proofs of `aea_gauss_laws`, `aea_gauss_words` and `aea_readings`, and on `aea_fates` for what a sum is.
 #![tactic(auto)]
 
 mod heads;
@@ -20,6 +20,7 @@ mod marking;
 mod sweep;
 mod table;
 mod word;
+mod word_list;
 
 pub use laws::{ends_stand_aside, not_spare};
 pub use listing::{LossList, losses};

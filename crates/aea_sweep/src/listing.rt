@@ -3,8 +3,8 @@ ghost use Rattle.aea_view.specs.Marked.{is_marked};
 ghost use Rattle.aea_sweep.specs.Losses.{AreLosses};
 
 use crate::marking::first_words;
-use crate::sweep::{places, sweep};
-use crate::word::Word;
+use crate::sweep::sweep;
+use crate::word_list::WordList;
 use aea_lattice::Lattice;
 use aea_view::Marks;
 use std::alloc::{AllocError, Global};
@@ -14,20 +14,20 @@ use std::marker::Model;
 /// list of nodes an end is kept, which its blocks share.
 #[derive(Drop)]
 pub struct LossList {
-    words: Vec<Word>,
-    // the place of the word of each block, 0 where it has none
+    words: WordList,
+    // 1 more than the place of the word of each block, 0 where it has none
     first: Vec<u32>,
 }
 
 impl Model for LossList {
-    ghost use Rattle.std.specs.Prelude.{ℕ, ◌<◌, List, Option, map, length, get_or};
+    ghost use Rattle.std.specs.Prelude.{ℕ, ◌≤◌, List, Option, map, length, get_or};
     ghost use Rattle.aea_sweep.specs.Entries.{entry_of};
 
     ghost Value = { List (Option (List ℕ)) };
 
-    ghost view = { λ s. map (entry_of s.words.items) s.first.items };
+    ghost view = { λ s. map (entry_of s.words) s.first.items };
 
-    ghost invariant = { λ s. (k : ℕ) → get_or s.first.items k 0 < length s.words.items };
+    ghost invariant = { λ s. (k : ℕ) → get_or s.first.items k 0 ≤ length s.words };
 }
 
 impl LossList {
@@ -47,25 +47,21 @@ impl LossList {
         if word == 0 {
             None
         } else {
-            Some(self.words[word as usize].as_slice())
+            Some(self.words.get(word as usize - 1))
         }
     }
 }
 
 /// What becomes of each block of the lattice where the marked ones are known: the nodes of its least end, or that it is
-/// determined. One pass over the nodes keeps at most one open word a strand, and for each end its nodes are kept once. So time
-/// and memory grow with the lattice and with the nodes of the words: beside the open words it asks for at most 20 bytes a block
-/// and 4 bytes a node of a word, in a list of its own for each end. An error is want of memory.
+/// determined. One pass over the nodes keeps at most one open word a strand, and for each end its nodes are kept once, behind
+/// those of the ends before it. So time and memory grow with the lattice and with the nodes of the words: beside the open words
+/// it asks for at most 12 bytes a block and 4 bytes a node of a word. The list of these nodes doubles when it is full: so it
+/// takes up to twice its 4 bytes a node, and three times as much while it moves. An error is want of memory.
 pub fn losses(alloc: Global, lattice: &Lattice, known: &Marks) -> Result<LossList, AllocError>
     requires { known.now.lattice ≡ lattice.now }
     ensures { IfOk result (λ list. AreLosses lattice.now (is_marked known.now) list) }
 {
     let words = sweep(alloc, lattice, known)?;
-    let first = first_words(
-        alloc,
-        lattice,
-        words.as_slice(),
-        places(lattice) as usize + 1,
-    )?;
+    let first = first_words(alloc, lattice, &words)?;
     Ok(LossList { words, first })
 }

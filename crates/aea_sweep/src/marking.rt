@@ -1,6 +1,6 @@
 //! The first word of each block.
 
-ghost use Rattle.std.specs.Prelude.{◌≡◌, ◌≢◌, ◌==◌, ◌&&◌, ◌||◌, ◌+◌, ◌<◌, ◌≤◌, ◌^◌, ℕ, List, [], Bool, true, cond, length, get_or, IfOk};
+ghost use Rattle.std.specs.Prelude.{◌≡◌, ◌≢◌, ◌==◌, ◌&&◌, ◌||◌, ◌+◌, ◌<◌, ◌≤◌, ◌^◌, ℕ, List, [], ◌∷◌, Bool, true, cond, length, get_or, IfOk};
 ghost use Rattle.aea_lattice.specs.declared.blocks.BlockId.{BlockId};
 ghost use Rattle.aea_lattice.specs.declared.blocks.Class.TheVariants.{Datum};
 ghost use Rattle.aea_lattice.specs.Blocks.{HasNode, HasParity, HasBlock, class_number, blocks_count};
@@ -15,7 +15,7 @@ ghost use Rattle.aea_sweep.specs.Stretches.{AreEnding, AreStretches, AreOpens};
 ghost use Rattle.aea_sweep.specs.Firsts.{AreFirst};
 
 use crate::labels::{label_datum, label_stretch};
-use crate::word::Word;
+use crate::word_list::WordList;
 use aea_lattice::{Class, Lattice};
 use std::alloc::{AllocError, Global};
 
@@ -209,27 +209,24 @@ fn label_word(
     label_class(lattice, first, skip, starts, nodes, Class::Left, label);
 }
 
-// Gives each block the place of the first word from this one on whose codeword contains it.
+// Gives each block 1 more than the place of the first word whose codeword contains it.
 fn label_words(
     lattice: &Lattice,
     first: &mut [u32],
     skip: &mut [u32],
     starts: &mut [u32],
-    words: &[Word],
-    from: usize,
+    words: &WordList,
 )
     requires rising { (r : ℕ) → RiseWithin 1 (get_or words.now r []) (lattice.now.n + 1) }
-    requires from { 1 ≤ from }
-    requires within { from ≤ length words.now }
     requires few { length words.now < 2 ^ 32 }
     requires labels { AreLabels lattice.now first.old skip.old }
     requires opens { AreOpens lattice.now starts.old }
     requires empty { (s : ℕ) → get_or starts.old s 0 ≡ 0 }
     requires none { (k : ℕ) → get_or first.old k 0 ≡ 0 }
-    ensures { AreFirst lattice.now from (length words.now) (word_in words.now) first.new }
+    ensures { AreFirst lattice.now 1 (length words.now + 1) (word_in ([] ∷ words.now)) first.new }
 {
-    for r in from..words.len() {
-        label_word(lattice, first, skip, starts, words[r].as_slice(), r as u32);
+    for r in 0..words.len() {
+        label_word(lattice, first, skip, starts, words.get(r), r as u32 + 1);
     }
 }
 
@@ -241,19 +238,16 @@ fn zeros(alloc: Global, count: usize) -> Result<Vec<u32>, AllocError>
     vec![in alloc; 0; count]
 }
 
-// For each block by its number the place of the first word from this one on whose codeword contains it, 0 where there is none.
+// For each block by its number 1 more than the place of the first word whose codeword contains it, 0 where there is none.
 pub(crate) fn first_words(
     alloc: Global,
     lattice: &Lattice,
-    words: &[Word],
-    from: usize,
+    words: &WordList,
 ) -> Result<Vec<u32>, AllocError>
     requires rising { (r : ℕ) → RiseWithin 1 (get_or words.now r []) (lattice.now.n + 1) }
-    requires from { 1 ≤ from }
-    requires within { from ≤ length words.now }
     requires few { length words.now < 2 ^ 32 }
     ensures long { IfOk result (λ first. length first.items ≡ blocks_count lattice.now) }
-    ensures first { IfOk result (λ first. AreFirst lattice.now from (length words.now) (word_in words.now) first.items) }
+    ensures first { IfOk result (λ first. AreFirst lattice.now 1 (length words.now + 1) (word_in ([] ∷ words.now)) first.items) }
 {
     let mut first = zeros(alloc, lattice.blocks() as usize)?;
     let mut skip = zeros(alloc, lattice.blocks() as usize)?;
@@ -264,7 +258,6 @@ pub(crate) fn first_words(
         skip.as_mut_slice(),
         starts.as_mut_slice(),
         words,
-        from,
     );
     Ok(first)
 }

@@ -1,6 +1,6 @@
 //! The pass over the blocks of a lattice in number order.
 
-ghost use Rattle.std.specs.Prelude.{◌≡◌, ◌==◌, ◌&&◌, ◌+◌, ◌-◌, ◌^◌, ◌<◌, ◌≤◌, ℕ, suc, Bool, true, false, [], None, OnOk, IfOk, length, get_or};
+ghost use Rattle.std.specs.Prelude.{◌≡◌, ◌==◌, ◌&&◌, ◌+◌, ◌-◌, ◌^◌, ◌<◌, ◌≤◌, ◌++◌, ℕ, List, suc, Bool, true, false, [], None, OnOk, IfOk, length, get_or};
 ghost use Rattle.aea_lattice.specs.declared.blocks.BlockId.{BlockId};
 ghost use Rattle.aea_lattice.specs.declared.grid.Lattice.{Lattice};
 ghost use Rattle.aea_lattice.specs.Blocks.{HasNode, HasParity, class_number};
@@ -8,11 +8,12 @@ ghost use Rattle.aea_lattice.specs.Strands.{strand_of, IsNext};
 ghost use Rattle.aea_view.specs.Marked.{is_marked};
 ghost use Rattle.aea_sweep.specs.Heads.{has_head, head_in};
 ghost use Rattle.aea_sweep.specs.Tables.{SameSize, AddsRow, IsSized, HasPlaces};
-ghost use Rattle.aea_sweep.specs.States.{places_of, place_on, is_place_of, IsAt, AreSwept, IsCleanTo, IsReady, AreSlotsAndEnds};
+ghost use Rattle.aea_sweep.specs.States.{places_of, place_on, is_place_of, IsAt, AreSwept, IsCleanTo, IsReady, AreEndWords};
 
 use crate::heads::Heads;
 use crate::table::{add_row, clear, close, exchange, find, forget, spread};
 use crate::word::Word;
+use crate::word_list::WordList;
 use aea_lattice::{BlockId, Class, Lattice};
 use aea_view::Marks;
 use std::alloc::{AllocError, Global};
@@ -73,8 +74,8 @@ fn clean(
     requires few { spare < 192 }
     ensures size { OnOk result (SameSize words.old.items words.new.items heads.old heads.new) }
     ensures places { OnOk result (HasPlaces spare heads.old → HasPlaces spare heads.new) }
-    ensures clean { OnOk result ((l : Lattice) (known : BlockId → Bool) (i q : ℕ) (e : BlockId) → spare ≡ places_of l
-        → IsCleanTo l known i q e 0 words.old.items heads.old → IsCleanTo l known i q e spare words.new.items heads.new) }
+    ensures clean { OnOk result ((l : Lattice) (known : BlockId → Bool) (closed : List (List ℕ)) (i q : ℕ) (e : BlockId) → spare ≡ places_of l
+        → IsCleanTo l known i q e 0 (words.old.items ++ closed) heads.old → IsCleanTo l known i q e spare (words.new.items ++ closed) heads.new) }
 {
     for t in 0..spare {
         clean_one(words, heads, room, spare, t)?;
@@ -93,8 +94,8 @@ fn put_spare(
     requires sized { IsSized spare words.old.items heads.old }
     requires place { place < spare }
     ensures sized { OnOk result (IsSized spare words.new.items heads.new) }
-    ensures put { OnOk result ((l : Lattice) (known : BlockId → Bool) (i q : ℕ) → spare ≡ places_of l
-        → IsReady l known i q place words.old.items heads.old → AreSwept l known i q words.new.items heads.new) }
+    ensures put { OnOk result ((l : Lattice) (known : BlockId → Bool) (closed : List (List ℕ)) (i q : ℕ) → spare ≡ places_of l
+        → IsReady l known i q place (words.old.items ++ closed) heads.old → AreSwept l known i q (words.new.items ++ closed) heads.new) }
 {
     spread(words, heads, room, spare, place)?;
     exchange(words, heads, place as usize, spare);
@@ -103,8 +104,8 @@ fn put_spare(
 
 // Finds a slot for the spare word, or closes it where it has no head.
 fn settle(
-    alloc: Global,
     words: &mut Vec<Word>,
+    closed: &mut WordList,
     heads: &mut [Heads],
     room: &mut Word,
     spare: usize,
@@ -114,12 +115,12 @@ fn settle(
     ensures sized { OnOk result (IsSized spare words.new.items heads.new) }
     ensures settled { OnOk result ((l : Lattice) (known : BlockId → Bool) (i q : ℕ) (e : BlockId) → spare ≡ places_of l
         → e.node ≡ i → class_number e.class ≡ q
-        → IsCleanTo l known i q e 0 words.old.items heads.old → AreSwept l known i q words.new.items heads.new) }
+        → IsCleanTo l known i q e 0 (words.old.items ++ closed.old) heads.old → AreSwept l known i q (words.new.items ++ closed.new) heads.new) }
 {
     clean(words, heads, room, spare)?;
     match heads[spare].first() {
         None => {
-            close(alloc, words, spare)?;
+            close(words, closed, spare)?;
             Ok(())
         }
         Some(place) => {
@@ -147,10 +148,10 @@ fn heads_of(lattice: &Lattice, node: u32) -> Heads
 
 // Goes over the datum of the node.
 fn go_over_datum(
-    alloc: Global,
     lattice: &Lattice,
     known: &Marks,
     words: &mut Vec<Word>,
+    closed: &mut WordList,
     heads: &mut [Heads],
     room: &mut Word,
     spare: usize,
@@ -160,9 +161,9 @@ fn go_over_datum(
     requires same { known.now.lattice ≡ lattice.now }
     requires spare { spare ≡ places_of lattice.now }
     requires sized { IsSized spare words.old.items heads.old }
-    requires swept { AreSwept lattice.now (is_marked known.now) (node - 1) lattice.now.alpha words.old.items heads.old }
+    requires swept { AreSwept lattice.now (is_marked known.now) (node - 1) lattice.now.alpha (words.old.items ++ closed.old) heads.old }
     ensures sized { OnOk result (IsSized spare words.new.items heads.new) }
-    ensures swept { OnOk result (AreSwept lattice.now (is_marked known.now) node 0 words.new.items heads.new) }
+    ensures swept { OnOk result (AreSwept lattice.now (is_marked known.now) node 0 (words.new.items ++ closed.new) heads.new) }
 {
     let datum = BlockId {
         node,
@@ -173,7 +174,7 @@ fn go_over_datum(
     }
     words[spare].push(node)?;
     heads[spare] = heads_of(lattice, node);
-    settle(alloc, words, heads, room, spare)?;
+    settle(words, closed, heads, room, spare)?;
     Ok(())
 }
 
@@ -188,8 +189,8 @@ fn meet_parity(
     requires sized { IsSized spare words.old.items heads.old }
     requires place { place < spare }
     ensures sized { OnOk result (IsSized spare words.new.items heads.new) }
-    ensures met { OnOk result ((l : Lattice) (known : BlockId → Bool) (i q : ℕ) (b : BlockId) → spare ≡ places_of l → IsAt l i q place b
-        → known b ≡ true → AreSwept l known i q words.old.items heads.old → AreSwept l known i (suc q) words.new.items heads.new) }
+    ensures met { OnOk result ((l : Lattice) (known : BlockId → Bool) (closed : List (List ℕ)) (i q : ℕ) (b : BlockId) → spare ≡ places_of l → IsAt l i q place b
+        → known b ≡ true → AreSwept l known i q (words.old.items ++ closed) heads.old → AreSwept l known i (suc q) (words.new.items ++ closed) heads.new) }
 {
     match find(heads, spare, place) {
         None => Ok(()),
@@ -204,8 +205,8 @@ fn meet_parity(
 
 // Goes over a parity that is not known and the last of the strand at this place.
 fn end_strand(
-    alloc: Global,
     words: &mut Vec<Word>,
+    closed: &mut WordList,
     heads: &mut [Heads],
     room: &mut Word,
     spare: usize,
@@ -216,13 +217,13 @@ fn end_strand(
     requires place { place < spare }
     ensures sized { OnOk result (IsSized spare words.new.items heads.new) }
     ensures ended { OnOk result ((l : Lattice) (known : BlockId → Bool) (i q : ℕ) (b : BlockId) → spare ≡ places_of l → IsAt l i q place b
-        → known b ≡ false → IsNext l b.class b.node None → AreSwept l known i q words.old.items heads.old
-        → AreSwept l known i (suc q) words.new.items heads.new) }
+        → known b ≡ false → IsNext l b.class b.node None → AreSwept l known i q (words.old.items ++ closed.old) heads.old
+        → AreSwept l known i (suc q) (words.new.items ++ closed.new) heads.new) }
 {
     if heads[place as usize].has(place) {
         exchange(words, heads, spare, place as usize);
         forget(heads, place);
-        settle(alloc, words, heads, room, spare)?;
+        settle(words, closed, heads, room, spare)?;
         return Ok(());
     }
     forget(heads, place);
@@ -231,10 +232,10 @@ fn end_strand(
 
 // Goes over the parity of the node on the class.
 fn go_over_parity(
-    alloc: Global,
     lattice: &Lattice,
     known: &Marks,
     words: &mut Vec<Word>,
+    closed: &mut WordList,
     heads: &mut [Heads],
     room: &mut Word,
     spare: usize,
@@ -246,9 +247,9 @@ fn go_over_parity(
     requires same { known.now.lattice ≡ lattice.now }
     requires spare { spare ≡ places_of lattice.now }
     requires sized { IsSized spare words.old.items heads.old }
-    requires swept { AreSwept lattice.now (is_marked known.now) node (class_number class - 1) words.old.items heads.old }
+    requires swept { AreSwept lattice.now (is_marked known.now) node (class_number class - 1) (words.old.items ++ closed.old) heads.old }
     ensures sized { OnOk result (IsSized spare words.new.items heads.new) }
-    ensures swept { OnOk result (AreSwept lattice.now (is_marked known.now) node (class_number class) words.new.items heads.new) }
+    ensures swept { OnOk result (AreSwept lattice.now (is_marked known.now) node (class_number class) (words.new.items ++ closed.new) heads.new) }
 {
     let at = place(lattice, node, class);
     if known.get(BlockId { node, class }) {
@@ -258,7 +259,7 @@ fn go_over_parity(
     match lattice.next(node, class) {
         Some(_) => Ok(()),
         None => {
-            end_strand(alloc, words, heads, room, spare, at)?;
+            end_strand(words, closed, heads, room, spare, at)?;
             Ok(())
         }
     }
@@ -266,10 +267,10 @@ fn go_over_parity(
 
 // Goes over the parities of the node.
 fn go_over_parities(
-    alloc: Global,
     lattice: &Lattice,
     known: &Marks,
     words: &mut Vec<Word>,
+    closed: &mut WordList,
     heads: &mut [Heads],
     room: &mut Word,
     spare: usize,
@@ -279,33 +280,35 @@ fn go_over_parities(
     requires same { known.now.lattice ≡ lattice.now }
     requires spare { spare ≡ places_of lattice.now }
     requires sized { IsSized spare words.old.items heads.old }
-    requires swept { AreSwept lattice.now (is_marked known.now) node 0 words.old.items heads.old }
+    requires swept { AreSwept lattice.now (is_marked known.now) node 0 (words.old.items ++ closed.old) heads.old }
     ensures sized { OnOk result (IsSized spare words.new.items heads.new) }
-    ensures swept { OnOk result (AreSwept lattice.now (is_marked known.now) node lattice.now.alpha words.new.items heads.new) }
+    ensures swept { OnOk result (AreSwept lattice.now (is_marked known.now) node lattice.now.alpha (words.new.items ++ closed.new) heads.new) }
 {
     use Class::{Horiz, Left, Right};
     go_over_parity(
-        alloc, lattice, known, words, heads, room, spare, node, Horiz,
+        lattice, known, words, closed, heads, room, spare, node, Horiz,
     )?;
     if lattice.alpha() < 2 {
         return Ok(());
     }
     go_over_parity(
-        alloc, lattice, known, words, heads, room, spare, node, Right,
+        lattice, known, words, closed, heads, room, spare, node, Right,
     )?;
     if lattice.alpha() < 3 {
         return Ok(());
     }
-    go_over_parity(alloc, lattice, known, words, heads, room, spare, node, Left)?;
+    go_over_parity(
+        lattice, known, words, closed, heads, room, spare, node, Left,
+    )?;
     Ok(())
 }
 
 // Goes over the blocks of the node.
 fn go_over(
-    alloc: Global,
     lattice: &Lattice,
     known: &Marks,
     words: &mut Vec<Word>,
+    closed: &mut WordList,
     heads: &mut [Heads],
     room: &mut Word,
     spare: usize,
@@ -315,22 +318,21 @@ fn go_over(
     requires same { known.now.lattice ≡ lattice.now }
     requires spare { spare ≡ places_of lattice.now }
     requires sized { IsSized spare words.old.items heads.old }
-    requires swept { AreSwept lattice.now (is_marked known.now) (node - 1) lattice.now.alpha words.old.items heads.old }
+    requires swept { AreSwept lattice.now (is_marked known.now) (node - 1) lattice.now.alpha (words.old.items ++ closed.old) heads.old }
     ensures sized { OnOk result (IsSized spare words.new.items heads.new) }
-    ensures swept { OnOk result (AreSwept lattice.now (is_marked known.now) node lattice.now.alpha words.new.items heads.new) }
+    ensures swept { OnOk result (AreSwept lattice.now (is_marked known.now) node lattice.now.alpha (words.new.items ++ closed.new) heads.new) }
 {
-    go_over_datum(alloc, lattice, known, words, heads, room, spare, node)?;
-    go_over_parities(alloc, lattice, known, words, heads, room, spare, node)?;
+    go_over_datum(lattice, known, words, closed, heads, room, spare, node)?;
+    go_over_parities(lattice, known, words, closed, heads, room, spare, node)?;
     Ok(())
 }
 
-// So many words without nodes, and room for more.
-fn empty_words(alloc: Global, slots: usize, room: usize) -> Result<Vec<Word>, AllocError>
-    requires { slots + room < 2 ^ 63 }
+// So many words without nodes.
+fn empty_words(alloc: Global, slots: usize) -> Result<Vec<Word>, AllocError>
     ensures long { IfOk result (λ words. length words.items ≡ slots) }
     ensures empty { IfOk result (λ words. (r : ℕ) → get_or words.items r [] ≡ []) }
 {
-    let mut words = Vec::with_capacity(alloc, slots + room)?;
+    let mut words = Vec::with_capacity(alloc, slots)?;
     for _at in 0..slots {
         words.push(Word::new(alloc))?;
     }
@@ -349,31 +351,28 @@ fn empty_heads(alloc: Global, slots: usize) -> Result<Vec<Heads>, AllocError>
     Ok(heads)
 }
 
-// The words of the ends, behind slots without nodes.
-pub(crate) fn sweep(
-    alloc: Global,
-    lattice: &Lattice,
-    known: &Marks,
-) -> Result<Vec<Word>, AllocError>
+// The words of the ends.
+pub(crate) fn sweep(alloc: Global, lattice: &Lattice, known: &Marks) -> Result<WordList, AllocError>
     requires same { known.now.lattice ≡ lattice.now }
-    ensures { IfOk result (λ words. AreSlotsAndEnds lattice.now (is_marked known.now) words.items) }
+    ensures { IfOk result (λ words. AreEndWords lattice.now (is_marked known.now) words) }
 {
     let spare = places(lattice) as usize;
     let most = known.unmarked().min(lattice.n()) as usize;
-    let mut words = empty_words(alloc, spare + 1, most)?;
+    let mut words = empty_words(alloc, spare + 1)?;
+    let mut closed = WordList::with_capacity(alloc, most)?;
     let mut heads = empty_heads(alloc, spare + 1)?;
     let mut room = Word::new(alloc);
     for k in 0..lattice.n() {
         go_over(
-            alloc,
             lattice,
             known,
             &mut words,
+            &mut closed,
             heads.as_mut_slice(),
             &mut room,
             spare,
             k + 1,
         )?;
     }
-    Ok(words)
+    Ok(closed)
 }

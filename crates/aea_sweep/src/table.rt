@@ -1,12 +1,14 @@
-//! Words and their heads: a slot for each strand, a spare one behind them, and then the words that are closed.
+//! The words that are open, in a slot for each strand and a spare one behind them, and their heads. Closed words stand in a list
+//! of their own, and count as the rows behind these.
 
-ghost use Rattle.std.specs.Prelude.{◌≡◌, ◌≢◌, ◌==◌, ◌&&◌, ◌<◌, ◌≤◌, ℕ, false, true, nat_lt, OnOk, MatchOption, length};
+ghost use Rattle.std.specs.Prelude.{◌≡◌, ◌≢◌, ◌==◌, ◌&&◌, ◌++◌, ◌<◌, ◌≤◌, ℕ, false, true, nat_lt, OnOk, MatchOption, length};
 ghost use Rattle.aea_sweep.specs.Heads.{head_in};
 ghost use Rattle.aea_sweep.specs.Tables.{AddsRow, Exchanges, Clears, Forgets, Closes};
 
 use crate::heads::Heads;
 use crate::word::{Word, add_lists};
-use std::alloc::{AllocError, Global};
+use crate::word_list::WordList;
+use std::alloc::AllocError;
 use std::mem::swap;
 
 // AddsRow the word of one row to that of another.
@@ -95,13 +97,17 @@ pub(crate) fn clear(words: &mut Vec<Word>, heads: &mut [Heads], row: usize)
     heads[row] = Heads::none();
 }
 
-// Puts a copy of the row's word behind all words, and takes its nodes away.
-pub(crate) fn close(alloc: Global, words: &mut Vec<Word>, row: usize) -> Result<(), AllocError>
+// Puts the row's word behind the closed ones, and takes its nodes away.
+pub(crate) fn close(
+    words: &mut Vec<Word>,
+    closed: &mut WordList,
+    row: usize,
+) -> Result<(), AllocError>
     requires { row < length words.old.items }
-    ensures { OnOk result (Closes row words.old.items words.new.items) }
+    ensures long { OnOk result (length words.new.items ≡ length words.old.items) }
+    ensures closes { OnOk result (Closes row (words.old.items ++ closed.old) (words.new.items ++ closed.new)) }
 {
-    let word = words[row].copy(alloc)?;
+    closed.push(words[row].as_slice())?;
     words[row].clear();
-    words.push(word)?;
     Ok(())
 }

@@ -1,6 +1,6 @@
 //! Words: lists of nodes, and their sums.
 
-ghost use Rattle.std.specs.Prelude.{◌≡◌, ◌++◌, ◌∷◌, [], ℕ, IfOk, OnOk, length};
+ghost use Rattle.std.specs.Prelude.{◌≡◌, ◌++◌, ◌∷◌, [], ℕ, OnOk, length};
 ghost use Rattle.aea_lattice.specs.Parity.{differ};
 ghost use Rattle.aea_sweep.specs.Words.{has_odd, RiseWithin};
 
@@ -59,15 +59,6 @@ impl Word {
         ensures { self.new ≡ [] }
     {
         self.nodes.clear();
-    }
-
-    /// The same nodes, in no more room than they need.
-    pub(crate) fn copy(&self, alloc: Global) -> Result<Word, AllocError>
-        ensures { IfOk result (λ w. w ≡ self.now) }
-    {
-        let mut nodes = Vec::with_capacity(alloc, self.nodes.len())?;
-        nodes.extend_from_slice(self.nodes.as_slice())?;
-        Ok(Word { nodes })
     }
 }
 

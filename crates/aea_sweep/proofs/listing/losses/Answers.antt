@@ -1,23 +1,16 @@
-use Rattle.std.proofs.Common.{◌+◌, ◌<◌, ◌^◌, ℕ, List, length, sym, subst, arith}
 use Rattle.aea_view.specs.Marked.{is_marked}
-use Rattle.aea_sweep.proofs.Telling.{few_words, first_moved, losses_are, labels_within}
+use Rattle.aea_sweep.proofs.Telling.{few_words, losses_are, labels_within}
 use Rattle.aea_sweep.proofs.listing.losses.Goals as goal
 
 pub first_words-requires-clause-few : goal.first_words-requires-clause-few
-first_words-requires-clause-few c =
-    subst (λ (xs : List (List ℕ)). length xs < 2 ^ 32) (sym c.as_slice.ensures.value)
-    (few_words c.args.lattice.now (is_marked c.args.known.now) c.in_ok-words.words.items c.in_ok-words.ensures)
+first_words-requires-clause-few c = few_words c.args.lattice.now (is_marked c.args.known.now) c.in_ok-words.words c.in_ok-words.ensures
 
 pub invariant_of-result : goal.invariant_of-result
 invariant_of-result c =
-    labels_within c.args.lattice.now (is_marked c.args.known.now) c.in_ok-words.words.items c.in_ok-first.first.items c.in_ok-words.ensures
-    (first_moved c.args.lattice.now (c.places.result + 1) c.as_slice.result.now c.in_ok-words.words.items c.in_ok-first.first.items
-    (let e = c.places.ensures.places in omega arith) c.as_slice.ensures.value c.in_ok-first.ensures.first)
-    c.in_ok-first.ensures.long
+    labels_within c.args.lattice.now (is_marked c.args.known.now) c.in_ok-words.words c.in_ok-first.first.items c.in_ok-words.ensures
+    c.in_ok-first.ensures.first c.in_ok-first.ensures.long
 
 pub returns : goal.returns
 returns c =
-    losses_are c.args.lattice.now (is_marked c.args.known.now) c.in_ok-words.words.items c.in_ok-first.first.items c.in_ok-words.ensures
-    (first_moved c.args.lattice.now (c.places.result + 1) c.as_slice.result.now c.in_ok-words.words.items c.in_ok-first.first.items
-    (let e = c.places.ensures.places in omega arith) c.as_slice.ensures.value c.in_ok-first.ensures.first)
-    c.in_ok-first.ensures.long
+    losses_are c.args.lattice.now (is_marked c.args.known.now) c.in_ok-words.words c.in_ok-first.first.items c.in_ok-words.ensures
+    c.in_ok-first.ensures.first c.in_ok-first.ensures.long

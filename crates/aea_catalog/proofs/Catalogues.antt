@@ -92,7 +92,7 @@ objects_after pairs order kept pair i name gap =
     ∙ ap (put name_cmp pair.0 pair.1) (sym (entries_of pairs order kept)) ∙ sym (entries-insert nat_list_cmp_total (objects_of pairs order) pair.0 pair.1))
 
 module _ (pairs : List Pair) (order : List ℕ) (kept : IsKept pairs order) where
-  -- the name at a place is that of the entry whose index stands there
+  -- the name at a place is that of the entry whose index is there
   pub name-listed : (k : ℕ) → k < length order → name_at (listed pairs order) k ≡ name_at pairs (get_or order k 0)
   name-listed k within = ap (λ (pair : Pair). pair.0) (get_or-map (pair_at pairs) order k 0 no_pair within)
 
@@ -117,7 +117,7 @@ module _ (pairs : List Pair) (order : List ℕ) (kept : IsKept pairs order) wher
     has_name = slice_cmp-IsAntisymmetric nat_cmp-IsAntisymmetric _ name (ap (λ x. name_cmp x name) (name-listed place within) ∙ sym tied);
   }
 
-  -- what stands at a place in the order of names, as it is read
+  -- what is at a place in the order of names, as it is read
   pair_listed : (place k : ℕ) (pair : Pair) → place < length order → k ≡ get_or order place k → pair ≡ get_or pairs k pair → pair_at (listed pairs order) place ≡ pair
   pair_listed place k pair within index read =
       let here : get_or order place 0 ≡ k = get_or_default order place 0 k within ∙ sym index in

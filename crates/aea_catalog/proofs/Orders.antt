@@ -22,7 +22,7 @@ module _ {X : Type 0} (d : X) where
       let rest = picked-append xs ys order (All-tail (λ k. k < length xs) k order within) in
       λ j. here j ∷ rest j
 
-  -- a new entry whose index is inserted stands there among the others
+  -- a new entry whose index is inserted is there among the others
   pub picked-insert : (xs : List X) (x : X) (order : List ℕ) (i : ℕ) → All (λ k. k < length xs) order → map (λ k. get_or (xs ++ x ∷ []) k d) (insert order i (length xs)) ≡ insert (map (λ k. get_or xs k d) order) i x
   picked-insert xs x order i within =
       map-insert (λ k. get_or (xs ++ x ∷ []) k d) order i (length xs)

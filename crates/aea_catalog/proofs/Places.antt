@@ -46,14 +46,14 @@ module _ {K X : Type 0} (R : K → K → Ordering) where
       ap (λ b. cond b (Some e.1) (find R q es)) (apart zero (omega arith)) ∙ find-absent q es d (λ k within. apart (suc k) (omega arith))
 
   module _ (o : IsTotalOrder R) where
-    -- what stands before a lesser key is lesser
+    -- what is before a lesser key is lesser
     pub before-lesser : (q : K) (es : List (K × X)) (d : K × X) (i k : ℕ) → T (is_sorted R es) → i ≤ k → k < length es → R (get_or es k d).0 q ≡ Less → R (get_or es i d).0 q ≡ Less
     before-lesser q es d i k h le within lesser = elim (cases_lt i k) [
       | inl lt ↦ o.trans _ _ q (rising-at es d i k h lt within) lesser
       | inr ge ↦ let same : i ≡ k = omega arith in subst (λ j. R (get_or es j d).0 q ≡ Less) (sym same) lesser
     ]
 
-    -- what stands after a greater key is greater
+    -- what is after a greater key is greater
     pub after-greater : (q : K) (es : List (K × X)) (d : K × X) (i k : ℕ) → T (is_sorted R es) → i ≤ k → k < length es → R q (get_or es i d).0 ≡ Less → R q (get_or es k d).0 ≡ Less
     after-greater q es d i k h le within greater = elim (cases_lt i k) [
       | inl lt ↦ o.trans q _ _ greater (rising-at es d i k h lt within)

@@ -1,4 +1,4 @@
--- What tells a text.
+-- What shows that bytes are a text.
 use Rattle.std.proofs.Common.{◌≡◌, ℕ, List, Result, Ok, Err, MatchResult, sym}
 use Rattle.std.specs.Result.{is_ok}
 use Rattle.std.specs.Str.{IsUtf8, is_utf8}

@@ -29,12 +29,12 @@ placed_alone o = record { object = o; parts = own_range o }
 abbrev pub named_object : List ℕ × Placed → List ℕ × ObjectRef
 named_object e = (e.0, e.1.object)
 
--- the part at a place of what stands under a name
+-- the part at a place of what is under a name
 abbrev pub part_at : Option Placed → ℕ → Option Extent
 part_at None k = None
 part_at (Some p) k = slice_get p.parts k
 
--- the object and its parts under each name, in the order of the names' bytes, and for how many more objects there is room
+-- the object and its parts under each name, in the order of the names' bytes, and for how many more objects there is space
 -- without taking memory
 pub record CatalogValue : Type 0 where
   pub objects : Objects

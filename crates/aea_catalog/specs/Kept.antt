@@ -24,7 +24,7 @@ parts_of o (e ∷ parts) = e ∷ parts
 abbrev pub name_cmp : List ℕ → List ℕ → Ordering
 name_cmp = slice_cmp nat_cmp
 
--- stands where there is no entry
+-- stands in where there is no entry
 abbrev pub no_pair : Pair
 no_pair = ([], record { object = record { first = 0; count = 0; length = 0; digest = [] }; parts = [] })
 
@@ -53,13 +53,13 @@ pub record IsAt (list : List Pair) (name : List ℕ) (i : ℕ) : Type 0 where
   pub in_range : i < length list
   pub has_name : name_at list i ≡ name
 
--- the name would go at place i: lesser names stand before it, and greater ones from it on
+-- the name would go at place i: lesser names are before it, and greater ones from it on
 pub record IsGapFor (list : List Pair) (name : List ℕ) (i : ℕ) : Type 0 where
   pub in_range : i ≤ length list
   pub before : (k : ℕ) → k < i → name_cmp (name_at list k) name ≡ Less
   pub after : (k : ℕ) → i ≤ k → k < length list → name_cmp name (name_at list k) ≡ Less
 
--- how many more objects there is room for in vectors of this length with these capacities: what both can take, and
+-- how many more objects there is space for in vectors of this length with these capacities: what both can take, and
 -- what is left of 2^32 indices
 abbrev pub room_of : ℕ → ℕ → ℕ → ℕ
 room_of len entries order = min (min entries order) (2 ^ 32) - len

@@ -96,7 +96,7 @@ fn compare_at(entries: &[Entry], index: u32, name: &[u8]) -> Ordering
     entry.name.as_slice().cmp(&name)
 }
 
-// Where the name stands among the names in order, or else where it would go.
+// Where the name is among the names in order, or else where it would go.
 fn place_of(entries: &[Entry], order: &[u32], name: &[u8]) -> Result<usize, usize>
     requires { IsKept entries.now order.now }
     ensures found { IfOk result (IsAt (listed entries.now order.now) name.now) }
@@ -115,7 +115,7 @@ fn place_of(entries: &[Entry], order: &[u32], name: &[u8]) -> Result<usize, usiz
     Err(low)
 }
 
-// Puts an index at a place of the order, which has room for it.
+// Puts an index at a place of the order, which has space for it.
 fn insert_index(order: &mut Vec<u32>, place: usize, index: u32)
     requires place { place ≤ vec_len order.old }
     requires room { vec_len order.old < vec_capacity order.old }
@@ -195,7 +195,7 @@ impl Catalog {
         Some((entry.name.as_slice(), entry.object))
     }
 
-    /// Makes room for one more object. It fails also where there are 2^32 objects.
+    /// Makes space for one more object. It fails also where there are 2^32 objects.
     pub fn reserve(&mut self) -> Result<(), AllocError>
         ensures objects { self.new.objects ≡ self.old.objects }
         ensures ok { OnOk result (1 ≤ self.new.room) }
@@ -240,7 +240,7 @@ impl Catalog {
         Ok(())
     }
 
-    /// Puts an object under a name of its own, where there is room for it; its nodes are its one part. It takes no memory.
+    /// Puts an object under a name of its own, where there is space for it; its nodes are its one part. It takes no memory.
     pub fn insert_owned(&mut self, name: Vec<u8>, object: ObjectRef)
         requires name { IsName name.items }
         requires absent { map.get self.old.objects name.items ≡ None }
@@ -255,7 +255,7 @@ impl Catalog {
         });
     }
 
-    /// Puts an object in parts under a name of its own, where there is room for it. It takes no memory.
+    /// Puts an object in parts under a name of its own, where there is space for it. It takes no memory.
     pub fn insert_parts_owned(&mut self, name: Vec<u8>, object: ObjectRef, parts: Vec<Extent>)
         requires name { IsName name.items }
         requires absent { map.get self.old.objects name.items ≡ None }
@@ -270,7 +270,7 @@ impl Catalog {
         });
     }
 
-    // Puts an entry under its name, where there is room for it.
+    // Puts an entry under its name, where there is space for it.
     fn insert_entry(&mut self, entry: Entry)
         requires name { IsName entry.0 }
         requires absent { map.get self.old.objects entry.0 ≡ None }

@@ -19,7 +19,7 @@ use Rattle.aea_disk.specs.declared.mem.Call.{Call}
 use Rattle.aea_disk.specs.declared.mem.Call.TheVariants.{Len, Read, Write, Cut, Sync}
 use Rattle.aea_disk.proofs.Fresh.{get_or-push}
 
--- a call's bytes stay where more bytes come behind them
+-- a call's bytes stay where more bytes come after them
 event_of-append : (bytes more : List ℕ) (call : Call) → end_of call ≤ length bytes → event_of (bytes ++ more) call ≡ event_of bytes call
 event_of-append bytes more Len within = refl
 event_of-append bytes more Read within = refl
@@ -69,13 +69,13 @@ goes_reads events others n e goes =
     let reads = same_reads events others n goes.same in
     λ i f. after (here i) (reads i) f
 
--- where one more call is listed behind calls that are logged, the files are what it makes of those before it
+-- where one more call is listed after calls that are logged, the files are what it makes of those before it
 pub lists_files : (old new : Log) (call : Call) (more : List ℕ) → IsLogged old.spaces old.calls old.bytes → Lists old new call more → (log_state new).files ≡ after (event_of new.bytes call) (log_state old).files
 lists_files old new call more logged lists =
     subst (λ (m : ℕ). reads_at (events_of new.calls new.bytes) m ≡ after (event_of new.bytes call) (log_state old).files) (sym (lists_length old new call more lists))
     (goes_reads (events_of old.calls old.bytes) (events_of new.calls new.bytes) (length old.calls) (event_of new.bytes call) (lists_goes old new call more logged lists))
 
--- one more call behind calls that are logged: time goes on, and earlier images and the rooms stay
+-- one more call after calls that are logged: time goes on, and earlier images and the capacities stay
 pub lists_time : (old new : Log) (call : Call) (more : List ℕ) → IsLogged old.spaces old.calls old.bytes → Lists old new call more → Passes (log_state old) (log_state new)
 lists_time old new call more logged lists =
     let size = lists_length old new call more lists in
@@ -139,7 +139,7 @@ logged_push spaces left calls call bytes more logged files rooms ends number fit
           (λ here. omega (arith, fits, rooms (file_of call))) (λ past. omega arith);
     }
 
--- a write's bytes are those that were put behind the others
+-- a write's bytes are those that were put after the others
 pub event_of-write : (old more : List ℕ) (file at : ℕ) → event_of (old ++ more) (Write file at (length old) (length more)) ≡ Wrote file at more
 event_of-write old more file at = ap (Wrote file at) (ap (take (length more)) (drop-append_seam old more) ∙ take_all (length more) more (le_refl (length more)))
 
@@ -155,7 +155,7 @@ files_of-set spaces file space f within =
     rw there (ap (λ (e : Extent). e.bytes) (get_or-set_other spaces file f space empty_extent other)))
     (cases_eq f file)
 
--- a file of the list replaced by one of the same room leaves the room of each file as it was
+-- a file of the list replaced by one of the same capacity leaves the capacity of each file as it was
 pub room_of-set : (spaces : List Extent) (file : ℕ) (space : Extent) (f : ℕ) → file < length spaces → space.room ≡ room_of spaces file → room_of (set spaces file space) f ≡ room_of spaces f
 room_of-set spaces file space f within same =
     ⊎_elim
@@ -187,7 +187,7 @@ quiet_images bytes (Write file at from n) reads before c quiet as_reads here = a
 quiet_images bytes (Cut file len) reads before c quiet as_reads here = absurd quiet
 quiet_images bytes Sync reads before c quiet as_reads here = let same : c ≡ reads = λ i f. here f i in subst before (sym same) as_reads
 
--- calls that are logged are so with one more behind them that leaves the files as they read
+-- calls that are logged are so with one more after them that leaves the files as they read
 pub quiet_logged : (spaces : List Extent) (calls : List Call) (call : Call) (bytes : List ℕ) → IsQuiet call → IsLogged spaces calls bytes → IsLogged spaces (calls ++ call ∷ []) bytes
 quiet_logged spaces calls call bytes quiet logged =
     let small : (x : Call) → IsQuiet x → (end_of x ≡ 0) × (file_of x ≡ 0) × (end_in_file x ≡ 0) =

@@ -12,7 +12,7 @@ use Rattle.aea_disk.proofs.Moments.{passes_none, passes_both, during_none, durin
 pub ready_later : (old mid : State) → mid.files ≡ old.files → KeepsTaking old mid → IsReady old → IsReady mid
 ready_later old mid same goes ready = (ready.0, subst (λ (c : Files). mid.takes 0 (c 0) ready.0) (sym same) (goes 0 (old.files 0) ready.0 ready.1))
 
--- and the room
+-- and the capacity
 pub roomy_later : (old mid : State) → mid.files ≡ old.files → Passes old mid → IsRoomy old → IsRoomy mid
 roomy_later old mid same time roomy = record {
   some = (roomy.some.0, roomy.some.1, time.room roomy.some.0 roomy.some.1 roomy.some.2);
@@ -82,7 +82,7 @@ reads_one tells old new (Err e) contents crash settled time cause sure = record 
       (λ (still : Rose old.beneath new.beneath → ⊥). absurd (still (sure.beneath (tell, ready)))) how;
 }
 
--- another name for the fault: it is answered where the calls failed, and only there
+-- another name for the fault: it is returned where the calls failed, and only there
 pub reads_as : (tells fault other : Type 0) (old new : State) → (other → fault) → (fault → other) → OnlyReads tells fault old new → OnlyReads tells other old new
 reads_as tells fault other old new so back reads = record {
   contents = reads.contents;
@@ -106,21 +106,21 @@ ok_not_err (Err e) ok failed = absurd (cc)
 pub ok_fine : {T E : Type 0} {result : Result T E} {v : T} → result ≡ Ok v → IsErr result → ⊥
 ok_fine {T} {E} {result} {v} ok failed = ok_not_err {E = E} (Ok v) refl (subst IsErr ok failed)
 
--- one call that did not fail, where no fault is answered
+-- one call that did not fail, where no fault is returned
 pub reads_made : {T E : Type 0} (tells fault : Type 0) (old new : State) (result : Result T E) → IsOk result → (fault → ⊥) → (tells → new.files ≡ old.files) → KeepsImages old new → Settles old new → Passes old new → HasCause old.faults new.faults result → IsSure (tells × IsReady old) (IsRoomy old) old new result → OnlyReads tells fault old new
 reads_made tells fault old new result ok fine contents crash settled time cause sure =
     reads_as tells (IsErr result) fault old new (λ is. absurd (fine is)) (λ failed. absurd (ok_not_err result ok failed)) (reads_one tells old new result contents crash settled time cause sure)
 
--- a fault, and another that is answered
+-- a fault, and another that is returned
 pub reads_faulted : (tells fault other : Type 0) (old new : State) → OnlyReads tells fault old new → fault → other → OnlyReads tells other old new
 reads_faulted tells fault other old new reads is also = reads_as tells fault other old new (λ _. is) (λ _. also) reads
 
--- one call that failed, and a fault that is answered
+-- one call that failed, and a fault that is returned
 pub reads_failed : {T E : Type 0} (tells fault : Type 0) (old new : State) (result : Result T E) → IsErr result → fault → (tells → new.files ≡ old.files) → KeepsImages old new → Settles old new → Passes old new → HasCause old.faults new.faults result → IsSure (tells × IsReady old) (IsRoomy old) old new result → OnlyReads tells fault old new
 reads_failed tells fault old new result failed is contents crash settled time cause sure =
     reads_as tells (IsErr result) fault old new (λ _. failed) (λ _. is) (reads_one tells old new result contents crash settled time cause sure)
 
--- a call that fits, or after which the count beneath stands, did not fail
+-- a call that fits, or after which the count beneath did not rise, did not fail
 made_goes : {T E : Type 0} (taken fits : Type 0) (old new : State) (result : Result T E) → IsSure taken fits old new result → taken → fits ⊎ (Rose old.beneath new.beneath → ⊥) → KeepsTaking old new
 made_goes taken fits old new (Ok v) sure is how = sure.goes
 made_goes taken fits old new (Err e) sure is how =
@@ -155,7 +155,7 @@ reads_both tells first second old mid new fine early late = record {
       λ file b at has. two file b at (one file b at has);
 }
 
--- what is sure stays sure
+-- what is synced stays synced
 pub reads_synced : (tells fault : Type 0) (old new : State) → tells → OnlyReads tells fault old new → IsSynced old → IsSynced new
 reads_synced tells fault old new tell reads synced = λ c here f.
     synced c (reads.crash new.moment c reads.time.later (omega arith) here) f ∙ sym (ap (λ (files : Files). files f) (reads.contents tell))
@@ -217,7 +217,7 @@ writes_one tells taken fits step old new (Err e) contents crash settled time cau
   goes = λ tell is how. made_goes (tells × taken) fits old new (Err e) sure (tell, is) how;
 }
 
--- what a write leaves, whatever it answers
+-- what a write leaves, whatever it returns
 pub torn_anyway : {T E : Type 0} (tells : Type 0) (file at : ℕ) (bytes : List ℕ) (old new : Files) (result : Result T E) → OnOk result (tells → ChangesFile file (Holds at bytes) old new) → OnErr result (tells → ChangesFile file (Torn at (length bytes)) old new) → tells → ChangesFile file (Torn at (length bytes)) old new
 torn_anyway tells file at bytes old new (Ok v) written torn told = changes_wider file (Holds at bytes) (Torn at (length bytes)) old new (λ xs ys. holds_torn at bytes xs ys) (written told)
 torn_anyway tells file at bytes old new (Err e) written torn told = torn told
@@ -227,7 +227,7 @@ pub cut_anyway : {T E : Type 0} (tells : Type 0) (file len : ℕ) (old new : Fil
 cut_anyway tells file len old new (Ok v) cut torn told = changes_wider file (IsCut len) (MayBeCut len) old new (λ xs ys is. inr is) (cut told)
 cut_anyway tells file len old new (Err e) cut torn told = torn told
 
--- another name for the fault: it is answered where the calls failed, and only there
+-- another name for the fault: it is returned where the calls failed, and only there
 pub writes_as : (tells taken fits fault other : Type 0) (step : Files → Files → Type 0) (old new : State) → (other → fault) → (fault → other) → OnlyWrites tells taken fits fault step old new → OnlyWrites tells taken fits other step old new
 writes_as tells taken fits fault other step old new so back writes = record {
   contents = writes.contents;
@@ -242,12 +242,12 @@ writes_as tells taken fits fault other step old new so back writes = record {
   goes = writes.goes;
 }
 
--- one call that failed, and a fault that is answered
+-- one call that failed, and a fault that is returned
 pub writes_failed : {T E : Type 0} (tells taken fits fault : Type 0) (step : Files → Files → Type 0) (old new : State) (result : Result T E) → IsErr result → fault → (tells → step old.files new.files) → Follows step old new → Settles old new → Passes old new → HasCause old.faults new.faults result → IsSure (tells × taken) fits old new result → OnlyWrites tells taken fits fault step old new
 writes_failed tells taken fits fault step old new result failed is contents crash settled time cause sure =
     writes_as tells taken fits (IsErr result) fault step old new (λ _. failed) (λ _. is) (writes_one tells taken fits step old new result contents crash settled time cause sure)
 
--- a fault, and another that is answered
+-- a fault, and another that is returned
 pub writes_faulted : (tells taken fits fault other : Type 0) (step : Files → Files → Type 0) (old new : State) → OnlyWrites tells taken fits fault step old new → fault → other → OnlyWrites tells taken fits other step old new
 writes_faulted tells taken fits fault other step old new writes is also = writes_as tells taken fits fault other step old new (λ _. is) (λ _. also) writes
 

@@ -83,7 +83,7 @@ others_change tells file step old new follows reads = record {
   images = λ t c from to here. let was = follows t c from to here in (was.0, was.1, was.2.others);
 }
 
--- calls that keep the images and, where it is told, the contents keep all files other than this one
+-- calls that keep the images and, where they are known, the contents keep all files other than this one
 pub others_kept : (tells : Type 0) (file : ℕ) (old new : State) → KeepsImages old new → (tells → new.files ≡ old.files) → KeepsOthers tells file old new
 others_kept tells file old new keeps same = record {
   reads = λ told f other. ap (λ (c : Files). c f) (same told);
@@ -177,8 +177,8 @@ where_change tells keep file step old mid new apart first second follows reads e
       images = λ t c from to here. let was = follows t c from to here in (was.0, was.1, λ f kept. was.2.others f (apart f kept));
     })
 
--- a run that keeps the files that a test picks does so with calls behind it that keep the images and, where it is
--- told, the contents
+-- a run that keeps the files that a test picks does so with calls after it that keep the images and, where they
+-- are known, the contents
 pub where_kept : (tells : Type 0) (keep : ℕ → Type 0) (old mid new : State) → Passes old mid → Passes mid new → KeepsImages mid new → (tells → new.files ≡ mid.files) → KeepsWhere tells keep old mid → KeepsWhere tells keep old new
 where_kept tells keep old mid new first second keeps same early =
     where_both tells keep old mid new first second early

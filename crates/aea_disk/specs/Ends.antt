@@ -14,7 +14,7 @@ behind bytes gate = gate + 6 + number_at bytes (gate + 2)
 abbrev pub copied_end : (pieces text : ℕ) → ℕ
 copied_end pieces text = 9 + 37 * pieces + text
 
--- the most bytes that a record's field may tell: with gate, kind and field, six more, they fit a number of four bytes
+-- the most bytes that a record's field may say: with gate, kind and field, six more, they fit a number of four bytes
 abbrev pub greatest_length : ℕ
 greatest_length = 4294967289
 
@@ -22,7 +22,7 @@ greatest_length = 4294967289
 abbrev pub greatest_place : ℕ
 greatest_place = 2 ^ 58
 
--- A whole record is after the gate at this place, where so many records are before it: the gate is open, the field tells
+-- A whole record is after the gate at this place, where so many records are before it: the gate is open, the field says
 -- no more than it may, a gate follows, and what a copy would get for the record ends in time, and so does the record.
 pub record IsWhole (bytes : List ℕ) (before gate : ℕ) : Type 0 where
   pub opened : get_or bytes gate 0 ≡ 1

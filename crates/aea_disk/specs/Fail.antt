@@ -11,7 +11,7 @@ pub record Failing (D : Type 0) : Type 0 where
   pub calls : ℕ
   pub faults : ℕ
 
--- the inner disk's meanings with a count of its own, and no room that is sure
+-- the inner disk's meanings with a count of its own, and no capacity that is guaranteed
 abbrev pub with_faults : State → ℕ → State
 with_faults s n = record { files = s.files; moment = s.moment; image = s.image; faults = n; room = λ f m. ⊥; beneath = n; takes = λ f b at. Unit {0}; keeps = λ b. Unit {0}; free = Unit {0} }
 
@@ -34,7 +34,7 @@ pub record FailsAlone {D T E : Type 0} (old new : Failing D) (result : Result T 
   pub failed : IsErr result
   pub inner : new.inner ≡ old.inner
 
--- the call fails only where the inner disk fails: its count rose then, and a call within a sure disk's room doesn't fail
+-- the call fails only where the inner disk fails: its count rose then, and a call within the disk's capacity doesn't fail
 pub record PassesOn {T E : Type 0} (taken fits : Type 0) (old new : State) (result : Result T E) : Type 0 where
   pub cause : HasCause old.faults new.faults result
   pub sure : IsSure taken fits old new result

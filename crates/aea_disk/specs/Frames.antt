@@ -7,8 +7,8 @@ use Rattle.aea_disk.specs.State.{State, Passes, Follows, KeepsImages, HasEarlier
 
 -- Of calls that only read: the contents and what a crash leaves stay; where some image is of a moment of the calls, some
 -- image is of each earlier one; and a fault has its cause, the count rose, where without a fault the count is what it was.
--- Where the disk tells its contents and is ready, a fault comes only where the count beneath rose, and none comes where the
--- disk has room to sync; and calls without a fault leave what the disk takes.
+-- Where the disk's contents are known and it is ready, a fault comes only where the count beneath rose, and none comes where the
+-- disk has space to sync; and calls without a fault leave what the disk takes.
 pub record OnlyReads (tells fault : Type 0) (old new : State) : Type 0 where
   pub contents : tells → new.files ≡ old.files
   pub crash : KeepsImages old new
@@ -21,9 +21,9 @@ pub record OnlyReads (tells fault : Type 0) (old new : State) : Type 0 where
   pub beneath : tells → IsReady old → fault → Rose old.beneath new.beneath
   pub goes : tells → IsReady old → IsRoomy old ⊎ (Rose old.beneath new.beneath → ⊥) → KeepsTaking old new
 
--- Of calls that change the files by this step alone, whatever they answer: so do the files as they read, and each image of
+-- Of calls that change the files by this step alone, whatever they return: so do the files as they read, and each image of
 -- a moment of the calls is an image from before them, after the step. A fault has its cause, the count rose, where without a
--- fault the count is what it was. Where the disk tells its contents and takes the calls, a fault comes only where the count
+-- fault the count is what it was. Where the disk's contents are known and it takes the calls, a fault comes only where the count
 -- beneath rose, and none comes where the calls fit; and calls without a fault leave what the disk takes.
 pub record OnlyWrites (tells taken fits fault : Type 0) (step : Files → Files → Type 0) (old new : State) : Type 0 where
   pub contents : tells → step old.files new.files

@@ -11,7 +11,7 @@ use Rattle.aea_disk.specs.Log.{Log}
 use Rattle.aea_disk.specs.declared.mem.Call.{Call}
 use Rattle.aea_disk.specs.declared.mem.Call.TheVariants.{Len, Read, Write, Cut, Sync}
 
--- the bytes of a write stand in the list of bytes
+-- the bytes of a write are in the list of bytes
 abbrev pub event_of : List ℕ → Call → Event
 event_of bytes Len = Looked
 event_of bytes Read = Looked
@@ -38,7 +38,7 @@ end_in_file other = 0
 abbrev pub events_of : List Call → List ℕ → ℕ → Event
 events_of calls bytes k = event_of bytes (slice_index_or calls k Len)
 
--- the files are those after all calls, each write's bytes are there, and it fits its file's room
+-- the files are those after all calls, each write's bytes are there, and it fits its file's capacity
 pub record IsLogged (spaces : List Extent) (calls : List Call) (bytes : List ℕ) : Type 0 where
   pub reads : (f : ℕ) → files_of spaces f ≡ reads_at (events_of calls bytes) (length calls) f
   pub within : (k : ℕ) → end_of (slice_index_or calls k Len) ≤ length bytes
@@ -72,7 +72,7 @@ pub record IsFreshLog (sites ledger site calls bytes : ℕ) (d : Log) : Type 0 w
   pub bytes_room : d.bytes_room ≡ bytes
   pub count : d.faults ≡ 0
 
--- The call stands at the end of the list, its bytes at the end of theirs, and the rooms and the count are as before.
+-- The call is at the end of the list, its bytes at the end of theirs, and the capacities and the count are as before.
 pub record Lists (old new : Log) (call : Call) (more : List ℕ) : Type 0 where
   pub calls : new.calls ≡ old.calls ++ call ∷ []
   pub bytes : new.bytes ≡ old.bytes ++ more
@@ -89,10 +89,10 @@ IsQuiet (Write file at from n) = ⊥
 IsQuiet (Cut file len) = ⊥
 IsQuiet Sync = Unit {0}
 
--- the list has no room for one more call
+-- the list has no space for one more call
 abbrev pub IsListFull : Log → Type 0
 IsListFull d = d.calls_room ≤ length d.calls
 
--- the list has no room for the call, or for the bytes, or they end past the file's room
+-- the list has no space for the call, or for the bytes, or they end past the file's capacity
 abbrev pub IsWriteRefused : Log → ℕ → ℕ → ℕ → Type 0
 IsWriteRefused d file at n = IsListFull d ⊎ (d.bytes_room < length d.bytes + n) ⊎ (room_of d.spaces file < at + n)

@@ -1,4 +1,4 @@
--- A disk that tells nothing but its count of faults.
+-- A disk of which nothing is known but its count of faults.
 use Rattle.std.specs.Prelude.{ℕ, []}
 use Rattle.aea_disk.specs.State.{State}
 

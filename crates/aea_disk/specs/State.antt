@@ -4,27 +4,27 @@ use Rattle.aea_faults.specs.Faults.{Rose}
 use Rattle.aea_disk.specs.Files.{Files}
 
 pub record State : Type 1 where
-  -- what a read gives, where the disk tells it
+  -- what a read gives, where the disk's contents are known
   pub files : Files
   -- the clock
   pub moment : ℕ
-  -- a crash at this moment may have left these files; none for a disk that tells no images
+  -- a crash at this moment may have left these files; none for a disk whose images are not known
   pub image : ℕ → Files → Type 0
   -- how often a call has failed
   pub faults : ℕ
-  -- the file has room for so many bytes, and no call fails that stays within; none for a disk that may fail
+  -- the file has space for so many bytes, and no call fails that stays within; none for a disk that may fail
   pub room : ℕ → ℕ → Type 0
   -- how often a call has failed that the disk took: of a disk that hands its calls on, how often the one beneath has
   pub beneath : ℕ
-  -- Of a file, the bytes of the ledger file, and a place: while the ledger file reads so, no rule of the disk stands against
+  -- Of a file, the bytes of the ledger file, and a place: while the ledger file reads so, no rule of the disk forbids
   -- a write of the file from this place on, nor against a sync.
   pub takes : ℕ → List ℕ → ℕ → Type 0
-  -- there is the room that a sync needs while the ledger file reads so
+  -- there is the space that a sync needs while the ledger file reads so
   pub keeps : List ℕ → Type 0
   -- the disk has no such rule at all
   pub free : Type 0
 
--- Time goes on, the count beneath does not fall, and a call leaves the images of earlier moments and the rooms as they are.
+-- Time goes on, the count beneath does not fall, and a call leaves the images of earlier moments and the capacities as they are.
 pub record Passes (old new : State) : Type 0 where
   pub later : old.moment ≤ new.moment
   pub keeps : (t : ℕ) (c : Files) → t ≤ old.moment → new.image t c ↔ old.image t c
@@ -77,7 +77,7 @@ IsSynced s = EveryImage s (λ c. (f : ℕ) → c f ≡ s.files f)
 abbrev pub IsFixed : State → ℕ → Type 0
 IsFixed s file = EveryImage s (λ c. c file ≡ s.files file)
 
--- these bytes stand at the place
+-- these bytes are at the place
 abbrev pub HasRange : ℕ → ℕ → List ℕ → Files → Type 0
 HasRange file at bytes c = take (length bytes) (drop at (c file)) ≡ bytes
 
@@ -85,15 +85,15 @@ HasRange file at bytes c = take (length bytes) (drop at (c file)) ≡ bytes
 abbrev pub IsHeld : State → ℕ → ℕ → List ℕ → Type 0
 IsHeld s file at bytes = EveryImage s (HasRange file at bytes)
 
--- The disk has room for so many bytes of a file.
+-- The disk has space for so many bytes of a file.
 abbrev pub HasRoomTo : State → ℕ → ℕ → Type 0
 HasRoomTo s file end = s.room file end
 
--- the disk has some room, so it fails only for want of room
+-- the disk has some capacity, so it fails only for lack of space
 abbrev pub HasRoom : State → Type 0
 HasRoom s = (f : ℕ) × (n : ℕ) × HasRoomTo s f n
 
--- “It does not fail within the room”, of whatever calls: where they fit it, the answer is fine, and the count stays.
+-- “It does not fail within the capacity”, of whatever calls: where they fit it, the answer is fine, and the count stays.
 abbrev pub NeverFails : (fits fine : Type 0) → State → State → Type 0
 NeverFails fits fine old new = fits → fine × (new.faults ≡ old.faults)
 
@@ -105,7 +105,7 @@ TakesFrom s file at = s.takes file (s.files 0) at
 abbrev pub IsReady : State → Type 0
 IsReady s = (at : ℕ) × TakesFrom s 0 at
 
--- it is ready, and has room to sync
+-- it has some capacity, and what it needs to sync
 pub record IsRoomy (s : State) : Type 0 where
   pub some : HasRoom s
   pub sync : s.keeps (s.files 0)

@@ -13,7 +13,7 @@ use std::rt::Files;
 
 /// The files of the current folder: `ledger.aea`, `ledger-2.aea` and `ledger-3.aea`, and for the sites
 /// `site-01/blocks.aea` to `site-64/blocks.aea`. A missing file has length 0, and is made with its folder at the
-/// first write. Each other error of the system is a fault. It tells no contents.
+/// first write. Each other error of the system is a fault. Its contents are not known.
 #[derive(Drop)]
 pub struct DirDisk<R: Files<File = File>> {
     folder: Folder<R>,

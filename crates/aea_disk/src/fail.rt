@@ -42,7 +42,7 @@ impl<D: Disk> FailDisk<D> {
         })
     }
 
-    // Counts the call, and tells whether it is a listed one.
+    // Counts the call, and says whether it is a listed one.
     fn fails_now(&mut self) -> bool
         ensures listed { IsTrue result ↔ IsListed self.old }
         ensures calls { self.new.calls ≡ next_call self.old.calls }

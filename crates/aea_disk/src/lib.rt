@@ -2,8 +2,8 @@
 //!
 //! Promises to the layers above, by the trait `Disk`, of each call: how the files read after it, what a crash may leave
 //! at each moment of it, that a fault comes only where the count rose, which an answer that is Ok leaves as it was, and that
-//! a call that the disk takes fails only where the count beneath rose, and never within the room. Which calls it takes is
-//! told by the bytes of the ledger file, so that a disk may stand in front of another and refuse some by a rule; by the laws
+//! a call that the disk takes fails only where the count beneath rose, and never within the capacity. Which calls it takes is
+//! decided by the bytes of the ledger file, so that a disk may be put before another and refuse some by a rule; by the laws
 //! of the trait an engine shows that its own calls are taken, whatever the disk is. `SureDisk`, `MemDisk`, `FailDisk` and
 //! `DirDisk` are disks without such a rule. Read first in `specs/`: `Files`, `State`, `Ends`, and `Frames` (`OnlyReads`,
 //! `OnlyWrites`). It rests on `aea_faults`.
@@ -31,10 +31,10 @@
 //!
 //! - calls that only read: `reads_none` where no call was made; `reads_one` for one call, `reads_made` where
 //!   it did not fail, `reads_failed` where it did; `reads_both` for two runs; `reads_as` and `reads_faulted` for another
-//!   name of the fault; `reads_synced` for what is sure; `ready_later` and `roomy_later` for what is taken and fits after them
+//!   name of the fault; `reads_synced` for what is synced; `ready_later` and `roomy_later` for what is taken and fits after them
 //! - calls that change the files by one step: `writes_none`, `writes_one`, `writes_failed`, `writes_both`, `writes_as`,
-//!   `writes_faulted`; `writes_wider` for a wider step and a smaller room; `torn_anyway` and `cut_anyway` for the step of a
-//!   write and of a cut, whatever it answers
+//!   `writes_faulted`; `writes_wider` for a wider step and a smaller capacity; `torn_anyway` and `cut_anyway` for the step of a
+//!   write and of a cut, whatever it returns
 //! - both kinds: `reads_writes`, `writes_then_reads`, `reads_then_writes`
 //! - the other files: `writes_others`, `writes_where`, `keeps_both`
 //!
@@ -72,11 +72,11 @@ pub struct DiskFault;
 
 /// Files numbered 0 to 66: the ledger, 64 sites and two more ledgers. Places and lengths are in bytes.
 pub trait Disk {
-    /// The files as they read, the clock, the images of each moment, the count of faults and the one beneath, the rooms, and
+    /// The files as they read, the clock, the images of each moment, the count of faults and the one beneath, the capacities, and
     /// which calls the disk takes.
     ghost state: { Self → State };
 
-    /// The disk tells the contents of its files.
+    /// The contents of the disk's files are known.
     ghost tells: { Type 0 };
 
     /// The number of bytes of a file.
@@ -132,7 +132,7 @@ pub trait Disk {
         ensures cause { HasCause (state self.old).faults (state self.new).faults result }
         ensures sure { IsSure (tells × TakesFrom (state self.old) file 0) ((state self.old).room file 0) (state self.old) (state self.new) result };
 
-    /// Makes all files sure: after it a crash leaves what a read gives.
+    /// Makes all files durable: after it a crash leaves what a read gives.
     fn sync(&mut self) -> Result<(), DiskFault>
         ensures durable { OnOk result (tells → IsSynced (state self.new)) }
         ensures contents { tells → (state self.new).files ≡ (state self.old).files }
@@ -142,7 +142,7 @@ pub trait Disk {
         ensures cause { HasCause (state self.old).faults (state self.new).faults result }
         ensures sure { IsSure (tells × IsReady (state self.old)) (IsRoomy (state self.old)) (state self.old) (state self.new) result };
 
-    /// A disk that tells its images may be left as it reads.
+    /// A disk whose images are known may be left as it reads.
     ghost as_it_reads: { (d : Self) (t : ℕ) (c : Files) → tells → (state d).image t c → (state d).image (state d).moment (state d).files };
 
     /// What is taken from a place on is taken from a later one.
@@ -151,20 +151,21 @@ pub trait Disk {
     /// A disk that takes calls takes writes of the sites.
     ghost site_taken: { (d : Self) (f : ℕ) (b : List ℕ) (m n : ℕ) → 1 ≤ f → f ≤ 64 → (state d).takes 0 b m → (state d).takes f b n };
 
-    /// It takes writes of the ledger file behind where the records end, and any where there is no ledger.
+    /// It takes writes of the ledger file past where the records end.
     ghost ended_taken: { (d : Self) (b c : List ℕ) (m n : ℕ) → EndsAt c n → (state d).takes 0 b m → (state d).takes 0 c n };
 
+    /// It takes any write of the ledger file where that has no ledger.
     ghost bare_taken: { (d : Self) (b c : List ℕ) (m : ℕ) → IsBare c → (state d).takes 0 b m → (state d).takes 0 c 0 };
 
     /// A disk without a rule takes all.
     ghost free_taken: { (d : Self) (f : ℕ) (b : List ℕ) (m : ℕ) → (state d).free → (state d).takes f b m };
 
-    /// What a sync needs is told by the length of the text and the number of its records alone; and so it is where there is
-    /// no ledger.
+    /// What a sync needs is decided by the length of the text and the number of its records alone.
     ghost alike_kept: { (d : Self) (b c : List ℕ) (n : ℕ) → (one : EndsAt b n) → (two : EndsAt c n) → one.records ≡ two.records → (state d).keeps b → (state d).keeps c };
 
+    /// So it is the same of any two texts that are no ledger.
     ghost bare_kept: { (d : Self) (b c : List ℕ) → IsBare b → IsBare c → (state d).keeps b → (state d).keeps c };
 
-    /// What is within a smaller range is within the room.
+    /// What is within a smaller range is within the capacity.
     ghost smaller_fits: { (d : Self) (f m n : ℕ) → m ≤ n → (state d).room f n → (state d).room f m };
 }

@@ -15,7 +15,7 @@ use aea_faults::risen;
 use std::alloc::{AllocError, Global};
 use std::marker::Model;
 
-/// A call that a `MemDisk` was asked for. A write's bytes stand in the disk's list of bytes, from a place on.
+/// A call that a `MemDisk` was asked for. A write's bytes are in the disk's list of bytes, from a place on.
 #[derive(Clone, Copy, Debug, PartialEq, Eq)]
 pub enum Call {
     Len,
@@ -25,7 +25,7 @@ pub enum Call {
     Sync,
 }
 
-/// What becomes of all that is pending at a crash: as written, as before, all bytes 1, all bytes 0.
+/// What happens to all that is pending at a crash: as written, as before, all bytes 1, all bytes 0.
 #[derive(Clone, Copy, Debug, PartialEq, Eq)]
 pub enum Loss {
     Kept,
@@ -34,7 +34,7 @@ pub enum Loss {
     Zeros,
 }
 
-/// A disk in memory that keeps its calls, and tells by them what a crash may leave.
+/// A disk in memory that keeps its calls, by which it is known what a crash may leave.
 #[derive(Drop)]
 pub struct MemDisk {
     spaces: Vec<Space>,
@@ -61,7 +61,7 @@ impl Model for MemDisk {
 impl MemDisk {
     ghost use Rattle.aea_disk.specs.Logged.{IsFreshLog};
 
-    /// The rooms of the files are those of a `SureDisk`. The list of calls has room for `log_calls` calls, and for
+    /// The capacities of the files are those of a `SureDisk`. The list of calls has space for `log_calls` calls, and for
     /// `log_bytes` written bytes in all.
     pub fn new(
         alloc: Global,

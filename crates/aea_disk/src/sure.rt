@@ -11,7 +11,7 @@ use aea_faults::risen;
 use std::alloc::{AllocError, Global};
 use std::marker::Model;
 
-/// A disk in memory that fails only where a write ends past the room of its file.
+/// A disk in memory that fails only where a write ends past the capacity of its file.
 #[derive(Drop)]
 pub struct SureDisk {
     spaces: Vec<Space>,
@@ -31,7 +31,7 @@ impl Model for SureDisk {
 }
 
 impl SureDisk {
-    /// Reserves all the room at once, in bytes: `ledger_room` for each of the three ledger files, and `site_room`
+    /// Reserves all the space at once, in bytes: `ledger_room` for each of the three ledger files, and `site_room`
     /// for each of the first `sites` sites. The other sites have none.
     pub fn new(
         alloc: Global,

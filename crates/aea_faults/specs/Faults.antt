@@ -1,7 +1,7 @@
 -- Counts of faults. A count never falls, and stops at the greatest u64.
 use Rattle.std.specs.Prelude.{◌≡◌, ℕ, ◌+◌, ◌-◌, ◌^◌, ◌≤◌, min, Result, OnOk, OnErr}
 
--- the count rose, or stands at the greatest u64
+-- the count rose, or is at the greatest u64
 abbrev pub Rose : ℕ → ℕ → Type 0
 Rose before now = min (before + 1) (2 ^ 64 - 1) ≤ now
 

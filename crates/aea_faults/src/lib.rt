@@ -1,4 +1,4 @@
-//! Counts of faults: a source, a sink or a disk counts each call of it that failed, and answers a fault only
+//! Counts of faults: a source, a sink or a disk counts each call of it that failed, and returns a fault only
 //! where that count rose.
 //!
 //! Promises to streams and disks one function, `risen`: the count after one more fault, which never falls and stops at

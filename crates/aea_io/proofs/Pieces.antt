@@ -7,7 +7,7 @@ use Rattle.std.specs.Io.KnownBytes.{Appends}
 use Rattle.std.proofs.KnownBytes.{Appends-trans}
 use Rattle.aea_io.specs.Written.{HasNotFallen}
 
--- what stands after the first bytes of a piece and some more of it
+-- what is there after the first bytes of a piece and some more of it
 pub Appends-more : (a b c : Option (List ℕ)) (bytes : List ℕ) (done k : ℕ) → Appends a b (take done bytes) → Appends b c (take k (take (length bytes - done) (drop done bytes))) → Appends a c (take (done + k) bytes)
 Appends-more a b c bytes done k first more =
     let rest : take (length bytes - done) (drop done bytes) ≡ drop done bytes = take_all (length bytes - done) (drop done bytes) (omega (arith, length-drop done bytes)) in

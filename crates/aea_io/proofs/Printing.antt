@@ -1,9 +1,9 @@
 -- Pieces that are printed one after the other.
-use Rattle.std.proofs.Common.{◌≡◌, ℕ, ◌+◌, ◌-◌, ◌≤◌, List, [], ◌++◌, length, length-append, append_assoc, arith, refl, sym, ◌∙◌, ap, Ok, Err, subst}
+use Rattle.std.proofs.Common.{◌≡◌, ℕ, ◌+◌, ◌-◌, ◌≤◌, List, [], ◌++◌, length, length-append, append_assoc, take, drop, arith, refl, sym, ◌∙◌, ap, Ok, Err, subst}
 use Rattle.std.specs.Prelude.{Result, MatchResult, IsErr}
 use Rattle.std.specs.Io.KnownBytes.{Appends}
 use Rattle.std.proofs.KnownBytes.{Appends-nil, Appends-trans}
-use Rattle.std.proofs.lemmas.List.{append-nil}
+use Rattle.std.proofs.lemmas.List.{append-nil, take-append-drop, take_rest}
 use Rattle.std.proofs.lemmas.Bool.{false≢true}
 use Rattle.aea_faults.specs.Faults.{HasCause, Rose}
 use Rattle.aea_io.specs.Streams.{SinkState}
@@ -140,3 +140,30 @@ prints_past {a} {b} {p} {result} {piece} none put room cause =
       steady = λ n told enough. room.steady n told (omega arith);
       cause = cause;
     }
+
+-- a piece that is put on the page
+prints_held : {T E : Type 0} (a : SinkState) (p x : List ℕ) (v : T) → Prints {E = E} a p a (p ++ x) (Ok v) x
+prints_held a p x v =
+    record {
+      bytes = ([], Appends-nil a.written, refl);
+      fits = λ room told enough. refl;
+      left = λ room told enough. (room, told, refl);
+      steady = λ room told enough. refl;
+      cause = record { kept = omega arith; rose = tt; still = refl };
+    }
+
+-- the front of a piece is put on the page, which is then written, and the rest is printed
+pub prints_in_two : {T U E F : Type 0} {a b c : SinkState} {p held q r : List ℕ} {one : T} {result : Result U E} {piece : List ℕ} (count : ℕ) → held ≡ p ++ take count piece
+    → Prints {E = F} a held b q (Ok one) [] → Prints b q c r result (take (length piece - count) (drop count piece)) → Prints a p c r result piece
+prints_in_two {F = F} {a} {b} {c} {p} {q = q} {r} {one} {result} {piece} count is sent rest =
+    subst (λ zs. Prints a p c r result zs) (take-append-drop count piece)
+    (prints_then {F = F} (prints_then_nothing {E = F} {F = F} (prints_held a p (take count piece) one) (subst (λ zs. Prints {E = F} a zs b q (Ok one) []) is sent))
+    (subst (λ zs. Prints b q c r result zs) (take_rest piece count) rest))
+
+-- the front of a piece is put on the page, and the write of the page fails
+pub prints_cut : {T U E F : Type 0} {a b : SinkState} {p held q : List ℕ} {e : E} {result : Result U F} {piece : List ℕ} (count : ℕ) (v : T) → IsErr result → held ≡ p ++ take count piece
+    → Prints {T = T} a held b q (Err e) [] → Prints a p b q result piece
+prints_cut {T} {E = E} {a = a} {b} {p} {q = q} {e} {result} {piece} count v failed is sent =
+    subst (λ zs. Prints a p b q result zs) (take-append-drop count piece)
+    (prints_stopped {T = T} (drop count piece) failed
+    (prints_then_nothing {E = E} {F = E} (prints_held a p (take count piece) v) (subst (λ zs. Prints {T = T} a zs b q (Err e) []) is sent)))

@@ -1,4 +1,4 @@
--- What stands on a sink after several puts: the facts of one put from the facts of its parts.
+-- What is on a sink after several puts: the facts of one put from the facts of its parts.
 use Rattle.std.proofs.Common.{ℕ, ◌+◌, ◌-◌, List, ◌++◌, Option, Some, Result, Ok, Err, length, take, ap, sym, ◌∙◌, subst, arith}
 use Rattle.std.proofs.Math.Seq.{take-append-add}
 use Rattle.std.proofs.lemmas.List.{take-append-le, take_all, length-append}
@@ -39,7 +39,7 @@ pub PutsAll-then : {T E : Type 0} (a b c : Option (List ℕ)) (result : Result T
 PutsAll-then a b c (Ok x) xs ys all puts = Appends-trans a b c xs ys all puts
 PutsAll-then a b c (Err e) xs ys all puts = AppendsPart-then a b c xs ys all puts
 
--- in room for both pieces the second follows the first without a fault
+-- with enough space for both pieces the second follows the first without a fault
 pub PutsInRoom-then : {T S E F : Type 0} {a b c : SinkState} {one : T} {result : Result S F} {xs ys : List ℕ} → PutsInRoom {T = T} {E = E} a b (Ok one) xs → PutsInRoom b c result ys → PutsInRoom a c result (xs ++ ys)
 PutsInRoom-then {xs} {ys} first then =
     let whole = length-append xs ys in

@@ -24,7 +24,7 @@ impl Fails {
         Ok(Fails { listed, calls: 0 })
     }
 
-    /// Counts one more call, and answers whether it is to fail.
+    /// Counts one more call, and returns whether it is to fail.
     pub fn count_call(&mut self) -> bool
         ensures listed { IsTrue result ↔ IsNextListed self.old }
         ensures counted { CountsCall self.old self.new }

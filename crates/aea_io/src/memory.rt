@@ -76,7 +76,7 @@ impl Source for MemSource {
     }
 }
 
-/// A sink in memory whose room is reserved once. It fails where a `SureSink` does, and at the listed calls.
+/// A sink in memory whose space is reserved once. It fails where a `SureSink` does, and at the listed calls.
 #[derive(Drop)]
 pub struct MemSink {
     /// What was written.
@@ -86,7 +86,7 @@ pub struct MemSink {
 }
 
 impl MemSink {
-    /// An empty sink with room for that many bytes, which fails at these calls, counted from 1.
+    /// An empty sink with space for that many bytes, which fails at these calls, counted from 1.
     pub fn new(alloc: Global, room: usize, fails: &[u32]) -> Result<MemSink, AllocError>
         ensures bytes { IfOk result (λ s. s.sink.bytes.items ≡ []) }
         ensures room { IfOk result (λ s. s.sink.room ≡ room) }
@@ -121,7 +121,7 @@ impl Sink for MemSink {
         ensures in_room { WritesInRoom (listed_state self.old) (listed_state self.new) result bytes.now }
         ensures cause { HasCause self.old.sink.faults self.new.sink.faults result }
 
-        // It fails exactly at the listed calls and where no room is left for a piece that is not empty, and counts that.
+        // It fails exactly at the listed calls and where no space is left for a piece that is not empty, and counts that.
         ensures fails { IsErr result ↔ (IsNextListed self.old.fails ⊎ IsRefused self.old.sink bytes.now) }
         ensures counted { OnErr result (self.new.sink.faults ≡ min (self.old.sink.faults + 1) (2 ^ 64 - 1)) }
         ensures calls { CountsCall self.old.fails self.new.fails }

@@ -1,59 +1,63 @@
-//! Printing through a page of a fixed size.
+//! Printing through a page, on which bytes are gathered until it is full.
 
-ghost use Rattle.std.specs.Prelude.{◌≡◌, ◌+◌, ◌≤◌, ◌↔◌, [], ◌++◌, length, decimal, IsTrue, OnOk};
+ghost use Rattle.std.specs.Prelude.{◌≡◌, ◌-◌, ◌≤◌, [], ◌++◌, length, take, min, decimal, IfOk, OnOk};
 ghost use Rattle.aea_io.specs.Written.{IsFlushed};
 ghost use Rattle.aea_io.specs.Pages.{Prints};
 
 use crate::put::put_all;
+use crate::space::Space;
 use crate::traits::{Sink, WriteFault};
 use itoa::Buffer;
+use std::alloc::{AllocError, Global};
 use std::marker::Model;
-
-// How many bytes a page holds.
-const PAGE: usize = 8192;
 
 /// Bytes on their way to a sink.
 #[derive(Drop)]
 pub struct Page {
-    buf: [u8; PAGE],
+    space: Space,
     len: usize,
 }
 
 impl Model for Page {
-    ghost use Rattle.std.specs.Prelude.{◌≤◌, ℕ, List, take};
-    ghost use Rattle.aea_io.specs.declared.page.TheConstants.{PAGE};
+    ghost use Rattle.std.specs.Prelude.{◌≤◌, ℕ, List, take, length};
+    ghost use Rattle.aea_io.specs.Spaces.{bytes_of};
 
     ghost Value = { List ℕ };
 
-    ghost view = { λ p. take p.len p.buf };
+    ghost view = { λ p. take p.len (bytes_of p.space) };
 
-    ghost invariant = { λ p. p.len ≤ PAGE };
+    ghost invariant = { λ p. p.len ≤ length (bytes_of p.space) };
 }
 
 impl Page {
-    /// A page without bytes.
+    /// A page of 8 KiB without bytes, which takes no memory.
     pub fn new() -> Page
         ensures { result ≡ [] }
     {
         Page {
-            buf: [0; PAGE],
+            space: Space::small(),
             len: 0,
         }
     }
 
-    fn fits(&self, piece: &[u8]) -> bool
-        ensures { IsTrue result ↔ (length self.now + length piece.now ≤ PAGE) }
+    /// A page of 64 KiB without bytes, whose memory is taken here, once.
+    pub fn large(alloc: Global) -> Result<Page, AllocError>
+        ensures { IfOk result (λ page. page ≡ []) }
     {
-        piece.len() <= PAGE - self.len
+        let space = Space::large(alloc)?;
+        Ok(Page { space, len: 0 })
     }
 
-    fn push(&mut self, piece: &[u8])
-        requires { length self.old + length piece.now ≤ PAGE }
-        ensures { self.new ≡ self.old ++ piece.now }
+    // Puts as much of the piece on the page as it has space for, and returns how many bytes these are.
+    fn push(&mut self, piece: &[u8]) -> usize
+        ensures most { result ≤ length piece.now }
+        ensures gathered { self.new ≡ self.old ++ take result piece.now }
     {
-        let end = self.len + piece.len();
-        self.buf[self.len..end].copy_from_slice(piece);
+        let count = piece.len().min(self.space.len() - self.len);
+        let end = self.len + count;
+        self.space.put(self.len, end, &piece[..count]);
         self.len = end;
+        count
     }
 
     fn clear(&mut self)
@@ -65,7 +69,7 @@ impl Page {
     fn bytes(&self) -> &[u8]
         ensures { result.now ≡ self.now }
     {
-        &self.buf[..self.len]
+        &self.space.bytes()[..self.len]
     }
 }
 
@@ -79,23 +83,35 @@ pub fn send<O: Sink>(out: &mut O, page: &mut Page) -> Result<(), WriteFault>
     Ok(())
 }
 
-/// Prints the piece: gathers it on the page, which is written first where it has no place for it.
-pub fn print<O: Sink>(out: &mut O, page: &mut Page, piece: &[u8]) -> Result<(), WriteFault>
+// Prints the piece on a page without bytes.
+fn print_rest<O: Sink>(out: &mut O, page: &mut Page, piece: &[u8]) -> Result<(), WriteFault>
+    requires { page.old ≡ [] }
     ensures { Prints (O.state out.old) page.old (O.state out.new) page.new result piece.now }
 {
-    if page.fits(piece) {
-        page.push(piece);
+    let count = page.push(piece);
+    let rest = &piece[count..];
+    if rest.is_empty() {
         return Ok(());
     }
     send(out, page)?;
-    if page.fits(piece) {
-        page.push(piece);
-        return Ok(());
-    }
-    put_all(out, piece)
+    put_all(out, rest)
 }
 
-/// Prints the word, and behind it the number in decimal.
+/// Prints the piece: gathers it on the page, which is written each time that it is full. Of a piece that is longer than the
+/// page, what is left when the page has been written twice is written at once.
+pub fn print<O: Sink>(out: &mut O, page: &mut Page, piece: &[u8]) -> Result<(), WriteFault>
+    ensures { Prints (O.state out.old) page.old (O.state out.new) page.new result piece.now }
+{
+    let count = page.push(piece);
+    let rest = &piece[count..];
+    if rest.is_empty() {
+        return Ok(());
+    }
+    send(out, page)?;
+    print_rest(out, page, rest)
+}
+
+/// Prints the word, and after it the number in decimal.
 pub fn print_number<O: Sink>(
     out: &mut O,
     page: &mut Page,

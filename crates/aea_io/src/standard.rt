@@ -12,13 +12,13 @@ use std::io::{ErrorKind, Read, Write};
 // How often a call that was interrupted is made again.
 const RETRIES: u32 = 100;
 
-/// A source over a reader of std. It tells what the reader tells, and counts each read that answers a fault. A read that was
-/// interrupted is made again, 100 times at most, and is a fault only where it is interrupted once more.
+/// A source over a reader of std. What is known of it is what the reader reveals; it counts each read that returns a fault.
+/// A read that was interrupted is made again, 100 times at most, and is a fault only where it is interrupted once more.
 #[derive(Drop)]
 pub struct StdSource<R> {
     /// The reader.
     pub reader: R,
-    /// How often a read answered a fault. The count stops at the greatest u64.
+    /// How often a read returned a fault. The count stops at the greatest u64.
     pub faults: u64,
 }
 
@@ -72,15 +72,15 @@ impl<R: Read> Source for StdSource<R> {
     }
 }
 
-/// A sink over a writer of std. It tells what the writer tells, holds no bytes of its own, and counts each write and flush
-/// that answers a fault. A write in which the writer takes nothing of a piece that is not empty is a fault. One that was
+/// A sink over a writer of std. It reveals what the writer reveals, holds no bytes of its own, and counts each write and flush
+/// that returns a fault. A write in which the writer takes nothing of a piece that is not empty is a fault. One that was
 /// interrupted is made again, 100 times at most, and is a fault only where it is interrupted once more; an interrupted
 /// flush is a fault.
 #[derive(Drop)]
 pub struct StdSink<W> {
     /// The writer.
     pub writer: W,
-    /// How often a write or a flush answered a fault. The count stops at the greatest u64.
+    /// How often a write or a flush returned a fault. The count stops at the greatest u64.
     pub faults: u64,
 }
 

@@ -17,7 +17,7 @@ pub struct SureSource<'a> {
     pub rest: &'a [u8],
 }
 
-/// Copies the first bytes into the buffer, and answers how many.
+/// Copies the first bytes into the buffer, and returns how many.
 pub(crate) fn copy_front(bytes: &[u8], buf: &mut [u8]) -> usize
     ensures count { result ≡ min (length buf.new) (length bytes.now) }
     ensures copied { take result buf.new ≡ take result bytes.now }
@@ -54,12 +54,12 @@ impl Source for SureSource<'_> {
     }
 }
 
-/// A sink in memory whose room is reserved once. Its only fault is a write where no room is left.
+/// A sink in memory whose space is reserved once. Its only fault is a write where no space is left.
 #[derive(Drop)]
 pub struct SureSink {
     /// The bytes written.
     pub bytes: Vec<u8>,
-    /// For how many bytes it has room in all.
+    /// For how many bytes it has space in all.
     pub room: usize,
     /// How many bytes are flushed.
     pub flushed: usize,
@@ -71,7 +71,7 @@ pub struct SureSink {
 }
 
 impl SureSink {
-    /// An empty sink with room for that many bytes.
+    /// An empty sink with space for that many bytes.
     pub fn new(alloc: Global, room: usize) -> Result<SureSink, AllocError>
         ensures bytes { IfOk result (λ s. s.bytes.items ≡ []) }
         ensures room { IfOk result (λ s. s.room ≡ room) }
@@ -119,7 +119,7 @@ impl Sink for SureSink {
         ensures in_room { WritesInRoom (sure_sink_state self.old) (sure_sink_state self.new) result bytes.now }
         ensures cause { HasCause self.old.faults self.new.faults result }
 
-        // It fails exactly where no room is left for a piece that is not empty, and counts that.
+        // It fails exactly where no space is left for a piece that is not empty, and counts that.
         ensures fails { IsErr result ↔ IsRefused self.old bytes.now }
         ensures counted { OnErr result (self.new.faults ≡ min (self.old.faults + 1) (2 ^ 64 - 1)) }
 

@@ -17,10 +17,10 @@ pub struct WriteFault;
 
 /// Where bytes come from.
 pub trait Source {
-    /// The source as it tells itself. The count of faults stops at the greatest u64.
+    /// What is known of the source. The count of faults stops at the greatest u64.
     ghost state: { Self → SourceState };
 
-    /// Takes the next bytes, and answers how many. Ok(0) into a buffer that is not empty is the end of the input.
+    /// Takes the next bytes, and returns how many. Ok(0) into a buffer that is not empty is the end of the input.
     fn read(&mut self, buf: &mut [u8]) -> Result<usize, ReadFault>
         ensures bound { ReadsAtMost result buf.new }
         ensures bytes { ReadConsumes (state self.old).left (state self.new).left result buf.new }
@@ -29,10 +29,10 @@ pub trait Source {
 
 /// Where bytes go.
 pub trait Sink {
-    /// The sink as it tells itself. The count of faults stops at the greatest u64.
+    /// What is known of the sink. The count of faults stops at the greatest u64.
     ghost state: { Self → SinkState };
 
-    /// Appends the first bytes of the piece, and answers how many: at least one, where the piece is not empty.
+    /// Appends the first bytes of the piece, and returns how many: at least one, where the piece is not empty.
     fn write(&mut self, bytes: &[u8]) -> Result<usize, WriteFault>
         ensures bound { WritesAtMost result bytes.now }
         ensures progress { IfOk result (λ k. 0 < length bytes.now → 0 < k) }

@@ -20,7 +20,7 @@ pub enum WholeFault {
     NoMemory,
 }
 
-// Puts the piece behind the bytes. The memory doubles, but never past `most` bytes.
+// Appends the piece to the bytes. The memory doubles, but never past `most` bytes.
 fn append(whole: &mut Vec<u8>, piece: &[u8], most: usize) -> Result<(), AllocError>
     requires { vec_len whole.old + length piece.now ≤ most }
     ensures { OnOk result (whole.new.items ≡ whole.old.items ++ piece.now) }

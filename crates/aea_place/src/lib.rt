@@ -10,8 +10,8 @@
 //! Read `Homes` first. It rests on no other crate.
 #![tactic(auto)]
 
-pub mod facts;
-pub mod homes;
+mod facts;
+mod homes;
 
 pub use facts::{homes_are_apart, homes_are_on_sites, rows_go_over_sites};
 pub use homes::{Spot, at, home};

@@ -61,7 +61,7 @@ module _ (l : Lattice) (known : BlockId → Bool) (b : BlockId) (equations : Lis
   whole : AreOfSum l (is_listed equations) (flat_map (equation_blocks l) equations)
   whole = subst (λ es. AreOfSum l (is_listed equations) (flat_map (equation_blocks l) es)) (sym sum.ordered) (sums-listed l (is_listed equations)).1
 
-  -- how often a block stands among the known blocks
+  -- how often a block is among the known blocks
   known_count : (d : BlockId) → HasBlock l d → is_odd_count (same_block d) (known_blocks l known equations) ≡ (known d && adds_up_to l (is_listed equations) d)
   known_count d d_has =
       odd-filter known (same_block d) (flat_map (equation_blocks l) equations)

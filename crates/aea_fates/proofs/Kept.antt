@@ -1,4 +1,4 @@
--- The items of a list that pass a test, and whether an item stands among them.
+-- The items of a list that pass a test, and whether an item is among them.
 use Rattle.std.proofs.Common.{◌≡◌, Bool, true, false, ◌&&◌, List, [], ◌∷◌, filter, refl, sym, ◌∙◌, ap, inl, inr}
 use Rattle.std.specs.List.{list_any}
 use Rattle.std.proofs.lemmas.Bool.{cases_Bool, or_cases, or_left, or_right, true≢false, false≢true, false_from_ne_true}
@@ -43,7 +43,7 @@ module _ {A : Type 0} (same : A → A → Bool) (is : IsSame same) (p : A → Bo
         ]
       ]
 
-  -- an item of the list stands among the kept ones exactly where it passes
+  -- an item of the list is among the kept ones exactly where it passes
   pub any-filter : (x : A) (xs : List A) → list_any (same x) xs ≡ true → list_any (same x) (filter p xs) ≡ p x
   any-filter x xs h =
       elim (cases_Bool (p x)) [
@@ -73,6 +73,6 @@ module _ {A : Type 0} (same : A → A → Bool) (is : IsSame same) (p : A → Bo
   each-filtered [] xs h = tt
   each-filtered (y ∷ ys) xs h = (any-filter y xs h.0, each-filtered ys xs h.1)
 
-  -- what stands among the kept items, in the order of the list, is the kept items
+  -- what is among the kept items, in the order of the list, is the kept items
   pub filter-ordered : (xs : List A) → filter p xs ≡ filter (λ x. list_any (same x) (filter p xs)) xs
   filter-ordered xs = sym (filter-same (λ x. list_any (same x) (filter p xs)) xs (each-filtered xs xs (each-any xs)))

@@ -1,4 +1,4 @@
--- Equations and blocks that stand in lists.
+-- Equations and blocks that are in lists.
 use Rattle.std.proofs.Common.{◌≡◌, ◌<◌, Bool, true, List, [], ◌∷◌, refl, sym, ◌∙◌, ap, inl, inr}
 use Rattle.std.specs.List.{list_any}
 use Rattle.std.proofs.lemmas.Bool.{cases_Bool, or_cases, or_left, or_right, eq-eqb, false≢true}
@@ -27,7 +27,7 @@ output_below l e has = number_below l (block_of e.node e.class) (output_inside l
 pub same_equation-refl : (e : EqId) → same_equation e e ≡ true
 same_equation-refl e = rw (eq-eqb e.node e.node refl) (eq-eqb (class_number e.class) (class_number e.class) refl)
 
--- where a block that passes stands in a list, some block of the list passes
+-- where a block that passes is in a list, some block of the list passes
 pub any_has : (p : BlockId → Bool) (d : BlockId) (bs : List BlockId) → list_any (same_block d) bs ≡ true → p d ≡ true → list_any p bs ≡ true
 any_has p d [] h passes = absurd (false≢true h)
 any_has p d (b ∷ bs) h passes =

@@ -5,7 +5,7 @@ use Rattle.std.proofs.lemmas.Bool.{cases_Bool, and_parts, and_from, or_cases, or
 use Rattle.aea_lattice.specs.declared.blocks.BlockId.{BlockId}
 use Rattle.aea_lattice.specs.declared.blocks.EqId.{EqId}
 use Rattle.aea_lattice.specs.declared.grid.Lattice.{Lattice}
-use Rattle.aea_lattice.specs.Blocks.{HasBlock, same_block, number_of, blocks_count}
+use Rattle.aea_lattice.specs.Blocks.{HasBlock, same_block, number_of, blocks_count, block_at}
 use Rattle.aea_lattice.specs.Equations.{HasEquation, equation_blocks, is_in_equation, equations_of, adds_up_to, is_in_codeword}
 use Rattle.aea_lattice.specs.Facts.{MeetsEvenly, Misses}
 use Rattle.aea_lattice.specs.Lists.{same_equation, is_listed, has_node}
@@ -15,12 +15,13 @@ use Rattle.aea_lattice.proofs.Equations.{same_block-refl, number_below, member_i
 use Rattle.aea_lattice.proofs.Odd.{odd-none, odd-same, Each, Each-more}
 use Rattle.aea_lattice.proofs.Once.{each-equations_of, same_equation-equal}
 use Rattle.aea_lattice.proofs.Even.{adds-one}
-use Rattle.aea_gauss_laws.proofs.Given.{block_at-number, block_at-inside, number-block_at, and-no}
+use Rattle.aea_gauss_laws.proofs.Given.{and-no}
+use Rattle.aea_lattice.proofs.BlockAt.{block_at-number, block_at-inside, number-block_at}
 use Rattle.aea_fates.specs.Sums.{output_number, IsSpare, IsSum}
-use Rattle.aea_fates.specs.Live.{block_at, is_live}
+use Rattle.aea_fates.specs.Live.{is_live}
 use Rattle.aea_fates.specs.Laws.{IsPart, known_or_outside, PartsStandAlone}
 use Rattle.aea_fates.proofs.Listing.{same_equation-refl, any_has}
-use Rattle.aea_fates.proofs.Only.{greatest, nothing, find_greatest}
+use Rattle.aea_lattice.proofs.GreatestBelow.{greatest, nothing, find_greatest}
 
 -- ---- items of lists
 
@@ -30,7 +31,7 @@ pub record Passing (p : BlockId → Bool) (bs : List BlockId) : Type 0 where
   pub stands : list_any (same_block item) bs ≡ true
   pub passes : p item ≡ true
 
--- where some block of a list passes, there is a block that stands in the list and passes
+-- where some block of a list passes, there is a block that is in the list and passes
 pub any_some : (p : BlockId → Bool) (bs : List BlockId) → list_any p bs ≡ true → Passing p bs
 any_some p [] h = absurd (false≢true h)
 any_some p (b ∷ bs) h = elim (or_cases (p b) (list_any p bs) h) [
@@ -293,7 +294,7 @@ module _ (l : Lattice) (known part : BlockId → Bool) (is_part : IsPart l known
         ordered = word.ordered;
       }
 
--- a list of a part's block, where all that stands outside the part is known too, is its list for the known blocks
+-- a list of a part's block, where all that is outside the part is known too, is its list for the known blocks
 -- alone
 pub parts-alone : PartsStandAlone
 parts-alone l known part is_part b has inside = (

@@ -48,7 +48,7 @@ DeterminedStay =
     (l : Lattice) (known more : BlockId → Bool) → AddsDetermined l known more
     → (b : BlockId) → Determines l known b ↔ Determines l more b
 
--- the known blocks of some equations, one equation after another, each as often as it stands there
+-- the known blocks of some equations, one equation after another, each as often as it is there
 abbrev pub known_blocks : Lattice → (BlockId → Bool) → List EqId → List BlockId
 known_blocks l known equations = filter known (flat_map (equation_blocks l) equations)
 
@@ -65,11 +65,11 @@ IsPart l known part =
     (e : EqId) (b d : BlockId) → HasEquation l e → IsTrue (is_in_equation l e b) → IsTrue (is_in_equation l e d)
     → known b ≡ false → known d ≡ false → part b ≡ part d
 
--- the known blocks and all that stand outside the part
+-- the known blocks and all that are outside the part
 abbrev pub known_or_outside : (BlockId → Bool) → (BlockId → Bool) → BlockId → Bool
 known_or_outside known part b = known b || not (part b)
 
--- Nothing that stands outside a part matters for its blocks: where all of it is known too, the lists of the part's
+-- Nothing that is outside a part matters for its blocks: where all of it is known too, the lists of the part's
 -- blocks are those for the known blocks alone.
 abbrev pub PartsStandAlone : Type 0
 PartsStandAlone =

@@ -1,16 +1,10 @@
 -- Equations that have a block that is not known.
-use Rattle.std.specs.Prelude.{ℕ, Bool, not, List, filter, get_or}
+use Rattle.std.specs.Prelude.{Bool, not, List, filter}
 use Rattle.std.specs.List.{list_any}
-use Rattle.aea_lattice.specs.declared.blocks.Class.TheVariants.{Datum}
 use Rattle.aea_lattice.specs.declared.blocks.BlockId.{BlockId}
 use Rattle.aea_lattice.specs.declared.blocks.EqId.{EqId}
 use Rattle.aea_lattice.specs.declared.grid.Lattice.{Lattice}
-use Rattle.aea_lattice.specs.Blocks.{block_of, blocks_of}
 use Rattle.aea_lattice.specs.Equations.{equation_blocks, equations_of}
-
--- the block at a number
-abbrev pub block_at : Lattice → ℕ → BlockId
-block_at l k = get_or (blocks_of l) k (block_of 0 Datum)
 
 -- the equation has a block that is not known
 abbrev pub is_live : Lattice → (BlockId → Bool) → EqId → Bool

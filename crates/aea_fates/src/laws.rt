@@ -26,7 +26,7 @@ pub fn determined_stay()
 {}
 
 /// In the lattice of every data list a block that is not known is the XOR of the known blocks of its listed equations,
-/// each as often as it stands there.
+/// each as often as it is there.
 pub fn sums_give_blocks()
     ensures { SumsGiveBlocks }
 {}

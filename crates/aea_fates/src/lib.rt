@@ -1,4 +1,4 @@
-//! What becomes of the blocks of a lattice that are not known: the equations that are listed for a block that is
+//! What happens to the blocks of a lattice that are not known: the equations that are listed for a block that is
 //! determined, the nodes of one that is lost, and the laws of both.
 //!
 //! Promises to the layers above laws, each the contract of a function with an empty body: a block has listed equations
@@ -11,7 +11,7 @@
 //! Read `Sums` first. It rests on `aea_lattice` and `aea_gauss_laws`.
 #![tactic(auto)]
 
-pub mod laws;
+mod laws;
 
 pub use laws::{
     determined_stay, lists_are_one, parts_stand_alone, sums_are_determined, sums_give_blocks,

@@ -1,32 +1,22 @@
 -- Rows that are filled one after the other, and lists that are read one item after another.
-use Rattle.std.proofs.Common.{◌≡◌, ℕ, zero, suc, ◌+◌, ◌*◌, ◌/◌, ◌%◌, ◌<◌, ◌≤◌, inl, inr, Bool, not, ◌==◌, cond, List, [], ◌∷◌, ◌++◌, filter, length, get_or, refl, sym, ◌∙◌, ap, subst, arith, take, Some, All}
+use Rattle.std.proofs.Common.{◌≡◌, ℕ, zero, suc, ◌+◌, ◌*◌, ◌/◌, ◌%◌, ◌<◌, ◌≤◌, inl, inr, Bool, not, ◌==◌, cond, List, [], ◌∷◌, ◌++◌, filter, length, get_or, refl, sym, ◌∙◌, ap, arith, take, Some}
 use Rattle.std.specs.Prelude.{slice_get, unwrap_or}
 use Rattle.std.specs.Int.{bit_at}
 use Rattle.std.proofs.Math.Nat.{mul-le-mul_right}
 use Rattle.std.proofs.lemmas.Bool.{cases_lt}
 use Rattle.std.proofs.lemmas.Nat.Bits.{bit_at-zero}
-use Rattle.std.proofs.lemmas.List.Elements.{All-nil, All-cons, filter_more}
+use Rattle.std.proofs.lemmas.List.Elements.{filter_more}
 use Rattle.std.proofs.lemmas.Option.{unwrap_or-slice_get}
 use Rattle.aea_lattice.specs.declared.blocks.BlockId.{BlockId}
 use Rattle.aea_lattice.specs.declared.blocks.EqId.{EqId}
 use Rattle.aea_lattice.specs.declared.grid.Lattice.{Lattice}
 use Rattle.aea_lattice.specs.Blocks.{blocks_of}
-use Rattle.aea_lattice.specs.Equations.{HasEquation, equations_to, equations_of}
+use Rattle.aea_lattice.specs.Equations.{equations_of}
 use Rattle.aea_lattice.specs.Parity.{differ}
-use Rattle.aea_lattice.proofs.Odd.{Each}
-use Rattle.aea_lattice.proofs.Once.{each-equations_of}
 use Rattle.aea_gauss_words.specs.Words.{bit_matrix}
 use Rattle.aea_fates.specs.Live.{is_live, live_equations}
 use Rattle.aea_readings.specs.Small.{unknown_blocks}
 use Rattle.aea_gauss.specs.Fills.{Turns}
-
-each-All : (P : EqId → Type 0) (es : List EqId) → Each P es → All P es
-each-All P [] h = All-nil P
-each-All P (e ∷ es) h = All-cons P e es h.0 (each-All P es h.1)
-
--- the equations up to the last node n are equations of the lattice
-pub equations_inside : (l : Lattice) (i : ℕ) → i ≡ l.n → All (HasEquation l) (equations_to l i)
-equations_inside l i all = subst (λ n. All (HasEquation l) (equations_to l n)) (sym all) (each-All (HasEquation l) (equations_of l) (each-equations_of l))
 
 -- ---- rows that are filled one after the other
 
@@ -39,7 +29,7 @@ pub record Filled (done wide : ℕ) (row : ℕ → ℕ → Bool) (old new : List
 pub filled_none : (wide : ℕ) (row : ℕ → ℕ → Bool) (old : List ℕ) → ((k : ℕ) → get_or old k 0 ≡ 0) → Filled 0 wide row old old
 filled_none wide row old zeros = record { long = refl; rows = λ i k less. absurd (omega arith); rest = λ k most. zeros k }
 
--- after n filled rows, turning the bits of row n fills one row more
+-- after n filled rows, flipping the bits of row n fills one row more
 pub filled_more : (n wide : ℕ) (row : ℕ → ℕ → Bool) (t : ℕ → Bool) (old now new : List ℕ) → Filled n wide row old now → Turns (n * wide) wide t now new
     → ((k : ℕ) → t k ≡ row n k) → Filled (n + 1) wide row old new
 filled_more n wide row t old now new before turns same = record {

@@ -32,7 +32,7 @@ linked parents child root label is follows =
       here,
     )
 
--- a block that stands in an equation is its input, its datum or its output
+-- a block that is in an equation is its input, its datum or its output
 pub data Among (q : Option BlockId) (d o b : BlockId) : Type 0 where
   is_input : (g : BlockId) → q ≡ Some g → b ≡ g → Among q d o b
   is_datum : b ≡ d → Among q d o b
@@ -90,7 +90,7 @@ pub blocks_joined : (l : Lattice) (blocks : List BlockId) → AreListed l blocks
 blocks_joined l blocks listed label first second a b a_less b_less ea eb same i j i_less j_less ei ej =
     ap label (once l blocks listed i a i_less a_less (ei ∙ sym ea)) ∙ same ∙ ap label (once l blocks listed b j b_less j_less (eb ∙ sym ej))
 
--- no block of an equation stands in the list, where neither its input nor its datum nor its output does
+-- no block of an equation is in the list, where neither its input nor its datum nor its output is
 pub none_in : (l : Lattice) (blocks : List BlockId) (e : EqId) (q : Equation) → blocks_in q ≡ equation_blocks l e
     → ForSome q.input (λ g. (a : ℕ) → a < length blocks → block_in blocks a ≢ g) → ((a : ℕ) → a < length blocks → block_in blocks a ≢ q.datum)
     → ((a : ℕ) → a < length blocks → block_in blocks a ≢ q.output) → (a : ℕ) → a < length blocks → is_in_equation l e (block_in blocks a) ≡ true → ⊥
@@ -113,7 +113,7 @@ input_stands l e q g (Some x) is some =
 pub some_from : (q : Option BlockId) (P : BlockId → Type 0) (g : BlockId) → q ≡ Some g → P g → ForSome q P
 some_from q P g is h x at = subst P (one_some q g x is at) h
 
--- what the place of the input tells of the equation, where the other two stand nowhere
+-- what the place of the input shows of the equation, where the other two are nowhere in the list
 pub found_in : (l : Lattice) (blocks : List BlockId) (e : EqId) (q : Equation) (o : Option ℕ) (g : BlockId) → blocks_in q ≡ equation_blocks l e → q.input ≡ Some g
     → MatchOption o ((a : ℕ) → a < length blocks → block_in blocks a ≢ g) (λ a. (a < length blocks) × (block_in blocks a ≡ g))
     → ((a : ℕ) → a < length blocks → block_in blocks a ≢ q.datum) → ((a : ℕ) → a < length blocks → block_in blocks a ≢ q.output)

@@ -1,4 +1,4 @@
--- What is not known falls into parts by labels, and what becomes of the blocks of a part.
+-- What is not known falls into parts by labels, and what happens to the blocks of a part.
 use Rattle.std.proofs.Common.{◌≡◌, ℕ, zero, suc, ◌+◌, ◌<◌, ◌≤◌, ◌^◌, inl, inr, Bool, true, false, not, ◌&&◌, ◌||◌, ◌==◌, cond, List, [], ◌∷◌, ◌++◌, take, map, filter, length, get_or, All, refl, sym, ◌∙◌, ap, subst, arith}
 use Rattle.std.specs.List.{list_any}
 use Rattle.std.proofs.Math.ListN.{set}
@@ -58,7 +58,7 @@ items_at-more p (x ∷ xs) (suc k) d less =
       | inr no' ↦ rw no' rest
     ]
 
--- an item whose place passes stands among them
+-- an item whose place passes is among them
 pub items_at-stands : {A : Type 0} → (p : ℕ → Bool) (xs : List A) (d : A) (a : ℕ) → a < length xs → p a ≡ true
     → (t : ℕ) × (t < length (items_at p xs)) × (get_or (items_at p xs) t d ≡ get_or xs a d)
 items_at-stands p [] d a less h = absurd (omega arith)
@@ -220,7 +220,7 @@ module _ (l : Lattice) (kn : BlockId → Bool) (us : List BlockId) (es : List Eq
     equations_are = fs_are ∙ part_equations c;
   }
 
--- a block stands among those of its label
+-- a block is among those of its label
 pub labels_whole : (us bs : List BlockId) (labels : List ℕ) (a : ℕ) → a < length us → bs ≡ items_at (λ k. get_or labels k 0 == get_or labels a 0) us
     → StandsIn bs (block_in us a)
 labels_whole us bs labels a less are =
@@ -242,7 +242,7 @@ part_unknown l kn w a less =
     split false true h = (refl, refl)
     split false false h = absurd (false≢true h)
 
--- the blocks of a part, if they are listed in number order, all stand in the list of unknown blocks
+-- the blocks of a part, if they are listed in number order, are all in the list of unknown blocks
 pub part_stands : (l : Lattice) (kn : BlockId → Bool) (us bs : List BlockId) (es : List EqId) → us ≡ unknown_blocks l kn → AreListed l bs → ArePart l kn bs es → All (StandsIn us) bs
 part_stands l kn us bs es us_are listed p =
     All-from_get_or (StandsIn us) bs (block_of 0 Datum)
@@ -272,7 +272,7 @@ fate_alone law l kn w part (Word b nodes) has inside h = (law l kn w part b has 
 block_at_fate : (fates : List Fate) (bs : List BlockId) (a : ℕ) → map block_of_fate fates ≡ bs → a < length fates → block_of_fate (fate_in fates a) ≡ block_in bs a
 block_at_fate fates bs a are less = sym (get_or-map block_of_fate fates a (Word (block_of 0 Datum) []) (block_of 0 Datum) less) ∙ ap (λ xs. block_in xs a) are
 
--- The fates of a part that stands alone are those of its blocks.
+-- The fates of a part by itself are those of its blocks.
 pub part_fates : PartsStandAlone → (l : Lattice) (kn : BlockId → Bool) (bs : List BlockId) (es : List EqId) (fates : List Fate) → AreListed l bs → ArePart l kn bs es
     → TellsFates l bs es fates → map block_of_fate fates ≡ bs → All (IsFate l kn) fates
 part_fates law l kn bs es fates listed p tells are =
@@ -393,7 +393,7 @@ solved_more l kn us parts count part old new before is blocks rights = record {
   ];
 }
 
--- where the first parts are solved, as many as there are unknown blocks or more, and each of these blocks stands in
+-- where the first parts are solved, as many as there are unknown blocks or more, and each of these blocks is in
 -- one of so many parts, the fates are those of the lattice
 pub solved_all : (l : Lattice) (kn : BlockId → Bool) (us : List BlockId) (parts : List (List BlockId)) (count : ℕ) (fates : List Fate) → us ≡ unknown_blocks l kn
     → length us ≤ count → Solved l kn us parts count fates
@@ -453,7 +453,7 @@ bucket_more {A} items labels old new count k x d less inside is set_is long each
           ∙ ap (λ b. items_at (λ j. get_or labels j 0 == c) (take k items) ++ cond b (x ∷ []) []) (sym (ne_eqb (get_or labels k 0) c (λ e. other (sym e))))
     ]
 
--- the blocks of a part's fates stand where the part's blocks do
+-- the blocks of a part's fates are where the part's blocks are
 pub stand_all : (us bs : List BlockId) (fates : List Fate) → All (StandsIn us) bs → map block_of_fate fates ≡ bs → All (λ f. StandsIn us (block_of_fate f)) fates
 stand_all us bs fates stand are =
     All-from_get_or (λ f. StandsIn us (block_of_fate f)) fates (Word (block_of 0 Datum) [])

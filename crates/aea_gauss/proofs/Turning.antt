@@ -1,4 +1,4 @@
--- Turning bits of packed rows, and the row of an equation as a sum of single bits.
+-- Flipping bits of packed rows, and the row of an equation as a sum of single bits.
 use Rattle.std.proofs.Common.{◌≡◌, ◌≢◌, ℕ, ◌+◌, ◌*◌, ◌/◌, ◌%◌, ◌^◌, ◌<◌, ◌≤◌, inl, inr, Bool, false, ◌&&◌, ◌==◌, List, [], ◌∷◌, ◌++◌, length, get_or, bit_xor, Option, Some, None, MatchOption, refl, sym, ◌∙◌, ap, subst, arith}
 use Rattle.std.specs.Prelude.{nat_lt, option_map}
 use Rattle.std.specs.List.{list_any}
@@ -47,7 +47,7 @@ turned x m i less =
     ∙ ap (differ (bit_at x i == 1)) (bit_of_pow m i)
 
 -- in a row within the words, the XOR of the word that has column c with the single 1 of that column, set at the
--- word's place, turns the bit of column c alone
+-- word's place, flips the bit of column c alone
 pub turns_bit : (words : List ℕ) (begin wide c : ℕ) → begin + wide ≤ length words → c < 64 * wide
     → Turns begin wide (λ k. k == c) words (set words (begin + c / 64) (bit_xor (get_or words (begin + c / 64) 0) ((1 * 2 ^ (c % 64)) % 2 ^ 64)))
 turns_bit words begin wide c inside less =
@@ -69,7 +69,7 @@ turns_bit words begin wide c inside less =
       outside = λ k side. get_or-set_other words (begin + c / 64) k v 0 (λ e. elim side [ inl b ↦ omega arith | inr a ↦ omega arith ]);
     }
 
--- words that stay as they are have no bit turned
+-- words that stay as they are have no bit flipped
 pub turns_none : (words : List ℕ) (begin wide : ℕ) → Turns begin wide (λ k. false) words words
 turns_none words begin wide = record { long = refl; inside = λ k less. sym (differ-false_r (is_bit words begin k)); outside = λ k side. refl }
 
@@ -81,7 +81,7 @@ turns_more begin wide s t old now new before after = record {
   outside = λ k side. after.outside k side ∙ before.outside k side;
 }
 
--- where the bits of one test are turned, those of a test that agrees with it at the row's columns are
+-- where the bits of one test are flipped, those of a test that agrees with it at the row's columns are
 pub turns_same : (begin wide : ℕ) (s t : ℕ → Bool) (old new : List ℕ) → ((k : ℕ) → k < 64 * wide → s k ≡ t k) → Turns begin wide s old new → Turns begin wide t old new
 turns_same begin wide s t old new same h = record {
   long = h.long;
@@ -92,7 +92,7 @@ turns_same begin wide s t old new same h = record {
 -- ---- the listed blocks of an equation
 
 module _ (l : Lattice) (blocks : List BlockId) (listed : AreListed l blocks) where
-  -- no block stands in the list twice
+  -- no block is in the list twice
   pub once : (a c : ℕ) → a < length blocks → c < length blocks → block_in blocks a ≡ block_in blocks c → a ≡ c
   once a c a_less c_less same = elim (cases_lt a c) [
     | inl before ↦ (let up = listed.rise a c before c_less in let eq = ap (number_of l) same in absurd (omega arith))
@@ -102,7 +102,7 @@ module _ (l : Lattice) (blocks : List BlockId) (listed : AreListed l blocks) whe
     ]
   ]
 
-  -- where a list in number order has the block at place c, the test of whether it stands there passes at c alone
+  -- where a list in number order has the block at place c, the test of whether it is there passes at c alone
   pub stands_some : (b : BlockId) (c : ℕ) → c < length blocks → block_in blocks c ≡ b → (k : ℕ) → (k == c) ≡ stands blocks b k
   stands_some b c less is k = elim (cases_eq k c) [
     | inl same ↦
@@ -119,7 +119,7 @@ module _ (l : Lattice) (blocks : List BlockId) (listed : AreListed l blocks) whe
     ])
   ]
 
-  -- where no place of the list has the block, the test of whether it stands there passes nowhere
+  -- where no place of the list has the block, the test of whether it is there passes nowhere
   pub stands_none : (b : BlockId) → ((a : ℕ) → a < length blocks → block_in blocks a ≢ b) → (k : ℕ) → false ≡ stands blocks b k
   stands_none b none k = sym (elim (cases_lt k (length blocks)) [
     | inl inside ↦ elim (cases_Bool (same_block (block_in blocks k) b)) [
@@ -221,8 +221,8 @@ module _ (l : Lattice) (blocks : List BlockId) (own : ℕ) (behind : length bloc
       (turns_more begin wide (λ k. differ (differ (i k) (d k)) (o k)) c w0 w3 w4
       (turns_more begin wide (λ k. differ (i k) (d k)) o w0 w2 w3 (turns_more begin wide i d w0 w1 w2 input datum) output) column)
 
-  -- to turn, one after the other, the bits of the input, if there is one, of the datum, of the output and of a
-  -- column behind the blocks turns those of the row of an equation of the lattice that has this column
+  -- to flip, one after the other, the bits of the input, if there is one, of the datum, of the output and of a
+  -- column after the blocks flips those of the row of an equation of the lattice that has this column
   pub row_turned : (e : EqId) (begin wide : ℕ) (w0 w1 w2 w3 w4 : List ℕ) → HasEquation l e
       → (q : Option BlockId) (d o : BlockId) → q ≡ option_map (λ g. block_of g e.class) (previous l e.class e.node)
       → d ≡ block_of e.node Datum → o ≡ block_of e.node e.class

@@ -1,4 +1,4 @@
--- “Fates”: what becomes of each block that is not known. The rules of choice leave no choice.
+-- “Fates”: what happens to each block that is not known. The rules of choice leave no choice.
 use Rattle.std.specs.Prelude.{◌≡◌, Bool, not, List, filter, map, All}
 use Rattle.aea_lattice.specs.declared.blocks.BlockId.{BlockId}
 use Rattle.aea_lattice.specs.declared.grid.Lattice.{Lattice}

@@ -31,13 +31,13 @@ pub record IsRoot (parents : List ℕ) (k : ℕ) : Type 0 where
 abbrev pub Follows : (ℕ → ℕ) → List ℕ → Type 0
 Follows label parents = (k : ℕ) → k < length parents → label k ≡ label (get_or parents k 0)
 
--- Labels of places that are the same for all blocks of the list that stand in the equation.
+-- Labels of places that are the same for all blocks of the list that are in the equation.
 abbrev pub JoinsEquation : Lattice → List BlockId → EqId → (ℕ → ℕ) → Type 0
 JoinsEquation l blocks e label =
     (a b : ℕ) → a < length blocks → b < length blocks → IsTrue (is_in_equation l e (block_in blocks a)) → IsTrue (is_in_equation l e (block_in blocks b))
     → label a ≡ label b
 
--- the same for the two blocks, where both stand in the list
+-- the same for the two blocks, where both are in the list
 abbrev pub JoinsBlocks : List BlockId → BlockId → BlockId → (ℕ → ℕ) → Type 0
 JoinsBlocks blocks first second label =
     (a b : ℕ) → a < length blocks → b < length blocks → block_in blocks a ≡ first → block_in blocks b ≡ second → label a ≡ label b
@@ -46,11 +46,11 @@ JoinsBlocks blocks first second label =
 abbrev pub JoinsEach : Lattice → List BlockId → List EqId → ℕ → (ℕ → ℕ) → Type 0
 JoinsEach l blocks equations count label = (i : ℕ) → i < count → JoinsEquation l blocks (equation_in equations i) label
 
--- the label that stands at a place
+-- the label that is at a place
 abbrev pub label_at : List ℕ → ℕ → ℕ
 label_at labels k = get_or labels k 0
 
--- the label is that of each block of the list that stands in the equation
+-- the label is that of each block of the list that is in the equation
 abbrev pub IsLabelOf : Lattice → List BlockId → List ℕ → EqId → ℕ → Type 0
 IsLabelOf l blocks labels e label = (a : ℕ) → a < length blocks → IsTrue (is_in_equation l e (block_in blocks a)) → get_or labels a 0 ≡ label
 
@@ -62,7 +62,7 @@ pub record ArePart (l : Lattice) (known : BlockId → Bool) (blocks : List Block
   pub blocks_are : blocks ≡ unknown_blocks l (known_or_outside known within)
   pub equations_are : equations ≡ live_equations l (known_or_outside known within)
 
--- the block stands in the list
+-- the block is in the list
 abbrev pub StandsIn : List BlockId → BlockId → Type 0
 StandsIn blocks b = (a : ℕ) × (a < length blocks) × (block_in blocks a ≡ b)
 

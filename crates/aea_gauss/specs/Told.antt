@@ -15,7 +15,7 @@ abbrev pub AreLeads : ℕ → ℕ → (ℕ → ℕ → Bool) → List (Option �
 AreLeads rows cols m leads =
     (a : ℕ) → a < length leads → MatchOption (get_or leads a None) (IsFree rows cols m a) (λ i. (i < rows) × IsLead cols (m i) a)
 
--- where the rows tell the fates of a lattice, this is one of them
+-- where the rows show the fates of a lattice, this is one of them
 abbrev pub IsTold : List BlockId → List EqId → (ℕ → ℕ → Bool) → Fate → Type 0
 IsTold blocks equations m fate = (l : Lattice) (known : BlockId → Bool) → TellSmall l known blocks equations m → IsFate l known fate
 

@@ -16,7 +16,7 @@ pub(crate) fn set_columns(lattice: &Lattice, columns: &mut [u32], blocks: &[Bloc
     }
 }
 
-// The place of the block in the list, if it stands there.
+// The place of the block in the list, if it is there.
 pub(crate) fn find_column(
     lattice: &Lattice,
     columns: &[u32],

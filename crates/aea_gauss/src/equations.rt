@@ -1,12 +1,12 @@
-ghost use Rattle.std.specs.Prelude.{◌≡◌, ◌<◌, ◌^◌, Bool, not, ◌++◌, [], ◌∷◌, if◌then◌else◌, length, map, filter, All, IfOk, OnOk};
+ghost use Rattle.std.specs.Prelude.{◌≡◌, ◌<◌, ◌^◌, Bool, not, ◌++◌, [], ◌∷◌, if◌then◌else◌, length, All, IfOk, OnOk};
 ghost use Rattle.std.specs.List.{list_any};
-ghost use Rattle.aea_lattice.specs.Blocks.{HasBlock, classes};
-ghost use Rattle.aea_lattice.specs.Equations.{HasEquation, equation_of, equations_of};
+ghost use Rattle.aea_lattice.specs.Blocks.{HasBlock};
+ghost use Rattle.aea_lattice.specs.Equations.{HasEquation};
 ghost use Rattle.aea_view.specs.Marked.{is_marked};
 ghost use Rattle.aea_fates.specs.Live.{is_live, live_equations};
 ghost use Rattle.aea_readings.specs.Small.{unknown_blocks, AreListed};
 
-use aea_lattice::{BlockId, Class, EqId, Lattice};
+use aea_lattice::{BlockId, EqId, Lattice};
 use aea_readings::unknown_are_listed;
 use aea_view::Marks;
 use std::alloc::{AllocError, Global};
@@ -18,37 +18,6 @@ pub(crate) fn is_known(lattice: &Lattice, known: &Marks, b: BlockId) -> bool
     ensures { result ≡ is_marked known.now b }
 {
     known.get(b)
-}
-
-// Puts the equations of the node last.
-fn push_equations(lattice: &Lattice, equations: &mut Vec<EqId>, node: u32) -> Result<(), AllocError>
-    ensures { OnOk result (equations.new.items ≡ equations.old.items ++ map (equation_of node) (classes lattice.now)) }
-{
-    let class = Class::Horiz;
-    equations.push(EqId { node, class })?;
-    if lattice.alpha < 2 {
-        return Ok(());
-    }
-    let class = Class::Right;
-    equations.push(EqId { node, class })?;
-    if lattice.alpha < 3 {
-        return Ok(());
-    }
-    let class = Class::Left;
-    equations.push(EqId { node, class })?;
-    Ok(())
-}
-
-// The equations of the lattice, in equation order.
-pub(crate) fn all_equations(alloc: Global, lattice: &Lattice) -> Result<Vec<EqId>, AllocError>
-    ensures all { IfOk result (λ equations. equations.items ≡ equations_of lattice.now) }
-    ensures inside { IfOk result (λ equations. All (HasEquation lattice.now) equations.items) }
-{
-    let mut equations = Vec::new(alloc);
-    for node in 1..lattice.n + 1 {
-        push_equations(lattice, &mut equations, node)?;
-    }
-    Ok(equations)
 }
 
 // Whether one of the two blocks is not known.
@@ -103,7 +72,7 @@ pub(crate) fn live_equations(
     ensures inside { IfOk result (λ live. All (HasEquation lattice.now) live.items) }
     ensures few { IfOk result (λ live. length live.items < 2 ^ 23) }
 {
-    let all = all_equations(alloc, lattice)?;
+    let all = lattice.equations(alloc)?;
     let mut live = Vec::new(alloc);
     for e in all.as_slice() {
         keep_live(lattice, known, &mut live, *e)?;

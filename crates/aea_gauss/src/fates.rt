@@ -12,7 +12,7 @@ use aea_view::Marks;
 use std::alloc::{AllocError, Global};
 use std::marker::Model;
 
-/// What becomes of a block that is not known: the sum of equations that gives it from known blocks, or the nodes of
+/// What happens to a block that is not known: the sum of equations that gives it from known blocks, or the nodes of
 /// a codeword that contains it and no known block.
 #[derive(Debug, Drop)]
 pub enum Fate {
@@ -71,7 +71,7 @@ impl FateList {
         self.items.get(k)
     }
 
-    /// Puts the fate last. After want of memory nothing changed.
+    /// Puts the fate last. If memory runs out, nothing has changed.
     pub fn push(&mut self, fate: Fate) -> Result<(), AllocError>
         ensures ok { OnOk result (self.new ≡ self.old ++ fate ∷ []) }
         ensures err { OnErr result (self.new ≡ self.old) }
@@ -99,7 +99,7 @@ impl FateList {
 /// The fate of each block that is not marked, in number order. Part by part: blocks that an equation has together are in
 /// one part, and each part has an elimination of its own. Beside the fates it takes 8 bytes for each block of the lattice,
 /// some 150 bytes for each block that is not marked, some 16 bytes for each equation, and the rows of one part at a time:
-/// of b blocks and e equations, (b + e) bits for each of the e equations. An error is want of memory.
+/// of b blocks and e equations, (b + e) bits for each of the e equations. An error means that memory ran out.
 pub fn solve(alloc: Global, lattice: &Lattice, known: &Marks) -> Result<FateList, AllocError>
     requires same { known.now.lattice ≡ lattice.now }
     ensures { IfOk result (λ fates. AreFates lattice.now (is_marked known.now) fates) }

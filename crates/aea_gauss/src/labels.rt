@@ -59,7 +59,7 @@ fn join(parents: &mut [u32], a: usize, b: usize)
     }
 }
 
-// Makes one chain of those of two blocks, if both stand in the list.
+// Makes one chain of those of two blocks, if both are in the list.
 fn join_blocks(
     parents: &mut [u32],
     lattice: &Lattice,
@@ -87,7 +87,7 @@ fn join_blocks(
     }
 }
 
-// Makes one chain of those of the input and a block, if there is an input and both stand in the list.
+// Makes one chain of those of the input and a block, if there is an input and both are in the list.
 fn join_input(
     parents: &mut [u32],
     lattice: &Lattice,
@@ -113,7 +113,7 @@ fn join_input(
     }
 }
 
-// Makes one chain of those of the blocks of the equation that stand in the list.
+// Makes one chain of those of the blocks of the equation that are in the list.
 fn join_equation(
     parents: &mut [u32],
     lattice: &Lattice,
@@ -137,7 +137,7 @@ fn join_equation(
     join_blocks(parents, lattice, columns, blocks, q.datum, q.output);
 }
 
-// Makes one chain of those of the blocks of each equation that stand in the list.
+// Makes one chain of those of the blocks of each equation that are in the list.
 fn join_each(
     parents: &mut [u32],
     lattice: &Lattice,
@@ -184,7 +184,7 @@ fn own_labels(alloc: Global, count: usize) -> Result<Vec<u32>, AllocError>
     Ok(labels)
 }
 
-// Makes labels of parents: one for all blocks of an equation that stand in the list.
+// Makes labels of parents: one for all blocks of an equation that are in the list.
 fn label_blocks(
     labels: &mut [u32],
     lattice: &Lattice,
@@ -227,7 +227,7 @@ pub(crate) fn block_labels(
     Ok(labels)
 }
 
-// The place of one of two blocks, if one stands in the list.
+// The place of one of two blocks, if one is in the list.
 fn find_either(
     lattice: &Lattice,
     columns: &[u32],
@@ -249,7 +249,7 @@ fn find_either(
     }
 }
 
-// The place of a block of the equation, if one stands in the list.
+// The place of a block of the equation, if one is in the list.
 fn find_in_equation(
     lattice: &Lattice,
     columns: &[u32],
@@ -272,7 +272,7 @@ fn find_in_equation(
     }
 }
 
-// The label of the equation's blocks that stand in the list.
+// The label of the equation's blocks that are in the list.
 fn equation_label(
     lattice: &Lattice,
     columns: &[u32],
@@ -296,7 +296,7 @@ fn equation_label(
     }
 }
 
-// The label of each equation: that of its blocks that stand in the list.
+// The label of each equation: that of its blocks that are in the list.
 pub(crate) fn equation_labels(
     alloc: Global,
     lattice: &Lattice,

@@ -2,7 +2,7 @@ ghost use Rattle.std.specs.Prelude.{◌≡◌, ℕ, ◌+◌, ◌*◌, ◌<◌, �
 ghost use Rattle.aea_gauss_words.specs.Words.{bit_matrix};
 ghost use Rattle.aea_gauss.specs.Told.{AreLeads};
 
-use aea_gauss_words::rows::lead;
+use aea_gauss_words::lead;
 use std::alloc::{AllocError, Global};
 
 // Notes the row at its least column, if that is one of the columns.

@@ -1,4 +1,4 @@
-//! Elimination over the field of two elements: what becomes of each block that is not known, as a sum of equations or
+//! Elimination over the field of two elements: what happens to each block that is not known, as a sum of equations or
 //! as a codeword.
 //!
 //! Promises to the layers above that `solve` gives each block that is not marked its fate, in number order: the listed
@@ -12,9 +12,9 @@
 mod buckets;
 mod columns;
 mod equations;
-pub mod fates;
+mod fates;
 mod labels;
-pub mod laws;
+mod laws;
 mod leads;
 mod parts;
 mod read;

@@ -116,7 +116,7 @@ fn put_all(
     }
 }
 
-// Puts the fates of the blocks of a part at their places. The scratch is room for a number each block of the lattice.
+// Puts the fates of the blocks of a part at their places. The scratch is space for one number per block of the lattice.
 pub(crate) fn solve_part(
     alloc: Global,
     lattice: &Lattice,

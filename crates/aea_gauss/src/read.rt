@@ -8,7 +8,7 @@ ghost use Rattle.aea_gauss.specs.Fates.{block_of_fate};
 ghost use Rattle.aea_gauss.specs.Told.{AreLeads, IsTold};
 
 use crate::fates::{Fate, FateList};
-use aea_gauss_words::rows::has;
+use aea_gauss_words::has;
 use aea_lattice::{BlockId, Class, EqId, EqList, NodeList};
 use std::alloc::{AllocError, Global};
 
@@ -114,7 +114,7 @@ fn read_nodes(
     Ok(nodes)
 }
 
-// The equations of the row that begins at `begin`, in equation order, behind so many blocks.
+// The equations of the row that begins at `begin`, in equation order, after so many blocks.
 fn read_equations(
     alloc: Global,
     words: &[u64],
@@ -135,7 +135,7 @@ fn read_equations(
     Ok(list)
 }
 
-// The fate of the block at a place, as the reduced rows tell it.
+// The fate of the block at a place, as the reduced rows show it.
 fn read_fate(
     alloc: Global,
     words: &[u64],
@@ -174,7 +174,7 @@ fn read_fate(
     }
 }
 
-// The fates of all blocks of the list, as the reduced rows tell them.
+// The fates of all blocks of the list, as the reduced rows show them.
 pub(crate) fn read_all(
     alloc: Global,
     words: &[u64],

@@ -10,7 +10,7 @@ use crate::columns::find_column;
 use aea_lattice::{BlockId, EqId, Lattice};
 use std::alloc::{AllocError, Global};
 
-// Turns the bit of the column in the row that begins at `begin`.
+// Flips the bit of the column in the row that begins at `begin`.
 fn turn(words: &mut [u64], begin: usize, wide: usize, column: usize)
     requires inside { begin + wide ≤ length words.old }
     requires column { column < 64 * wide }
@@ -19,7 +19,7 @@ fn turn(words: &mut [u64], begin: usize, wide: usize, column: usize)
     words[begin + column / 64] ^= 1 << (column % 64);
 }
 
-// Turns the bit of the block, if it stands in the list.
+// Flips the bit of the block, if it is in the list.
 fn turn_block(
     words: &mut [u64],
     begin: usize,
@@ -43,7 +43,7 @@ fn turn_block(
     }
 }
 
-// Turns the bit of the input, if there is one and it stands in the list.
+// Flips the bit of the input, if there is one and it is in the list.
 fn turn_input(
     words: &mut [u64],
     begin: usize,

@@ -46,7 +46,7 @@ fn reduced_rows(
 }
 
 // The fates of some blocks by some equations: those of the lattice where these are all blocks that are not known, and
-// all equations that have one. The columns are room for a number each block of the lattice.
+// all equations that have one. The columns are space for one number per block of the lattice.
 pub(crate) fn solve_small(
     alloc: Global,
     lattice: &Lattice,

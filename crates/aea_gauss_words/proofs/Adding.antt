@@ -25,7 +25,7 @@ within_high a b x high = ap (λ t. not (nat_lt x a) && t) (le-ltb x b high) ∙ 
     and-no true = refl
     and-no false = refl
 
--- where a number stands
+-- where a number lies
 pub data Side (a b x : ℕ) : Type 0 where
   low : x < a → within a b x ≡ false → Side a b x
   inner : a ≤ x → x < b → within a b x ≡ true → Side a b x
@@ -42,7 +42,7 @@ side a b x = elim (cases_lt x a) [
 
 -- ---- the sums that are added to one row more
 
--- a word of another row stands apart from a run of a row's words
+-- a word of another row lies apart from a run of a row's words
 row_apart : (wide r q w at len : ℕ) → r ≢ q → w < wide → at + len ≤ wide → (r * wide + w < q * wide + at) ⊎ (q * wide + at + len ≤ r * wide + w)
 row_apart wide r q w at len other less inside = elim (cases_lt r q) [
   | inl before ↦ (let m : (r + 1) * wide ≤ q * wide = (let s : r + 1 ≤ q = omega arith in mul-le-mul_right wide s) in inl (omega arith))
@@ -180,7 +180,7 @@ part_all rows wide lo leads from to at old new all part r w r_less less =
     and-true true = refl
     and-true false = refl
 
--- where no word of a row stands between
+-- where no word of a row lies between
 part_on : (rows wide lo : ℕ) (leads : List (Option ℕ)) (from to a b : ℕ) (old new : List ℕ) → ((a ≡ b) ⊎ (wide ≤ a) × (wide ≤ b)) → AddsPart rows wide lo leads from to a old new
     → AddsPart rows wide lo leads from to b old new
 part_on rows wide lo leads from to a b old new (inl same) part = subst (λ x. AddsPart rows wide lo leads from to x old new) same part

@@ -57,7 +57,7 @@ pow_small (suc (suc (suc (suc (suc (suc zero)))))) less = omega arith
 pow_small (suc (suc (suc (suc (suc (suc (suc zero))))))) less = omega arith
 pow_small (suc (suc (suc (suc (suc (suc (suc (suc s)))))))) less = absurd (omega arith)
 
--- the sums of the first rows stand in the table
+-- the sums of the first rows are in the table
 pub record Filling (base n len : ℕ) (row : ℕ → ℕ → ℕ) (old new : List ℕ) : Type 0 where
   pub long : length new ≡ length old
   pub kept : (k : ℕ) → (k < base) ⊎ (base + 16384 ≤ k) → get_or new k 0 ≡ get_or old k 0
@@ -70,8 +70,8 @@ filling_none base len row old new short sets = record {
   sums = λ picks k less. (let at : base + 0 * 64 + k ≡ base + k = omega arith in ap (λ i. get_or new i 0) at ∙ sets.inside k less);
 }
 
--- where the sums of n rows stand in the table, n below 8, and behind them are put those with row n added,
--- the sums of n + 1 rows stand in it
+-- where the sums of n rows are in the table, n below 8, and after them are put those with row n added,
+-- the sums of n + 1 rows are in it
 pub filling_more : (base n len size begin : ℕ) (row : ℕ → ℕ → ℕ) (words old now new : List ℕ) → n < 8 → len ≤ 64 → size ≡ 2 ^ n → size ≤ 128 → Filling base n len row old now
     → length new ≡ length now
     → ((k : ℕ) → (k < base + size * 64) ⊎ (base + 2 * size * 64 ≤ k) → get_or new k 0 ≡ get_or now k 0)
@@ -108,7 +108,7 @@ table_kept base len row old new short kept is picks k less =
     let low = place_below picks 8 in
     kept (base + place_of picks 8 * 64 + k) (omega arith) (omega arith) ∙ is picks k less
 
--- where the first t tables stand, table t does now, and nothing outside it changed, the first t + 1 stand
+-- where the first t tables are in place, table t is now, and nothing outside it changed, the first t + 1 are in place
 pub tables_more : (row : ℕ → ℕ → ℕ → ℕ) (len t : ℕ) (old new : List ℕ) → len ≤ 64
     → ((k : ℕ) → (k < t * 16384) ⊎ (t * 16384 + 16384 ≤ k) → get_or new k 0 ≡ get_or old k 0)
     → IsTable (t * 16384) 8 len (row t) new → ((u : ℕ) → u < t → IsTable (u * 16384) 8 len (row u) old)

@@ -42,7 +42,7 @@ has_lead wide words r (Some c) = is_bit words (r * wide) c
 abbrev pub within : ℕ → ℕ → ℕ → Bool
 within a b x = not (nat_lt x a) && nat_lt x b
 
--- whether row s of the group is to be added to row r: it stands outside and has that row's least column
+-- whether row s of the group is to be added to row r: it is outside and has that row's least column
 abbrev pub is_hit : ℕ → List ℕ → ℕ → List (Option ℕ) → ℕ → ℕ → Bool
 is_hit wide words lo leads r s = not (within lo (lo + 32) r) && has_lead wide words r (get_or leads s None)
 

@@ -33,7 +33,7 @@ fn pick(words: &[u64], wide: usize, row: usize, leads: &[Option<usize>], t: usiz
     place
 }
 
-// The place in table t of those of its eight rows that are to be added to this row: none where it stands in the group.
+// The place in table t of those of its eight rows that are to be added to this row: none where it is in the group.
 fn group_pick(
     words: &[u64],
     wide: usize,

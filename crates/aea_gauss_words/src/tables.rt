@@ -13,7 +13,7 @@ fn clear_entry(table: &mut [u64], base: usize, len: usize)
     }
 }
 
-// Puts behind the first entries of a table as many more: each with the row from `begin` on added.
+// Puts after the first entries of a table as many more: each with the row from `begin` on added.
 fn double_entries(
     table: &mut [u64],
     base: usize,

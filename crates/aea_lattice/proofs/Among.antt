@@ -1,16 +1,17 @@
--- Blocks in lists: those of a lattice, and those that pass a test.
-use Rattle.std.proofs.Common.{◌≡◌, suc, Bool, true, List, [], ◌∷◌, filter, All, IsTrue, refl, sym, ◌∙◌, subst, arith, inl, inr}
+-- Blocks and equations in lists: those of a lattice, and blocks that pass a test.
+use Rattle.std.proofs.Common.{◌≡◌, ℕ, suc, ◌≤◌, Bool, true, List, [], ◌∷◌, filter, All, IsTrue, refl, sym, ◌∙◌, subst, arith, inl, inr}
 use Rattle.std.proofs.lemmas.Bool.{cases_Bool, or_cases, or_left, or_right, false≢true}
 use Rattle.std.proofs.lemmas.List.Elements.{All-nil, All-cons}
 use Rattle.aea_lattice.specs.declared.blocks.BlockId.{BlockId}
+use Rattle.aea_lattice.specs.declared.grid.Lattice.{Lattice}
 use Rattle.aea_lattice.specs.Blocks.{same_block, HasBlock, blocks_of}
-use Rattle.aea_lattice.specs.Equations.{is_odd_count}
+use Rattle.aea_lattice.specs.Equations.{HasEquation, equations_to, is_odd_count}
 use Rattle.aea_lattice.specs.Closure.{is_among}
 use Rattle.aea_lattice.specs.Facts.{BlocksAreInside, PassingAreAmong}
 use Rattle.aea_lattice.proofs.Equations.{same_block-equal}
 use Rattle.aea_lattice.proofs.Derivations.{among-filter}
 use Rattle.aea_lattice.proofs.Odd.{odd-cons, Each}
-use Rattle.aea_lattice.proofs.Once.{block_once, each-blocks_of}
+use Rattle.aea_lattice.proofs.Once.{block_once, each-blocks_of, each-equations_to}
 
 -- what holds of each item by recursion on the list (`Each`) holds of all its items (`All`)
 pub Each-All : {A : Type 0} → (P : A → Type 0) (xs : List A) → Each P xs → All P xs
@@ -26,6 +27,10 @@ All-Each P (x ∷ xs) all = (all 0 x (omega arith), All-Each P xs (λ k d inside
 pub blocks-inside : BlocksAreInside
 blocks-inside l = Each-All (HasBlock l) (blocks_of l) (each-blocks_of l)
 
+-- the equations of the nodes 1 to i are equations of the lattice, where it has so many nodes
+pub equations_inside : (l : Lattice) (i : ℕ) → i ≤ l.n → All (HasEquation l) (equations_to l i)
+equations_inside l i most = Each-All (HasEquation l) (equations_to l i) (each-equations_to l i most)
+
 -- an item of a list has what each item has
 pub among-each : (P : BlockId → Type 0) (bs : List BlockId) (b : BlockId) → Each P bs → is_among bs b ≡ true → P b
 among-each P [] b each h = absurd (false≢true h)
@@ -34,7 +39,7 @@ among-each P (d ∷ ds) b each h = elim (or_cases (same_block b d) (is_among ds 
   | inr there ↦ among-each P ds b each.1 there
 ]
 
--- what stands in a list an odd number of times stands in it
+-- what is in a list an odd number of times is in it
 among-odd : (bs : List BlockId) (b : BlockId) → is_odd_count (same_block b) bs ≡ true → is_among bs b ≡ true
 among-odd [] b odd = absurd (false≢true odd)
 among-odd (d ∷ ds) b odd = elim (cases_Bool (same_block b d)) [

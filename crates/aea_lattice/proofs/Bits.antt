@@ -31,7 +31,7 @@ bit_test (suc zero) (suc zero) hx hy = refl
 bit_test (suc zero) (suc (suc y)) hx hy = absurd (omega arith)
 bit_test (suc (suc x)) y hx hy = absurd (omega arith)
 
--- what stands at a place of the XOR of two lists of one width is the XOR of what stands there in the two
+-- what is at a place of the XOR of two lists of one width is the XOR of what is there in the two
 -- (0 past the end)
 pub get_or-xor : (xs ys : List ℕ) (j : ℕ) → length xs ≡ length ys → get_or (xor_bytes xs ys) j 0 ≡ bit_xor (get_or xs j 0) (get_or ys j 0)
 get_or-xor [] [] j long = refl

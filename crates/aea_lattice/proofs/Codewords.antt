@@ -28,7 +28,7 @@ codeword-parity l nodes i Horiz h = refl
 codeword-parity l nodes i Right h = refl
 codeword-parity l nodes i Left h = refl
 
--- where g stands just before i on a strand, the codeword of a set contains the parity of i exactly where it
+-- where g is just before i on a strand, the codeword of a set contains the parity of i exactly where it
 -- contains that of g or i is in the set, but not both
 pub codeword-after : (l : Lattice) (nodes : ℕ → Bool) (i g : ℕ) (c : Class) → 1 ≤ class_number c → previous l c i ≡ Some g
     → codeword_at l nodes i c ≡ differ (codeword_at l nodes g c) (nodes i)

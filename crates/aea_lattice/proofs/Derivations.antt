@@ -18,11 +18,11 @@ among-append_left xs ys d h = list_any-append (same_block d) xs ys ∙ or_left (
 pub among-append_right : (xs ys : List BlockId) (d : BlockId) → is_among ys d ≡ true → is_among (xs ++ ys) d ≡ true
 among-append_right xs ys d h = list_any-append (same_block d) xs ys ∙ or_right (is_among xs d) (is_among ys d) h
 
--- a block stands in each list that begins with it
+-- a block is in each list that begins with it
 pub among-first : (xs : List BlockId) (d : BlockId) → is_among (d ∷ xs) d ≡ true
 among-first xs d = or_left (same_block d d) (is_among xs d) (same_block-refl d)
 
--- what stands in a list of blocks stands in it too with one more block in front
+-- what is in a list of blocks is in it too with one more block in front
 pub among-rest : (x : BlockId) (xs : List BlockId) (d : BlockId) → is_among xs d ≡ true → is_among (x ∷ xs) d ≡ true
 among-rest x xs d h = or_right (same_block d x) (is_among xs d) h
 
@@ -34,7 +34,7 @@ among_cases x xs d h =
       | inr rest ↦ inr rest
     ]
 
--- a block that stands in a list and is in a set stands among those of the list that are in the set
+-- a block that is in a list and in a set is among those of the list that are in the set
 pub among-filter : (known : BlockId → Bool) (xs : List BlockId) (d : BlockId) → is_among xs d ≡ true → known d ≡ true
     → is_among (filter known xs) d ≡ true
 among-filter known [] d h k = absurd (false≢true h)

@@ -133,7 +133,7 @@ any_input (Some j) k e p h i =
     let same : j ≡ k = cc in
     or_left (p (block_of j e.class)) (p (block_of e.node Datum) || (p (block_of e.node e.class) || false)) (subst (λ x. p (block_of x e.class) ≡ true) (sym same) i)
 
--- every block that stands in an equation is its datum, its output or its input
+-- every block that is in an equation is its datum, its output or its input
 pub member : (l : Lattice) (e : EqId) (d : BlockId) → IsTrue (is_in_equation l e d) → Member l e d
 member l e d h =
     elim (among_all (previous l e.class e.node) e (same_block d) h) [
@@ -142,15 +142,15 @@ member l e d h =
       | input g was s ↦ input g was (same_block-equal d (block_of g e.class) s)
     ]
 
--- the datum of an equation stands in it
+-- the datum of an equation is in it
 pub datum_in : (l : Lattice) (e : EqId) → IsTrue (is_in_equation l e (block_of e.node Datum))
 datum_in l e = any_two (previous l e.class e.node) e (same_block (block_of e.node Datum)) (two_datum e (same_block (block_of e.node Datum)) (same_block-refl (block_of e.node Datum)))
 
--- the output of an equation stands in it
+-- the output of an equation is in it
 pub output_in : (l : Lattice) (e : EqId) → IsTrue (is_in_equation l e (block_of e.node e.class))
 output_in l e = any_two (previous l e.class e.node) e (same_block (block_of e.node e.class)) (two_output e (same_block (block_of e.node e.class)) (same_block-refl (block_of e.node e.class)))
 
--- the input of an equation, where it has one, stands in it
+-- the input of an equation, where it has one, is in it
 pub input_in : (l : Lattice) (e : EqId) (g : ℕ) → previous l e.class e.node ≡ Some g → IsTrue (is_in_equation l e (block_of g e.class))
 input_in l e g was = any_input (previous l e.class e.node) g e (same_block (block_of g e.class)) was (same_block-refl (block_of g e.class))
 

@@ -1,4 +1,4 @@
--- What no fence parts from a node stands after the greatest fence below it.
+-- What no fence parts from a node is after the greatest fence below it.
 use Rattle.std.proofs.Common.{◌≡◌, ℕ, suc, ◌<◌, ◌↔◌, Bool, true, false, nat_le, List, [], ◌∷◌, inl, inr, sym, ◌∙◌, arith, refl}
 use Rattle.std.proofs.lemmas.Bool.{and_cases, and_left, and_right, false≢true, leb-false, lt-leb}
 use Rattle.aea_lattice.specs.Fences.{is_parted}

@@ -20,3 +20,7 @@ pub mod Bits
 pub mod SetSums
 pub mod Codewords
 pub mod Words
+pub mod OneLattice
+pub mod BlockAt
+pub mod GreatestBelow
+pub mod OneWord

@@ -44,7 +44,7 @@ row-node_at s c r below =
     let e : c * s + r + 1 - 1 ≡ c * s + r = omega arith in
     ap (λ x. x % s) e ∙ mod-mul-add c s r below
 
--- a node stands in its column and row
+-- a node is in its column and row
 pub node_at-coordinates : (s k : ℕ) → 1 ≤ k → node_at s ((k - 1) / s) ((k - 1) % s) ≡ k
 node_at-coordinates s k first = let e : (k - 1) / s * s + (k - 1) % s ≡ k - 1 = div-add-mod' (k - 1) s in omega arith
 
@@ -69,17 +69,17 @@ strand_of-node_at l c a r below =
     ∙ ap (λ x. strand_at c l.p x (row l (node_at l.s a r))) (column-node_at l.s a r below)
     ∙ ap (λ x. strand_at c l.p a x) (row-node_at l.s a r below)
 
--- no place of the strand of (b,t) stands between (a,r) and (b,t)
+-- no place of the strand of (b,t) lies between (a,r) and (b,t)
 abbrev pub NoneBetween : Class → ℕ → ℕ → ℕ → ℕ → ℕ → ℕ → Type 0
 NoneBetween c s p a r b t =
     (x y : ℕ) → y < s → a * s + r < x * s + y → x * s + y < b * s + t → strand_at c p x y ≡ strand_at c p b t → ⊥
 
--- no place of the strand of (b,t) stands before (b,t)
+-- no place of the strand of (b,t) lies before (b,t)
 abbrev pub NoneBefore : Class → ℕ → ℕ → ℕ → ℕ → Type 0
 NoneBefore c s p b t =
     (x y : ℕ) → y < s → x * s + y < b * s + t → strand_at c p x y ≡ strand_at c p b t → ⊥
 
--- on Horiz, no place of the strand of (a + 1,r) stands between (a,r) and it
+-- on Horiz, no place of the strand of (a + 1,r) lies between (a,r) and it
 pub horiz-between : (s p a r : ℕ) → r < s → NoneBetween Horiz s p a r (a + 1) r
 horiz-between s p a r below x y hy low high same =
     elim (lexicographic s a r x y below hy low) [
@@ -90,7 +90,7 @@ horiz-between s p a r below x y hy low high same =
       | inr f ↦ let ft = f.1 in omega arith
     ]
 
--- on Horiz, no place of the strand of (0,r) stands before it
+-- on Horiz, no place of the strand of (0,r) lies before it
 pub horiz-before : (s p r : ℕ) → r < s → NoneBefore Horiz s p 0 r
 horiz-before s p r below x y hy high same =
     elim (lexicographic s x y 0 r hy below high) [
@@ -98,7 +98,7 @@ horiz-before s p r below x y hy high same =
       | inr g ↦ let gt = g.1 in omega arith
     ]
 
--- on Right with s ≤ p, no place of the strand of (a + 1,r + 1) stands between (a,r) and it
+-- on Right with s ≤ p, no place of the strand of (a + 1,r + 1) lies between (a,r) and it
 pub right-between : (s p a r : ℕ) → s ≤ p → r + 1 < s → NoneBetween Right s p a r (a + 1) (r + 1)
 right-between s p a r le below x y hy low high same =
     elim (lexicographic s a r x y (omega arith) hy low) [
@@ -113,7 +113,7 @@ right-between s p a r le below x y hy low high same =
           apart p (x + (p - y)) (a + 1 + (p - (r + 1))) (omega arith) (omega arith) same
     ]
 
--- on Right with s ≤ p, no place of the strand of (b,0) stands between (a,s - 1) and it, where b + s = a + p + 1
+-- on Right with s ≤ p, no place of the strand of (b,0) lies between (a,s - 1) and it, where b + s = a + p + 1
 pub right-between_top : (s p a b : ℕ) → 1 ≤ s → s ≤ p → b + s ≡ a + p + 1 → NoneBetween Right s p a (s - 1) b 0
 right-between_top s p a b some le turn x y hy low high same =
     elim (lexicographic s a (s - 1) x y (omega arith) hy low) [
@@ -124,7 +124,7 @@ right-between_top s p a b some le turn x y hy low high same =
       | inr f ↦ let ft = f.1 in omega arith
     ]
 
--- on Right with s ≤ p, no place of the strand of (0,r) stands before it
+-- on Right with s ≤ p, no place of the strand of (0,r) lies before it
 pub right-before : (s p r : ℕ) → s ≤ p → r < s → NoneBefore Right s p 0 r
 right-before s p r le below x y hy high same =
     elim (lexicographic s x y 0 r hy below high) [
@@ -134,7 +134,7 @@ right-before s p r le below x y hy high same =
           apart p (0 + (p - r)) (x + (p - y)) (omega arith) (omega arith) (sym same)
     ]
 
--- on Right with s ≤ p, no place of the strand of (b,0) stands before it, for b from 0 to p - s
+-- on Right with s ≤ p, no place of the strand of (b,0) lies before it, for b from 0 to p - s
 pub right-before_top : (s p b : ℕ) → 1 ≤ s → s ≤ p → b + s ≤ p → NoneBefore Right s p b 0
 right-before_top s p b some le near x y hy high same =
     elim (lexicographic s x y b 0 hy (omega arith) high) [
@@ -142,7 +142,7 @@ right-before_top s p b some le near x y hy high same =
       | inr g ↦ let gt = g.1 in omega arith
     ]
 
--- on Left with s ≤ p, no place of the strand of (a + 1,r) stands between (a,r + 1) and it
+-- on Left with s ≤ p, no place of the strand of (a + 1,r) lies between (a,r + 1) and it
 pub left-between : (s p a r : ℕ) → s ≤ p → r + 1 < s → NoneBetween Left s p a (r + 1) (a + 1) r
 left-between s p a r le below x y hy low high same =
     elim (lexicographic s a (r + 1) x y below hy low) [
@@ -157,7 +157,7 @@ left-between s p a r le below x y hy low high same =
           apart p (a + 1 + r) (x + y) (omega arith) (omega arith) (sym same)
     ]
 
--- on Left with s ≤ p, no place of the strand of (b,s - 1) stands between (a,0) and it, where b + s = a + p + 1
+-- on Left with s ≤ p, no place of the strand of (b,s - 1) lies between (a,0) and it, where b + s = a + p + 1
 pub left-between_bottom : (s p a b : ℕ) → 1 ≤ s → s ≤ p → b + s ≡ a + p + 1 → NoneBetween Left s p a 0 b (s - 1)
 left-between_bottom s p a b some le turn x y hy low high same =
     elim (lexicographic s a 0 x y (omega arith) hy low) [
@@ -171,7 +171,7 @@ left-between_bottom s p a b some le turn x y hy low high same =
       ]
     ]
 
--- on Left with s ≤ p, no place of the strand of (0,r) stands before it
+-- on Left with s ≤ p, no place of the strand of (0,r) lies before it
 pub left-before : (s p r : ℕ) → s ≤ p → r < s → NoneBefore Left s p 0 r
 left-before s p r le below x y hy high same =
     elim (lexicographic s x y 0 r hy below high) [
@@ -179,7 +179,7 @@ left-before s p r le below x y hy high same =
       | inr g ↦ let ge = g.0 in let gt = g.1 in apart p (x + y) (0 + r) (omega arith) (omega arith) same
     ]
 
--- on Left with s ≤ p, no place of the strand of (b,s - 1) stands before it, for b from 0 to p - s
+-- on Left with s ≤ p, no place of the strand of (b,s - 1) lies before it, for b from 0 to p - s
 pub left-before_bottom : (s p b : ℕ) → 1 ≤ s → s ≤ p → b + s ≤ p → NoneBefore Left s p b (s - 1)
 left-before_bottom s p b some le near x y hy high same =
     elim (lexicographic s x y b (s - 1) hy (omega arith) high) [

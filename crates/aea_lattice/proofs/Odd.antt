@@ -1,7 +1,7 @@
 -- Odd counts: a parity of a sum of tests is the sum of their parities.
-use Rattle.std.proofs.Common.{◌≡◌, ℕ, ◌+◌, ◌%◌, Bool, true, false, not, ◌&&◌, ◌==◌, cond, count_by, List, [], ◌∷◌, ◌++◌, map, filter, refl, sym, ◌∙◌, ap, arith, inl, inr}
+use Rattle.std.proofs.Common.{◌≡◌, ℕ, ◌+◌, ◌%◌, Bool, true, false, not, ◌&&◌, ◌==◌, cond, count_by, List, [], ◌∷◌, ◌++◌, map, filter, refl, sym, ◌∙◌, ap, arith, ◌⊎◌, inl, inr}
 use Rattle.std.proofs.lemmas.List.Sums.{sum_by-cons}
-use Rattle.std.proofs.lemmas.Bool.{cases_eq, eq-eqb, ne_eqb, cases_Bool, cond-true, cond-false}
+use Rattle.std.proofs.lemmas.Bool.{cases_eq, eq-eqb, ne_eqb, cases_Bool, cond-true, cond-false, true≢false}
 use Rattle.aea_lattice.specs.Equations.{is_odd_count}
 use Rattle.aea_lattice.specs.Parity.{differ}
 
@@ -166,3 +166,28 @@ pub odd-same : {A : Type 0} → (p q : A → Bool) (xs : List A) → Each (λ x.
 odd-same p q [] h = refl
 odd-same p q (x ∷ xs) h =
     odd-cons p x xs ∙ ap (λ a. differ a (is_odd_count p xs)) h.0 ∙ ap (differ (q x)) (odd-same p q xs h.1) ∙ sym (odd-cons q x xs)
+
+-- two tests that agree on each item of a list keep the same items
+pub filter_each : {A : Type 0} → (p q : A → Bool) (xs : List A) → Each (λ x. p x ≡ q x) xs → filter p xs ≡ filter q xs
+filter_each p q [] h = refl
+filter_each p q (x ∷ xs) h =
+    elim (cases_Bool (q x)) [
+      | inl yes' ↦ (let px : p x ≡ true = h.0 ∙ yes' in rw (px, yes') (ap (λ ys. x ∷ ys) (filter_each p q xs h.1)))
+      | inr no' ↦ (let px : p x ≡ false = h.0 ∙ no' in rw (px, no') (filter_each p q xs h.1))
+    ]
+
+-- where a sum modulo 2 is true, one of its two parts is
+pub differ_one : (a b : Bool) → differ a b ≡ true → (a ≡ true) ⊎ (b ≡ true)
+differ_one true b h = inl refl
+differ_one false b h = inr h
+
+-- where it is false, the two are equal
+pub differ-equal : (a b : Bool) → differ a b ≡ false → a ≡ b
+differ-equal true true h = refl
+differ-equal true false h = absurd (true≢false h)
+differ-equal false true h = absurd (true≢false h)
+differ-equal false false h = refl
+
+-- and where both are true, it is false
+pub differ_both : (a b : Bool) → a ≡ true → b ≡ true → differ a b ≡ false
+differ_both a b ha hb = ap (λ x. differ x b) ha ∙ ap not hb

@@ -1,4 +1,4 @@
--- Each block and each equation of a lattice stands once in its list.
+-- Each block and each equation of a lattice is once in its list.
 use Rattle.std.proofs.Common.{◌≡◌, ℕ, zero, suc, ◌≤◌, ◌⊎◌, Bool, true, false, ◌&&◌, ◌||◌, ◌==◌, List, [], ◌∷◌, ◌++◌, map, filter, refl, sym, ◌∙◌, ap, subst, arith, inl, inr}
 use Rattle.std.specs.Prelude.{nat_le}
 use Rattle.std.proofs.lemmas.Bool.{cases_eq, cases_lt, eq-eqb, ne_eqb, eqb-true, cases_Bool, and_parts, le-leb, lt-leb, leb-true}
@@ -126,7 +126,7 @@ once_parity alpha c (inl e) parity used = subst (λ n. is_odd_count (λ d. class
 once_parity alpha c (inr (inl e)) parity used = subst (λ n. is_odd_count (λ d. class_number c == class_number d) (classes_of n) ≡ true) (sym e) (once_parity_2 c parity (omega arith))
 once_parity alpha c (inr (inr e)) parity used = subst (λ n. is_odd_count (λ d. class_number c == class_number d) (classes_of n) ≡ true) (sym e) (once_parity_3 c parity)
 
--- a block of the lattice stands in the list of blocks an odd number of times
+-- a block of the lattice is in the list of blocks an odd number of times
 pub block_once : (l : Lattice) (c : BlockId) → HasBlock l c → is_odd_count (same_block c) (blocks_of l) ≡ true
 block_once l c h =
     ap (is_odd_count (same_block c)) (blocks-items l l.n)
@@ -134,7 +134,7 @@ block_once l c h =
     (once_class l.alpha c.class (one_to_three l) h.used) h.first
     ∙ le-leb c.node l.n h.last
 
--- an equation of the lattice stands in the list of equations an odd number of times
+-- an equation of the lattice is in the list of equations an odd number of times
 pub equation_once : (l : Lattice) (e : EqId) → HasEquation l e → is_odd_count (same_equation e) (equations_of l) ≡ true
 equation_once l e h =
     ap (is_odd_count (same_equation e)) (equations-items l l.n)
@@ -184,7 +184,8 @@ each-classes l = each-some l Horiz (Right ∷ Left ∷ []) (omega arith) (each-s
           | inr no' ↦ rw no' rest
         ]
 
-each-equations_to : (l : Lattice) (i : ℕ) → i ≤ l.n → Each (HasEquation l) (equations_to l i)
+-- each of the equations of the nodes 1 to i is an equation of the lattice, where it has so many nodes
+pub each-equations_to : (l : Lattice) (i : ℕ) → i ≤ l.n → Each (HasEquation l) (equations_to l i)
 each-equations_to l zero most = tt
 each-equations_to l (suc i) most =
     Each-append (HasEquation l) (equations_to l i) (map (equation_of (suc i)) (classes l)) (each-equations_to l i (omega arith))

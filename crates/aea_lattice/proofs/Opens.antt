@@ -51,7 +51,7 @@ module _ (l m : Lattice) (grown : IsGrown l (l.n + 1) m) (c : Class) where
       ap (λ n. filter (is_on m c strand (m.n + 1)) (nodes_to n)) nodes
       ∙ filter-same (is_on m c strand (m.n + 1)) (is_on l c strand (l.n + 1)) (suc l.n) (λ k le. on-grown strand k)
 
-  -- the strand of the new node has the open nodes that it had, and the new node behind them
+  -- the strand of the new node has the open nodes that it had, and the new node after them
   pub open-own : open_nodes m c (strand_of m c m.n) ≡ open_nodes l c (strand_of m c m.n) ++ suc l.n ∷ []
   open-own =
       let strand = strand_of m c m.n in
@@ -79,14 +79,14 @@ filter-none p (suc m) none =
     filter-snoc_false p (nodes_to m) (suc m) (none (suc m) (omega arith) (omega arith))
     ∙ filter-none p m (λ k first le. none k first (omega arith))
 
--- where a fence stands at the last node, or there is no node, no strand has open nodes
+-- where a fence is at the last node, or there is no node, no strand has open nodes
 pub open-anew : (l : Lattice) (c : Class) (strand : ℕ) → last_fence l.fences ≡ l.n → open_nodes l c strand ≡ []
 open-anew l c strand at =
     filter-none (is_on l c strand (l.n + 1)) l.n
     (λ k first le. and_right (strand_of l c k == strand) (not (is_parted l.fences k (l.n + 1)))
     (ap not (parted-last l.fences k (l.n + 1) first (omega arith) (omega arith))))
 
--- where no fence stands at the last node, the open nodes of its strand are its prefix
+-- where no fence is at the last node, the open nodes of its strand are its prefix
 pub open-last : (l : Lattice) (c : Class) → last_fence l.fences < l.n → open_nodes l c (strand_of l c l.n) ≡ prefix l c l.n
 open-last l c after =
     filter-same (is_on l c (strand_of l c l.n) (l.n + 1)) (is_on l c (strand_of l c l.n) l.n) l.n

@@ -177,7 +177,7 @@ rise-open low n (f ∷ fs) k i h lt =
     let most = last_above-most f n fs r.rest in
     rw (and_left (nat_le k f) (nat_le (suc f) i) (lt-leb k f (omega arith))) (rise-open f n fs k i r.rest lt)
 
--- where the last fence stands before the last node n, n is parted from no node
+-- where the last fence is before the last node n, n is parted from no node
 pub parted-open : (n : ℕ) (fences : List ℕ) (i : ℕ) → are_fences n fences ≡ true → last_fence fences < n → is_parted fences n i ≡ false
 parted-open n fences i h lt = rise-open 0 n fences n i (fences_rise n fences h) (let e = last_of_all fences in omega arith)
 

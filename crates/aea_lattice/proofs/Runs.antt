@@ -111,7 +111,7 @@ next-joined l c i o is = λ j. (λ found. next-found l c i o is j found, λ q. n
 
 -- ---- the last open node
 
--- the last open node of a strand is the strand's last node, if no fence stands at it or behind it;
+-- the last open node of a strand is the strand's last node, if no fence is at it or after it;
 -- else there is none
 pub open-joined : (l : Lattice) (c : Class) (strand : ℕ) (o : Option ℕ) → last_node (λ k. strand_of l c k == strand) l.n ≡ o
     → last_open l c strand ≡ joined_before l (l.n + 1) o
@@ -120,7 +120,7 @@ open-joined l c strand o is =
     ∙ join-last l c strand (l.n + 1) l.n
     ∙ ap (joined_before l (l.n + 1)) is
 
--- ---- the node just before, by what stands on the strand
+-- ---- the node just before, by what is on the strand
 
 pub previous-joined : (l : Lattice) (c : Class) (i g : ℕ) → IsJustBefore l c g i → is_parted l.fences g i ≡ false → previous l c i ≡ Some g
 previous-joined l c i g just joined =

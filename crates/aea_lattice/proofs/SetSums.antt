@@ -114,7 +114,7 @@ odd-passing l p b inside =
     ap (λ q. is_odd_count q (blocks_of l)) (same_test (λ d. p d && same_block b d) (λ d. same_block b d && p d) (λ d. and-comm (p d) (same_block b d)))
     ∙ odd-at l b p inside
 
--- a block of the lattice stands in an equation of the lattice an odd number of times or not at all
+-- a block of the lattice is in an equation of the lattice an odd number of times or not at all
 odd-equation : (l : Lattice) (e : EqId) (b : BlockId) → HasEquation l e → HasBlock l b → is_odd_count (same_block b) (equation_blocks l e) ≡ is_in_equation l e b
 odd-equation l e b has inside = sym (meet_equation l e (same_block b) has) ∙ odd-passing l (is_in_equation l e) b inside
 

@@ -25,7 +25,7 @@ last_of-snoc [] x = refl
 last_of-snoc (y ∷ []) x = refl
 last_of-snoc (y ∷ z ∷ zs) x = last_of-snoc (z ∷ zs) x
 
--- just before the last item of a list with one more at its end stands the list's own last item, if it has one
+-- just before the last item of a list with one more at its end is the list's own last item, if it has one
 pub next_to_last-snoc : (xs : List ℕ) (x : ℕ) → next_to_last (xs ++ x ∷ []) ≡ last_of xs
 next_to_last-snoc [] x = refl
 next_to_last-snoc (y ∷ []) x = refl
@@ -127,7 +127,7 @@ pub IsLastNode-last_node : (p : ℕ → Bool) (m g : ℕ) → last_node p m ≡ 
 IsLastNode-last_node p zero g found = let h : None ≡ Some g = found in cc
 IsLastNode-last_node p (suc m) g found = is_last-step p m g (IsLastNode-last_node p m g) (p (suc m)) refl found
 
--- what it means that a node stands just before another on the strand
+-- what it means that a node is just before another on the strand
 pub record IsJustBefore (l : Lattice) (c : Class) (g i : ℕ) : Type 0 where
   pub first : 1 ≤ g
   pub before : g < i
@@ -177,7 +177,7 @@ neighbour-unique l c i j k ej ek =
       ]
     ]
 
--- where the place of g lies on the strand of the place of a later node i, and no place of that strand stands
+-- where the place of g lies on the strand of the place of a later node i, and no place of that strand lies
 -- between them, g is the neighbour before i
 pub neighbour-node_at : (l : Lattice) (c : Class) (i g a r b t : ℕ) → i ≡ node_at l.s b t → g ≡ node_at l.s a r → r < l.s → t < l.s → g < i → strand_at c l.p a r ≡ strand_at c l.p b t → NoneBetween c l.s l.p a r b t → neighbour l c i ≡ Some g
 neighbour-node_at l c i g a r b t ei eg hr ht lt same none =
@@ -193,7 +193,7 @@ neighbour-node_at l c i g a r b t ei eg hr ht lt same none =
           (sym (strand_of-coordinates l c k) ∙ same_k ∙ si);
     })
 
--- where no place of its strand stands before a node's place, there is no neighbour before the node
+-- where no place of its strand lies before a node's place, there is no neighbour before the node
 pub neighbour-none : (l : Lattice) (c : Class) (i b t : ℕ) → i ≡ node_at l.s b t → t < l.s → NoneBefore c l.s l.p b t → neighbour l c i ≡ None
 neighbour-none l c i b t ei ht none =
     let si : strand_of l c i ≡ strand_at c l.p b t = ap (strand_of l c) ei ∙ strand_of-node_at l c b t ht in

@@ -105,7 +105,7 @@ length-value_at l w datas i Left is =
 
 -- ---- a parity is the XOR of the parity before it and its datum
 
--- where g stands just before i on a strand, the parity of i is the XOR of the parity of g and the datum of i
+-- where g is just before i on a strand, the parity of i is the XOR of the parity of g and the datum of i
 pub value-after : (l : Lattice) (w : ℕ) (datas : List (List ℕ)) (i g : ℕ) (c : Class) → 1 ≤ class_number c → previous l c i ≡ Some g
     → value_at l w datas i c ≡ xor_bytes (value_at l w datas g c) (datum_at w datas i)
 value-after l w datas i g c parity was =

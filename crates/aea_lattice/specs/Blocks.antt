@@ -1,5 +1,5 @@
 -- “Lattice”: the nodes and blocks of a lattice, and the numbers of its blocks.
-use Rattle.std.specs.Prelude.{ℕ, zero, suc, ◌++◌, map, ◌+◌, ◌-◌, ◌*◌, ◌≤◌, Bool, ◌&&◌, ◌==◌, nat_le, List, [], ◌∷◌, filter}
+use Rattle.std.specs.Prelude.{ℕ, zero, suc, ◌++◌, map, ◌+◌, ◌-◌, ◌*◌, ◌≤◌, Bool, ◌&&◌, ◌==◌, nat_le, List, [], ◌∷◌, filter, get_or}
 use Rattle.aea_lattice.specs.declared.blocks.Class.{Class}
 use Rattle.aea_lattice.specs.declared.blocks.Class.TheVariants.{Datum, Horiz, Right, Left}
 use Rattle.aea_lattice.specs.declared.blocks.BlockId.{BlockId}
@@ -56,3 +56,7 @@ blocks_to l (suc i) = blocks_to l i ++ map (block_of (suc i)) (Datum ∷ classes
 -- the blocks of the lattice, in number order
 abbrev pub blocks_of : Lattice → List BlockId
 blocks_of l = blocks_to l l.n
+
+-- the block at a number
+abbrev pub block_at : Lattice → ℕ → BlockId
+block_at l k = get_or (blocks_of l) k (block_of 0 Datum)

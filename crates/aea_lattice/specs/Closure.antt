@@ -13,11 +13,11 @@ pub record IsForcedBy (l : Lattice) (known : BlockId → Bool) (b : BlockId) (e 
   pub contains : IsTrue (is_in_equation l e b)
   pub others : (d : BlockId) → IsTrue (is_in_equation l e d) → d ≢ b → IsTrue (known d)
 
--- whether the block stands in the list
+-- whether the block is in the list
 abbrev pub is_among : List BlockId → BlockId → Bool
 is_among blocks b = list_any (same_block b) blocks
 
--- Each block of the list is in the set, or in an equation whose other blocks all stand earlier. The list has its
+-- Each block of the list is in the set, or in an equation whose other blocks are all earlier. The list has its
 -- latest block first, so that "earlier" is the rest of the list.
 abbrev pub IsDerivation : Lattice → (BlockId → Bool) → List BlockId → Type 0
 IsDerivation l known [] = Unit {0}

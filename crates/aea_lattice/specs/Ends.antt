@@ -13,7 +13,7 @@ strands_of l Right = l.p
 strands_of l Left = l.p
 
 -- The open nodes of a strand: those that no fence parts from a node after the last one. They are the nodes of the
--- strand after the last fence, and the ones that stand before the next node of the strand in its prefix.
+-- strand after the last fence, and the ones that are before the next node of the strand in its prefix.
 abbrev pub open_nodes : Lattice → Class → ℕ → List ℕ
 open_nodes l c strand = nodes_on l c strand (l.n + 1) l.n
 

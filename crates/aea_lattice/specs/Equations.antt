@@ -47,7 +47,7 @@ pub record HasEquation (l : Lattice) (e : EqId) : Type 0 where
   pub node : HasNode l e.node
   pub class : HasParity l e.class
 
--- whether the block stands in the equation
+-- whether the block is in the equation
 abbrev pub is_in_equation : Lattice → EqId → BlockId → Bool
 is_in_equation l e b = list_any (same_block b) (equation_blocks l e)
 
@@ -64,12 +64,12 @@ equations_to l (suc i) = equations_to l i ++ map (equation_of (suc i)) (classes 
 abbrev pub equations_of : Lattice → List EqId
 equations_of l = equations_to l l.n
 
--- Whether a set of equations adds up to a set of blocks that has this one: it stands in an odd number of them.
+-- Whether a set of equations adds up to a set of blocks that has this one: it is in an odd number of them.
 abbrev pub adds_up_to : Lattice → (EqId → Bool) → BlockId → Bool
 adds_up_to l equations b = is_odd_count (λ e. equations e && is_in_equation l e b) (equations_of l)
 
 -- Whether the codeword of a set of nodes contains the block (i,c): a datum by its node, a parity where an odd
--- number of members stand at or before i on its strand.
+-- number of members are at or before i on its strand.
 abbrev pub codeword_at : Lattice → (ℕ → Bool) → ℕ → Class → Bool
 codeword_at l nodes i Datum = nodes i
 codeword_at l nodes i c = is_odd_count nodes (prefix l c i)

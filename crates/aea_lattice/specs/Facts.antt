@@ -69,8 +69,8 @@ EquationsAddUp =
     (l : Lattice) (w : ℕ) (datas : List (List ℕ)) (e : EqId) → IsDataList l w datas → HasEquation l e
     → xor_all w (map (value_of l w datas) (equation_blocks l e)) ≡ replicate w 0
 
--- The blocks are those that a set of equations adds up to: a block stands among them an odd number of times exactly
--- where it stands in an odd number of the equations.
+-- The blocks are those that a set of equations adds up to: a block is among them an odd number of times exactly
+-- where it is in an odd number of the equations.
 pub record AreOfSum (l : Lattice) (equations : EqId → Bool) (blocks : List BlockId) : Type 0 where
   pub inside : All (HasBlock l) blocks
   pub counted : (b : BlockId) → HasBlock l b → is_odd_count (same_block b) blocks ≡ adds_up_to l equations b

@@ -21,7 +21,7 @@ last_fence [] = 0
 last_fence (f ∷ []) = f
 last_fence (f ∷ g ∷ fences) = last_fence (g ∷ fences)
 
--- Whether a fence parts node k from node i: it stands at k or later, and before i. So k is not parted from i exactly
+-- Whether a fence parts node k from node i: it is at k or later, and before i. So k is not parted from i exactly
 -- where k is greater than the greatest fence below i.
 abbrev pub is_parted : List ℕ → ℕ → ℕ → Bool
 is_parted fences k i = list_any (λ f. nat_le k f && nat_le (suc f) i) fences

@@ -20,7 +20,7 @@ pub record IsFenced (l m : Lattice) : Type 0 where
   pub nodes : m.n ≡ l.n
   pub fences : m.fences ≡ l.fences ++ l.n ∷ []
 
--- m continues l: it has the shape, the nodes and the fences of l, and each further fence stands at l's last node or
+-- m continues l: it has the shape, the nodes and the fences of l, and each further fence is at l's last node or
 -- after it.
 pub record Continues (l m : Lattice) : Type 0 where
   pub shape : SameShape l m

@@ -38,3 +38,9 @@ pub record IsLeastWord (l : Lattice) (known : BlockId → Bool) (b e : BlockId) 
 pub record IsWord (l : Lattice) (known : BlockId → Bool) (b : BlockId) (nodes : List ℕ) : Type 0 where
   pub chosen : (e : BlockId) × IsLeastWord l known b e (has_node nodes)
   pub ordered : nodes ≡ filter (has_node nodes) (nodes_to l.n)
+
+-- For a lattice and its known blocks a block has at most one list of nodes by which it is lost.
+abbrev pub WordsAreOne : Type 0
+WordsAreOne =
+    (l : Lattice) (known : BlockId → Bool) (b : BlockId) (xs ys : List ℕ)
+    → IsWord l known b xs → IsWord l known b ys → xs ≡ ys

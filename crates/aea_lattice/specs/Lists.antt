@@ -8,10 +8,10 @@ use Rattle.aea_lattice.specs.Blocks.{class_number}
 abbrev pub same_equation : EqId → EqId → Bool
 same_equation a b = a.node == b.node && class_number a.class == class_number b.class
 
--- whether the equation stands in the list
+-- whether the equation is in the list
 abbrev pub is_listed : List EqId → EqId → Bool
 is_listed equations e = list_any (same_equation e) equations
 
--- whether the node stands in the list
+-- whether the node is in the list
 abbrev pub has_node : List ℕ → ℕ → Bool
 has_node nodes i = list_any (λ k. i == k) nodes

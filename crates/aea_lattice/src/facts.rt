@@ -1,3 +1,4 @@
+ghost use Rattle.aea_lattice.specs.LeastWord.{WordsAreOne};
 ghost use Rattle.aea_lattice.specs.Facts.{CodewordsAreEven, ReachedAreDetermined, WordsMissDetermined, ChangesAreCodewords, EquationsAddUp, SetsAddUp, SumsAreListed, NumbersTellBlocks, BlocksAreInside, PassingAreAmong, LastsEnter, JoinedStandAfterTheFence};
 
 /// A set of blocks is a codeword exactly where every equation has an even number of its blocks, and is then the
@@ -14,6 +15,11 @@ pub fn reached_are_determined()
 /// A codeword that contains no block of a set contains no block that the set determines.
 pub fn words_miss_determined()
     ensures { WordsMissDetermined }
+{}
+
+/// A block has at most one list of nodes by which it is lost.
+pub fn words_are_one()
+    ensures { WordsAreOne }
 {}
 
 /// Adding the same bytes, not all zero, to the blocks of some nodes changes exactly the codeword of the nodes, and each

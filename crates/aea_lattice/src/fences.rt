@@ -68,7 +68,7 @@ impl Fences {
         self.nodes[usize::from(self.count - 1)]
     }
 
-    /// Whether one of them parts the first node from the second: it stands at the first or later, and before the
+    /// Whether one of them parts the first node from the second: it is at the first or later, and before the
     /// second.
     pub fn parts(&self, first: u32, second: u32) -> bool
         ensures { result ≡ is_parted self.now first second }

@@ -88,7 +88,7 @@ impl Lattice {
         }
     }
 
-    /// This lattice with a fence after its last node, None where it has no node, a fence stands there, or it has
+    /// This lattice with a fence after its last node, None where it has no node, a fence is there, or it has
     /// `MAX_FENCES` fences.
     pub fn fenced(&self) -> Option<Lattice>
         ensures valid { IsSome result ↔ ((last_fence self.now.fences < self.now.n) × (length self.now.fences < greatest_fences)) }

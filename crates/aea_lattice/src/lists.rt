@@ -30,7 +30,7 @@ impl<T: Copy> Items<T> {
         }
     }
 
-    /// The empty list, with room for so many items.
+    /// The empty list, with space for so many items.
     pub fn with_capacity(alloc: Global, capacity: usize) -> Result<Items<T>, AllocError>
         ensures { IfOk result (λ l. l ≡ []) }
     {
@@ -53,7 +53,7 @@ impl<T: Copy> Items<T> {
         self.items.get(k).copied()
     }
 
-    /// Puts the item last. After want of memory nothing changed.
+    /// Puts the item last. If memory runs out, nothing has changed.
     pub fn push(&mut self, item: T) -> Result<(), AllocError>
         ensures ok { OnOk result (self.new ≡ self.old ++ item ∷ []) }
         ensures err { OnErr result (self.new ≡ self.old) }

@@ -30,14 +30,17 @@ impl BlockText {
     }
 }
 
-fn letter(class: Class) -> u8
-    ensures { result ≡ letter_of class }
-{
-    match class {
-        Class::Datum => b'd',
-        Class::Horiz => b'h',
-        Class::Right => b'r',
-        Class::Left => b'l',
+impl Class {
+    /// The letter of the class in the text of a block: d, h, r or l.
+    pub fn letter(self) -> u8
+        ensures { result ≡ letter_of self }
+    {
+        match self {
+            Class::Datum => b'd',
+            Class::Horiz => b'h',
+            Class::Right => b'r',
+            Class::Left => b'l',
+        }
     }
 }
 
@@ -56,7 +59,7 @@ pub fn print_block(b: BlockId) -> BlockText
     requires { 1 ≤ b.node }
     ensures { result ≡ text_of b }
 {
-    print_parts(letter(b.class), b.node)
+    print_parts(b.class.letter(), b.node)
 }
 
 // The number whose decimal text this is, if there is one below 2^32.

@@ -22,7 +22,7 @@ use Rattle.aea_peel.proofs.States.{mark_elsewhere}
 pub Adds-none : (l : Lattice) (n : ℕ) (ws : List EqId) → Adds l n ws ws
 Adds-none l n ws = record { kept = λ e c. c; inside = λ e c. inl c; few = omega arith }
 
--- where one equation of the lattice is put behind those that wait, at most one was added
+-- where one equation of the lattice is put after those that wait, at most one was added
 pub Adds-push : (l : Lattice) (ws : List EqId) (e : EqId) → HasEquation l e → Adds l 1 ws (ws ++ e ∷ [])
 Adds-push l ws e has = record {
   kept = λ q c. Contains-append_left ws (e ∷ []) q c;
@@ -43,7 +43,7 @@ pub still : (l : Lattice) (marks : List Bool) (n : ℕ) (old new : List EqId) (e
     → Adds l n old new → WaitsOrIsSpent l marks old e → WaitsOrIsSpent l marks new e
 still l marks n old new e adds waits = elim waits [ inl c ↦ inl (adds.kept e c) | inr spent ↦ inr spent ]
 
--- ---- the equations in which a block stands
+-- ---- the equations that a block is in
 
 -- a class with a number of at least 1 is Horiz, Right or Left
 pub parity_classes : (c : Class) → 1 ≤ class_number c → (c ≡ Horiz) ⊎ ((c ≡ Right) ⊎ (c ≡ Left))
@@ -61,7 +61,7 @@ pub waits_as : (l : Lattice) (marks : List Bool) (ws : List EqId) (i : ℕ) (c :
 waits_as l marks ws i c e node class waits has =
     subst (WaitsOrIsSpent l marks ws) (equation_equal e i c node class) (waits (subst (HasParity l) class has.class))
 
--- a parity stands in the equation of its node and class, and in that of the next node
+-- a parity is in the equation of its node and class, and in that of the next node
 pub parity_in : (l : Lattice) (q : EqId) (i : ℕ) (c : Class) → 1 ≤ class_number c → IsTrue (is_in_equation l q (block_of i c))
     → ((q.node ≡ i) × (q.class ≡ c)) ⊎ ((q.class ≡ c) × (previous l c q.node ≡ Some i))
 parity_in l q i c parity h =
@@ -73,7 +73,7 @@ parity_in l q i c parity h =
           inr (class, ap (λ d. previous l d q.node) (sym class) ∙ was ∙ ap (λ k. Some k) (sym (ap (λ (b : BlockId). b.node) same)))
     ]
 
--- a datum stands in the equations of its node
+-- a datum is in the equations of its node
 pub datum_in_node : (l : Lattice) (q : EqId) (b : BlockId) → b.class ≡ Datum → HasEquation l q → IsTrue (is_in_equation l q b) → q.node ≡ b.node
 datum_in_node l q b class has h =
     elim (member l q b h) [
@@ -86,7 +86,7 @@ datum_in_node l q b class has h =
           absurd (omega (arith, has.class.parity))
     ]
 
--- the node of which this one stands just before
+-- the node that this one is just before
 pub next_inside : (l : Lattice) (c : Class) (i j : ℕ) → j ≤ l.n → previous l c j ≡ Some i → HasNode l j
 next_inside l c i j below was = record { first = let after : i < j = previous-before l c j i was in omega arith; last = below }
 

@@ -60,7 +60,7 @@ pub is_had-push : (known : BlockId → Bool) (steps : List Step) (s : Step) (d :
 is_had-push known steps s d =
     ap (λ a. known d || a) (among-push steps s d) ∙ or_assoc (known d) (is_among (blocks_given steps) d) (same_block d s.block)
 
--- an item of a list with one more item stands in the list, or is the one more
+-- an item of a list with one more item is in the list, or is the one more
 pub get_push : {X : Type 0} → (xs : List X) (y x : X) (k : ℕ) → slice_get (xs ++ y ∷ []) k ≡ Some x → ((k < length xs) × (slice_get xs k ≡ Some x)) ⊎ ((k ≡ length xs) × (x ≡ y))
 get_push [] y x zero h = inr (refl, cc)
 get_push [] y x (suc k) h = absurd (cc)

@@ -4,12 +4,12 @@
 //!
 //! Promises to plans above steps that give exactly what the closure adds to the known blocks, each once and each by
 //! blocks that are known or given before (`peel`, `peel_marks`: `IsPlan`), and the marks of the closure (`AreReached`).
-//! What a plan is stands in `specs/Plans.antt`; `specs/Queue.antt` is of the loop alone. It rests on `aea_lattice` and
+//! What a plan is, is defined in `specs/Plans.antt`; `specs/Queue.antt` is of the loop alone. It rests on `aea_lattice` and
 //! `aea_view`.
 #![tactic(auto)]
 
-pub mod plan;
-pub mod worklist;
+mod plan;
+mod worklist;
 
 pub use plan::{Peeled, Plan, Step, StepList};
 pub use worklist::{peel, peel_marks};

@@ -66,7 +66,7 @@ fn add_node(
     Ok(())
 }
 
-// Adds those of the one or two equations in which a parity stands that force an unmarked block.
+// Adds those of the one or two equations with a given parity that force an unmarked block.
 fn add_parity(
     lattice: &Lattice,
     marks: &Marks,
@@ -91,7 +91,7 @@ fn add_parity(
     }
 }
 
-// Adds the equations in which the block stands that force an unmarked block.
+// Adds the equations with the block that force an unmarked block.
 fn add_around(
     lattice: &Lattice,
     marks: &Marks,
@@ -110,7 +110,7 @@ fn add_around(
     }
 }
 
-// The equations that force an unmarked block at first, with room for all equations. Those of the first node stand last, and so
+// The equations that force an unmarked block at first, with space for all equations. Those of the first node are last, and so
 // are taken first.
 fn first_equations(alloc: Global, lattice: &Lattice, marks: &Marks) -> Result<Vec<EqId>, AllocError>
     requires { marks.now.lattice ≡ lattice.now }
@@ -166,10 +166,10 @@ pub fn peel_marks(alloc: Global, mut marks: Marks) -> Result<Peeled, AllocError>
     let mut steps = StepList::with_capacity(alloc, marks.unmarked() as usize)?;
     let mut waiting = first_equations(alloc, &lattice, &marks)?;
 
-    // At each turn, what is marked is present or given by a step so far, and each equation of the lattice waits on
+    // In each round, what is marked is present or given by a step so far, and each equation of the lattice waits on
     // the list or forces no unmarked block. At the end none waits, so what marked blocks force is marked, and by
     // induction on a derivation each block of the closure is. An equation waits at most once, when its last but one
-    // unmarked block has got its mark, so the list never grows past its first room.
+    // unmarked block has got its mark, so the list never grows past its first capacity.
     while let Some(e) = waiting.pop() {
         take_step(&lattice, &mut marks, &mut steps, &mut waiting, e)?;
     }

@@ -39,7 +39,7 @@ true-and : (a b : Bool) → a ≡ true → (a && b) ≡ b
 true-and true b h = refl
 true-and false b h = absurd (false≢true h)
 
--- whether a block of the lattice is marked is told by the mark at its number
+-- whether a block of the lattice is marked is shown by the mark at its number
 pub marked-at : (l : Lattice) (marks : List Bool) (b : BlockId) → HasBlock l b → is_marked l marks b ≡ get_or marks (number_of l b) false
 marked-at l marks b has = true-and (is_inside l b) (get_or marks (number_of l b) false) (inside-true l b has)
 

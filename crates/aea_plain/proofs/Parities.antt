@@ -1,4 +1,4 @@
--- Sums of data by XOR: what stands in a sum twice cancels, so a sum is that of the nodes that stand in it an odd
+-- Sums of data by XOR: what is in a sum twice cancels, so a sum is that of the nodes that are in it an odd
 -- number of times.
 use Rattle.std.proofs.Common.{◌≡◌, ◌≢◌, ℕ, suc, zero, ◌≤◌, ◌⊎◌, inl, inr, Bool, true, false, not, cond, List, [], ◌∷◌, ◌++◌, map, filter, fold, length, replicate, arith, refl, sym, ◌∙◌, ap}
 use Rattle.std.specs.Prelude.{◌==◌, All}
@@ -45,7 +45,7 @@ sum_of-append w datum (k ∷ ks) ns wide =
     ∙ sym (xor_bytes-assoc (datum k) (sum_of w datum ks) (sum_of w datum ns))
     ∙ ap (λ s. xor_bytes s (sum_of w datum ns)) (sym (sum_of-cons w datum k ks wide))
 
--- a test with one node's answer turned round
+-- a test with one node's result flipped
 abbrev turned : (ℕ → Bool) → ℕ → ℕ → Bool
 turned p j k = cond (j == k) (not (p k)) (p k)
 
@@ -111,7 +111,7 @@ turned_step w datum p j n wide first (inr within) before =
     ∙ ap (λ s. xor_bytes s (sum_of w datum (filter p (suc n ∷ [])))) (before within)
     ∙ xor_bytes-assoc (datum j) (sum_of w datum (filter p (nodes_to n))) (sum_of w datum (filter p (suc n ∷ [])))
 
--- turning one node's answer round adds its datum
+-- flipping one node's result adds its datum
 pub sum_of-turned : (w : ℕ) (datum : ℕ → List ℕ) (p : ℕ → Bool) (j n : ℕ) → IsWide w datum → 1 ≤ j → j ≤ n → sum_of w datum (filter (turned p j) (nodes_to n)) ≡ xor_bytes (datum j) (sum_of w datum (filter p (nodes_to n)))
 sum_of-turned w datum p j zero wide first last = absurd (omega arith)
 sum_of-turned w datum p j (suc n) wide first last =
@@ -120,7 +120,7 @@ sum_of-turned w datum p j (suc n) wide first last =
     ∙ turned_step w datum p j n wide first (this_or_before j n last) (λ within. sum_of-turned w datum p j n wide first within)
     ∙ ap (xor_bytes (datum j)) (sym (ap (sum_of w datum) (filter-append p (nodes_to n) (suc n ∷ [])) ∙ sum_of-append w datum (filter p (nodes_to n)) (filter p (suc n ∷ [])) wide))
 
--- whether a node stands in the list an odd number of times
+-- whether a node is in the list an odd number of times
 abbrev pub is_odd_in : List ℕ → ℕ → Bool
 is_odd_in [] k = false
 is_odd_in (j ∷ nodes) k = cond (j == k) (not (is_odd_in nodes k)) (is_odd_in nodes k)
@@ -129,7 +129,7 @@ none_pass : (n : ℕ) → filter (λ k. false) (nodes_to n) ≡ []
 none_pass zero = refl
 none_pass (suc n) = filter-append (λ k. false) (nodes_to n) (suc n ∷ []) ∙ ap (λ xs. xs ++ []) (none_pass n)
 
--- a sum is that of the nodes that stand in it an odd number of times
+-- a sum is that of the nodes that are in it an odd number of times
 pub sum_of-odd : (w : ℕ) (datum : ℕ → List ℕ) (nodes : List ℕ) (n : ℕ) → IsWide w datum → All (λ k. (1 ≤ k) × (k ≤ n)) nodes → sum_of w datum nodes ≡ sum_of w datum (filter (is_odd_in nodes) (nodes_to n))
 sum_of-odd w datum [] n wide inside = ap (sum_of w datum) (sym (none_pass n))
 sum_of-odd w datum (j ∷ nodes) n wide inside =

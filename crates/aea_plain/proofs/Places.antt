@@ -4,7 +4,6 @@ use Rattle.std.proofs.Math.Nat.{mul-le-mul_right}
 use Rattle.std.proofs.lemmas.Bool.Decides.{nat_tests}
 use Rattle.std.proofs.lemmas.List.{take_all}
 use Rattle.std.proofs.lemmas.Option.{get_or_from_slice_get}
-use Rattle.std.proofs.lemmas.List.Elements.{All-nil, All-cons, All-append}
 use Rattle.aea_lattice.specs.declared.blocks.Class.{Class}
 use Rattle.aea_lattice.specs.declared.blocks.Class.TheVariants.{Datum, Horiz, Right, Left}
 use Rattle.aea_lattice.specs.declared.blocks.BlockId.{BlockId}
@@ -25,7 +24,7 @@ classes_to a = filter (λ c. nat_le (class_number c) a) (Horiz ∷ Right ∷ Lef
 
 -- ---- the blocks
 
--- each block stands at its number
+-- each block is at its number
 pub get_or-blocks_of : (l : Lattice) (b d : BlockId) → HasBlock l b → get_or (blocks_of l) (number_of l b) d ≡ b
 get_or-blocks_of l b d has = get_or_from_slice_get (blocks_of l) (number_of l b) b d (slice_get-blocks_of l b has)
 
@@ -106,26 +105,3 @@ All-equations_of P l all e has =
     has.node.first has.node.last (omega (arith, has.class.parity, has.class.used))
     ∙ get_or-equations_at l.alpha e.node e.class e (few_classes l) has.class.parity has.class.used in
     subst P at (all k e (equation_place l e has))
-
--- the equations of a node are equations of the lattice
-All-equations_at : (P : EqId → Type 0) (a i : ℕ) → a ≤ 3
-    → ((c : Class) → 1 ≤ class_number c → class_number c ≤ a → P (equation_of i c)) → All P (equations_at a i)
-All-equations_at P zero i few each = All-nil P
-All-equations_at P (suc zero) i few each = All-cons P (equation_of i Horiz) [] (each Horiz (omega arith) (omega arith)) (All-nil P)
-All-equations_at P (suc (suc zero)) i few each =
-    All-cons P (equation_of i Horiz) (equation_of i Right ∷ []) (each Horiz (omega arith) (omega arith))
-    (All-cons P (equation_of i Right) [] (each Right (omega arith) (omega arith)) (All-nil P))
-All-equations_at P (suc (suc (suc zero))) i few each =
-    All-cons P (equation_of i Horiz) (equation_of i Right ∷ equation_of i Left ∷ []) (each Horiz (omega arith) (omega arith))
-    (All-cons P (equation_of i Right) (equation_of i Left ∷ []) (each Right (omega arith) (omega arith))
-    (All-cons P (equation_of i Left) [] (each Left (omega arith) (omega arith)) (All-nil P)))
-All-equations_at P (suc (suc (suc (suc a)))) i few each = absurd (omega arith)
-
--- the equations of the nodes 1 to i are equations of the lattice, where it has so many nodes
-pub equations_inside : (l : Lattice) (i : ℕ) → i ≤ l.n → All (HasEquation l) (equations_to l i)
-equations_inside l zero most = All-nil (HasEquation l)
-equations_inside l (suc i) most =
-    All-append (HasEquation l) (equations_to l i) (equations_at l.alpha (suc i))
-    (equations_inside l i (omega arith))
-    (All-equations_at (HasEquation l) l.alpha (suc i) (few_classes l)
-    (λ c parity used. record { node = record { first = omega arith; last = most }; class = record { parity = parity; used = used } }))

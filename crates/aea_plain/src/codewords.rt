@@ -14,7 +14,7 @@ fn has_node(nodes: &[u32], node: u32) -> bool
     nodes.iter().any(|k| node == *k)
 }
 
-// Whether an odd number of these nodes stand at or before the block on its strand, or for a datum whether its node
+// Whether an odd number of these nodes are at or before the block on its strand, or for a datum whether its node
 // is one of them.
 fn is_in_codeword(lattice: &Lattice, nodes: &[u32], b: BlockId) -> bool
     requires { HasBlock lattice.now b }

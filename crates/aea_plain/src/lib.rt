@@ -8,10 +8,10 @@
 //! and `aea_view`.
 #![tactic(auto)]
 
-pub mod codewords;
-pub mod strands;
-pub mod sums;
-pub mod sweeps;
+mod codewords;
+mod strands;
+mod sums;
+mod sweeps;
 
 pub use codewords::codeword;
 pub use strands::{last_on, next, prefix, previous};

@@ -7,22 +7,15 @@ ghost use Rattle.aea_lattice.specs.Lists.{is_listed};
 use aea_lattice::{BlockId, Class, EqId, Lattice};
 use std::alloc::{AllocError, Global};
 
-// Puts the equations of the node last.
+// Puts the equations of the node last: one for each class of parities that the lattice has.
 fn push_equations(lattice: &Lattice, equations: &mut Vec<EqId>, node: u32) -> Result<(), AllocError>
     ensures { OnOk result (equations.new.items ≡ equations.old.items ++ map (equation_of node) (classes lattice.now)) }
 {
-    let class = Class::Horiz;
-    equations.push(EqId { node, class })?;
-    if lattice.alpha < 2 {
-        return Ok(());
+    for class in [Class::Horiz, Class::Right, Class::Left] {
+        if class as u8 <= lattice.alpha {
+            equations.push(EqId { node, class })?;
+        }
     }
-    let class = Class::Right;
-    equations.push(EqId { node, class })?;
-    if lattice.alpha < 3 {
-        return Ok(());
-    }
-    let class = Class::Left;
-    equations.push(EqId { node, class })?;
     Ok(())
 }
 
@@ -59,7 +52,7 @@ fn is_either(b: BlockId, first: BlockId, second: BlockId) -> bool
     b == first || b == second
 }
 
-// Whether the block stands in the equation.
+// Whether the block is in the equation.
 fn is_in_equation(lattice: &Lattice, e: EqId, b: BlockId) -> bool
     requires { HasEquation lattice.now e }
     ensures { result ≡ is_in_equation lattice.now e b }

@@ -4,7 +4,7 @@ use Rattle.std.proofs.lemmas.Bool.{true≢false}
 use Rattle.aea_gauss_laws.proofs.Columns.{odd_below-same, odd_below-none, and-false}
 use Rattle.aea_gauss_words.specs.Matrices.{sum_of_rows, IsLead, IsReduction}
 
--- The used columns in rising order, and the place of each: the place at which a column stands, if it is used.
+-- The used columns in rising order, and the place of each: the place at which a column is, if it is used.
 pub record AreUsed (n big : ℕ) (used : ℕ → ℕ) (place : ℕ → Option ℕ) : Type 0 where
   pub rising : (a b : ℕ) → a < b → b < n → used a < used b
   pub inside : (a : ℕ) → a < n → used a < big

@@ -5,14 +5,13 @@ use Rattle.std.proofs.lemmas.Bool.{cases_Bool}
 use Rattle.aea_lattice.specs.declared.blocks.Class.{Class}
 use Rattle.aea_lattice.specs.declared.blocks.Class.TheVariants.{Datum, Horiz, Right, Left}
 use Rattle.aea_lattice.specs.declared.grid.Lattice.{Lattice}
-use Rattle.aea_lattice.specs.Blocks.{class_number, block_of, HasParity, number_of, classes, blocks_of}
+use Rattle.aea_lattice.specs.Blocks.{class_number, block_of, HasParity, number_of, classes, blocks_of, block_at}
 use Rattle.aea_lattice.specs.Equations.{equation_of, equations_to, equations_of}
 use Rattle.aea_lattice.proofs.Numbers.{length-blocks_of}
 use Rattle.aea_lattice.proofs.Odd.{Each, Each-append, Each-more, Each-map}
 use Rattle.aea_lattice.proofs.Once.{each-classes}
-use Rattle.aea_gauss_laws.proofs.Given.{number-block_at}
+use Rattle.aea_lattice.proofs.BlockAt.{number-block_at}
 use Rattle.aea_fates.specs.Sums.{output_number}
-use Rattle.aea_fates.specs.Live.{block_at}
 
 -- each number is above those before it, and none is below `low`
 abbrev pub RisesFrom : {A : Type 0} → (A → ℕ) → ℕ → List A → Type 0

@@ -4,15 +4,15 @@ use Rattle.std.proofs.lemmas.Bool.{cases_Bool, cases_lt, true≢false}
 use Rattle.aea_lattice.specs.declared.blocks.BlockId.{BlockId}
 use Rattle.aea_lattice.specs.declared.blocks.EqId.{EqId}
 use Rattle.aea_lattice.specs.declared.grid.Lattice.{Lattice}
-use Rattle.aea_lattice.specs.Blocks.{HasBlock, number_of, blocks_count}
+use Rattle.aea_lattice.specs.Blocks.{HasBlock, number_of, blocks_count, block_at}
 use Rattle.aea_lattice.specs.Equations.{HasEquation, equations_of}
 use Rattle.aea_lattice.proofs.Odd.{Each, Each-more}
 use Rattle.aea_lattice.proofs.Once.{each-equations_of}
-use Rattle.aea_gauss_laws.proofs.Given.{block_at-inside, number-block_at}
+use Rattle.aea_lattice.proofs.BlockAt.{block_at-inside, number-block_at}
 use Rattle.aea_gauss_words.specs.Matrices.{IsLead, IsReduction}
 use Rattle.aea_lattice.specs.LeastWord.{IsWord}
 use Rattle.aea_fates.specs.Sums.{IsSum}
-use Rattle.aea_fates.specs.Live.{block_at, is_live, live_equations}
+use Rattle.aea_fates.specs.Live.{is_live, live_equations}
 use Rattle.aea_readings.specs.Starts.{equation_column, columns, rows_of, start}
 use Rattle.aea_readings.specs.Readings.{IsFree, nodes_in, IsRowOf, IsRowWith}
 use Rattle.aea_readings.proofs.Standing.{stands_reduced}

@@ -11,26 +11,26 @@ use Rattle.aea_lattice.specs.declared.blocks.Class.TheVariants.{Datum}
 use Rattle.aea_lattice.specs.declared.blocks.BlockId.{BlockId}
 use Rattle.aea_lattice.specs.declared.blocks.EqId.{EqId}
 use Rattle.aea_lattice.specs.declared.grid.Lattice.{Lattice}
-use Rattle.aea_lattice.specs.Blocks.{block_of, class_number, same_block, HasBlock, HasParity, classes, number_of, blocks_count, blocks_to, blocks_of}
+use Rattle.aea_lattice.specs.Blocks.{block_of, class_number, same_block, HasBlock, HasParity, classes, number_of, blocks_count, blocks_to, blocks_of, block_at}
 use Rattle.aea_lattice.specs.Strands.{nodes_to}
 use Rattle.aea_lattice.specs.Equations.{HasEquation, is_in_equation, equation_of, equations_of}
 use Rattle.aea_lattice.specs.LeastWord.{IsWord}
 use Rattle.aea_lattice.proofs.Equations.{number_below, number_equal, same_block-equal}
-use Rattle.aea_lattice.proofs.Odd.{Each, Each-more}
+use Rattle.aea_lattice.proofs.Odd.{Each, Each-more, filter_each}
 use Rattle.aea_lattice.proofs.Once.{each-blocks_of, each-equations_of, each-classes}
 use Rattle.aea_lattice.proofs.Among.{passing-among}
 use Rattle.aea_lattice.proofs.Numbers.{one_to_three, length-blocks_of}
 use Rattle.std.proofs.Common.{◌⊎◌, ◌*◌}
 use Rattle.aea_gauss_laws.specs.Parities.{odd_below}
 use Rattle.aea_gauss_laws.proofs.Columns.{odd_below-same, odd_below-none}
-use Rattle.aea_gauss_laws.proofs.Given.{block_at-number, block_at-inside, number-block_at, and-no}
+use Rattle.aea_gauss_laws.proofs.Given.{and-no}
+use Rattle.aea_lattice.proofs.BlockAt.{block_at-number, block_at-inside, number-block_at}
 use Rattle.aea_gauss_words.specs.Matrices.{IsSumOfRows, IsLead, IsReduction}
 use Rattle.aea_fates.specs.Sums.{output_number, IsSum}
-use Rattle.aea_fates.specs.Live.{block_at, is_live, live_equations}
+use Rattle.aea_fates.specs.Live.{is_live, live_equations}
 use Rattle.aea_readings.specs.Starts.{columns, equation_column, start}
 use Rattle.aea_readings.specs.Readings.{has_none_below, is_lead, IsFree, word_at, nodes_in}
 use Rattle.aea_readings.specs.Small.{unknown_blocks, block_in, equation_in, own_column, small_start, nodes_at, equations_at, TellSmall, SmallRowsTellFates, UnknownAreListed}
-use Rattle.aea_fates.proofs.Only.{filter_each}
 use Rattle.aea_fates.proofs.Listing.{output_below}
 use Rattle.aea_readings.proofs.Standing.{column_high, column_below, row_low, row_high}
 use Rattle.aea_readings.proofs.WordReading.{each-nodes_to, lead_test, test_lead}
@@ -52,7 +52,7 @@ each-place P [] d each k less = absurd (omega arith)
 each-place P (x ∷ xs) d each zero less = each.0
 each-place P (x ∷ xs) d each (suc k) less = each-place P xs d each.1 k (omega arith)
 
--- the place of a block that stands in a list
+-- the place of a block that is in a list
 place_of : (bs : List BlockId) (b d : BlockId) → list_any (same_block b) bs ≡ true → (k : ℕ) × (k < length bs) × (get_or bs k d ≡ b)
 place_of [] b d h = absurd (false≢true h)
 place_of (c ∷ bs) b d h = elim (or_cases (same_block b c) (list_any (same_block b) bs) h) [
@@ -520,7 +520,7 @@ module _ (l : Lattice) (known : BlockId → Bool) (m : ℕ → ℕ → Bool)
         ])))));
   }
 
--- each reduction of the rows over the used columns tells the fates
+-- each reduction of the rows over the used columns shows the fates
 pub small-rows : SmallRowsTellFates
 small-rows l known blocks equations m blocks_are equations_are reduction =
     let P : List BlockId → List EqId → Type 0 = λ bs fs. IsReduction (length fs) (length bs + length fs) (small_start l bs fs) m → TellSmall l known bs fs m in

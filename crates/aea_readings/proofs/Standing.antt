@@ -9,7 +9,7 @@ use Rattle.std.proofs.lemmas.List.Sums.{length-filter, count_by-le-length}
 use Rattle.aea_lattice.specs.declared.blocks.BlockId.{BlockId}
 use Rattle.aea_lattice.specs.declared.blocks.EqId.{EqId}
 use Rattle.aea_lattice.specs.declared.grid.Lattice.{Lattice}
-use Rattle.aea_lattice.specs.Blocks.{class_number, block_of, blocks_count, classes}
+use Rattle.aea_lattice.specs.Blocks.{class_number, block_of, blocks_count, classes, block_at}
 use Rattle.aea_lattice.specs.Equations.{HasEquation, equation_of, equation_blocks, is_in_equation, is_odd_count, equations_of, equations_to, adds_up_to}
 use Rattle.aea_lattice.proofs.Equations.{number_equal}
 use Rattle.aea_lattice.specs.Parity.{differ}
@@ -22,14 +22,14 @@ use Rattle.aea_gauss_laws.proofs.Columns.{IsSpace}
 use Rattle.aea_gauss_words.specs.Matrices.{sum_of_rows, IsReduction}
 use Rattle.aea_fates.proofs.Listing.{output_inside, output_below, same_equation-refl, any_has}
 use Rattle.aea_fates.specs.Sums.{output_number}
-use Rattle.aea_fates.specs.Live.{block_at, is_live, live_equations}
+use Rattle.aea_fates.specs.Live.{is_live, live_equations}
 use Rattle.aea_readings.specs.Starts.{equation_column, columns, row_at, start, rows_of}
 use Rattle.aea_fates.proofs.Kept.{odd-filter}
 use Rattle.aea_gauss_words.proofs.Reduced.{row_is_sum_of_rows, space_sum}
 
 -- ---- columns
 
--- the column of an equation stands behind those of the blocks
+-- the column of an equation is after those of the blocks
 pub column_high : (l : Lattice) (e : EqId) → blocks_count l ≤ equation_column l e
 column_high l e = omega arith
 
@@ -57,13 +57,13 @@ column-test l e f he hf =
 
 -- ---- the row of an equation
 
--- at the column of a block the row of an equation has whether the block is unknown and stands in the equation
+-- at the column of a block the row of an equation has whether the block is unknown and is in the equation
 pub row_low : (l : Lattice) (known : BlockId → Bool) (e : EqId) (k : ℕ) → k < blocks_count l
     → row_at l known e k ≡ (not (known (block_at l k)) && is_in_equation l e (block_at l k))
 row_low l known e k less =
     cond-true (nat_lt k (blocks_count l)) (not (known (block_at l k)) && is_in_equation l e (block_at l k)) (k == equation_column l e) (lt-ltb k (blocks_count l) less)
 
--- behind the blocks the row of an equation has the equation's own column alone
+-- after the blocks the row of an equation has the equation's own column alone
 pub row_high : (l : Lattice) (known : BlockId → Bool) (e : EqId) (k : ℕ) → blocks_count l ≤ k → row_at l known e k ≡ (k == equation_column l e)
 row_high l known e k most =
     cond-false (nat_lt k (blocks_count l)) (not (known (block_at l k)) && is_in_equation l e (block_at l k)) (k == equation_column l e) (le-ltb k (blocks_count l) most)

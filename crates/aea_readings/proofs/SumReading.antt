@@ -4,18 +4,18 @@ use Rattle.std.proofs.lemmas.Bool.{cases_Bool, cases_lt, cases_eq, and_parts, an
 use Rattle.aea_lattice.specs.declared.blocks.BlockId.{BlockId}
 use Rattle.aea_lattice.specs.declared.blocks.EqId.{EqId}
 use Rattle.aea_lattice.specs.declared.grid.Lattice.{Lattice}
-use Rattle.aea_lattice.specs.Blocks.{HasBlock, number_of, blocks_count}
+use Rattle.aea_lattice.specs.Blocks.{HasBlock, number_of, blocks_count, block_at}
 use Rattle.aea_lattice.specs.Equations.{HasEquation, equation_of, is_in_equation, equations_of, adds_up_to}
 use Rattle.aea_lattice.proofs.Equations.{number_below, number_equal}
 use Rattle.aea_lattice.specs.Lists.{same_equation, is_listed}
 use Rattle.aea_lattice.proofs.Odd.{Each-more, odd-same}
 use Rattle.aea_lattice.specs.declared.blocks.Class.TheVariants.{Datum}
 use Rattle.aea_lattice.proofs.Once.{each-equations_of}
-use Rattle.aea_gauss_laws.proofs.Given.{block_at-number, block_at-inside}
+use Rattle.aea_lattice.proofs.BlockAt.{block_at-number, block_at-inside}
 use Rattle.aea_gauss_words.specs.Matrices.{IsLead, IsReduction}
 use Rattle.aea_fates.proofs.Listing.{equations_same, equation_listed}
 use Rattle.aea_fates.specs.Sums.{IsSpare, IsSum}
-use Rattle.aea_fates.specs.Live.{block_at, is_live, live_equations}
+use Rattle.aea_fates.specs.Live.{is_live, live_equations}
 use Rattle.aea_readings.specs.Starts.{equation_column, columns, start, rows_of}
 use Rattle.aea_readings.specs.Readings.{equations_in, IsRowOf}
 use Rattle.aea_fates.proofs.Kept.{any-filter, filter-ordered}

@@ -7,7 +7,7 @@ use Rattle.aea_lattice.specs.declared.blocks.Class.TheVariants.{Datum, Horiz, Ri
 use Rattle.aea_lattice.specs.declared.blocks.BlockId.{BlockId}
 use Rattle.aea_lattice.specs.declared.blocks.EqId.{EqId}
 use Rattle.aea_lattice.specs.declared.grid.Lattice.{Lattice}
-use Rattle.aea_lattice.specs.Blocks.{block_of, same_block, HasBlock, number_of, blocks_count, blocks_of}
+use Rattle.aea_lattice.specs.Blocks.{block_of, same_block, HasBlock, number_of, blocks_count, blocks_of, block_at}
 use Rattle.aea_lattice.specs.Strands.{strand_of, is_on, prefix, nodes_to}
 use Rattle.aea_lattice.specs.Equations.{HasEquation, equation_of, equation_blocks, is_odd_count, equations_of, adds_up_to, codeword_at, is_in_codeword}
 use Rattle.aea_lattice.specs.Facts.{MeetsEvenly, Misses}
@@ -19,11 +19,12 @@ use Rattle.aea_lattice.specs.Lists.{same_equation, is_listed, has_node}
 use Rattle.aea_lattice.proofs.Odd.{Each, Each-append, Each-more, odd-same, differ-self}
 use Rattle.aea_lattice.proofs.Once.{each-blocks_of, odd-at, same_equation-equal}
 use Rattle.aea_lattice.proofs.Even.{sums_even}
-use Rattle.aea_gauss_laws.proofs.Given.{block_at-number, block_at-inside, number-block_at, odd_below-blocks, row-meets, row_of, set_at, and-no}
+use Rattle.aea_gauss_laws.proofs.Given.{odd_below-blocks, row-meets, row_of, set_at, and-no}
+use Rattle.aea_lattice.proofs.BlockAt.{block_at-number, block_at-inside, number-block_at}
 use Rattle.aea_gauss_laws.proofs.Columns.{odd_below-none, odd_below-one, odd_below-same, odd_below-differ, and-true, meets}
 use Rattle.aea_gauss_words.specs.Matrices.{sum_of_rows, IsLead, IsReduction}
 use Rattle.aea_lattice.specs.LeastWord.{IsEndOf, IsEnd, IsWordOfEnd, IsWord}
-use Rattle.aea_fates.specs.Live.{block_at, is_live, live_equations}
+use Rattle.aea_fates.specs.Live.{is_live, live_equations}
 use Rattle.aea_readings.specs.Starts.{columns, row_at, start, rows_of}
 use Rattle.aea_readings.specs.Readings.{has_none_below, is_lead, equations_in, IsFree, word_at, nodes_in, IsRowWith}
 use Rattle.aea_fates.proofs.Kept.{IsSame, any-filter, filter-ordered}

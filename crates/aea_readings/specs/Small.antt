@@ -36,11 +36,11 @@ UnknownAreListed = (l : Lattice) (known : BlockId → Bool) → AreListed l (unk
 abbrev pub equation_in : List EqId → ℕ → EqId
 equation_in equations i = get_or equations i (equation_of 0 Datum)
 
--- the column of the equation of a row, behind so many blocks: those of later rows come first
+-- the column of the equation of a row, after so many blocks: those of later rows come first
 abbrev pub own_column : ℕ → ℕ → ℕ → ℕ
 own_column blocks rows i = blocks + (rows - 1 - i)
 
--- the row of an equation: the listed blocks that stand in it, and its own column
+-- the row of an equation: the listed blocks that are in it, and its own column
 abbrev pub small_row : Lattice → List BlockId → EqId → ℕ → ℕ → Bool
 small_row l blocks e own a = cond (nat_lt a (length blocks)) (is_in_equation l e (block_in blocks a)) (a == own)
 
@@ -61,7 +61,7 @@ equations_at p [] = []
 equations_at p (e ∷ equations) =
     cond (p 0) (e ∷ equations_at (λ k. p (suc k)) equations) (equations_at (λ k. p (suc k)) equations)
 
--- What reduced rows over the used columns tell: a block that leads no row has its own word, one that leads a row with a
+-- What reduced rows over the used columns show: a block that leads no row has its own word, one that leads a row with a
 -- further block has the word of the next one, and one that leads a row without a further block has the equations of
 -- that row.
 pub record TellSmall (l : Lattice) (known : BlockId → Bool) (blocks : List BlockId) (equations : List EqId) (m : ℕ → ℕ → Bool) : Type 0 where
@@ -74,7 +74,7 @@ pub record TellSmall (l : Lattice) (known : BlockId → Bool) (blocks : List Blo
       → ((k : ℕ) → a < k → k < length blocks → m i k ≡ false)
       → IsSum l known (block_in blocks a) (equations_at (λ j. m i (own_column (length blocks) (length equations) j)) equations)
 
--- Each reduction of the rows over the used columns tells the fates.
+-- Each reduction of the rows over the used columns shows the fates.
 abbrev pub SmallRowsTellFates : Type 0
 SmallRowsTellFates =
     (l : Lattice) (known : BlockId → Bool) (blocks : List BlockId) (equations : List EqId) (m : ℕ → ℕ → Bool)

@@ -1,14 +1,14 @@
 -- The matrix of a lattice and its known blocks. The columns are first the blocks in number order and then the equations
--- in falling order; known blocks and equations without an unknown block stand in no row.
+-- in falling order; known blocks and equations without an unknown block are in no row.
 use Rattle.std.specs.Prelude.{ℕ, ◌+◌, ◌-◌, ◌*◌, Bool, not, ◌&&◌, ◌==◌, cond, nat_lt, get_or, length}
 use Rattle.aea_lattice.specs.declared.blocks.Class.TheVariants.{Datum}
 use Rattle.aea_lattice.specs.declared.blocks.BlockId.{BlockId}
 use Rattle.aea_lattice.specs.declared.blocks.EqId.{EqId}
 use Rattle.aea_lattice.specs.declared.grid.Lattice.{Lattice}
-use Rattle.aea_lattice.specs.Blocks.{blocks_count}
+use Rattle.aea_lattice.specs.Blocks.{blocks_count, block_at}
 use Rattle.aea_lattice.specs.Equations.{is_in_equation, equation_of}
 use Rattle.aea_fates.specs.Sums.{output_number}
-use Rattle.aea_fates.specs.Live.{block_at, live_equations}
+use Rattle.aea_fates.specs.Live.{live_equations}
 
 -- the column of an equation: those of greater equations come first
 abbrev pub equation_column : Lattice → EqId → ℕ

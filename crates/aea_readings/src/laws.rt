@@ -1,11 +1,11 @@
 ghost use Rattle.aea_readings.specs.Small.{SmallRowsTellFates, UnknownAreListed};
 
-/// Reduced rows over the columns that are used tell the fate of each block that is not known.
+/// Reduced rows over the columns that are used show the fate of each block that is not known.
 pub fn small_rows_tell_fates()
     ensures { SmallRowsTellFates }
 {}
 
-/// The blocks that are not known stand in number order.
+/// The blocks that are not known are listed in number order.
 pub fn unknown_are_listed()
     ensures { UnknownAreListed }
 {}

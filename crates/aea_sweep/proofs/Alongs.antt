@@ -13,7 +13,7 @@ use Rattle.aea_lattice.proofs.Runs.{previous-last, previous-neighbour, joined_is
 use Rattle.aea_sweep.specs.Labels.{is_along, IsBehind}
 use Rattle.aea_sweep.proofs.Passing.{just_before}
 
--- the node x is on the strand of a, at a or behind it, and no fence parts them
+-- the node x is on the strand of a, at a or after it, and no fence parts them
 pub record Along (l : Lattice) (c : Class) (a x : ℕ) : Type 0 where
   pub from : a ≤ x
   pub strand : strand_of l c a ≡ strand_of l c x
@@ -79,7 +79,7 @@ last_none p (suc m) h k first last = elim (cases_Bool (p (suc m))) [
 on_true : (l : Lattice) (c : Class) (a x : ℕ) → is_along l c a x ≡ true → is_on l c (strand_of l c x) x a ≡ true
 on_true l c a x is = (and_parts (nat_le a x) (is_on l c (strand_of l c x) x a) is).1
 
--- behind a node without a next one no node is along
+-- after a node without a next one no node is along
 no_later : (l : Lattice) (c : Class) (node : ℕ) → 1 ≤ node → IsNext l c node None → (k x : ℕ) → x ≤ k → node < x → x ≤ l.n → is_along l c node x ≡ true
     → (p : Option ℕ) → previous l c x ≡ p → ⊥
 no_later l c node first ended zero x le less last along p was = omega arith

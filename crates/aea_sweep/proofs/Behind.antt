@@ -1,4 +1,4 @@
--- Steps of the open words, where closed words stand behind them.
+-- Steps of the open words, where closed words follow them.
 use Rattle.std.proofs.Common.{◌≡◌, ◌≢◌, ℕ, ◌+◌, ◌-◌, ◌<◌, ◌≤◌, inl, inr, Bool, false, ◌&&◌, ◌==◌, cond, List, [], ◌∷◌, ◌++◌, length, get_or, refl, sym, ◌∙◌, ap, subst, arith}
 use Rattle.std.specs.Prelude.{nat_lt, slice_set}
 use Rattle.std.proofs.lemmas.Bool.Decides.{nat_tests}
@@ -13,7 +13,7 @@ use Rattle.aea_sweep.specs.Words.{has_odd, RiseWithin, word_in}
 use Rattle.aea_sweep.specs.Tables.{AddsRow, Exchanges, Clears, Closes, partner}
 use Rattle.aea_sweep.proofs.Cleaning.{hits}
 
--- the rows behind are as they were
+-- the rows after them are as they were
 behind_same : (words new closed : List (List ℕ)) → length new ≡ length words → (r : ℕ) → length words ≤ r → get_or (new ++ closed) r [] ≡ get_or (words ++ closed) r []
 behind_same words new closed long r past =
     get_or-append_right new closed (length words) r [] long past ∙ sym (get_or-append_right words closed (length words) r [] refl past)
@@ -107,7 +107,7 @@ clears-behind row words new closed heads headed inside clears =
       heads_are = clears.heads_are;
     }
 
--- the rows behind, with one more
+-- the rows after them, with one more
 behind_more : (closed : List (List ℕ)) (x : List ℕ) (k : ℕ) → get_or (closed ++ x ∷ []) k [] ≡ cond (k == length closed) x (get_or closed k [])
 behind_more closed x k = elim (cases_eq k (length closed)) [
   | inl e ↦
@@ -178,7 +178,7 @@ closes-behind row words closed x inside is =
       | inr e ↦ ne_eqb (r - length words) (length closed) e ∙ sym (ne_eqb r (length (words ++ closed)) (λ h. (let g = long_old in e (omega arith))))
     ]
 
--- of rows below the spare one none is behind
+-- of rows below the spare one none is past the open words
 pub low_hits : (p : ℕ → Bool) (spare n : ℕ) → spare ≤ n → (r : ℕ) → n ≤ r → (nat_lt r spare && p r) ≡ false
 low_hits p spare n less r past = let out : nat_lt r spare ≡ false = grind (arith, nat_tests) in ap (λ (b : Bool). b && p r) out
 

@@ -106,7 +106,7 @@ module _ (l : Lattice) (known : BlockId → Bool) (i q : ℕ) (e : BlockId) (t :
     free = free_then;
   }
 
--- no head behind the places comes by adding words
+-- no head past the places comes by adding words
 pub adds-places : (low from : ℕ) (hit : ℕ → Bool) (words new : List (List ℕ)) (heads headed : List Heads) → from ≤ low → AddsRow from hit words new heads headed
     → HasPlaces low heads → HasPlaces low headed
 adds-places low from hit words new heads headed inside adds had r t r_less past fits =

@@ -70,7 +70,7 @@ class_same l s t i Horiz first h = prefix_same l s t Horiz i h
 class_same l s t i Right first h = prefix_same l s t Right i h
 class_same l s t i Left first h = prefix_same l s t Left i h
 
--- nodes behind a block do not matter for it
+-- nodes after a block do not matter for it
 pub codeword-late : (l : Lattice) (s : ℕ → Bool) (b : BlockId) → HasBlock l b → ((k : ℕ) → 1 ≤ k → k ≤ b.node → s k ≡ false) → is_in_codeword l s b ≡ false
 codeword-late l s b has h = class_same l s (λ k. false) b.node b.class has.first h ∙ codeword-none l b
 

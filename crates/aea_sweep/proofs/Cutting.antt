@@ -56,7 +56,7 @@ cut-within low [] top r c less = absurd (omega arith)
 cut-within low (a ∷ starts) top zero c less = cuts-top a starts top c.1
 cut-within low (a ∷ starts) top (suc r) c less = cut-within a starts top r c.1 (omega arith)
 
--- and not behind the next one
+-- and not after the next one
 pub cuts-rise : (low : ℕ) (starts : List ℕ) (top r : ℕ) → AreCuts low starts top → suc r < length starts → get_or starts r 0 ≤ get_or starts (suc r) 0
 cuts-rise low [] top r c less = absurd (omega arith)
 cuts-rise low (a ∷ []) top r c less = absurd (omega arith)

@@ -90,7 +90,7 @@ module _ (l : Lattice) (known : BlockId → Bool) (i : ℕ) where
       low (inl before) = omega arith
       low (inr here) = let h = here.0 in omega arith
 
-  -- a live parity of an earlier node does not have a strand of node i + 1, if that strand goes on behind i + 1
+  -- a live parity of an earlier node does not have a strand of node i + 1, if that strand goes on after i + 1
   pub not_here : (d : BlockId) (j : ℕ) → d.node ≤ i → suc i < j → previous l d.class j ≡ Some d.node → strand_of l d.class d.node ≢ strand_of l d.class (suc i)
   not_here d j low later was same =
       let just = just_before l d.class j d.node was in

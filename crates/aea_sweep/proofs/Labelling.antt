@@ -135,7 +135,7 @@ datum_labels l labels skips node label n s none =
           (s.skips_are j c hj hc (λ h. has (kept l (same_block b) label labels (slice_set labels (number_of l b) label) are d hd out ∙ h)));
     }
 
--- a parity without a label has got one, and skips to the node behind it
+-- a parity without a label has got one, and skips to the node after it
 pub parity_labels : (l : Lattice) (labels skips : List ℕ) (node label e : ℕ) (c : Class) → HasNode l node → HasParity l c → label ≢ 0 → AreLabels l labels skips
     → label_of l labels (block_of node c) ≡ 0 → IsBehind l c node e
     → AreLabels l (slice_set labels (number_of l (block_of node c)) label) (slice_set skips (number_of l (block_of node c)) e)

@@ -128,7 +128,7 @@ module _ (l : Lattice) (known : BlockId → Bool) (i : ℕ) (words new : List (L
   beyond : (n : ℕ) → word_in words (length words) n ≡ false
   beyond n = ap (λ (xs : List ℕ). has_odd xs n) (get_or-eq_default words [] (omega arith))
 
-  -- the words and that of the node behind them, moved to the spare place
+  -- the words and that of the node after them, moved to the spare place
   abbrev family : ℕ → ℕ → Bool
   family = moved (with_node (word_in words) (length words) (suc i)) (length words) (places_of l)
 
@@ -246,7 +246,7 @@ fills_row l i words z heads g inside headed pushed none rises are =
     right true = refl
     right false = refl
 
--- no head stands behind the places
+-- no head is past the places
 pub places_clean : (l : Lattice) (known : BlockId → Bool) (i q : ℕ) (words : List (List ℕ)) (heads : List Heads) → AreOpen l known i q words heads → HasPlaces (places_of l) heads
 places_clean l known i q words heads s r t r_less past in_t = elim (cases_Bool (head_in heads r t)) [
   | inl own ↦

@@ -274,7 +274,7 @@ end_some l known i q place b at unknown ended words lifted heads lift_heads head
       free = λ k k_less own. absurd (omega arith);
     }
 
--- a parity that is not known, and behind which the strand goes on
+-- a parity that is not known, and after which the strand goes on
 pub pass_on : (l : Lattice) (known : BlockId → Bool) (i q place j : ℕ) (b : BlockId) → IsAt l i q place b → known b ≡ false → i < j → j ≤ l.n → previous l b.class j ≡ Some b.node
     → (words : List (List ℕ)) (heads : List Heads) → AreSwept l known i q words heads → AreSwept l known i (suc q) words heads
 pass_on l known i q place j b at unknown later last was words heads s = record {

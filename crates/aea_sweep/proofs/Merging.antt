@@ -172,7 +172,7 @@ module _ (first second sum : List ℕ) (a b : ℕ) (m : Merged first second sum 
             );
       }
 
--- what is left of one list, and nothing of the other, goes behind the sum
+-- what is left of one list, and nothing of the other, goes after the sum
 pub merged-sum : (first second sum : List ℕ) (a b : ℕ) → Merged first second sum a b → (i : ℕ)
     → has_odd ((sum ++ drop a first) ++ drop b second) i ≡ differ (has_odd first i) (has_odd second i)
 merged-sum first second sum a b m i =

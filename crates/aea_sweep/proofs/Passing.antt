@@ -132,7 +132,7 @@ module _ (l : Lattice) (i q slots : ℕ) (words heads : ℕ → ℕ → Bool) (a
   silent d has (inl late) = at_class d.node d.class has.used late has.last
   silent d has (inr here) = live_none d (record { block = has; parity = (let h = here.1 in omega arith); most = (let h = here.0 in omega arith); goes_on = inr here })
 
--- nodes above the top of a rising list do not stand in it
+-- nodes above the top of a rising list are not in it
 pub none_above : (low : ℕ) (xs : List ℕ) (top n : ℕ) → RiseWithin low xs top → top ≤ n → has_odd xs n ≡ false
 none_above low [] top n rises past = refl
 none_above low (x ∷ xs) top n rises past =

@@ -21,7 +21,7 @@ Sees l old new b =
 abbrev pub without_row : (ℕ → ℕ → Bool) → ℕ → ℕ → ℕ → Bool
 without_row words t r i = cond (r == t) false (words r i)
 
--- the words, and behind them that of one node
+-- the words, and after them that of one node
 abbrev pub with_node : (ℕ → ℕ → Bool) → ℕ → ℕ → ℕ → ℕ → Bool
 with_node words rows node r i = cond (r == rows) (i == node) (words r i)
 
@@ -78,7 +78,7 @@ EndsTellWords =
     (l : Lattice) (known : BlockId → Bool) (rows : ℕ) (words : ℕ → ℕ → Bool) (ends : ℕ → BlockId)
     → AreEnds l known rows words ends → TellWords l known rows words ends
 
--- Behind a node with no next one on its strand no later node before a fence is on that strand: where the strand of a later
+-- After a node with no next one on its strand no later node before a fence is on that strand: where the strand of a later
 -- node goes on from g, at or before i, it is another one.
 abbrev pub StrandEnds : Type 0
 StrandEnds =
@@ -95,7 +95,7 @@ MovesWord =
     (l : Lattice) (m : ℕ) (seen : BlockId → Bool) (rows : ℕ) (words : ℕ → ℕ → Bool) (t q : ℕ) → t < rows → q < rows → t ≢ q
     → ((i : ℕ) → words t i ≡ false) → AreWords l m seen rows words → AreWords l m seen rows (moved words q t)
 
--- An empty place behind the others may be there or not.
+-- An empty place after the others may be there or not.
 pub record EmptyPlaces (l : Lattice) (m : ℕ) (seen : BlockId → Bool) (rows : ℕ) (words : ℕ → ℕ → Bool) : Type 0 where
   pub put : AreWords l m seen rows words → AreWords l m seen (suc rows) words
   pub taken : AreWords l m seen (suc rows) words → AreWords l m seen rows words

@@ -89,7 +89,7 @@ module _ (l : Lattice) (known : BlockId → Bool) (i q place : ℕ) (b : BlockId
         ];
   }
 
-  -- where the strand goes on behind the block, they are too
+  -- where the strand goes on after the block, they are too
   pub heads-on : (j slots : ℕ) (words heads : ℕ → ℕ → Bool) → i < j → j ≤ l.n → previous l b.class j ≡ Some b.node → AreHeads l i q slots words heads → AreHeads l i (suc q) slots words heads
   heads-on j slots words heads later last was are = record {
     live = λ d live r less. are.live d (live_less l i q d live) r less;

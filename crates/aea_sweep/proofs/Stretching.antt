@@ -165,7 +165,7 @@ module _ (l : Lattice) (c : Class) (taken nodes : ℕ → Bool) (label k : ℕ) 
   from_k : (x : ℕ) → ((n : ℕ) → then n ≡ true → n ≤ x) → k ≤ x
   from_k x low = low k self_taken
 
-  -- where no stretch that is open holds a node behind, the strand's codeword begins there
+  -- where no stretch that is open holds a later node, the strand's codeword begins there
   begins_at : (x : ℕ) → HasNode l x → is_along l c k x ≡ true → (get_or opens strand 0 ≡ 0) ⊎ (is_along l c (get_or opens strand 0) x ≡ false) → codeword_at l then x c ≡ true
   begins_at x hx along empty =
       let parts = along_parts l c k x along in
@@ -286,7 +286,7 @@ module _ (l : Lattice) (c : Class) (taken nodes : ℕ → Bool) (label k : ℕ) 
         (ap (λ b. b && (is_along l c (get_or opens strand 0) x && nat_lt x k)) (eq-eqb (class_number c) (class_number c) refl)
         ∙ ap (λ b. b && nat_lt x k) along ∙ less_true x k less)
 
-    -- a fence stands before k
+    -- a fence is before k
     pub opens_parted : is_parted l.fences (get_or opens strand 0) k ≡ true → AreStretches l c then nodes label labels new (slice_set opens strand k)
     opens_parted parted =
         open_fields stay
@@ -310,7 +310,7 @@ module _ (l : Lattice) (c : Class) (taken nodes : ℕ → Bool) (label k : ℕ) 
               absurd (true≢false (sym parted ∙ parted-nearer l.fences (get_or opens strand 0) k x le (along_parts l c (get_or opens strand 0) x along).joined))
         ]
 
-    -- no fence stands before k: the stretch ends there
+    -- no fence is before k: the stretch ends there
     pub ends_at : is_parted l.fences (get_or opens strand 0) k ≡ false → AreStretches l c then nodes label labels new (slice_set opens strand 0)
     ends_at joined =
         let before = below (get_or opens strand 0) from.taken_at in

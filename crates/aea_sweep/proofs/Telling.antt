@@ -1,11 +1,11 @@
--- What the words of the ends and the first word of each block tell.
+-- What the words of the ends and the first word of each block show.
 use Rattle.std.proofs.Common.{◌≡◌, ℕ, zero, suc, ◌+◌, ◌*◌, ◌^◌, ◌<◌, ◌≤◌, inl, inr, Bool, true, false, ◌&&◌, ◌||◌, ◌==◌, List, [], ◌∷◌, ◌++◌, map, filter, length, get_or, Option, None, refl, sym, ◌∙◌, ap, subst, arith}
 use Rattle.std.specs.Prelude.{nat_le}
 use Rattle.std.proofs.lemmas.Bool.{cases_Bool, cases_eq, cases_lt, eq-eqb, ne_eqb, true≢false, false≢true, le-leb}
 use Rattle.std.proofs.lemmas.Bool.Decides.{nat_tests}
 use Rattle.aea_lattice.specs.declared.blocks.BlockId.{BlockId}
 use Rattle.aea_lattice.specs.declared.grid.Lattice.{Lattice}
-use Rattle.aea_lattice.specs.Blocks.{HasBlock, number_of, blocks_count}
+use Rattle.aea_lattice.specs.Blocks.{HasBlock, number_of, blocks_count, block_at}
 use Rattle.aea_lattice.specs.Strands.{nodes_to}
 use Rattle.aea_lattice.specs.Equations.{is_odd_count, is_in_codeword}
 use Rattle.aea_lattice.specs.Facts.{Misses}
@@ -26,8 +26,8 @@ use Rattle.aea_sweep.specs.Losses.{IsLoss, AreLosses}
 use Rattle.aea_sweep.proofs.Tells.{ends_tell_words}
 use Rattle.std.proofs.Math.Nat.{mul-le-mul_right}
 use Rattle.std.proofs.Math.ListN.{get_or-eq_default}
-use Rattle.aea_fates.specs.Live.{block_at}
-use Rattle.aea_gauss_laws.proofs.Given.{given, escaped, one_or_other, block_at-inside, number-block_at}
+use Rattle.aea_gauss_laws.proofs.Given.{given, escaped, one_or_other}
+use Rattle.aea_lattice.proofs.BlockAt.{block_at-inside, number-block_at}
 use Rattle.aea_gauss_laws.proofs.Bits.{given-determined}
 use Rattle.aea_sweep.proofs.States.{same_words}
 use Rattle.aea_sweep.proofs.Places.{few_classes}
@@ -98,7 +98,7 @@ filter_rises p (suc m) =
       | inr lacks ↦ rw lacks (rise-append 1 (filter p (nodes_to m)) (suc m) [] (suc (suc m)) (filter_rises p m) (omega arith))
     ])
 
--- a rising list is that of the nodes that stand in it
+-- a rising list is that of the nodes that are in it
 rising_filter : (xs : List ℕ) (n : ℕ) → RiseWithin 1 xs (suc n) → xs ≡ filter (has_odd xs) (nodes_to n)
 rising_filter xs n rises = rising_one 1 xs (filter (has_odd xs) (nodes_to n)) (suc n) (suc n) rises (filter_rises (has_odd xs) n) same
   where

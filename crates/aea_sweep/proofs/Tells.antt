@@ -1,4 +1,4 @@
--- What the words tell at the end.
+-- What the words show at the end.
 use Rattle.std.proofs.Common.{◌≡◌, ℕ, ◌<◌, ◌≤◌, inl, inr, Bool, true, false, ◌&&◌, sym, ◌∙◌, ap, arith}
 use Rattle.std.specs.Prelude.{nat_le}
 use Rattle.std.proofs.lemmas.Bool.{cases_lt, cases_eq, and_parts, le-leb, leb-true, true≢false}
@@ -13,7 +13,7 @@ use Rattle.aea_lattice.proofs.Odd.{same_test}
 use Rattle.aea_gauss_laws.specs.Parities.{odd_below}
 use Rattle.aea_gauss_laws.proofs.Columns.{odd_below-none, odd_below-one, and-true, and-false}
 use Rattle.aea_gauss_words.proofs.Reduced.{odd_some}
-use Rattle.aea_fates.proofs.Only.{greatest, nothing, find_greatest}
+use Rattle.aea_lattice.proofs.GreatestBelow.{greatest, nothing, find_greatest}
 use Rattle.aea_readings.proofs.WordReading.{codeword_same}
 use Rattle.aea_sweep.specs.Sweep.{IsOpen, AreEnds, sum_of_words}
 use Rattle.aea_sweep.proofs.StepLaws.{EndsTellWords}
@@ -41,7 +41,7 @@ module _ (l : Lattice) (known : BlockId → Bool) (rows : ℕ) (words : ℕ → 
     abbrev picks : ℕ → Bool
     picks = (e.words_are.whole (cut v) (cut_open v misses)).0
 
-    -- the words that make up a set tell its blocks
+    -- the words that make up a set show its blocks
     has_sum : (b : BlockId) → HasBlock l b → is_in_codeword l v b ≡ odd_below (λ r. picks r && is_in_codeword l (words r) b) rows
     has_sum b has =
         sym (cut_same v b has)

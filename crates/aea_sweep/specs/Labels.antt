@@ -6,7 +6,7 @@ use Rattle.aea_lattice.specs.declared.grid.Lattice.{Lattice}
 use Rattle.aea_lattice.specs.Blocks.{HasNode, HasParity, HasBlock, block_of, class_number, number_of, blocks_count}
 use Rattle.aea_lattice.specs.Strands.{strand_of, is_on}
 
--- whether node x is on the strand of node a, at a or behind it, and no fence parts them
+-- whether node x is on the strand of node a, at a or after it, and no fence parts them
 abbrev pub is_along : Lattice → Class → ℕ → ℕ → Bool
 is_along l c a x = nat_le a x && is_on l c (strand_of l c x) x a
 
@@ -18,13 +18,13 @@ is_stretch l c a limit b = class_number b.class == class_number c && (is_along l
 abbrev pub label_of : Lattice → List ℕ → BlockId → ℕ
 label_of l labels b = get_or labels (number_of l b) 0
 
--- Behind node j of a strand comes the node e, or e is behind the last node of the lattice: no node is between them.
+-- After node j of a strand comes the node e, or e is after the last node of the lattice: no node is between them.
 pub record IsBehind (l : Lattice) (c : Class) (j e : ℕ) : Type 0 where
   pub later : j < e
   pub none : (x : ℕ) → x ≤ l.n → is_along l c j x ≡ true → x < e → x ≡ j
   pub goes_on : e ≤ l.n → is_along l c j e ≡ true
 
--- From node j of a strand to before node e each parity has a label; e is on the strand, or behind the last node of the lattice.
+-- From node j of a strand to before node e each parity has a label; e is on the strand, or after the last node of the lattice.
 pub record IsSkip (l : Lattice) (labels : List ℕ) (c : Class) (j e : ℕ) : Type 0 where
   pub later : j < e
   pub labelled : (x : ℕ) → x ≤ l.n → is_along l c j x ≡ true → x < e → label_of l labels (block_of x c) ≢ 0
@@ -46,7 +46,7 @@ abbrev pub Labels : Lattice → (BlockId → Bool) → ℕ → List ℕ → List
 Labels l test label labels new =
     (b : BlockId) → HasBlock l b → label_of l new b ≡ cond (test b && label_of l labels b == 0) label (label_of l labels b)
 
--- each parity of the strand of node a has a label, from there to before node e, which is on it or behind the last node
+-- each parity of the strand of node a has a label, from there to before node e, which is on it or after the last node
 pub record IsDone (l : Lattice) (labels : List ℕ) (c : Class) (a e : ℕ) : Type 0 where
   pub labelled : (x : ℕ) → x ≤ l.n → is_along l c a x ≡ true → x < e → label_of l labels (block_of x c) ≢ 0
   pub goes_on : e ≤ l.n → is_along l c a e ≡ true

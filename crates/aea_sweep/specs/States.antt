@@ -52,7 +52,7 @@ pub record AreHeads (l : Lattice) (i q slots : ℕ) (words heads : ℕ → ℕ �
   pub live : (b : BlockId) → IsLive l i q b → (r : ℕ) → r < slots → heads r (place_at l b) ≡ is_in_codeword l (words r) b
   pub only : (r t : ℕ) → r < slots → t < 192 → heads r t ≡ true → (b : BlockId) × IsLive l i q b × (place_at l b ≡ t)
 
--- The words behind the slots are closed: each has an end, which no other word has, and the ends rise.
+-- The words after the slots are closed: each has an end, which no other word has, and the ends rise.
 pub record AreClosed (l : Lattice) (known : BlockId → Bool) (i q slots rows : ℕ) (words : ℕ → ℕ → Bool) (ends : ℕ → BlockId) : Type 0 where
   pub end : (r : ℕ) → slots ≤ r → r < rows → IsEndOf l known (words r) (ends r)
   pub passed : (r : ℕ) → slots ≤ r → r < rows → IsPassed i q (ends r)

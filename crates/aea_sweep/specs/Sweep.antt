@@ -1,4 +1,4 @@
--- The sweep over the nodes: words that are open so far, and what stands beside them at the end.
+-- The sweep over the nodes: words that are open so far, and what goes with them at the end.
 use Rattle.std.specs.Prelude.{◌≡◌, ◌≢◌, ◌⊎◌, ℕ, ◌<◌, ◌≤◌, Bool, true, false, ◌&&◌, IsTrue, List}
 use Rattle.aea_lattice.specs.declared.blocks.BlockId.{BlockId}
 use Rattle.aea_lattice.specs.declared.blocks.EqId.{EqId}

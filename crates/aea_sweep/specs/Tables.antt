@@ -38,7 +38,7 @@ pub record Forgets (place : ℕ) (heads headed : List Heads) : Type 0 where
   pub long : length headed ≡ length heads
   pub heads_are : (r t : ℕ) → t < 192 → head_in headed r t ≡ (head_in heads r t && not (t == place))
 
--- A copy of the row stands behind all rows, and its heads and nodes are gone.
+-- A copy of the row is after all rows, and its heads and nodes are gone.
 pub record Closes (row : ℕ) (words new : List (List ℕ)) : Type 0 where
   pub long : length new ≡ length words + 1
   pub words_are : (r : ℕ) → get_or new r [] ≡ cond (r == row) [] (cond (r == length words) (get_or words row []) (get_or words r []))
@@ -49,6 +49,6 @@ pub record IsSized (spare : ℕ) (words : List (List ℕ)) (heads : List Heads) 
   pub words_long : length heads ≡ length words
   pub few : spare < 192
 
--- no word in a slot and not the spare one has a head behind the places of slots
+-- no word in a slot and not the spare one has a head past the places of slots
 abbrev pub HasPlaces : ℕ → List Heads → Type 0
 HasPlaces spare heads = (r t : ℕ) → r ≤ spare → spare ≤ t → t < 192 → head_in heads r t ≡ false

@@ -2,7 +2,7 @@
 use Rattle.std.specs.Prelude.{ℕ, suc, ◌≤◌, Bool, false, ◌==◌, List, [], ◌∷◌, get_or}
 use Rattle.aea_lattice.specs.Parity.{differ}
 
--- whether the node stands an odd number of times in the list
+-- whether the node is in the list an odd number of times
 abbrev pub has_odd : List ℕ → ℕ → Bool
 has_odd [] i = false
 has_odd (k ∷ nodes) i = differ (i == k) (has_odd nodes i)

@@ -1,4 +1,4 @@
-//! Damage by chance, against a plain elimination among sets of nodes.
+//! Random damage, against a plain elimination among sets of nodes.
 
 ghost use Rattle.std.specs.Prelude.{◌≡◌, IfOk};
 ghost use Rattle.aea_lattice.specs.Blocks.{HasBlock, HasNode, HasParity};
@@ -69,7 +69,7 @@ fn stands_before(lattice: &Lattice, k: u32, node: u32, class: Class) -> bool
     lattice.strand(k, class) == lattice.strand(node, class) && !lattice.fences.parts(k, node)
 }
 
-// Whether an odd number of nodes of the set stand up to this one on its strand.
+// Whether an odd number of nodes of the set lie up to this one on its strand.
 fn is_odd(lattice: &Lattice, set: u64, node: u32, class: Class) -> bool
     requires node { HasNode lattice.now node }
     requires class { HasParity lattice.now class }
@@ -185,7 +185,7 @@ fn set_of(nodes: &[u32]) -> u64 {
     set
 }
 
-// Whether the list tells the same of each block as the sets of the ends.
+// Whether the list says the same of each block as the sets of the ends.
 fn agree(alloc: Global, lattice: &Lattice, known: &Marks) -> Result<bool, AllocError>
     requires { known.now.lattice ≡ lattice.now }
 {
@@ -204,7 +204,7 @@ fn agree(alloc: Global, lattice: &Lattice, known: &Marks) -> Result<bool, AllocE
     Ok(same)
 }
 
-// Marks the block of this number, unless it is lost by the chance.
+// Marks the block of this number, unless it is lost at random.
 fn mark(lattice: &Lattice, known: &mut Marks, k: u32, value: bool)
     requires { known.old.lattice ≡ lattice.now }
     ensures { known.new.lattice ≡ lattice.now }

@@ -21,7 +21,7 @@ fn bit(word: u64, place: u32) -> bool
     (word >> place) & 1 == 1
 }
 
-// The word with the bit at this place turned.
+// The word with the bit at this place flipped.
 fn turned(word: u64, place: u32) -> u64
     requires { place < 64 }
     ensures { (k : ℕ) → k < 64 → has_bit result k ≡ differ (has_bit word k) (k == place) }
@@ -81,7 +81,7 @@ impl Heads {
         }
     }
 
-    /// These bits with that of the place turned.
+    /// These bits with that of the place flipped.
     pub(crate) fn turned(&self, place: u32) -> Heads
         requires { place < 192 }
         ensures { (k : ℕ) → k < 192 → has_head result k ≡ differ (has_head self.now k) (k == place) }

@@ -7,7 +7,7 @@ ghost use Rattle.aea_sweep.specs.Labels.{label_of, is_along, is_stretch, IsBehin
 
 use aea_lattice::{BlockId, Class, Lattice};
 
-// The node behind this one on the strand, the one behind the last of the lattice where there is none.
+// The node after this one on the strand, the one after the last of the lattice where there is none.
 fn behind(lattice: &Lattice, node: u32, class: Class) -> u32
     requires node { HasNode lattice.now node }
     requires class { HasParity lattice.now class }
@@ -111,7 +111,7 @@ fn shorten(
     }
 }
 
-// Gives each parity of the strand from a node to before a limit the label, if it has none, and tells where the way has led.
+// Gives each parity of the strand from a node to before a limit the label, if it has none, and returns where the way has led.
 fn label_way(
     lattice: &Lattice,
     first: &mut [u32],

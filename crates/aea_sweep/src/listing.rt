@@ -52,11 +52,11 @@ impl LossList {
     }
 }
 
-/// What becomes of each block of the lattice where the marked ones are known: the nodes of its least end, or that it is
-/// determined. One pass over the nodes keeps at most one open word a strand, and for each end its nodes are kept once, behind
+/// What happens to each block of the lattice where the marked ones are known: the nodes of its least end, or that it is
+/// determined. One pass over the nodes keeps at most one open word a strand, and for each end its nodes are kept once, after
 /// those of the ends before it. So time and memory grow with the lattice and with the nodes of the words: beside the open words
 /// it asks for at most 12 bytes a block and 4 bytes a node of a word. The list of these nodes doubles when it is full: so it
-/// takes up to twice its 4 bytes a node, and three times as much while it moves. An error is want of memory.
+/// takes up to twice its 4 bytes a node, and three times as much while it moves. An error means that memory ran out.
 pub fn losses(alloc: Global, lattice: &Lattice, known: &Marks) -> Result<LossList, AllocError>
     requires { known.now.lattice ≡ lattice.now }
     ensures { IfOk result (λ list. AreLosses lattice.now (is_marked known.now) list) }

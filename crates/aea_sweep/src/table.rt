@@ -1,5 +1,5 @@
-//! The words that are open, in a slot for each strand and a spare one behind them, and their heads. Closed words stand in a list
-//! of their own, and count as the rows behind these.
+//! The words that are open, in a slot for each strand and a spare one after them, and their heads. Closed words are in a list
+//! of their own, and count as the rows after these.
 
 ghost use Rattle.std.specs.Prelude.{◌≡◌, ◌≢◌, ◌==◌, ◌&&◌, ◌++◌, ◌<◌, ◌≤◌, ℕ, false, true, nat_lt, OnOk, MatchOption, length};
 ghost use Rattle.aea_sweep.specs.Heads.{head_in};
@@ -97,7 +97,7 @@ pub(crate) fn clear(words: &mut Vec<Word>, heads: &mut [Heads], row: usize)
     heads[row] = Heads::none();
 }
 
-// Puts the row's word behind the closed ones, and takes its nodes away.
+// Puts the row's word after the closed ones, and takes its nodes away.
 pub(crate) fn close(
     words: &mut Vec<Word>,
     closed: &mut WordList,

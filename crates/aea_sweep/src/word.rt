@@ -62,7 +62,7 @@ impl Word {
     }
 }
 
-// Makes the word the nodes that stand in exactly one of the two lists. All rise.
+// Makes the word the nodes that are in exactly one of the two lists. All rise.
 pub(crate) fn add_lists(first: &[u32], second: &[u32], sum: &mut Word) -> Result<(), AllocError>
     ensures sum { OnOk result ((i : ℕ) → has_odd sum.new i ≡ differ (has_odd first.now i) (has_odd second.now i)) }
     ensures rises { OnOk result ((top : ℕ) → RiseWithin 1 first.now top → RiseWithin 1 second.now top → RiseWithin 1 sum.new top) }

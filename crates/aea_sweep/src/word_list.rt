@@ -1,11 +1,11 @@
-//! Lists of nodes behind one another in one list.
+//! Lists of nodes one after another in one list.
 
 ghost use Rattle.std.specs.Prelude.{◌≡◌, ◌++◌, ◌∷◌, ◌<◌, [], OnOk, IfOk, length, get_or};
 
 use std::alloc::{AllocError, Global};
 use std::marker::Model;
 
-/// Lists of nodes. All nodes stand in one list, so a list more costs the room of its nodes and of one place.
+/// Lists of nodes. All nodes are in one list, so one list more costs the space of its nodes and of one place.
 #[derive(Debug, Drop)]
 pub(crate) struct WordList {
     nodes: Vec<u32>,
@@ -25,7 +25,7 @@ impl Model for WordList {
 }
 
 impl WordList {
-    /// No list, with room for the starts of this many.
+    /// No list, with space for the starts of this many.
     pub(crate) fn with_capacity(alloc: Global, most: usize) -> Result<WordList, AllocError>
         ensures { IfOk result (λ w. w ≡ []) }
     {

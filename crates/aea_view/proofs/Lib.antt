@@ -3,3 +3,4 @@ pub mod Forcing
 pub mod Lowest
 pub mod Nexts
 pub mod Packed
+pub mod Marking

@@ -1,4 +1,4 @@
--- Bits of a word from a place on: the lowest of them that is set, and the bits turned.
+-- Bits of a word from a place on: the lowest of them that is set, and the bits flipped.
 use Rattle.std.proofs.Common.{◌≡◌, ℕ, zero, suc, ◌+◌, ◌-◌, ◌/◌, ◌%◌, ◌^◌, ◌<◌, ◌≤◌, true, false, ◌==◌, not, refl, sym, ◌∙◌, ap, arith, inl, inr}
 use Rattle.std.specs.Int.{bit_at, bit_not, trailing_zeros, w64}
 use Rattle.std.proofs.lemmas.Bool.{cases_lt}
@@ -27,7 +27,7 @@ pub record IsLowest (word place k : ℕ) : Type 0 where
   pub set : has_bit word k ≡ true
   pub before : (j : ℕ) → place ≤ j → j < k → has_bit word j ≡ false
 
--- where a bit is set from a place on in a word of 64 bits, the lowest such stands as far behind the place as the
+-- where a bit is set from a place on in a word of 64 bits, the lowest such is as far after the place as the
 -- word moved down by the place has trailing zeros
 pub lowest-from : (word place : ℕ) → word < 2 ^ 64 → 0 < word / 2 ^ place → IsLowest word place (place + trailing_zeros w64 (word / 2 ^ place))
 lowest-from word place fits some =
@@ -50,13 +50,13 @@ lowest-from word place fits some =
     div-small : (n m : ℕ) → n / m ≤ n
     div-small n m = omega arith
 
--- a bit that is turned
+-- a bit that is flipped
 turned_bit : (b : ℕ) → b < 2 → (1 - b == 1) ≡ not (b == 1)
 turned_bit zero less = refl
 turned_bit (suc zero) less = refl
 turned_bit (suc (suc b)) less = absurd (omega arith)
 
--- each bit of a word of 64 bits that is turned is set where it was not
+-- each bit of a word of 64 bits that is flipped is set where it was not
 pub turned-bits : (word k : ℕ) → word < 2 ^ 64 → k < 64 → has_bit (bit_not w64 word) k ≡ not (has_bit word k)
 turned-bits word k fits within =
     ap (λ (x : ℕ). x == 1) (bit_at_not w64 word k fits within) ∙ turned_bit (bit_at word k) (bit_at-lt word k)

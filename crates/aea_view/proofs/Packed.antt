@@ -88,7 +88,7 @@ bits-more n words =
     one true = refl
     one false = refl
 
--- turned words have the truth values turned
+-- flipped words have the truth values flipped
 pub bits-turned : (n : ℕ) (words turned : List ℕ) → n ≤ 64 * length words
     → ((k : ℕ) → k < 64 * length words → is_bit turned k ≡ not (is_bit words k)) → bits_of n turned ≡ map not (bits_of n words)
 bits-turned n words turned room are =

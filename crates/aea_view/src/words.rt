@@ -40,14 +40,14 @@ pub(crate) fn count_clear(words: &[u64], n: u32) -> u32
     count
 }
 
-// The word with each bit turned.
+// The word with each bit flipped.
 fn turned(word: u64) -> u64
     ensures { (k : ℕ) → k < 64 → has_bit result k ≡ not (has_bit word k) }
 {
     !word
 }
 
-// Words with each bit turned.
+// Words with each bit flipped.
 pub(crate) fn all_turned(alloc: Global, words: &[u64]) -> Result<Vec<u64>, AllocError>
     ensures long { IfOk result (λ turned. length turned.items ≡ length words.now) }
     ensures turned { IfOk result (λ turned. (k : ℕ) → k < 64 * length words.now → is_bit turned.items k ≡ not (is_bit words.now k)) }

@@ -1,4 +1,4 @@
--- Turning a bit of a word, and the number of strands of a class.
+-- Flipping a bit of a word, and the number of strands of a class.
 use Rattle.std.proofs.Common.{◌≡◌, ℕ, ◌+◌, ◌-◌, ◌*◌, ◌%◌, ◌^◌, ◌<◌, ◌≤◌, inl, inr, ◌==◌, bit_xor, sym, ◌∙◌, ap, arith}
 use Rattle.std.specs.Int.{bit_at}
 use Rattle.std.proofs.lemmas.Nat.{one_shl, mod_below}
@@ -22,7 +22,7 @@ bit_of_pow m i =
       | inr n ↦ ap (λ b. b == 1) (bit_at-pow_other m i n) ∙ sym (ne_eqb i m n)
     ]
 
--- the XOR of a word with a single bit turns the bit at its place alone
+-- the XOR of a word with a single bit flips the bit at its place alone
 pub turned : (x m i : ℕ) → m < 64 → has_bit (bit_xor x ((1 * 2 ^ m) % 2 ^ 64)) i ≡ differ (has_bit x i) (i == m)
 turned x m i less =
     ap (λ p. bit_at (bit_xor x p) i == 1) (one_shl m 64 less)

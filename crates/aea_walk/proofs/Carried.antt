@@ -67,7 +67,7 @@ on-more l members c t m =
           ∙ ap (λ b. differ before (b && members (suc m))) (sym (ne_eqb (strand_of l c (suc m)) t other))
     ]
 
--- where no node behind i is a member, and an even number on a strand up to i are, that stays so
+-- where no node after i is a member, and an even number on a strand up to i are, that stays so
 pub even-behind : (l : Lattice) (members : ℕ → Bool) (c : Class) (t i : ℕ) → ((k : ℕ) → i < k → members k ≡ false)
     → is_odd_count members (nodes_on l c t i i) ≡ false → (k : ℕ) → i ≤ k → is_odd_count members (nodes_on l c t k k) ≡ false
 even-behind l members c t i none even zero le = refl

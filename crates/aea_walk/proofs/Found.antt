@@ -53,7 +53,7 @@ has_number l k lt =
       ap (λ q. q * w + class_number (class_at (k % w))) back ∙ ap (λ r. k / w * w + r) class ∙ whole,
     )
 
--- the block at its number stands there
+-- the block of a number is at its number
 at_number : (l : Lattice) (b d : BlockId) → HasBlock l b → get_or (blocks_of l) (number_of l b) d ≡ b
 at_number l b d has = get_or_from_slice_get (blocks_of l) (number_of l b) b d (slice_get-blocks_of l b has)
 

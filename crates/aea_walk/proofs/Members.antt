@@ -1,4 +1,4 @@
--- The nodes of a list that a walk has passed, and those behind.
+-- The nodes of a list that a walk has passed, and those after it.
 use Rattle.std.proofs.Common.{◌≡◌, ℕ, ◌+◌, ◌-◌, ◌<◌, ◌≤◌, inl, inr, List, length, get_or, Bool, true, false, cond, ◌==◌, Some, None, refl, sym, ◌∙◌, ap, subst, arith}
 use Rattle.std.specs.Prelude.{◌↔◌, slice_get, IsTrue}
 use Rattle.std.proofs.lemmas.Bool.{cases_lt, cases_eq, eq-eqb, ne_eqb, false≢true}
@@ -22,7 +22,7 @@ unlisted nodes i other =
 pub none_before : (nodes : List ℕ) (i : ℕ) → ((k : ℕ) → k < length nodes → i < get_or nodes k 0) → (j : ℕ) → j ≤ i → has_node nodes j ≡ false
 none_before nodes i behind j le = unlisted nodes j (λ k lt e. let more = behind k lt in omega arith)
 
--- a node behind all items is not in the list
+-- a node after all items is not in the list
 pub none_behind : (nodes : List ℕ) (i : ℕ) → ((k : ℕ) → k < length nodes → get_or nodes k 0 ≤ i) → (j : ℕ) → i < j → has_node nodes j ≡ false
 none_behind nodes i before j lt = unlisted nodes j (λ k within e. let less = before k within in omega arith)
 
@@ -57,7 +57,7 @@ module _ (l : Lattice) (nodes : List ℕ) (w : Walk) (rising : AreRising l nodes
       list_any_at (λ k. w.node + 1 == k) nodes w.taken 0 (slice_get_within nodes w.taken (w.node + 1) is)
       (eq-eqb (w.node + 1) (get_or nodes w.taken 0) (sym (get_or_from_slice_get nodes w.taken (w.node + 1) 0 is)))
 
-  -- an item from the next one on is not the next node, where that does not stand at its place
+  -- an item from the next one on is not the next node, where that is not at its place
   beyond : (slice_get nodes w.taken ≡ Some (w.node + 1) → ⊥) → (k : ℕ) → w.taken ≤ k → k < length nodes → w.node + 1 < get_or nodes k 0
   beyond other k le lt =
       let first : w.node < get_or nodes w.taken 0 = come.behind w.taken (omega arith) (omega arith) in
@@ -77,12 +77,12 @@ module _ (l : Lattice) (nodes : List ℕ) (w : Walk) (rising : AreRising l nodes
         | inr high ↦ (let more = beyond other k high lt in omega arith)
       ])
 
-  -- the next node is in the list exactly where it stands at the next place
+  -- the next node is in the list exactly where it is at the next place
   pub next-listed : (member : Bool) → (IsTrue member ↔ (slice_get nodes w.taken ≡ Some (w.node + 1))) → has_node nodes (w.node + 1) ≡ member
   next-listed true stands = listed_next (stands.0 refl)
   next-listed false stands = unlisted_next (λ is. false≢true (stands.1 is))
 
-  -- what stands at the next place is then taken
+  -- what is at the next place is then taken
   pub next-taken : (member : Bool) → (IsTrue member ↔ (slice_get nodes w.taken ≡ Some (w.node + 1))) → cond member (w.taken + 1) w.taken ≤ length nodes
   next-taken true stands = let within = slice_get_within nodes w.taken (w.node + 1) (stands.0 refl) in omega arith
   next-taken false stands = come.taken

@@ -51,7 +51,7 @@ first-touched l intact nodes i c first low high before =
 pub nothing-touched : (l : Lattice) (intact : BlockId → Bool) (nodes : List ℕ) → ((d : BlockId) → HasBlock l d → is_touched l intact nodes d ≡ false) → touched l intact nodes ≡ None
 nothing-touched l intact nodes none = find_nothing l (is_touched l intact nodes) none
 
--- the blocks of the nodes before a walk, and those behind its end
+-- the blocks of the nodes before a walk, and those past its end
 pub untouched-to : (l : Lattice) (intact : BlockId → Bool) (nodes : List ℕ) (i : ℕ) → IsClearTo l (has_node nodes) i → (d : BlockId) → d.node ≤ i → is_touched l intact nodes d ≡ false
 untouched-to l intact nodes i clear d le = and_right (intact d) (is_in_codeword l (has_node nodes) d) (clear d.class d.node le)
 

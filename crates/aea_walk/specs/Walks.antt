@@ -1,4 +1,4 @@
--- A walk along the nodes of a lattice, with a bit for each strand: whether an odd number of members stand on it so far and
+-- A walk along the nodes of a lattice, with a bit for each strand: whether an odd number of members lie on it so far and
 -- no fence parts them from the last node of the walk.
 use Rattle.std.specs.Prelude.{◌≡◌, ℕ, ◌<◌, ◌≤◌, nat_le, Bool, ◌&&◌, true, false, List, get_or, length}
 use Rattle.aea_lattice.specs.declared.blocks.BlockId.{BlockId}
@@ -38,7 +38,7 @@ IsClearTo l members i = (c : Class) (k : ℕ) → k ≤ i → codeword_at l memb
 abbrev pub IsClearAfter : Lattice → (ℕ → Bool) → ℕ → Type 0
 IsClearAfter l members i = (c : Class) (k : ℕ) → class_number c ≤ l.alpha → i < k → codeword_at l members k c ≡ false
 
--- The walk along these nodes of the lattice has come to its node: so many of them stand up to it, and all others behind it.
+-- The walk along these nodes of the lattice has come to its node: so many of them lie up to it, and all others after it.
 pub record HasCome (l : Lattice) (nodes : List ℕ) (w : Walk) : Type 0 where
   pub most : w.node ≤ l.n
   pub walked : IsWalked l (has_node nodes) w.node w.strands

@@ -12,7 +12,7 @@ use crate::walk::Walk;
 use aea_lattice::{BlockId, Class, Lattice, NodeList};
 use aea_view::Marks;
 
-/// Whether the codeword of these nodes contains the block. The nodes stand in rising order.
+/// Whether the codeword of these nodes contains the block. The nodes are in rising order.
 pub fn is_in_codeword(lattice: &Lattice, nodes: &NodeList, block: BlockId) -> bool
     requires nodes { AreRising lattice.now nodes.now }
     requires block { HasBlock lattice.now block }
@@ -62,7 +62,7 @@ fn touched_class(marks: &Marks, walk: &Walk) -> Option<Class>
     }
 }
 
-/// The marked block of the least number in the codeword of these nodes, None where it contains none. The nodes stand in
+/// The marked block of the least number in the codeword of these nodes, None where it contains none. The nodes are in
 /// rising order.
 pub fn first_touched(marks: &Marks, nodes: &NodeList) -> Option<BlockId>
     requires { AreRising marks.now.lattice nodes.now }

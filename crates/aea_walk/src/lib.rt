@@ -12,8 +12,8 @@
 //! Read `Codewords` first. It rests on `aea_lattice` and on the marks of `aea_view`, and on no elimination.
 #![tactic(auto)]
 
-pub mod codewords;
-pub mod missing;
+mod codewords;
+mod missing;
 mod strands;
 mod walk;
 

@@ -18,7 +18,7 @@ pub(crate) struct Strands {
     pub left: u64,
 }
 
-// The word with the bit at this place turned.
+// The word with the bit at this place flipped.
 fn turned(word: u64, place: u32) -> u64
     requires { place < 64 }
     ensures { (k : ℕ) → k < 64 → has_bit result k ≡ differ (has_bit word k) (k == place) }
@@ -26,7 +26,7 @@ fn turned(word: u64, place: u32) -> u64
     word ^ (1 << place)
 }
 
-// The word of the class, with the bit of the node's strand turned where the lattice has the class.
+// The word of the class, with the bit of the node's strand flipped where the lattice has the class.
 fn turned_on(lattice: &Lattice, word: u64, node: u32, class: Class) -> u64
     requires node { HasNode lattice.now node }
     requires class { 1 ≤ class_number class }
@@ -58,7 +58,7 @@ impl Strands {
         self.horiz == 0 && self.right == 0 && self.left == 0
     }
 
-    /// These bits with that of each strand of the node turned.
+    /// These bits with that of each strand of the node flipped.
     pub(crate) fn turned_at(&self, lattice: &Lattice, node: u32) -> Strands
         requires { HasNode lattice.now node }
         ensures { (c : Class) → HasParity lattice.now c → (t : ℕ) → t < 64 → bit_of result c t ≡ differ (bit_of self.now c t) (t == strand_of lattice.now c node) }

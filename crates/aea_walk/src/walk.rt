@@ -10,8 +10,8 @@ ghost use Rattle.aea_walk.specs.Walks.{IsWalked, IsClearTo, IsClearAfter, HasCom
 use crate::strands::Strands;
 use aea_lattice::{Class, Lattice, NodeList};
 
-/// A walk along some nodes of a lattice: the node to which it has come, how many of the nodes stand up to it, whether it is
-/// one of them, and a bit for each strand, whether an odd number of them stand on it that no fence parts from this node.
+/// A walk along some nodes of a lattice: the node to which it has come, how many of the nodes lie up to it, whether it is
+/// one of them, and a bit for each strand, whether an odd number of them lie on it that no fence parts from this node.
 #[derive(Clone, Copy, Debug, PartialEq, Eq)]
 pub(crate) struct Walk {
     pub node: u32,
@@ -20,7 +20,7 @@ pub(crate) struct Walk {
     pub strands: Strands,
 }
 
-// Whether the node stands at this place of the list.
+// Whether the node is at this place of the list.
 fn stands_at(nodes: &NodeList, place: usize, node: u32) -> bool
     ensures stands { IsTrue result ↔ (slice_get nodes.now place ≡ Some node) }
     ensures room { IsTrue result → place + 1 < 2 ^ 64 }
@@ -64,7 +64,7 @@ impl Walk {
         }
     }
 
-    /// Whether none of these nodes stands behind, and all bits are 0.
+    /// Whether none of these nodes is past this one, and all bits are 0.
     pub(crate) fn is_over(&self, lattice: &Lattice, nodes: &NodeList) -> bool
         requires { HasCome lattice.now nodes.now self.now }
         ensures { IsTrue result → IsClearAfter lattice.now (has_node nodes.now) self.now.node }

@@ -152,7 +152,7 @@ sums-step old new x datas wide each weaves sums =
           ∙ ap (λ w. strand_sum m w (datas ++ x ∷ []) c strand) (sym weaves.size);
     }
 
--- after a step the last node stands after the last fence
+-- after a step the last node is after the last fence
 pub step-joined : (l m : Lattice) → IsGrown l (l.n + 1) m → last_fence m.fences < m.n
 step-joined l m grown =
     let nodes = grown.nodes in

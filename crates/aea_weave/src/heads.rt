@@ -177,7 +177,7 @@ impl Heads {
         }
     }
 
-    /// The head of the last node's strand of the class: the parity of the node, where no fence stands at it.
+    /// The head of the last node's strand of the class: the parity of the node, where no fence is at it.
     pub fn parity(&self, class: Class) -> &[u8]
         requires node { 1 ≤ self.now.lattice.n }
         requires class { HasParity self.now.lattice class }

@@ -9,9 +9,9 @@
 //! (`xor_into`). Read in `specs/`: `Woven` (`Weaves`), then `Sums` (`AreStrandSums`). It rests on `aea_lattice`.
 #![tactic(auto)]
 
-pub mod heads;
-pub mod laws;
-pub mod xor;
+mod heads;
+mod laws;
+mod xor;
 
 pub use heads::Heads;
 pub use laws::{last_parities_are_sums, longer_data_keep_values};

@@ -1,4 +1,5 @@
-use Rattle.aea_fates.proofs.Only.{sum_one, word_one, not_both_kinds}
+use Rattle.aea_lattice.proofs.OneWord.{word_one}
+use Rattle.aea_fates.proofs.Only.{sum_one, not_both_kinds}
 use Rattle.aea_fates.proofs.laws.lists_are_one.Goals as goal
 
 pub returns : goal.returns

@@ -1,6 +1,6 @@
 use Rattle.std.proofs.Common.{◌-◌, All, sym, subst, arith}
 use Rattle.aea_lattice.specs.Equations.{HasEquation}
-use Rattle.aea_plain.proofs.Places.{equations_inside}
+use Rattle.aea_lattice.proofs.Among.{equations_inside}
 use Rattle.aea_plain.proofs.sums.all_equations.Goals as goal
 
 pub returns-clause-inside : goal.returns-clause-inside

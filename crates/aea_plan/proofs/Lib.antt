@@ -3,5 +3,4 @@ pub mod Numbered
 pub mod Turned
 pub mod Walking
 pub mod Lining
-pub mod Same
 pub mod Printing

@@ -1,8 +1,7 @@
 -- The lines of verdicts are those of the printed report.
-use Rattle.std.proofs.Common.{◌≡◌, ℕ, ◌<◌, List, [], ◌∷◌, map, get_or, drop, Bool, true, false, cond, not, inl, inr, refl, sym, ◌∙◌, ap, subst}
+use Rattle.std.proofs.Common.{◌≡◌, ℕ, List, [], ◌∷◌, map, get_or, drop, Bool, true, false, cond, not, inl, inr, refl, sym, ◌∙◌, ap, subst}
 use Rattle.std.specs.Prelude.{filter, All, Option}
 use Rattle.std.proofs.lemmas.Bool.{cases_Bool, false≢true}
-use Rattle.std.proofs.lemmas.List.{get_or-map, length-map}
 use Rattle.std.proofs.lemmas.List.Elements.{All-nil, All-cons, All-head, All-tail, All-same, All-filter, filter_passes}
 use Rattle.aea_lattice.specs.declared.blocks.BlockId.{BlockId}
 use Rattle.aea_lattice.specs.declared.grid.Lattice.{Lattice}
@@ -17,14 +16,11 @@ use Rattle.aea_gauss.specs.declared.fates.Fate.TheVariants.{Sum, Word}
 use Rattle.aea_gauss.specs.Fates.{block_of_fate, IsFate}
 use Rattle.aea_report.specs.Format.{block_in}
 use Rattle.aea_report.specs.Printed.{IsLineOf, IsPrinted}
+use Rattle.aea_report.proofs.PrintedFits.{from_map}
 use Rattle.aea_plan.specs.declared.plan.Plan.{Plan}
 use Rattle.aea_plan.specs.Verdicts.{line_of_fate, first_line, lines_from, lines_by, AreVerdicts}
 use Rattle.aea_plan.specs.Plans.{IsPlanOf, AreCounts, head_by}
 use Rattle.aea_plan.proofs.Lists.{filter-passes, filter-fails, same-filter}
-
--- what holds of the blocks of fates holds of the fates
-pub from_map : {X Y : Type 0} (P : X → Type 0) (f : Y → X) (ys : List Y) → All P (map f ys) → All (λ y. P (f y)) ys
-from_map P f ys all = λ k d lt. subst P (get_or-map f ys k d (f d) lt) (all k (f d) (subst (λ n. k < n) (sym (length-map ys f)) lt))
 
 -- the block of the line of a fate
 fate_block : (f : Fate) → block_in (line_of_fate f) ≡ block_of_fate f
@@ -77,7 +73,7 @@ split_first reached x xs fates P are all = elim (cases_Bool (reached x)) [
   | inr e ↦ split_open reached x xs fates P e are all
 ]
 
--- the line of each block of a list, where those that are not reached have fates that tell lines
+-- the line of each block of a list, where those that are not reached have fates that give lines
 pub lines-are : (l : Lattice) (known damaged reached : BlockId → Bool) → Covers l damaged reached
     → ((b : BlockId) → HasBlock l b → reached b ≡ true → IsReached l known b)
     → (xs : List BlockId) (fates : List Fate) → All (HasBlock l) xs → map block_of_fate fates ≡ opens reached xs

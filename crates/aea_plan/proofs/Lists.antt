@@ -16,7 +16,7 @@ drop-here (y ∷ ys) (suc k) x here = drop-here ys k x here
 pub drop-at : {X : Type 0} → (xs : List X) (k : ℕ) (x : X) → slice_get xs k ≡ Some x → drop k xs ≡ x ∷ drop (k + 1) xs
 drop-at xs k x here = drop-here xs k x here ∙ ap (λ n. x ∷ drop n xs) (sym (one_more k))
 
--- what stands at a place where a list of items begins
+-- what is at a place where a list of items begins
 pub record Begins {X : Type 0} (xs : List X) (k : ℕ) (d x : X) (ys : List X) : Type 0 where
   pub within : k < length xs
   pub first : get_or xs k d ≡ x

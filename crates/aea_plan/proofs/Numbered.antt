@@ -1,4 +1,4 @@
--- The block that stands at a number.
+-- The block that is at a number.
 use Rattle.std.proofs.Common.{◌≡◌, ℕ, zero, suc, ◌+◌, ◌-◌, ◌*◌, ◌/◌, ◌%◌, ◌^◌, ◌<◌, ◌≤◌, inl, inr, Some, Option, refl, sym, ◌∙◌, ap, subst, arith}
 use Rattle.std.specs.Prelude.{slice_get}
 use Rattle.std.proofs.Math.Nat.{mod-lt, div-lt_iff_lt-mul, div-mul-le_self, mod-eq-sub-div-mul}
@@ -56,7 +56,7 @@ numbered l j less =
 same_item : {X : Type 0} → (r : Option X) (x y : X) → r ≡ Some x → r ≡ Some y → x ≡ y
 same_item r x y one other = let e : Some x ≡ Some y = sym one ∙ other in cc
 
--- a block of the lattice that stands at this place has the place as its number
+-- a block of the lattice that is at this place has the place as its number
 pub record IsAt (l : Lattice) (j : ℕ) (x : BlockId) : Type 0 where
   pub block : HasBlock l x
   pub number : number_of l x ≡ j

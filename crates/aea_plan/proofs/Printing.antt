@@ -21,7 +21,7 @@ texts-more lines line =
     ∙ flat_map-append (λ text. text ++ newline) (map line_text lines) (line_text line ∷ [])
     ∙ ap (λ zs. texts_of lines ++ zs) (append-nil (line_text line ++ newline))
 
--- the texts before a line, its own, and those behind it
+-- the texts before a line, its own, and those after it
 pub texts-around : (before : List Line) (line : Line) (after : List Line) → texts_of (before ++ line ∷ after) ≡ (texts_of before ++ (line_text line ++ newline)) ++ texts_of after
 texts-around before line after =
     ap joined (map-append line_text before (line ∷ after))

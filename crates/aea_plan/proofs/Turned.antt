@@ -1,4 +1,4 @@
--- Marks that are turned, and marks that are all set.
+-- Marks that are flipped, and marks that are all set.
 use Rattle.std.proofs.Common.{◌≡◌, ◌<◌, [], map, length, get_or, sym, ◌∙◌, ap, subst, Bool, true, false, refl, arith}
 use Rattle.std.specs.Prelude.{not, filter}
 use Rattle.std.proofs.lemmas.List.{get_or-map, length-map}
@@ -10,12 +10,12 @@ use Rattle.aea_lattice.proofs.Equations.{number_below}
 use Rattle.aea_view.specs.Marked.{Marked, AreMarks, IsWhole, AreClear, is_marked}
 use Rattle.aea_plan.proofs.Lists.{none-pass}
 
--- a truth value that is turned twice is as it was
+-- a truth value that is flipped twice is as it was
 pub twice : (b : Bool) → not (not b) ≡ b
 twice true = refl
 twice false = refl
 
--- turned marks are those of the turned test
+-- flipped marks are those of the negated test
 pub turned : (m n : Marked) (test : BlockId → Bool) → n.lattice ≡ m.lattice → n.marks ≡ map not m.marks → IsWhole n → AreMarks m test → AreMarks n (λ b. not (test b))
 turned m n test same marks whole are b inside =
     let here : HasBlock m.lattice b = subst (λ (l : Lattice). HasBlock l b) same inside in
@@ -27,13 +27,13 @@ turned m n test same marks whole are b inside =
     ∙ get_or-map not m.marks k false false below
     ∙ ap not (are b here)
 
--- and marks that are turned twice are those of the test
+-- and marks that are flipped twice are those of the test
 pub turned-twice : (m n o : Marked) (test : BlockId → Bool) → n.lattice ≡ m.lattice → n.marks ≡ map not m.marks → IsWhole n
     → o.lattice ≡ n.lattice → o.marks ≡ map not n.marks → IsWhole o → AreMarks m test → AreMarks o test
 turned-twice m n o test same marks whole same_again marks_again whole_again are b inside =
     turned n o (λ d. not (test d)) same_again marks_again whole_again (turned m n test same marks whole are) b inside ∙ twice (test b)
 
--- where turned marks have none at all, no block is without a mark
+-- where flipped marks have none at all, no block is without a mark
 pub none-clear : BlocksAreInside → (m n : Marked) → n.lattice ≡ m.lattice → n.marks ≡ map not m.marks → IsWhole n
     → AreClear n 0 (blocks_count n.lattice) → filter (λ b. not (is_marked m b)) (blocks_of m.lattice) ≡ []
 none-clear inside m n same marks whole clear =

@@ -2,4 +2,3 @@ pub mod Verdicts
 pub mod Plans
 pub mod Walks
 pub mod Texts
-pub mod Laws

@@ -58,6 +58,6 @@ head_by seal plan = record {
   lost = plan.counts.lost;
 }
 
--- so many bytes are room for the text of the nodes of each lost block: 11 for each node, a space and up to ten digits
+-- so many bytes are space for the text of the nodes of each lost block: 11 for each node, a space and up to ten digits
 abbrev pub HasRoom : Plan → ℕ → Type 0
 HasRoom plan bytes = 11 * plan.most_nodes ≤ bytes

@@ -17,6 +17,6 @@ pub record IsTextOf (fates : List Fate) (text : List ℕ) (at : ℕ) : Type 0 wh
 abbrev pub KeepsText : List Fate → List ℕ → Option ℕ → Type 0
 KeepsText fates text noted = MatchOption noted ⊤ (IsTextOf fates text)
 
--- so many bytes are room for the text of the nodes of each of these fates
+-- so many bytes are space for the text of the nodes of each of these fates
 abbrev pub HasRoomFor : List Fate → ℕ → Type 0
 HasRoomFor fates bytes = All (λ fate. 11 * nodes_count fate ≤ bytes) fates

@@ -1,4 +1,4 @@
--- What becomes of each block that is not known, and the lines of a report that say it.
+-- What happens to each block that is not known, and the lines of a report that say it.
 use Rattle.std.specs.Prelude.{◌≡◌, ℕ, Bool, true, false, not, cond, List, [], ◌∷◌, map, filter, drop}
 use Rattle.aea_lattice.specs.declared.blocks.BlockId.{BlockId}
 use Rattle.aea_lattice.specs.Blocks.{HasBlock, blocks_of}

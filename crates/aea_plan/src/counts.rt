@@ -1,4 +1,4 @@
-//! Counts of the damaged blocks, by what becomes of them.
+//! Counts of the damaged blocks, by what happens to them.
 
 ghost use Rattle.std.specs.Prelude.{◌≡◌, ◌+◌, ◌-◌, ◌<◌, ◌≤◌, ◌^◌, ◌++◌, ◌∷◌, [], List};
 ghost use Rattle.aea_lattice.specs.Blocks.{blocks_count};

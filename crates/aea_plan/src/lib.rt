@@ -1,19 +1,18 @@
-//! Plans: what becomes of each block of a lattice that is not known. It is peeled, solved or lost, and the loss report says
+//! Plans: what happens to each block of a lattice that is not known. It is peeled, solved or lost, and the loss report says
 //! so of each.
 //!
 //! Promises to drills and repairs that `Plan::new` has, for any known blocks, the steps that peel, the marks of their
 //! closure and the fates of all other blocks; and that `print_report` prints the one report for these blocks through a
 //! page, and takes no memory.
 //!
-//! The definitions are in `specs/`: `Verdicts` (the lines of what becomes of each block), `Plans` (what a plan has), `Walks`
-//! and `Texts` (how its report is printed) and `Laws`.
+//! The definitions are in `specs/`: `Verdicts` (the lines of what happens to each block), `Plans` (what a plan has), `Walks`
+//! and `Texts` (how its report is printed).
 //!
 //! Read `Plans` (`IsPlanOf`) first, and `Printed` of `aea_report`. It rests on `aea_peel`, `aea_gauss` and
 //! `aea_report`.
 #![tactic(auto)]
 
 mod counts;
-pub mod laws;
 mod nodes;
 mod plan;
 mod print;
@@ -21,7 +20,6 @@ mod verdicts;
 mod walk;
 
 pub use counts::Counts;
-pub use laws::printed_are_one;
 pub use plan::Plan;
 pub use print::print_report;
 pub use verdicts::Verdicts;

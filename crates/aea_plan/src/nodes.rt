@@ -1,4 +1,4 @@
-//! The text of the nodes of a lost block, made in room that was taken before.
+//! The text of the nodes of a lost block, made in memory that was taken before.
 
 ghost use Rattle.std.specs.Prelude.{◌≡◌, ◌+◌, ◌*◌, ◌≤◌, ◌++◌, ◌∷◌, [], List, ℕ, length, vec_capacity, slice_get, Some, IsTrue};
 ghost use Rattle.aea_lattice.specs.declared.blocks.BlockId.{BlockId};
@@ -13,7 +13,7 @@ use itoa::Buffer;
 /// The most bytes of a node in a text, with the space before it.
 pub(crate) const NODE_BYTES: usize = 11;
 
-// Puts the node last, in decimal behind a space.
+// Puts the node last, in decimal after a space.
 fn push_node(text: &mut Vec<u8>, node: u32)
     requires { length text.old.items + NODE_BYTES ≤ vec_capacity text.old }
     ensures text { text.new.items ≡ text.old.items ++ numbers_text (node ∷ []) }

@@ -75,7 +75,7 @@ fn judge(alloc: Global, known: &Marks) -> Result<Judged, AllocError>
 
 impl Plan {
     /// The plan for these known blocks. Peeling takes the memory that `peel_marks` says, and `solve` takes its own where
-    /// peeling leaves a block; beside the steps and the fates a plan keeps two bits a block. An error is want of memory.
+    /// peeling leaves a block; beside the steps and the fates a plan keeps two bits a block. An error is a lack of memory.
     pub fn new(alloc: Global, known: &Marks) -> Result<Plan, AllocError>
         ensures lattice { IfOk result (λ plan. plan.verdicts.damaged.lattice ≡ known.now.lattice) }
         ensures sound { IfOk result IsSound }
@@ -100,7 +100,7 @@ impl Plan {
         })
     }
 
-    /// Room for the text of the nodes of one lost block, of 11 bytes a node. An error is want of memory.
+    /// Space for the text of the nodes of one lost block, of 11 bytes a node. An error is a lack of memory.
     pub fn text_room(&self, alloc: Global) -> Result<Vec<u8>, AllocError>
         ensures { IfOk result (λ text. HasRoom self.now (vec_capacity text)) }
     {

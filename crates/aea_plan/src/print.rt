@@ -107,7 +107,7 @@ fn print_lines<O: Sink>(
     Ok(())
 }
 
-/// Prints the whole report of a plan: its head with the seal or none, and a line for each damaged block. `text` is room for
+/// Prints the whole report of a plan: its head with the seal or none, and a line for each damaged block. `text` is space for
 /// the nodes of one lost block, as `Plan::text_room` takes it before; no memory is taken here.
 pub fn print_report<O: Sink>(
     out: &mut O,

@@ -31,7 +31,7 @@ impl Place {
     }
 }
 
-/// What comes next behind the place, and the place behind it; the time is that of finding the next damaged block.
+/// What comes next after the place, and the place after it; the time is that of finding the next damaged block.
 pub(crate) fn next_line(verdicts: &Verdicts, place: &mut Place) -> Option<Next>
     requires verdicts { AreVerdicts verdicts.now }
     requires stands { StandsAt verdicts.now place.old.from place.old.at }

@@ -15,7 +15,7 @@ use Rattle.aea_reader.proofs.Cuts.{first_same, node-number, block-free}
 abbrev pub NoBlock : Lattice → ℕ → List ℕ → Type 0
 NoBlock l least text = (b : BlockId) → HasBlock l b → least ≤ number_of l b → text ≡ text_of b → ⊥
 
--- no line by which a block is lost has this text behind its first word
+-- no line by which a block is lost has this text after its first word
 abbrev pub NoLost : Lattice → ℕ → List ℕ → Type 0
 NoLost l least text = (b : BlockId) (nodes : List ℕ) → IsLine l least (Lost b nodes) → text ≡ text_of b ++ (codes " by" ++ numbers_text nodes) → ⊥
 

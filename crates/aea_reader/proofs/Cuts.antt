@@ -16,7 +16,7 @@ use Rattle.aea_lattice.specs.Texts.{letter_of, text_of}
 use Rattle.aea_report.specs.Faults.{first_line}
 use Rattle.aea_reader.specs.Words.{IsFree, Starts}
 
--- a text is read in one way up to a byte that does not stand before
+-- a text is read in one way up to a byte that does not occur before
 pub first_same : (c : ℕ) (word other x y : List ℕ) → IsFree c word → IsFree c other → Starts c x → Starts c y → word ++ x ≡ other ++ y → (word ≡ other) × (x ≡ y)
 first_same c [] [] x y one two starts begins e = (refl, e)
 first_same c [] (d ∷ other) x y one two starts begins e = absurd (two 0 0 (omega arith) (subst (Starts c) e starts))
@@ -29,7 +29,7 @@ first_same c (a ∷ word) (b ∷ other) x y one two starts begins e =
 
 -- ---- first lines
 
--- the first line is what stands before the first newline
+-- the first line is what comes before the first newline
 pub first_line-front : (line rest : List ℕ) → IsFree 10 line → first_line (line ++ 10 ∷ rest) ≡ line
 first_line-front line rest free =
     let at : position_or_len (λ x. x == 10) (line ++ 10 ∷ rest) ≡ length line =
@@ -38,7 +38,7 @@ first_line-front line rest free =
     (λ lt. eq-eqb (get_or (line ++ 10 ∷ rest) (length line) 0) 10 (get_or_at line 10 rest 0 (length line) refl)) in
     ap (λ k. take k (line ++ 10 ∷ rest)) at ∙ take_at line (10 ∷ rest) (length line) refl
 
--- a text is its first line, or goes on behind a newline
+-- a text is its first line, or goes on after a newline
 pub line_cases : (bytes : List ℕ) → (first_line bytes ≡ bytes) ⊎ ((rest : List ℕ) × (bytes ≡ first_line bytes ++ 10 ∷ rest))
 line_cases bytes =
     let at = position_or_len (λ x. x == 10) bytes in
@@ -52,7 +52,7 @@ line_cases bytes =
       | inr ge ↦ inl (take_all at bytes ge)
     ]
 
--- ---- bytes that stand nowhere
+-- ---- bytes that occur nowhere
 
 -- a number's text has digits alone
 pub decimal-free : (c n : ℕ) → c < 48 → n < 2 ^ 64 → IsFree c (decimal n)

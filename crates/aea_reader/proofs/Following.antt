@@ -72,7 +72,7 @@ texts-first g others n =
     ap (λ k. take k (report_texts g others)) (four_more n)
     ∙ ap (λ xs. head_texts g ++ xs) (take-map line_text n others)
 
--- the text behind them
+-- the text after them
 texts-next : (g : Head) (others : List Line) (n : ℕ) → get_or (report_texts g others) (4 + n) [] ≡ get_or (map line_text others) n []
 texts-next g others n = ap (λ k. get_or (report_texts g others) k []) (four_more n)
 

@@ -85,7 +85,7 @@ begins_two l = record {
   first = refl;
 }
 
--- and behind it that of a seal
+-- and after it that of a seal
 pub begins_three : (l : Lattice) (seal : Option (List ℕ)) → IfSome seal (IsBytes 32) → Begins (three_lines l seal)
 begins_three l seal bytes = record {
   lattice = l;

@@ -1,4 +1,4 @@
--- The lines of blocks, one behind the other.
+-- The lines of blocks, one after the other.
 use Rattle.std.proofs.Common.{◌≡◌, ℕ, ◌+◌, List, [], ◌∷◌, ◌++◌, length, append_assoc, length-append, Option, None, arith, refl, sym, ◌∙◌, ap, subst}
 use Rattle.std.specs.Prelude.{map}
 use Rattle.std.proofs.lemmas.List.{append-nil, length-map, map_push, take_all}
@@ -13,14 +13,14 @@ use Rattle.aea_report.specs.Faults.{IsAtLine}
 use Rattle.aea_reader.specs.Places.{IsAt, HasText}
 use Rattle.aea_reader.specs.Readings.{Reading, IsReading, least_after}
 
--- ---- lines behind lines
+-- ---- lines after lines
 
--- one line more behind valid ones
+-- one line more after valid ones
 pub one_more : (l : Lattice) (least : ℕ) (lines : List Line) (line : Line) → AreLinesFrom l least lines → IsLine l (least_after l least lines) line → AreLinesFrom l least (lines ++ line ∷ [])
 one_more l least [] line valid next = (next, tt)
 one_more l least (one ∷ lines) line valid next = (valid.0, one_more l (number_of l (block_in one) + 1) lines line valid.1 next)
 
--- the least number behind it
+-- the least number after it
 pub least_more : (l : Lattice) (least : ℕ) (lines : List Line) (line : Line) → least_after l least (lines ++ line ∷ []) ≡ number_of l (block_in line) + 1
 least_more l least [] line = refl
 least_more l least (one ∷ lines) line = least_more l (number_of l (block_in one) + 1) lines line
@@ -38,7 +38,7 @@ bytes_more h lines line =
     ∙ flat_map-append (λ t. t ++ newline) (report_texts h lines) (line_text line ∷ [])
     ∙ ap (λ xs. report_bytes h lines ++ xs) (append-nil (line_text line ++ newline))
 
--- ---- where a reader stands
+-- ---- where a reader is
 
 pub reading_at : (input : List ℕ) (h : Head) (lines : List Line) (v : Reading) (left : Option (List ℕ)) → IsReading input h lines v left → IsAt input v.line (report_texts h lines) v.ahead left
 reading_at input h lines v left is =
@@ -62,7 +62,7 @@ reading_at input h lines v left is =
       stands = record { rest = is.rest; told = is.told; are = refl };
     }
 
--- behind the head
+-- after the head
 pub reading_begun : (input : List ℕ) (l : Lattice) (h : Head) (ahead : List ℕ) (left : Option (List ℕ)) → IsHeadOf l h → IsAt input 5 (head_texts h) ahead left
     → IsReading input h [] (record { lattice = l; line = 5; least = 0; ahead = ahead; settled = None }) left
 reading_begun input l h ahead left is here = record {

@@ -1,4 +1,4 @@
--- Nodes that are read one behind the other.
+-- Nodes that are read one after the other.
 use Rattle.std.proofs.Common.{◌≡◌, ℕ, suc, ◌<◌, ◌≤◌, List, [], ◌∷◌, ◌++◌, length, codes, decimal, append_assoc, arith, refl, sym, ◌∙◌, ap, subst, Option, Some, None, Bor}
 use Rattle.std.specs.Prelude.{MatchOption}
 use Rattle.std.proofs.lemmas.List.{append-nil}
@@ -33,7 +33,7 @@ stop_at : (l : Lattice) (last : ℕ) (text : List ℕ) → ReadsNode l last text
 stop_at l last text reads some [] rise are = let none : length text ≡ 0 = ap length are in omega arith
 stop_at l last text reads some (j ∷ more) rise are = reads j (numbers_text more) rise.0 rise.1 (numbers-start more) are
 
--- behind a node that was read
+-- after a node that was read
 pub continues : (l : Lattice) (last : ℕ) (text : List ℕ) (r : Option (ℕ × Bor (List ℕ))) (q : ℕ × Bor (List ℕ)) → r ≡ Some q → ReadsNode l last text r → 0 < length text
     → Continues l last text → Continues l q.0 q.1.now
 continues l last text r q is reads some on = step_at l last text q (subst (ReadsNode l last text) is reads) some on.more on.rise on.are

@@ -19,7 +19,7 @@ is_ten x e = grind (arith, nat_tests)
 not_ten : (x : ℕ) → (x == 10) ≡ false → x ≢ 10
 not_ten x e = grind (arith, nat_tests)
 
--- what stands before the first newline has none
+-- what comes before the first newline has none
 pub plain_front : (xs : List ℕ) (end : ℕ) → position (λ x. x == 10) xs ≡ Some end → IsFree 10 (take end xs)
 plain_front xs end found =
     let at = position-Some (λ x. x == 10) xs end 0 found in

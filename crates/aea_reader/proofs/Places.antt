@@ -1,4 +1,4 @@
--- Where a reader stands in its input, line by line.
+-- Where a reader is in its input, line by line.
 use Rattle.std.proofs.Common.{◌≡◌, ℕ, suc, ◌+◌, ◌<◌, ◌≤◌, inl, inr, List, [], ◌∷◌, ◌++◌, length, get_or, Option, Some, None, append_assoc, length-append, arith, refl, sym, ◌∙◌, ap, subst}
 use Rattle.std.specs.Prelude.{◌==◌}
 use Rattle.std.specs.List.{position_or_len}
@@ -16,7 +16,7 @@ use Rattle.aea_reader.specs.Places.{Stands, IsAt, HasText, IsStopped}
 
 -- ---- what the source has left
 
--- what a source has left that tells its bytes, behind those that were taken
+-- what a source whose bytes are known has left, after those that were taken
 pub record HasLeft (new : Option (List ℕ)) (bytes rest : List ℕ) : Type 0 where
   pub after : List ℕ
   pub told : new ≡ Some after
@@ -26,7 +26,7 @@ left_of : (new : Option (List ℕ)) (rest taken : List ℕ) → Consumes (Some r
 left_of None rest taken h = absurd h
 left_of (Some after) rest taken h = record { after = after; told = refl; are = h }
 
--- behind what was gathered
+-- after what was gathered
 pub has_left : (ahead : List ℕ) (old new : Option (List ℕ)) (bytes rest : List ℕ) → Stands ahead old rest → Gathers ahead old new bytes → HasLeft new bytes rest
 has_left ahead old new bytes rest stands g =
     let left = left_of new stands.rest g.taken (subst (λ o. Consumes o new g.taken) stands.told g.consumed) in
@@ -70,7 +70,7 @@ first_line-longer front rest plain =
 
 -- ---- one line
 
--- one stands at the same line, whose text is this too
+-- the place is the same line, whose text is this too
 at_as : (input : List ℕ) (k : ℕ) (texts : List (List ℕ)) (rest other : List ℕ) → rest ≡ other → IsAtLine input k texts rest → IsAtLine input k texts other
 at_as input k texts rest other e at = record { before = at.before; spelling = at.spelling ∙ ap (λ xs. joined texts ++ xs) e; place = at.place }
 

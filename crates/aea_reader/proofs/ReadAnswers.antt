@@ -1,4 +1,4 @@
--- What a reader answers, of what was found at the line where it stands.
+-- What a reader returns, by what was found at the line where it is.
 use Rattle.std.proofs.Common.{◌≡◌, ℕ, List, [], Option, Some, Ok, Err, arith, sym, subst}
 use Rattle.aea_report.specs.declared.head.Head.{Head}
 use Rattle.aea_report.specs.declared.line.Line.{Line}

@@ -9,7 +9,7 @@ use Rattle.hex.specs.Hex.{IsBytes as AreBytes, encode_lower, decode_sized}
 use Rattle.hex.proofs.HexLemmas.{decode_of-ok, decode_sized-ok, decode_sized-twice, decode_sized-encode_lower}
 use Rattle.aea_lattice.specs.Data.{IsBytes}
 
--- bytes of a list, and the zeros behind it
+-- bytes of a list, and the zeros after it
 are_bytes : (xs : List ℕ) → All (λ x. x < 2 ^ 8) xs → AreBytes xs
 are_bytes xs small i = elim (cases_lt i (length xs)) [
   | inl lt ↦ small i 0 lt

@@ -3,7 +3,7 @@ use Rattle.std.specs.Prelude.{ℕ, List, [], ◌∷◌, ◌++◌, codes, Option}
 use Rattle.aea_lattice.specs.declared.grid.Lattice.{Lattice}
 use Rattle.aea_report.specs.Format.{numbers_text, seal_text}
 
--- four numbers, each behind a space
+-- four numbers, each after a space
 abbrev pub four_text : ℕ → ℕ → ℕ → ℕ → List ℕ
 four_text a b c d = numbers_text (a ∷ b ∷ c ∷ d ∷ [])
 

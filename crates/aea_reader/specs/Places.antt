@@ -1,4 +1,4 @@
--- Where a reader stands in its input.
+-- Where a reader is in its input.
 use Rattle.std.specs.Prelude.{◌≡◌, ℕ, ◌+◌, ◌≤◌, List, [], ◌∷◌, ◌++◌, length, Bool, true, false, Option, Some, Result, Ok, Err}
 use Rattle.aea_report.specs.Faults.{greatest_line, IsAtLine, IsBadLine, IsLongLine}
 use Rattle.aea_reader.specs.declared.fault.ReportFault.{ReportFault}
@@ -11,7 +11,7 @@ pub record Stands (ahead : List ℕ) (left : Option (List ℕ)) (bytes : List �
   pub told : left ≡ Some rest
   pub are : bytes ≡ ahead ++ rest
 
--- Line k of the input is to be read next, behind these lines, with which some report begins.
+-- Line k of the input is to be read next, after these lines, with which some report begins.
 pub record IsAt (input : List ℕ) (k : ℕ) (texts : List (List ℕ)) (ahead : List ℕ) (left : Option (List ℕ)) : Type 0 where
   pub rest : List ℕ
   pub at : IsAtLine input k texts rest
@@ -25,7 +25,7 @@ pub record HasText (input : List ℕ) (k : ℕ) (texts : List (List ℕ)) (text 
   pub short : length text ≤ greatest_line
   pub stands : Stands ahead left rest
 
--- Of line k the source gave the first byte that is too many, and none behind it.
+-- Of line k the source gave the first byte that is too many, and none after it.
 pub record IsStopped (input : List ℕ) (k : ℕ) (left : Option (List ℕ)) : Type 0 where
   pub texts : List (List ℕ)
   pub line : List ℕ
@@ -35,7 +35,7 @@ pub record IsStopped (input : List ℕ) (k : ℕ) (left : Option (List ℕ)) : T
   pub long : length line ≡ greatest_line + 1
   pub told : left ≡ Some rest
 
--- What a fault at line k says of the input: that this line is bad, or too long. A fault of the source and want of memory
+-- What a fault at line k says of the input: that this line is bad, or too long. A fault of the source and a lack of memory
 -- say nothing of it.
 abbrev pub IsFault : List ℕ → ℕ → Option (List ℕ) → ReportFault → Type 0
 IsFault input k left (BadLine j) = (j ≡ k) × IsBadLine input k

@@ -1,4 +1,4 @@
--- A reader of a report, and what it answers.
+-- A reader of a report, and what it returns.
 use Rattle.std.specs.Prelude.{◌≡◌, ℕ, ◌+◌, ◌≤◌, List, [], ◌∷◌, ◌++◌, length, Option, Some, None, Result, Ok, Err, refl}
 use Rattle.std.specs.Coded.{Coded, code_by, coded×, coded_list, coded_ℕ, coded_option}
 use Rattle.aea_lattice.specs.declared.grid.Lattice.{Lattice}
@@ -19,7 +19,7 @@ use Rattle.aea_reader.specs.contracts.answer.Ending as endings
 use Rattle.aea_reader.specs.Places.{IsStopped}
 
 -- A reader: the lattice of line 2, the number of the next line, the least number that its block may have, the bytes that it
--- took from the source and has not judged yet, and what it answers from now on, once that is settled.
+-- took from the source and has not judged yet, and what it returns from now on, once that is settled.
 pub record Reading : Type 0 where
   pub lattice : Lattice
   pub line : ℕ
@@ -36,7 +36,7 @@ reading_code =
     (λ t. record { lattice = t.0; line = t.1.0; least = t.1.1.0; ahead = t.1.1.1.0; settled = t.1.1.1.1 })
     (λ _. refl)
 
--- the least number that the block of a line behind these may have
+-- the least number that the block of a line after these may have
 abbrev pub least_after : Lattice → ℕ → List Line → ℕ
 least_after l least [] = least
 least_after l least (line ∷ lines) = least_after l (number_of l (block_in line) + 1) lines
@@ -53,7 +53,7 @@ pub record IsReading (input : List ℕ) (h : Head) (lines : List Line) (v : Read
   pub told : left ≡ Some rest
   pub spelling : input ≡ report_bytes h lines ++ (v.ahead ++ rest)
 
--- What a fault in a head says of the input: that a line of the head is bad or too long. A fault of the source and want of
+-- What a fault in a head says of the input: that a line of the head is bad or too long. A fault of the source and a lack of
 -- memory say nothing of it.
 abbrev pub IsHeadFault : List ℕ → Option (List ℕ) → ReportFault → Type 0
 IsHeadFault input left (BadLine k) = (k ≤ 4) × IsBadLine input k
@@ -76,7 +76,7 @@ HasRead input h lines v left (Err (LineTooLong k)) = (k ≡ 5 + length lines) ×
 HasRead input h lines v left (Err ReadFault) = Unit {0}
 HasRead input h lines v left (Err NoMemory) = Unit {0}
 
--- Over any source: a line that was read may follow those before it, and the reader goes on behind it.
+-- Over any source: a line that was read may follow those before it, and the reader goes on after it.
 pub record Advances (old new : Reading) (line : Line) : Type 0 where
   pub lattice : new.lattice ≡ old.lattice
   pub valid : IsLine old.lattice old.least line
@@ -84,7 +84,7 @@ pub record Advances (old new : Reading) (line : Line) : Type 0 where
   pub least : new.least ≡ number_of old.lattice (block_in line) + 1
   pub open_still : new.settled ≡ None
 
--- what a reader answers that is settled
+-- what a reader that is settled returns
 abbrev pub answer_of : Ending → Result Next ReportFault
 answer_of Ended = Ok next.End
 answer_of (Failed fault) = Err fault

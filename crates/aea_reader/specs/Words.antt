@@ -10,6 +10,6 @@ abbrev pub Starts : ℕ → List ℕ → Type 0
 Starts c [] = Unit {0}
 Starts c (x ∷ xs) = x ≡ c
 
--- a number behind a space, and the rest
+-- a number after a space, and the rest
 abbrev pub spaced : ℕ → List ℕ → List ℕ
 spaced n rest = (codes " " ++ decimal n) ++ rest

@@ -8,7 +8,7 @@ pub enum Next {
     End,
 }
 
-/// How a reader ended: with the end of the report, or with a fault, which it answers from then on.
+/// How a reader ended: with the end of the report, or with a fault, which it returns from then on.
 #[derive(Clone, Copy, Debug, PartialEq, Eq)]
 pub enum Ending {
     Ended,

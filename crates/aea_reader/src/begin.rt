@@ -111,7 +111,7 @@ fn read_counts<S: Source>(
     }
 }
 
-/// Reads the four lines of a head, and answers its lattice too.
+/// Reads the four lines of a head, and returns its lattice too.
 pub fn read_head<S: Source>(
     alloc: Global,
     ahead: &mut Ahead,

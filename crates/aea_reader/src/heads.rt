@@ -9,7 +9,7 @@ ghost use Rattle.aea_reader.specs.Heads.{four_text, mark_line, shape_line, seal_
 use crate::words::{behind, spaced_number};
 use aea_lattice::Lattice;
 
-// Four numbers, each behind a space, and nothing else.
+// Four numbers, each after a space, and nothing else.
 fn four_numbers(text: &[u8]) -> Option<(u32, u32, u32, u32)>
     ensures found { IfSome result (λ q. text.now ≡ four_text q.0 q.1 q.2 q.3) }
     ensures reads { (a b c d : ℕ) → a < 2 ^ 32 → b < 2 ^ 32 → c < 2 ^ 32 → d < 2 ^ 32 → text.now ≡ four_text a b c d

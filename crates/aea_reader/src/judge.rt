@@ -29,7 +29,7 @@ fn block_in(lattice: &Lattice, least: u32, text: &[u8]) -> Option<BlockId>
     }
 }
 
-// The node behind a space, if the lattice has it and it is greater than this one, and what stands behind it.
+// The node after a space, if the lattice has it and it is greater than this one, and what follows it.
 fn node_after<'a>(lattice: &Lattice, last: u32, text: &'a [u8]) -> Option<(u32, &'a [u8])>
     ensures found { IfSome result (λ q. text.now ≡ spaced q.0 q.1.now) }
     ensures rises { IfSome result (λ q. (last < q.0) × (q.0 ≤ lattice.now.n)) }
@@ -42,7 +42,7 @@ fn node_after<'a>(lattice: &Lattice, last: u32, text: &'a [u8]) -> Option<(u32, 
     }
 }
 
-// The nodes, each behind a space, if they are one or more of the lattice, each greater than the one before.
+// The nodes, each after a space, if they are one or more of the lattice, each greater than the one before.
 fn nodes_in(alloc: Global, lattice: &Lattice, text: &[u8]) -> Result<Option<NodeList>, AllocError>
     ensures found { IfOk result (λ o. IfSome o (λ nodes. (text.now ≡ numbers_text nodes) × AreNodes lattice.now nodes)) }
     ensures none { IfOk result (λ o. IfNone o ((nodes : List ℕ) → AreNodes lattice.now nodes → text.now ≡ numbers_text nodes → ⊥)) }
@@ -64,7 +64,7 @@ fn nodes_in(alloc: Global, lattice: &Lattice, text: &[u8]) -> Result<Option<Node
     Ok(Some(nodes))
 }
 
-// The block and the nodes of a line by which a block is lost, behind its first word.
+// The block and the nodes of a line by which a block is lost, after its first word.
 fn lost_in(
     alloc: Global,
     lattice: &Lattice,
@@ -89,7 +89,7 @@ fn lost_in(
 }
 
 /// The line of a block of the lattice whose number is this one or a greater one, None where the text is that of no such
-/// line. An error is want of memory.
+/// line. An error is a lack of memory.
 pub fn line_in(
     alloc: Global,
     lattice: &Lattice,

@@ -37,7 +37,7 @@ fn find_newline(text: &[u8]) -> Option<usize>
     text.iter().position(|x| *x == b'\n')
 }
 
-// Puts the piece behind the line. The memory doubles, but never past one byte more than the longest line has.
+// Puts the piece at the end of the line. The memory doubles, but never past one byte more than the longest line has.
 fn append(line: &mut Vec<u8>, piece: &[u8]) -> Result<(), AllocError>
     requires { vec_len line.old + length piece.now ≤ LONGEST + 1 }
     ensures { OnOk result (line.new.items ≡ line.old.items ++ piece.now) }

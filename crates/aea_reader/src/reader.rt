@@ -8,7 +8,6 @@ ghost use Rattle.aea_lattice.specs.Blocks.{number_of};
 ghost use Rattle.aea_report.specs.declared.head.Head.{Head};
 ghost use Rattle.aea_report.specs.declared.line.Line.{Line};
 ghost use Rattle.aea_report.specs.Faults.{greatest_line};
-ghost use Rattle.aea_report.specs.Format.{block_in};
 ghost use Rattle.aea_report.specs.Grammar.{IsHeadOf};
 ghost use Rattle.aea_reader.specs.declared.answer.Ending.{Ending};
 ghost use Rattle.aea_reader.specs.Readings.{IsReading, HasBegun, HasRead, Advances, answer_of, Settles};
@@ -20,12 +19,12 @@ use crate::fault::ReportFault;
 use crate::judge::line_in;
 use crate::walk::next_line;
 use aea_io::Source;
-use aea_lattice::{BlockId, Lattice};
+use aea_lattice::Lattice;
 use aea_report::{Head, Line, reports_have_one_reading};
 use std::alloc::Global;
 use std::marker::Model;
 
-/// A reader that has read the head of a report, and some lines behind it.
+/// A reader that has read the head of a report, and some lines after it.
 #[derive(Drop)]
 pub struct Reader {
     lattice: Lattice,
@@ -47,17 +46,6 @@ impl Model for Reader {
     ghost view = { λ r. record { lattice = r.lattice; line = r.line; least = r.least; ahead = r.ahead; settled = r.settled } };
 
     ghost invariant = { λ r. (r.least ≤ blocks_count r.lattice) × (r.line ≤ 5 + r.least) };
-}
-
-// The block of a line.
-fn block_of(line: &Line) -> BlockId
-    ensures { result ≡ block_in line.now }
-{
-    match line {
-        Line::Peeled { block } => *block,
-        Line::Solved { block } => *block,
-        Line::Lost { block, .. } => *block,
-    }
 }
 
 impl Reader {
@@ -102,7 +90,7 @@ impl Reader {
         }
         match line_in(alloc, &self.lattice, self.least, &text) {
             Ok(Some(line)) => {
-                self.least = self.lattice.number(block_of(&line)) + 1;
+                self.least = self.lattice.number(line.block()) + 1;
                 self.line = k + 1;
                 Ok(Next::Line { line })
             }
@@ -114,7 +102,7 @@ impl Reader {
         }
     }
 
-    // From now on the reader answers this.
+    // From now on the reader returns this.
     fn settle(&mut self, ending: Ending)
         ensures lattice { self.new.lattice ≡ self.old.lattice }
         ensures ahead { self.new.ahead ≡ self.old.ahead }
@@ -123,8 +111,8 @@ impl Reader {
         self.settled = Some(ending);
     }
 
-    /// Reads the next line, or finds the end of the report. Once it has answered the end or a fault, it answers the same
-    /// from then on, and reads nothing. Of a line that is too long it takes no byte behind the first that is too many.
+    /// Reads the next line, or finds the end of the report. Once it has returned the end or a fault, it returns the same
+    /// from then on, and reads nothing. Of a line that is too long it takes no byte after the first that is too many.
     pub fn next<S: Source>(&mut self, alloc: Global, source: &mut S) -> Result<Next, ReportFault>
         ensures lattice { self.new.lattice ≡ self.old.lattice }
         ensures line { (line : Line) → result ≡ Ok (Next.Line line) → Advances self.old self.new line }

@@ -1,4 +1,4 @@
-//! The lines of a report, one after the other, where they stand in the input.
+//! The lines of a report, one after the other, where they are in the input.
 
 ghost use Rattle.std.specs.Prelude.{◌≡◌, ◌≢◌, ◌+◌, ◌-◌, ◌≤◌, ℕ, List, [], false, length, MatchResult, Ok, Err};
 ghost use Rattle.std.specs.Io.KnownBytes.{IsAtEnd};

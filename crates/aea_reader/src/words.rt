@@ -6,7 +6,7 @@ ghost use Rattle.aea_reader.specs.Words.{IsFree, Starts, spaced};
 use itoa::Buffer;
 use std::str;
 
-/// What stands behind the word.
+/// What follows the word.
 pub fn behind<'a>(text: &'a [u8], word: &[u8]) -> Option<&'a [u8]>
     ensures found { IfSome result (λ rest. text.now ≡ word.now ++ rest.now) }
     ensures none { IfNone result ((rest : List ℕ) → text.now ≡ word.now ++ rest → ⊥) }
@@ -14,7 +14,7 @@ pub fn behind<'a>(text: &'a [u8], word: &[u8]) -> Option<&'a [u8]>
     text.strip_prefix(word)
 }
 
-/// What stands before the first space, and what stands from there on.
+/// What comes before the first space, and what is there from it on.
 pub fn cut(text: &[u8]) -> (&[u8], &[u8])
     ensures spelled { text.now ≡ result.0.now ++ result.1.now }
     ensures word { IsFree 32 result.0.now }
@@ -53,7 +53,7 @@ pub fn number(digits: &[u8]) -> Option<u32>
     }
 }
 
-/// The number behind a space, and what stands behind it: nothing, or a space and more.
+/// The number after a space, and what follows it: nothing, or a space and more.
 pub fn spaced_number(text: &[u8]) -> Option<(u32, &[u8])>
     ensures found { IfSome result (λ p. text.now ≡ spaced p.0 p.1.now) }
     ensures starts { IfSome result (λ p. Starts 32 p.1.now) }

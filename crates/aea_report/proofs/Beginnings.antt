@@ -69,7 +69,7 @@ record IsWell (texts : List (List ℕ)) (rest : List ℕ) : Type 0 where
   pub begins : Begins (texts ++ first_line rest ∷ [])
   pub short : length (first_line rest) ≤ greatest_line
 
--- the line at which one stands is well, where one also stands at a later line
+-- where the text reaches a later line too, the line at this place is well
 is_well : (bytes : List ℕ) (j k : ℕ) (xs ys : List (List ℕ)) (a b : List ℕ) → IsAtLine bytes j xs a → IsAtLine bytes k ys b → j < k → IsWell xs a
 is_well bytes j k xs ys a b one two before =
     let p = one.place in let q = two.place in
@@ -95,7 +95,7 @@ not-bad texts rest well (inr never) = never well.begins
 not-long : (texts : List (List ℕ)) (rest : List ℕ) → IsWell texts rest → greatest_line < length (first_line rest) → ⊥
 not-long texts rest well long = let short = well.short in omega arith
 
--- what stands from one line on is one text
+-- what is left from one line on is one text
 same_rest : (bytes : List ℕ) (j k : ℕ) (xs ys : List (List ℕ)) (a b : List ℕ) → IsAtLine bytes j xs a → IsAtLine bytes k ys b → j ≡ k → a ≡ b
 same_rest bytes j k xs ys a b one two e =
     let p = one.place in let q = two.place in
@@ -136,7 +136,7 @@ bad_at_one bytes j k = (bad_once bytes j k, long_once bytes j k, bad_or_long byt
 
 -- ---- reports
 
--- where one stands in a report there are lines left, or its end
+-- at each line of a report there are lines left, or it is the end
 end_or_well : (bytes : List ℕ) (h : Head) (lines : List Line) (k : ℕ) (texts : List (List ℕ)) (rest : List ℕ) → IsReport bytes h lines → IsAtLine bytes k texts rest
     → ((rest ≡ []) × (k ≡ 5 + length lines)) ⊎ IsWell texts rest
 end_or_well bytes h lines k texts rest report at =

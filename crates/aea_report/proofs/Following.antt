@@ -1,4 +1,4 @@
--- Lines behind lines.
+-- Lines after lines.
 use Rattle.std.proofs.Common.{◌≡◌, ℕ, suc, zero, ◌+◌, ◌-◌, ◌*◌, ◌≤◌, List, [], ◌∷◌, ◌++◌, length, get_or, drop, take, arith, sym, ap, subst}
 use Rattle.std.specs.Prelude.{map}
 use Rattle.aea_lattice.specs.declared.grid.Lattice.{Lattice}
@@ -10,7 +10,7 @@ use Rattle.aea_report.specs.declared.line.Line.TheVariants.{Peeled, Solved, Lost
 use Rattle.aea_report.proofs.Readings.{line_same}
 use Rattle.aea_report.proofs.Lines.{HasLine}
 
--- the least number that the block of a line behind these may have
+-- the least number that the block of a line after these may have
 abbrev pub least_after : Lattice → ℕ → List Line → ℕ
 least_after l least [] = least
 least_after l least (line ∷ lines) = least_after l (number_of l (block_in line) + 1) lines
@@ -21,7 +21,7 @@ lines-first l least zero lines valid = tt
 lines-first l least (suc k) [] valid = tt
 lines-first l least (suc k) (line ∷ lines) valid = (valid.0, lines-first l (number_of l (block_in line) + 1) k lines valid.1)
 
--- one line more behind valid ones
+-- one line more after valid ones
 pub lines-more : (l : Lattice) (least : ℕ) (lines : List Line) (line : Line) → AreLinesFrom l least lines → IsLine l (least_after l least lines) line → AreLinesFrom l least (lines ++ line ∷ [])
 lines-more l least [] line valid next = (next, tt)
 lines-more l least (one ∷ lines) line valid next = (valid.0, lines-more l (number_of l (block_in one) + 1) lines line valid.1 next)
@@ -58,7 +58,7 @@ lines_in l m e f least (line ∷ lines) valid = (
 not_empty : (text : List ℕ) (texts : List (List ℕ)) → text ∷ texts ≡ [] → ⊥
 not_empty text texts e = let long : suc (length texts) ≡ 0 = ap length e in omega arith
 
--- where lines have the same texts and one more, this one is a line behind them
+-- where lines have the same texts and one more, this one is a line after them
 pub next_line : (l : Lattice) (least : ℕ) (lines others : List Line) (text : List ℕ) → AreLinesFrom l least lines → AreLinesFrom l least others
     → map line_text lines ++ text ∷ [] ≡ map line_text others → HasLine l (least_after l least lines) text
 next_line l least [] [] text one two e = absurd (not_empty text [] e)

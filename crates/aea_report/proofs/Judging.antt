@@ -120,7 +120,7 @@ decide_next texts text begins =
 abbrev Judged : List ℕ → Type 0
 Judged bytes = AreReport bytes ⊎ ((k : ℕ) × (IsBadLine bytes k ⊎ IsLongLine bytes k))
 
--- one stands at a later line, and less of the text is left
+-- the place is a later line, and less of the text is left
 record IsFurther (bytes rest : List ℕ) : Type 0 where
   pub k : ℕ
   pub texts : List (List ℕ)
@@ -128,7 +128,7 @@ record IsFurther (bytes rest : List ℕ) : Type 0 where
   pub at : IsAtLine bytes k texts left
   pub fewer : length left < length rest
 
--- at the end behind a whole report the text is that report
+-- at the end, after a whole report, the text is that report
 ended : (bytes : List ℕ) (k : ℕ) (texts : List (List ℕ)) (rest : List ℕ) → IsAtLine bytes k texts rest → 4 < k → rest ≡ [] → AreReport bytes
 ended bytes k texts rest at late none =
     let place = at.place in
@@ -143,7 +143,7 @@ ended bytes k texts rest at late none =
       },
     )
 
--- behind a line that is well, one stands at the next
+-- after a line that is well, the place is the next line
 further : (bytes : List ℕ) (k : ℕ) (texts : List (List ℕ)) (rest left : List ℕ) → IsAtLine bytes k texts rest → rest ≡ first_line rest ++ 10 ∷ left → Begins (texts ++ first_line rest ∷ []) → IsFurther bytes rest
 further bytes k texts rest left at split begins =
     let place = at.place in

@@ -1,5 +1,6 @@
 mod Writes
-mod PrintedFits
+pub mod PrintedFits
+mod PrintedOnce
 mod PrintedReports
 mod Splits
 mod Plain

@@ -20,7 +20,7 @@ none_after : (l : Lattice) (i : ℕ) (P : List ℕ → Type 0) → l.n ≤ i →
 none_after l i P end never [] rise has = never has
 none_after l i P end never (j ∷ nodes) rise has = let below = rise.0 in let most = rise.1 in omega arith
 
--- the lists of rising nodes behind node i, of which there are at most so many
+-- the lists of rising nodes after node i, of which there are at most so many
 search_nodes : (l : Lattice) (fuel i : ℕ) → l.n ≤ fuel + i → IsSearched (RiseFrom l i)
 search_nodes l zero i most P each = elim (each []) [
   | inl here ↦ inl ([], tt, here)

@@ -60,7 +60,7 @@ nodes-numbers l i (j ∷ nodes) rise =
 pub node-number : (l : Lattice) (b : BlockId) → HasBlock l b → b.node < 2 ^ 64
 node-number l b has = let last = has.last in let range = l.in_range in omega arith
 
--- ---- bytes that stand nowhere
+-- ---- bytes that occur nowhere
 
 both : (c : ℕ) (xs ys : List ℕ) → IsFree c xs → IsFree c ys → IsFree c (xs ++ ys)
 both c xs ys one two = All-append (λ x. x ≢ c) xs ys one two

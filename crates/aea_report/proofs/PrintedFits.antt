@@ -20,12 +20,13 @@ use Rattle.aea_report.specs.Fits.{IsTold}
 use Rattle.aea_report.specs.Printed.{IsLineOf}
 use Rattle.aea_report.specs.Laws.{PrintedReportsFit}
 
--- a block that the test finds in a list stands in it
+-- a block that the test finds in a list is in it
 contains_among : (bs : List BlockId) (b : BlockId) → is_among bs b ≡ true → Contains bs b
 contains_among bs b = among-each (Contains bs) bs b (All-Each (Contains bs) bs (All-contains_itself bs))
 
--- what holds of the blocks of lines holds of the lines
-from_map : {X Y : Type 0} (P : X → Type 0) (f : Y → X) (ys : List Y) → All P (map f ys) → All (λ y. P (f y)) ys
+-- what holds of each item that a list is mapped to holds of what the items of the list are mapped to, as of the blocks of lines
+-- it holds of the lines
+pub from_map : {X Y : Type 0} (P : X → Type 0) (f : Y → X) (ys : List Y) → All P (map f ys) → All (λ y. P (f y)) ys
 from_map P f ys all = λ k d lt. subst P (get_or-map f ys k d (f d) lt) (all k (f d) (subst (λ n. k < n) (sym (length-map ys f)) lt))
 
 -- each line of a printed report is one of a block of the lattice

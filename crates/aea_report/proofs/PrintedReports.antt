@@ -31,7 +31,7 @@ use Rattle.aea_report.proofs.PrintedFits.{lines-inside}
 
 -- ---- the nodes of a lost block
 
--- one node more behind lesser ones
+-- one node more after lesser ones
 rise-more : (l : Lattice) (i j : ℕ) (nodes : List ℕ) → RiseFrom l i nodes → All (λ k. k < j) nodes → i < j → j ≤ l.n → RiseFrom l i (nodes ++ j ∷ [])
 rise-more l i j [] rise below less most = (less, most, tt)
 rise-more l i j (k ∷ nodes) rise below less most = (rise.0, rise.1, rise-more l k j nodes rise.2 (λ m d lt. below (suc m) d (omega arith)) (below 0 0 (omega arith)) most)
@@ -83,7 +83,7 @@ abbrev RiseInNumber : Lattice → ℕ → List BlockId → Type 0
 RiseInNumber l least [] = Unit {0}
 RiseInNumber l least (b ∷ bs) = (least ≤ number_of l b) × RiseInNumber l (number_of l b + 1) bs
 
--- The blocks stand at their numbers in lattices of so many classes: the first at number k, and so on up to number m.
+-- The blocks are at their numbers in lattices of so many classes: the first at number k, and so on up to number m.
 abbrev StandAt : ℕ → ℕ → ℕ → List BlockId → Type 0
 StandAt alpha k m [] = k ≡ m
 StandAt alpha k m (b ∷ bs) = ((b.node - 1) * (1 + alpha) + class_number b.class ≡ k) × StandAt alpha (k + 1) m bs
@@ -110,7 +110,7 @@ row-stands alpha i (inr (inl e)) =
 row-stands alpha i (inr (inr e)) =
     subst (λ a. StandAt a (i * (1 + a)) (suc i * (1 + a)) (row_of a (suc i))) (sym e) (omega arith, (omega arith, (omega arith, (omega arith, omega arith))))
 
--- each block of a lattice stands at its number
+-- each block of a lattice is at its number
 blocks-stand : (l : Lattice) (i : ℕ) → StandAt l.alpha 0 (i * (1 + l.alpha)) (blocks_to l i)
 blocks-stand l zero = omega arith
 blocks-stand l (suc i) =

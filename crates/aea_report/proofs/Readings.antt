@@ -97,7 +97,7 @@ lines_same l m j k (x ∷ xs) (y ∷ ys) one two e =
 
 -- ---- heads
 
--- bytes of a list, and the zeros behind it
+-- bytes of a list, and the zeros after it
 are_bytes : (xs : List ℕ) → All (λ x. x < 2 ^ 8) xs → AreBytes xs
 are_bytes xs small i = elim (cases_lt i (length xs)) [
   | inl lt ↦ small i 0 lt

@@ -18,7 +18,7 @@ abbrev pub Starts : ℕ → List ℕ → Type 0
 Starts c [] = Unit {0}
 Starts c (x ∷ xs) = x ≡ c
 
--- a text is read in one way up to a byte that does not stand before
+-- a text is read in one way up to a byte that does not occur before
 pub first_same : (c : ℕ) (word other x y : List ℕ) → IsFree c word → IsFree c other → Starts c x → Starts c y → word ++ x ≡ other ++ y → (word ≡ other) × (x ≡ y)
 first_same c [] [] x y one two starts begins e = (refl, e)
 first_same c [] (d ∷ other) x y one two starts begins e = absurd (two 0 0 (omega arith) (subst (Starts c) e starts))
@@ -48,7 +48,7 @@ lines_split (x ∷ xs) (y ∷ ys) a b one two same e =
     let more = lines_split xs ys a b (All-tail (IsFree 10) x xs one) (All-tail (IsFree 10) y ys two) (omega arith) first.1 in
     (ap (λ z. z ∷ xs) first.0 ∙ ap (λ zs. y ∷ zs) more.0, more.1)
 
--- of the same text the second has a line behind those of the first
+-- of the same text the second has a line after those of the first
 pub record HasMore (xs ys : List (List ℕ)) (a b : List ℕ) : Type 0 where
   pub line : List ℕ
   pub later : List (List ℕ)
@@ -87,7 +87,7 @@ joined_same xs ys one two e = elim (cases_order (length xs) (length ys)) [
 
 -- ---- the first line of a text
 
--- the first line is what stands before the first newline
+-- the first line is what comes before the first newline
 pub first_line-front : (line rest : List ℕ) → IsFree 10 line → first_line (line ++ 10 ∷ rest) ≡ line
 first_line-front line rest free =
     let at : position_or_len (λ x. x == 10) (line ++ 10 ∷ rest) ≡ length line =
@@ -102,7 +102,7 @@ first_line-other line rest free e =
     let long : length line ≡ length line + suc (length rest) = ap length (sym (first_line-front line rest free) ∙ e) ∙ length-append line (10 ∷ rest) in
     omega arith
 
--- a text is its first line, or goes on behind a newline
+-- a text is its first line, or goes on after a newline
 pub line_cases : (bytes : List ℕ) → (first_line bytes ≡ bytes) ⊎ ((rest : List ℕ) × (bytes ≡ first_line bytes ++ 10 ∷ rest))
 line_cases bytes =
     let at = position_or_len (λ x. x == 10) bytes in

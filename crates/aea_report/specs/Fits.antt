@@ -43,13 +43,13 @@ pub record ShowLost (l : Lattice) (intact : BlockId → Bool) (b : BlockId) (nod
   pub contains : is_in_codeword l (has_node nodes) b ≡ true
   pub misses : Misses l intact (has_node nodes)
 
--- A line tells what is: a restored block is intact, and of a lost one its nodes show that it is.
+-- A line is true: a restored block is intact, and of a lost one its nodes show that it is.
 abbrev pub IsTold : Lattice → (BlockId → Bool) → Line → Type 0
 IsTold l intact (Peeled b) = intact b ≡ true
 IsTold l intact (Solved b) = intact b ≡ true
 IsTold l intact (Lost b nodes) = ShowLost l intact b nodes
 
--- The report is one of an archive with this lattice and seal: each damaged block has a line, each line tells what is, and
+-- The report is one of an archive with this lattice and seal: each damaged block has a line, each line is true, and
 -- the counts are those of the lines.
 pub record Fits (l : Lattice) (seal : List ℕ) (intact : BlockId → Bool) (h : Head) (lines : List Line) : Type 0 where
   pub alpha : h.alpha ≡ l.alpha

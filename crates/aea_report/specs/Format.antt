@@ -1,4 +1,4 @@
--- How a loss report is spelled: lines, each ended by a newline. Numbers are decimal, and each stands behind a space.
+-- How a loss report is spelled: lines, each ended by a newline. Numbers are decimal, and each follows a space.
 use Rattle.std.specs.Prelude.{ℕ, List, [], ◌∷◌, ◌++◌, map, codes, decimal, Option, Some, None}
 use Rattle.std.specs.List.{flat_map}
 use Rattle.hex.specs.Hex.{encode_lower}
@@ -16,7 +16,7 @@ newline = 10 ∷ []
 abbrev pub joined : List (List ℕ) → List ℕ
 joined texts = flat_map (λ text. text ++ newline) texts
 
--- numbers in decimal, each behind a space
+-- numbers in decimal, each after a space
 abbrev pub numbers_text : List ℕ → List ℕ
 numbers_text numbers = flat_map (λ number. codes " " ++ decimal number) numbers
 

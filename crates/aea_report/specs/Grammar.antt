@@ -47,7 +47,7 @@ abbrev pub AreLinesFrom : Lattice → ℕ → List Line → Type 0
 AreLinesFrom l least [] = ⊤
 AreLinesFrom l least (line ∷ lines) = IsLine l least line × AreLinesFrom l (number_of l (block_in line) + 1) lines
 
--- the lines may stand in a report of this lattice
+-- the lines may be in a report of this lattice
 abbrev pub AreLines : Lattice → List Line → Type 0
 AreLines l lines = AreLinesFrom l 0 lines
 

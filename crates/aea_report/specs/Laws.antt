@@ -60,3 +60,9 @@ PrintedReportsFit =
     → IsPrinted l known (Some seal) h lines
     → ((b : BlockId) → HasBlock l b → IsTrue (intact b) ↔ Determines l known b)
     → Fits l seal intact h lines
+
+-- For a lattice, its known blocks and a seal no two reports are printed.
+abbrev pub PrintedAreOne : Type 0
+PrintedAreOne =
+    (l : Lattice) (known : BlockId → Bool) (seal : Option (List ℕ)) (h g : Head) (lines others : List Line)
+    → IsPrinted l known seal h lines → IsPrinted l known seal g others → (h ≡ g) × (lines ≡ others)

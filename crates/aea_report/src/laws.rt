@@ -1,9 +1,10 @@
 //! What follows of the definitions.
 
-ghost use Rattle.aea_report.specs.Laws.{HaveOneReading, ReportsAreNotBad, AreBadAtOneLine, AreReportOrBad, LinesAreShort, PrintedAreReports, PrintedReportsFit};
+ghost use Rattle.aea_report.specs.Laws.{HaveOneReading, ReportsAreNotBad, AreBadAtOneLine, AreReportOrBad, LinesAreShort, PrintedAreReports, PrintedReportsFit, PrintedAreOne};
 
 use aea_lattice::{
-    blocks_are_inside, passing_are_among, reached_are_determined, words_miss_determined,
+    blocks_are_inside, passing_are_among, reached_are_determined, words_are_one,
+    words_miss_determined,
 };
 
 /// No text is a report in two ways.
@@ -47,4 +48,13 @@ pub fn printed_reports_fit()
     passing_are_among();
     reached_are_determined();
     words_miss_determined();
+}
+
+/// For a lattice, its known blocks and a seal one report is printed.
+pub fn printed_are_one()
+    ensures { PrintedAreOne }
+{
+    blocks_are_inside();
+    reached_are_determined();
+    words_are_one();
 }

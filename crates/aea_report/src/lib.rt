@@ -13,7 +13,7 @@
 #![tactic(auto)]
 
 mod head;
-pub mod laws;
+mod laws;
 mod line;
 mod print;
 mod text;
@@ -21,10 +21,10 @@ mod write;
 
 pub use head::Head;
 pub use laws::{
-    each_is_a_report_or_bad, lines_are_short, printed_are_reports, printed_reports_fit,
-    reports_are_bad_at_one_line, reports_are_not_bad, reports_have_one_reading,
+    each_is_a_report_or_bad, lines_are_short, printed_are_one, printed_are_reports,
+    printed_reports_fit, reports_are_bad_at_one_line, reports_are_not_bad,
+    reports_have_one_reading,
 };
 pub use line::Line;
 pub use print::{print_head, print_line, print_lost, print_lost_with};
-pub use text::nodes_text;
 pub use write::{write_head, write_line};

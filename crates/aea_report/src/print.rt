@@ -10,14 +10,14 @@ use crate::text::{block_text, head_text, node_text};
 use aea_io::{Page, Sink, WriteFault, print};
 use aea_lattice::{BlockId, NodeList};
 
-// Prints a node behind a space.
+// Prints a node after a space.
 fn print_node<O: Sink>(out: &mut O, page: &mut Page, node: u32) -> Result<(), WriteFault>
     ensures { Prints (O.state out.old) page.old (O.state out.new) page.new result (numbers_text (node ∷ [])) }
 {
     print(out, page, node_text(node).bytes())
 }
 
-// Prints the nodes, each behind a space.
+// Prints the nodes, each after a space.
 fn print_nodes<O: Sink>(out: &mut O, page: &mut Page, nodes: &NodeList) -> Result<(), WriteFault>
     ensures { Prints (O.state out.old) page.old (O.state out.new) page.new result (numbers_text nodes.now) }
 {
@@ -46,8 +46,8 @@ pub fn print_lost<O: Sink>(
     print(out, page, b"\n")
 }
 
-/// Prints the line of a lost block, with a text of its nodes that `nodes_text` made: many lost blocks may have the same
-/// nodes.
+/// Prints the line of a lost block, with a text of its nodes that the caller made, each in decimal after a space: many lost
+/// blocks may have the same nodes.
 pub fn print_lost_with<O: Sink>(
     out: &mut O,
     page: &mut Page,

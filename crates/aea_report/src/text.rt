@@ -1,14 +1,13 @@
-//! Texts that are put together in memory: short ones on the stack, and the nodes of lost blocks.
+//! Short texts that are put together on the stack.
 
-ghost use Rattle.std.specs.Prelude.{◌≡◌, ◌+◌, ◌≤◌, ◌++◌, ◌∷◌, [], length, decimal, IfOk};
+ghost use Rattle.std.specs.Prelude.{◌≡◌, ◌+◌, ◌≤◌, ◌++◌, ◌∷◌, [], length, decimal};
 ghost use Rattle.hex.specs.Hex.{encode_lower};
 ghost use Rattle.aea_lattice.specs.Texts.{text_of};
 ghost use Rattle.aea_report.specs.Format.{joined, seal_text, head_texts, numbers_text};
 
 use crate::head::Head;
-use aea_lattice::{BlockId, NodeList, print_block};
+use aea_lattice::{BlockId, print_block};
 use itoa::Buffer;
-use std::alloc::{AllocError, Global};
 use std::marker::Model;
 
 // The most bytes of a short text.
@@ -72,7 +71,7 @@ impl Text {
     }
 }
 
-// Puts the number last, behind a space.
+// Puts the number last, after a space.
 fn push_spaced(text: &mut Text, number: u32)
     requires { length text.old + 11 ≤ ROOM }
     ensures text { text.new ≡ text.old ++ numbers_text (number ∷ []) }
@@ -82,7 +81,7 @@ fn push_spaced(text: &mut Text, number: u32)
     text.push_number(number);
 }
 
-// Puts four numbers last, each behind a space.
+// Puts four numbers last, each after a space.
 fn push_four(text: &mut Text, a: u32, b: u32, c: u32, d: u32)
     requires { length text.old + 44 ≤ ROOM }
     ensures text { text.new ≡ text.old ++ numbers_text (a ∷ b ∷ c ∷ d ∷ []) }
@@ -154,25 +153,11 @@ pub fn block_text(word: &[u8], block: BlockId, end: &[u8]) -> Text
     text
 }
 
-/// The text of a node, behind a space.
+/// The text of a node, after a space.
 pub fn node_text(node: u32) -> Text
     ensures { result ≡ numbers_text (node ∷ []) }
 {
     let mut text = Text::new();
     push_spaced(&mut text, node);
     text
-}
-
-/// The text of the nodes, each in decimal behind a space. An error is want of memory.
-pub fn nodes_text(alloc: Global, nodes: &NodeList) -> Result<Vec<u8>, AllocError>
-    ensures { IfOk result (λ text. text.items ≡ numbers_text nodes.now) }
-{
-    let mut text = Vec::new(alloc);
-    for k in 0..nodes.len() {
-        let Some(node) = nodes.get(k) else {
-            unreachable!()
-        };
-        text.extend_from_slice(node_text(node).bytes())?;
-    }
-    Ok(text)
 }

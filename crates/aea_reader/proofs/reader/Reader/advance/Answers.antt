@@ -52,7 +52,7 @@ returns-in-Ok-Some-clause-read g c input h lines reads =
     subst (λ o. IfSome o (λ (x : Line). (c.deref.result.now ≡ line_text x) × IsLine c.self.inside.lattice c.self.inside.least x)) c.in-Ok-Some.field-0-is c.in-Ok-Some.ensures.found in
     let has = subst (λ t. HasText input c.self.inside.line texts t c.next_line.new.ahead left) (sym c.deref.ensures.value ∙ judged.0) found in
     reading_more input h lines v w old left line is has judged.1 refl refl
-    (ap (λ n. n + 1) (c.number.ensures.value ∙ ap (number_of c.self.inside.lattice) c.block_of.ensures)) is.open_still
+    (ap (λ n. n + 1) (c.number.ensures.value ∙ ap (number_of c.self.inside.lattice) c.block.ensures)) is.open_still
 
 pub returns-in-Ok-None-clause-read : goal.returns-in-Ok-None-clause-read
 returns-in-Ok-None-clause-read g c input h lines reads =

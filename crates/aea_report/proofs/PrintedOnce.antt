@@ -1,26 +1,25 @@
 -- One report is printed for a lattice, its known blocks and a seal.
-use Rattle.std.proofs.Common.{◌≡◌, ◌+◌, List, [], ◌∷◌, map, Bool, not, refl, sym, ◌∙◌, ap, subst}
-use Rattle.std.specs.Prelude.{filter, All, count_by}
-use Rattle.std.proofs.lemmas.List.Elements.{All-head, All-tail, All-same, All-filter}
+use Rattle.std.proofs.Common.{◌≡◌, ◌+◌, List, [], ◌∷◌, map, Bool, refl, sym, ◌∙◌, ap, subst}
+use Rattle.std.specs.Prelude.{All, count_by}
+use Rattle.std.proofs.lemmas.List.Elements.{All-head, All-tail}
 use Rattle.aea_lattice.specs.declared.blocks.BlockId.{BlockId}
 use Rattle.aea_lattice.specs.declared.grid.Lattice.{Lattice}
-use Rattle.aea_lattice.specs.Blocks.{HasBlock, blocks_of}
+use Rattle.aea_lattice.specs.Blocks.{HasBlock}
 use Rattle.aea_lattice.specs.Closure.{IsReached}
 use Rattle.aea_lattice.specs.Data.{Determines}
-use Rattle.aea_lattice.specs.LeastWord.{IsWord}
+use Rattle.aea_lattice.specs.LeastWord.{IsWord, WordsAreOne}
 use Rattle.aea_lattice.specs.Facts.{BlocksAreInside, ReachedAreDetermined}
-use Rattle.aea_fates.specs.Laws.{ListsAreOne}
 use Rattle.aea_report.specs.declared.head.Head.{Head}
 use Rattle.aea_report.specs.declared.line.Line.{Line}
 use Rattle.aea_report.specs.declared.line.Line.TheVariants.{Peeled, Solved, Lost}
 use Rattle.aea_report.specs.Format.{block_in}
 use Rattle.aea_report.specs.Fits.{is_peeled, is_solved, is_lost}
 use Rattle.aea_report.specs.Printed.{IsLineOf}
-use Rattle.aea_plan.specs.Laws.{PrintedAreOne}
-use Rattle.aea_plan.proofs.Lining.{from_map}
+use Rattle.aea_report.specs.Laws.{PrintedAreOne}
+use Rattle.aea_report.proofs.PrintedFits.{lines-inside}
 
 -- two lines of one block that each are right are the same
-one_line : ReachedAreDetermined → ListsAreOne → (l : Lattice) (known : BlockId → Bool) (x y : Line) → HasBlock l (block_in x) → block_in x ≡ block_in y
+one_line : ReachedAreDetermined → WordsAreOne → (l : Lattice) (known : BlockId → Bool) (x y : Line) → HasBlock l (block_in x) → block_in x ≡ block_in y
     → IsLineOf l known x → IsLineOf l known y → x ≡ y
 one_line determined one l known (Peeled a) (Peeled b) has e p q = ap Peeled e
 one_line determined one l known (Peeled a) (Solved b) has e p q = absurd (q.1 (subst (IsReached l known) e p))
@@ -33,10 +32,10 @@ one_line determined one l known (Lost a nodes) (Peeled b) has e p q =
 one_line determined one l known (Lost a nodes) (Solved b) has e p q = absurd (p.0 (subst (Determines l known) (sym e) q.0))
 one_line determined one l known (Lost a nodes) (Lost b others) has e p q =
     let word : IsWord l known a others = subst (λ c. IsWord l known c others) (sym e) q.1 in
-    ap (λ ns. Lost a ns) ((one l known a has).one_word nodes others p.1 word) ∙ ap (λ c. Lost c others) e
+    ap (λ ns. Lost a ns) (one l known a nodes others p.1 word) ∙ ap (λ c. Lost c others) e
 
 -- and two lists of them
-one_list : ReachedAreDetermined → ListsAreOne → (l : Lattice) (known : BlockId → Bool) (xs ys : List Line) → All (λ x. HasBlock l (block_in x)) xs → map block_in xs ≡ map block_in ys
+one_list : ReachedAreDetermined → WordsAreOne → (l : Lattice) (known : BlockId → Bool) (xs ys : List Line) → All (λ x. HasBlock l (block_in x)) xs → map block_in xs ≡ map block_in ys
     → All (IsLineOf l known) xs → All (IsLineOf l known) ys → xs ≡ ys
 one_list determined one l known [] [] has e p q = refl
 one_list determined one l known [] (y ∷ ys) has e p q = let h : [] ≡ block_in y ∷ map block_in ys = e in absurd cc
@@ -63,16 +62,11 @@ head_equal h g alpha s p n seal damaged peeled solved lost = λ i. record {
   lost = lost i;
 }
 
--- each line of a printed report is one of a block of the lattice
-lines_inside : BlocksAreInside → (l : Lattice) (test : BlockId → Bool) (lines : List Line) → map block_in lines ≡ filter test (blocks_of l) → All (λ line. HasBlock l (block_in line)) lines
-lines_inside inside l test lines blocks =
-    let all = All-same (HasBlock l) (map block_in lines) (filter test (blocks_of l)) blocks (All-filter test (HasBlock l) (blocks_of l) (inside l)) in
-    from_map (HasBlock l) block_in lines all
-
-pub printed-one : BlocksAreInside → ReachedAreDetermined → ListsAreOne → PrintedAreOne
+-- one report is printed for a lattice, its known blocks and a seal
+pub printed-one : BlocksAreInside → ReachedAreDetermined → WordsAreOne → PrintedAreOne
 printed-one inside determined one l known seal h g lines others p q =
     let same : lines ≡ others =
-    one_list determined one l known lines others (lines_inside inside l (λ b. not (known b)) lines p.blocks) (p.blocks ∙ sym q.blocks) p.each q.each in
+    one_list determined one l known lines others (lines-inside inside l known lines p.blocks) (p.blocks ∙ sym q.blocks) p.each q.each in
     let a = p.counted in
     let b = q.counted in
     let peeled : h.peeled ≡ g.peeled = a.peeled ∙ ap (count_by is_peeled) same ∙ sym b.peeled in

@@ -1,4 +1,4 @@
--- “Cell”: the bytes that stand on a disk for a block.
+-- “Cell”: the bytes that are on a disk for a block.
 use Rattle.std.specs.Prelude.{◌≡◌, ℕ, List, ◌∷◌, ◌++◌, codes}
 use Rattle.std.specs.Int.{w64, to_be_bytes}
 use Rattle.sha2.specs.Sha256.{sha256}

@@ -1,4 +1,4 @@
-//! Cells: what stands on a disk for a block. A cell has a head that names the block, the block's payload, and the
+//! Cells: what is on a disk for a block. A cell has a head that names the block, the block's payload, and the
 //! SHA-256 (FIPS 180-4) of both.
 //!
 //! Promises to the shelf above that `encode` writes the cell of a block with a payload, and that `decode` reads bytes
@@ -9,8 +9,8 @@
 //! Read `Cells` first. It rests on `aea_lattice` for blocks and on `sha2`.
 #![tactic(auto)]
 
-pub mod cells;
-pub mod facts;
+mod cells;
+mod facts;
 
 pub use cells::{decode, digest_of, encode};
 pub use facts::{cells_have_lengths, cells_have_one_payload, cells_have_parts, cells_tell_blocks};

@@ -1,4 +1,4 @@
--- What a disk takes, and has room for, while a record is added to a ledger.
+-- What a disk takes, and has space for, while a record is added to a ledger.
 use Rattle.std.proofs.Common.{◌≡◌, ℕ, ◌+◌, ◌≤◌, List, [], ◌∷◌, ◌++◌, length, take, drop, refl, sym, ◌∙◌, ap, subst, arith, append_assoc, length-append}
 use Rattle.std.proofs.lemmas.List.{take-append-drop}
 use Rattle.std.proofs.Math.Seq.{take-append_seam}
@@ -12,9 +12,9 @@ use Rattle.aea_ledger.specs.Stops.{IsAdded, committed}
 use Rattle.aea_ledger.specs.Taking.{TakesCommit, FitsCommit, FitsAdding}
 use Rattle.aea_ledger.proofs.Commits.{staged, old_staged, new_opened}
 use Rattle.aea_ledger.proofs.Ends.{ledger_ends}
-use Rattle.aea_ledger.proofs.Records.{spelled-push}
+use Rattle.aea_records.proofs.OneMore.{spelled-push}
 
--- what stands up to the ending gate
+-- what the file has up to the ending gate
 take_gate : (front : List ℕ) (gate : ℕ) (after : List ℕ) → take (length front + 1) (front ++ gate ∷ after) ≡ front ++ gate ∷ []
 take_gate front gate after =
     let size : length front + 1 ≡ length (front ++ gate ∷ []) = sym (length-append front (gate ∷ [])) in
@@ -34,7 +34,7 @@ still_ledger shape records old new end ledger same =
       place = ledger.place;
     }
 
--- a ready disk takes what adds a record to the ledger that stands on it
+-- a ready disk takes what adds a record to the ledger that is on it
 pub takes_added : (s : State) (shape : Shape) (records : List Record) (r : Record) (end : ℕ) (behind : List ℕ)
     → ((f : ℕ) (b : List ℕ) (m n : ℕ) → m ≤ n → s.takes f b m → s.takes f b n)
     → ((b c : List ℕ) (m n : ℕ) → EndsAt c n → s.takes 0 b m → s.takes 0 c n)
@@ -56,7 +56,7 @@ takes_added s shape records r end behind later ended added ready =
       done = (length (spelled shape (records ++ r ∷ [])), ended (s.files 0) (committed (s.files 0) end behind) ready.0 (length (spelled shape (records ++ r ∷ []))) (ledger_ends (committed (s.files 0) end behind) shape (records ++ r ∷ []) (length (spelled shape (records ++ r ∷ []))) done).ends ready.1);
     }
 
--- and one with the room that the record needs has it for each step
+-- and one with the space that the record needs has it for each step
 pub fits_added : (s : State) (shape : Shape) (records : List Record) (r : Record) (end : ℕ) (behind : List ℕ)
     → ((b c : List ℕ) (n : ℕ) → (one : EndsAt b n) → (two : EndsAt c n) → one.records ≡ two.records → s.keeps b → s.keeps c)
     → IsAdded shape records r (s.files 0) end behind → length behind ≡ length (entry r) → FitsAdding s 1 (end + length (entry r)) → FitsCommit s end behind

@@ -23,12 +23,13 @@ use Rattle.aea_records.specs.Catalogued.{with_record}
 use Rattle.aea_records.specs.Laws.{FencesMayFollow, ObjectsAreCounted, NewNamesAreFree, RecordsAreFew}
 use Rattle.aea_ledger.specs.Values.{Opened, HasRecords, HasSomeRecords, IsThisOne}
 use Rattle.aea_records.specs.declared.heads.ObjectFields.{ObjectFields}
-use Rattle.aea_ledger.specs.Next.{AreItsRecords, stored_as, made, HasNodes}
+use Rattle.aea_records.specs.Objects.{stored_as, made}
+use Rattle.aea_ledger.specs.Next.{AreItsRecords, HasNodes}
 use Rattle.aea_ledger.proofs.Steps.{one_count}
 use Rattle.aea_ledger.specs.Stops.{HasLedger, IsAdded, closed}
 use Rattle.aea_ledger.specs.Committing.{IsNextOf, HasTaken, LeavesOldOrNew}
 use Rattle.aea_ledger.proofs.Small.{few_nodes, few_parts, limit_small}
-use Rattle.aea_ledger.proofs.Records.{or_false, MayFollow-push, nodes_of-push, fences_of-push, digests_of-push, raised-push, objects-push, spelled-push}
+use Rattle.aea_records.proofs.OneMore.{or_false, MayFollow-push, nodes_of-push, fences_of-push, digests_of-push, raised-push, objects-push, spelled-push}
 
 -- what is asked of an object that is to be added
 pub record MayBeAdded (v : Opened) (o : Stored) : Type 0 where
@@ -237,7 +238,7 @@ still_has v w shape lattice objects raised digests hasher seal end has = (
 pub has_some_more : (v w : Opened) (r : Record) → HasTaken v r w → IsNextOf v r → HasSomeRecords v → HasSomeRecords w
 has_some_more v w r taken next has = (has.0 ++ r ∷ [], has_more v w has.0 r taken has.1 (next has.0 has.1))
 
--- the room up to the new ending gate
+-- the space up to the new ending gate
 pub room_same : (inside now written entered : ℕ) → inside ≡ now → written ≡ entered → now + entered + 1 ≡ inside + 1 + written
 room_same inside now written entered end size = omega (arith, end, size)
 
@@ -246,7 +247,7 @@ pub when_ok : {T E P : Type 0} (r : Result T E) → is_ok r ≡ true → OnOk r 
 when_ok (Ok x) is p = p
 when_ok (Err e) is p = absurd (let h : false ≡ true = is in cc)
 
--- a fence behind the last node may follow
+-- a fence after the last node may follow
 pub fence_next : (v : Opened) → FencesMayFollow → last_fence v.lattice.fences < v.lattice.n → length v.lattice.fences < greatest_fences → IsNextOf v (Fence v.lattice.n)
 fence_next v law before few records has =
     subst (λ (n : ℕ). IsNext v.shape records (Fence n)) (sym has.lattice.n)

@@ -7,10 +7,10 @@ use Rattle.aea_disk.specs.Files.{Torn, Holds}
 use Rattle.aea_records.specs.Format.{Record, body, spelled}
 use Rattle.aea_records.specs.Grammar.{IsNext, AreRecords, IsLedger}
 use Rattle.aea_ledger.specs.Stops.{HasLedger, HasOldOrNew, IsAdded, IsStaged}
-use Rattle.aea_ledger.proofs.Records.{MayFollow-push, spelled-push}
+use Rattle.aea_records.proofs.OneMore.{MayFollow-push, spelled-push}
 use Rattle.aea_ledger.proofs.Writes.{torn_gate, holds_gate, torn_behind, holds_behind}
 
--- a write behind the gate leaves the ledger
+-- a write past the gate leaves the ledger as it was
 pub old_behind : (shape : Shape) (records : List Record) (old new : List ℕ) (end n : ℕ) → IsLedger old shape records end → Torn (end + 1) n old new → HasLedger shape records new
 old_behind shape records old new end n ledger torn =
     let at : Torn (length (spelled shape records) + 1) n (spelled shape records ++ ledger.gate ∷ ledger.after) new =
@@ -25,11 +25,11 @@ old_behind shape records old new end n ledger torn =
       place = refl;
     }
 
--- behind a front and a gate, bytes that end with a 0
+-- after a front and a gate, bytes that end with a 0
 regroup : (front : List ℕ) (gate : ℕ) (bytes more : List ℕ) → front ++ gate ∷ ((bytes ++ 0 ∷ []) ++ more) ≡ front ++ gate ∷ (bytes ++ 0 ∷ more)
 regroup front gate bytes more = ap (λ (l : List ℕ). front ++ gate ∷ l) (append_assoc bytes (0 ∷ []) more)
 
--- a write behind the gate that was made stages the body
+-- a write past the gate that was made stages the body
 pub staged : (shape : Shape) (records : List Record) (r : Record) (old new : List ℕ) (end : ℕ) (behind : List ℕ) → IsAdded shape records r old end behind → Holds (end + 1) behind old new → IsStaged shape records r new end
 staged shape records r old new end behind added holds =
     let ledger = added.ledger in
@@ -90,7 +90,7 @@ new_opened shape records r old new end is holds =
     (subst (λ (l : List ℕ). Holds end (1 ∷ []) l new) is.spelling holds) in
     new_ledger shape records r new is.more is.valid is.next (holds_gate (spelled shape records) is.gate (body r ++ 0 ∷ is.more) new at)
 
--- of two spellings behind one front, one with an open gate
+-- of two spellings after one front, one with an open gate
 one_gate : (front : List ℕ) (gate : ℕ) (after bytes rest : List ℕ) → front ++ gate ∷ after ≡ (front ++ 1 ∷ bytes) ++ rest → gate ≡ 1
 one_gate front gate after bytes rest same =
     ap (λ (l : List ℕ). get_or l 0 0) (append_cancel_left front (gate ∷ after) (1 ∷ bytes ++ rest) (same ∙ append_assoc front (1 ∷ bytes) rest))

@@ -13,7 +13,7 @@ use Rattle.aea_records.specs.Grammar.{IsLedger}
 use Rattle.aea_records.proofs.Shortness.{records_are_short}
 use Rattle.aea_ledger.specs.Taking.{LedgerEnds}
 
--- a byte behind the front, by its place
+-- a byte past the front, by its place
 behind_front : (front more : List ℕ) (at j : ℕ) → at ≡ length front + j → get_or (front ++ more) at 0 ≡ get_or more j 0
 behind_front front more at j is = ap (λ (i : ℕ). get_or (front ++ more) i 0) is ∙ get_or-append-add front more j 0
 
@@ -30,7 +30,7 @@ entries_small (r ∷ rs) short =
     let one : length (rest_of r) < 2 ^ 28 = All-head (λ (q : Record). length (rest_of q) < 2 ^ 28) r rs short in
     omega (arith, one, length-append (entry r) (flat_map entry rs), length-append (to_be_bytes w32 (length (rest_of r))) (rest_of r), entries_small rs (All-tail (λ (q : Record). length (rest_of q) < 2 ^ 28) r rs short))
 
--- from a gate behind the front on, by each record's entry, to the gate behind all
+-- from a gate after the front on, by each record's entry, to the gate after all
 entries_reach : (records : List Record) → All (λ r. length (rest_of r) < 2 ^ 28) records → (before : ℕ) (front after : List ℕ) (gate : ℕ)
     → before + length records ≤ 2 ^ 17 → length front + length (flat_map entry records) ≤ 2 ^ 45
     → Reaches (front ++ (flat_map entry records ++ gate ∷ after)) before (length records) (length front) (length front + length (flat_map entry records))
@@ -63,7 +63,7 @@ entries_reach (r ∷ rs) short before front after gate few small =
     ) in
     subst (λ (l : List ℕ). Reaches l before (suc (length rs)) (length front) (length front + length (E ++ F))) same all
 
--- A ledger's records end where it ends, and are counted: so a disk with a rule takes what is written behind them, and a copy
+-- A ledger's records end where it ends, and are counted: so a disk with a rule takes what is written past them, and a copy
 -- gets what is kept of them.
 pub ledger_ends : (bytes : List ℕ) (shape : Shape) (records : List Record) (end : ℕ) → IsLedger bytes shape records end → LedgerEnds bytes records end
 ledger_ends bytes shape records end ledger =

@@ -94,7 +94,7 @@ ends_at r records file window read told is closed =
       place = read.place;
     }
 
--- where the file is told, it may be named otherwise
+-- where the file's contents are known, they may be named otherwise
 pub reading_in : (tells : Type 0) (file other : List ℕ) (r : Reader) → (tells → file ≡ other) → IsReading tells file r → IsReading tells other r
 reading_in tells file other r same reading = record {
   records = reading.records;

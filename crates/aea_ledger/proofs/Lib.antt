@@ -2,15 +2,15 @@ pub mod Passed
 pub mod Pieces
 pub mod Writes
 pub mod Creates
-pub mod Records
 pub mod Steps
 pub mod Gates
 pub mod Starts
 pub mod Small
 pub mod Commits
-pub mod Bodies
+pub mod Digests
 pub mod Appends
 pub mod Lying
+pub mod Recording
 mod Making
 mod Takings
 pub mod Ends

@@ -4,7 +4,6 @@ use Rattle.std.specs.Prelude.{nat_le, nat_lt, if◌then◌else◌}
 use Rattle.std.specs.List.{sum_by, Contains}
 use Rattle.std.specs.FinMap.{get}
 use Rattle.std.proofs.lemmas.Bool.{and_parts, and_from, leb-true, le-leb, lt-ltb, eqb-true}
-use Rattle.std.proofs.lemmas.List.Concat.{flat_map-append}
 use Rattle.std.proofs.lemmas.List.Sums.{sum_by-append, sum_by-cons}
 use Rattle.aea_lattice.specs.declared.shape.Shape.{Shape}
 use Rattle.aea_catalog.specs.declared.objects.Extent.{Extent}
@@ -17,15 +16,12 @@ use Rattle.aea_records.specs.Laws.{ObjectsAreOfRecords}
 use Rattle.aea_ledger.specs.Values.{Opened, HasSomeRecords}
 use Rattle.aea_ledger.specs.Recorded.{IsLatticeOf}
 use Rattle.aea_ledger.specs.Lying.{LiesWithin, LieWithin}
+use Rattle.aea_records.proofs.OneMore.{nodes_of-append}
 use Rattle.aea_ledger.proofs.Steps.{one_count}
 
 -- how many nodes a record has new
 abbrev pub nodes_in : Record → ℕ
 nodes_in r = sum_by (λ o. o.count) (stored_in r)
-
-nodes-append : (records others : List Record) → nodes_of (records ++ others) ≡ nodes_of records + nodes_of others
-nodes-append records others =
-    ap (sum_by (λ (o : Stored). o.count)) (flat_map-append stored_in records others) ∙ sum_by-append (λ (o : Stored). o.count) (stored_of records) (stored_of others)
 
 nodes-first : (r : Record) (records : List Record) → nodes_of (r ∷ records) ≡ nodes_in r + nodes_of records
 nodes-first r records = sum_by-append (λ (o : Stored). o.count) (stored_in r) (stored_of records)
@@ -41,7 +37,7 @@ stands shape earlier [] r follow c = absurd (omega (arith, c.1))
 stands shape earlier (q ∷ records) r follow (zero, within, is) = record {
   before = earlier;
   next = subst (IsNext shape earlier) is follow.0;
-  within = subst (λ (p : Record). nodes_of earlier + nodes_in p ≤ nodes_of (earlier ++ q ∷ records)) is (omega (arith, nodes-append earlier (q ∷ records), nodes-first q records));
+  within = subst (λ (p : Record). nodes_of earlier + nodes_in p ≤ nodes_of (earlier ++ q ∷ records)) is (omega (arith, nodes_of-append earlier (q ∷ records), nodes-first q records));
 }
 stands shape earlier (q ∷ records) r follow (suc k, within, is) =
     subst (λ (all : List Record). Stands shape all r) (append_assoc earlier (q ∷ []) records)

@@ -1,4 +1,4 @@
--- What room the calls need that make an archive: no file on the way is a ledger, until the last write.
+-- What space the calls need that make an archive: no file on the way is a ledger, until the last write.
 use Rattle.std.proofs.Common.{◌≡◌, ◌≤◌, ◌+◌, ℕ, List, [], ◌∷◌, length, drop, inl, sym, subst, ap, arith}
 use Rattle.aea_lattice.specs.declared.shape.Shape.{Shape}
 use Rattle.aea_disk.specs.Ends.{IsBare}
@@ -25,7 +25,7 @@ fits_begun old mid bare none empty passes fit =
     let there = overwritten (mid.files 0) 0 (0 ∷ []) in
     record { room = passes.room 0 1 fit.room; sync = passes.syncs there (bare (old.files 0) there none (bare_written (mid.files 0) (0 ∷ []) empty (omega arith)) fit.sync) }
 
--- of a closed gate: to write what stands behind it in an empty ledger
+-- of a closed gate: to write what follows it in an empty ledger
 pub fits_filling : (s : State) (shape : Shape) (rest : List ℕ) → KeepsBare s → SmallerFits s → s.files 0 ≡ 0 ∷ [] → rest ≡ drop 1 (empty_ledger shape) → FitsMaking s shape → FitsThrough s 1 rest
 fits_filling s shape rest bare smaller begun is fit =
     let size : length rest ≡ length (drop 1 (empty_ledger shape)) = ap length is in

@@ -1,4 +1,4 @@
--- What an input went on over: bytes, digests and parts, one behind the other.
+-- What an input went on over: bytes, digests and parts, one after the other.
 use Rattle.std.proofs.Common.{◌≡◌, ℕ, zero, suc, ◌+◌, ◌*◌, ◌^◌, ◌≤◌, ◌<◌, List, [], ◌∷◌, ◌++◌, length, take, drop, refl, sym, ap, subst, ◌∙◌, append_assoc, arith}
 use Rattle.std.specs.Int.{w32, from_be_bytes}
 use Rattle.std.proofs.lemmas.List.{append-nil, length-append, length-take, length-drop, drop-drop, take-take, take-append-drop, take_all, take_at, drop_at}
@@ -53,7 +53,7 @@ passed_over tells file old mid new count at same told within are holds place ahe
           ∙ ap (λ (l : List ℕ). take count mid.cursor.bytes ++ l) (drop-drop count mid.cursor.place file ∙ ap (λ (n : ℕ). drop n file) (sym place));
     }
 
--- where the file is told it may be named otherwise
+-- where the file's contents are known, they may be named otherwise
 pub passed_in : (tells : Type 0) (file other : List ℕ) (old new : Input) (text : List ℕ) → (tells → file ≡ other) → HasPassed tells file old new text → HasPassed tells other old new text
 passed_in tells file other old new text same passed = record {
   are = passed.are;
@@ -63,7 +63,7 @@ passed_in tells file other old new text same passed = record {
   bytes = λ tell. subst (λ (f : List ℕ). drop old.cursor.place f ≡ text ++ drop new.cursor.place f) (same tell) (passed.bytes tell);
 }
 
--- ---- pieces and parts one behind the other
+-- ---- pieces and parts one after the other
 
 none_left : (w : ℕ) (xs : List ℕ) → length xs ≡ w * 0 → xs ≡ []
 none_left w [] e = refl
@@ -110,7 +110,7 @@ extents-append (suc n) m x y size =
 pub digests_none : (tells : Type 0) (file : List ℕ) (i : Input) (before : List (List ℕ)) → (tells → IsAhead i.cursor file) → HasDigests tells file i i 0 before before
 digests_none tells file i before ahead = record { text = []; long = refl; passed = passed_none tells file i ahead; digests = sym (append-nil before) }
 
--- 32 bytes that the input went on over, put behind others as they are, are one digest that it went on over
+-- 32 bytes that the input went on over, put after others as they are, are one digest that it went on over
 pub digests_one : (tells : Type 0) (file : List ℕ) (old new : Input) (bytes digest : List ℕ) (before after : List (List ℕ)) → length bytes ≡ 32 → HasPassed tells file old new bytes → digest ≡ bytes
     → after ≡ before ++ digest ∷ [] → HasDigests tells file old new 1 before after
 digests_one tells file old new bytes digest before after long passed is pushed = record {
@@ -131,7 +131,7 @@ digests_push tells file old mid new count before between after early late = reco
       ∙ ap (λ (l : List (List ℕ)). before ++ l) (sym (pieces-append 32 count 1 early.text late.text early.long));
 }
 
--- digests that were read of a file were read of another one that is the same, where the file is told
+-- digests that were read of a file were read of another one that is the same, where the file's contents are known
 pub digests_in : (tells : Type 0) (file other : List ℕ) (old new : Input) (count : ℕ) (before after : List (List ℕ)) → (tells → file ≡ other) → HasDigests tells file old new count before after
     → HasDigests tells other old new count before after
 digests_in tells file other old new count before after same has = record { text = has.text; long = has.long; passed = passed_in tells file other old new has.text same has.passed; digests = has.digests }
@@ -139,7 +139,7 @@ digests_in tells file other old new count before after same has = record { text 
 pub parts_none : (tells : Type 0) (file : List ℕ) (i : Input) (before : List Extent) → (tells → IsAhead i.cursor file) → HasParts tells file i i 0 before before
 parts_none tells file i before ahead = record { text = []; long = refl; passed = passed_none tells file i ahead; parts = sym (append-nil before) }
 
--- 8 bytes that the input went on over, put behind others as the part that they spell, are one part that it went on
+-- 8 bytes that the input went on over, put after others as the part that they spell, are one part that it went on
 -- over
 pub parts_one : (tells : Type 0) (file : List ℕ) (old new : Input) (bytes : List ℕ) (part : Extent) (before after : List Extent) → length bytes ≡ 8 → HasPassed tells file old new bytes
     → part ≡ record { first = from_be_bytes w32 (take 4 bytes); count = from_be_bytes w32 (drop 4 bytes) } → after ≡ before ++ part ∷ [] → HasParts tells file old new 1 before after
@@ -161,7 +161,7 @@ parts_push tells file old mid new count before between after early late = record
       ∙ ap (λ (l : List Extent). before ++ l) (sym (extents-append count 1 early.text late.text early.long));
 }
 
--- parts that were read of a file were read of another one that is the same, where the file is told
+-- parts that were read of a file were read of another one that is the same, where the file's contents are known
 pub parts_in : (tells : Type 0) (file other : List ℕ) (old new : Input) (count : ℕ) (before after : List Extent) → (tells → file ≡ other) → HasParts tells file old new count before after
     → HasParts tells other old new count before after
 parts_in tells file other old new count before after same has = record { text = has.text; long = has.long; passed = passed_in tells file other old new has.text same has.passed; parts = has.parts }

@@ -1,4 +1,4 @@
--- Pieces of a list, one behind the other.
+-- Pieces of a list, one after the other.
 use Rattle.std.proofs.Common.{◌≡◌, ℕ, ◌+◌, ◌-◌, ◌<◌, ◌≤◌, List, ◌++◌, length, get_or, take, drop, min, sym, ap, ◌∙◌, arith, length-drop}
 use Rattle.std.proofs.lemmas.List.{length-take, take_at, take-take, take_min, drop-take, drop-drop, take-append-drop, ext_get_or, get_or-take, get_or-drop}
 use Rattle.std.specs.List.{CopiedTo}
@@ -17,7 +17,7 @@ ahead_later a b n file h place bytes told =
     bytes ∙ ap (drop n) (told ∙ ap (λ (k : ℕ). take k (drop a.place file)) size) ∙ drop-take n (length b.bytes) (drop a.place file)
     ∙ ap (take (length b.bytes)) (drop-drop n a.place file ∙ ap (λ (k : ℕ). drop k file) (sym place))
 
--- a front, and what stands behind it up to a place
+-- a front, and what follows it up to a place
 pub take-both : (xs : List ℕ) (k n : ℕ) → k ≤ n → take k xs ++ take (n - k) (drop k xs) ≡ take n xs
 take-both xs k n h =
     let sum : n ≡ k + (n - k) = omega arith in
@@ -43,14 +43,14 @@ copied_front old new from to h within size copied =
     let near : k < to - from = omega (arith, length-take (to - from) new) in
     get_or-take (to - from) new k 0 near ∙ copied k 0 (omega arith) (omega arith) ∙ (let less : k - 0 ≡ k = omega arith in ap (λ (m : ℕ). get_or old (from + m) 0) less) ∙ sym (get_or-drop from old k 0) ∙ sym (get_or-take (to - from) (drop from old) k 0 near))
 
--- bytes of a file, and those that are read behind them
+-- bytes of a file, and those that are read after them
 pub read_on : (file bytes : List ℕ) (kept n place next : ℕ) → kept ≤ n → length bytes ≡ kept → next ≡ place + kept → bytes ≡ take (length bytes) (drop place file) → bytes ++ take (n - kept) (drop next file) ≡ take n (drop place file)
 read_on file bytes kept n place next h size sum told =
     ap (λ (l : List ℕ). l ++ take (n - kept) (drop next file)) (told ∙ ap (λ (k : ℕ). take k (drop place file)) size)
     ∙ ap (λ (l : List ℕ). take kept (drop place file) ++ take (n - kept) l) (ap (λ (k : ℕ). drop k file) sum ∙ sym (drop-drop kept place file))
     ∙ take-both (drop place file) kept n h
 
--- the buffer after bytes were read behind what was kept
+-- the buffer after bytes were read after what was kept
 pub refilled : (copied new bytes file : List ℕ) (len kept more n place next : ℕ) → length new ≡ len → len ≡ n → kept ≤ n → next ≡ place + kept → length bytes ≡ kept → take kept copied ≡ bytes
     → take (kept + more) new ≡ take kept copied ++ take (n - kept) (drop next file) → bytes ≡ take (length bytes) (drop place file)
     → take (kept + more - 0) (take len (new ++ drop (length new) copied)) ≡ take n (drop place file)

@@ -1,4 +1,4 @@
--- What a disk takes, and has room for, once calls were made: lemmas for the calls above that write cells and records.
+-- What a disk takes, and has space for, once calls were made: lemmas for the calls above that write cells and records.
 use Rattle.std.proofs.Common.{◌≡◌, ℕ, ◌+◌, List, sym, subst}
 use Rattle.aea_lattice.specs.declared.shape.Shape.{Shape}
 use Rattle.aea_disk.specs.Ends.{EndsAt}
@@ -18,7 +18,7 @@ pub ready_after : (old mid : State) (shape : Shape) (records : List Record) (end
 ready_after old mid shape records end ended ledger goes ready =
     (end, ended (old.files 0) (mid.files 0) ready.0 end (ledger_ends (mid.files 0) shape records end ledger).ends (goes 0 (old.files 0) ready.0 ready.1))
 
--- the room for records stays where the ledger file does
+-- the space for records stays where the ledger file does
 pub adding_later : (old mid : State) (more end : ℕ) → mid.files 0 ≡ old.files 0 → Passes old mid → FitsAdding old more end → FitsAdding mid more end
 adding_later old mid more end same time fit = record {
   room = time.room 0 (end + 1) fit.room;

@@ -65,7 +65,7 @@ pub none-last : (fences : List ℕ) → length fences ≡ 0 → last_fence fence
 none-last [] e = refl
 none-last (x ∷ xs) e = absurd (omega (arith, e))
 
--- the last fence stands at the last node or before
+-- the last fence is at the last node or before
 last-le : (fences : List ℕ) (low n : ℕ) → rise_to low n fences ≡ true → last_fence fences ≤ n
 last-le [] low n rise = omega arith
 last-le (f ∷ []) low n rise =
@@ -78,7 +78,7 @@ last-within l =
     let a = and_parts (nat_le (length l.fences) greatest_fences) (rise_to 0 l.n l.fences) l.fenced in
     (last-le l.fences 0 l.n a.1, leb-true (length l.fences) greatest_fences a.0)
 
--- a lattice that takes no more fence though none stands at its last node has the most
+-- a lattice that takes no more fence though none is at its last node has the most
 pub is_full : (l : Lattice) → last_fence l.fences ≢ l.n → (last_fence l.fences < l.n → length l.fences < greatest_fences → ⊥) → length l.fences ≡ greatest_fences
 is_full l other never =
     let w = last-within l in

@@ -1,4 +1,4 @@
--- The header that is read, and what follows of an answer.
+-- The header that is read, and what follows from a result.
 use Rattle.std.proofs.Common.{◌≡◌, ℕ, ◌≤◌, ◌&&◌, true, false, List, [], ◌++◌, length, take, drop, Ok, Err, Result, refl, sym, ap, ◌∙◌, subst, inl, inr, arith}
 use Rattle.std.specs.Prelude.{nat_le}
 use Rattle.std.specs.FinMap.{empty}
@@ -21,7 +21,7 @@ use Rattle.aea_ledger.specs.Openings.{Answers, IsAnswered}
 use Rattle.aea_ledger.specs.declared.open.OpenFault.{OpenFault}
 use Rattle.aea_ledger.specs.declared.open.OpenFault.TheVariants.{NoArchive, LedgerBad, DiskFault, NoMemory}
 
--- each answer is the only one for its bytes
+-- each result is the only one for its bytes
 pub answered : (bytes : List ℕ) (result : Result Opened OpenFault) → LedgersAreNotBad → IsBadAtOnePlace → LedgersAreArchives → Answers bytes result → IsAnswered bytes result
 answered bytes (Ok v) not_bad one_place archives is = record {
   ledger = λ some. inl refl;
@@ -49,7 +49,7 @@ answered bytes (Err NoMemory) not_bad one_place archives is = record {
   bad = λ at bad. inr (inr refl);
 }
 
--- the reader behind the header
+-- the reader past the header
 pub started : (tells : Type 0) (file window : List ℕ) (r : Reader) → take 17 window ≡ header r.shape → 18 ≤ length window → r.input.cursor.place ≡ 17 → IsLatticeOf r.shape 0 [] r.lattice → r.catalog.objects ≡ empty
     → r.raised ≡ false → r.digests.items ≡ [] → Holds256 r.input.hasher (take 17 window) → (tells → window ≡ take 18 file) → (tells → IsAhead r.input.cursor file) → IsReading tells file r
 started tells file window r head long place lattice objects raised digests holds told ahead =
@@ -96,7 +96,7 @@ finished r records seal end read is at = record {
   end = at ∙ read.place;
 }
 
--- the answer of what was read whole
+-- the result of what was read whole
 pub answers_whole : (file : List ℕ) (result : Result Opened OpenFault) (shape : Shape) (end : ℕ) (records : List Record) → IfOk result (λ v. HasRecords v records) → IfOk result (λ v. v.shape ≡ shape)
     → IfOk result (λ v. v.end ≡ end) → IfErr result (λ fault. fault ≡ NoMemory) → IsLedger file shape records end → Answers file result
 answers_whole file (Ok v) shape end records has same at memory ledger = record {

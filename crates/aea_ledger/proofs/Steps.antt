@@ -1,4 +1,4 @@
--- One step of a reader: over a gate and the record behind it.
+-- One step of a reader: over a gate and the record after it.
 use Rattle.std.proofs.Common.{◌≡◌, ◌≢◌, ℕ, ◌+◌, ◌*◌, ◌^◌, ◌<◌, ◌≤◌, Bool, true, false, ◌&&◌, ◌==◌, List, [], ◌∷◌, ◌++◌, length, take, drop, Result, Err, Some, None, refl, sym, ap, subst, ◌∙◌, append_assoc, arith, inr}
 use Rattle.std.specs.Prelude.{slice_index, if◌then◌else◌, nat_le}
 use Rattle.std.specs.List.{list_any, sum_by}
@@ -36,9 +36,10 @@ use Rattle.aea_ledger.specs.Readings.{HasPassed, HasDigests, HasParts, HasRead, 
 use Rattle.aea_ledger.specs.declared.input.Input.{Input}
 use Rattle.aea_ledger.specs.declared.reader.Reader.{Reader}
 use Rattle.aea_ledger.proofs.Passed.{passed_then}
-use Rattle.aea_ledger.proofs.Records.{MayFollow-push, fences_of-push, nodes_of-push, digests_of-push, raised_stays, raised_now, objects-push, spelled-push, length-bytes_at, front-bytes_at}
+use Rattle.aea_records.proofs.Stretches.{length-bytes_at, front-bytes_at}
+use Rattle.aea_records.proofs.OneMore.{MayFollow-push, fences_of-push, nodes_of-push, digests_of-push, raised_stays, raised_now, objects-push, spelled-push}
 
--- what is bad behind records
+-- what is bad after records
 pub bad_at : (shape : Shape) (records : List Record) (file : List ℕ) (r : Reader) (fault place : ℕ) → r.shape ≡ shape → HasRead r records → AreIn r records file
     → gate_fault r.shape (known_of records) (drop r.input.cursor.place file) ≡ Some fault → place ≡ r.input.cursor.place + fault → IsBadAt file place
 bad_at shape records file r fault place same read told bad is = record {
@@ -92,7 +93,7 @@ goes_on tells file old found new back r law at passed are spells =
     some : (r : Record) → 1 ≤ length (entry r)
     some r = omega arith
 
--- what is bad behind a head
+-- what is bad after a head
 pub bad_tail : (tells : Type 0) (file : List ℕ) (old : Reader) (found : Found) (fault place : ℕ) → TailsAreJudged → (at : IsAtHead tells file old found) → tells
     → bad_of (judge (tail_fields old.shape (known_of at.records) (found_at (take 315 old.input.cursor.bytes) found)) (head_end found.fields) (drop old.input.cursor.place file)) ≡ Some fault
     → place ≡ old.input.cursor.place + fault → IsBadAt file place
@@ -136,7 +137,7 @@ short-has n m lt = grind (arith, nat_tests)
 long-has : (n m : ℕ) → n ≤ m → nat_le n m ≡ true
 long-has n m le = grind (arith, nat_tests)
 
--- what is left behind two texts
+-- what is left after two texts
 length_left : (file : List ℕ) (from : ℕ) (x y : List ℕ) (mid to : ℕ) → drop from file ≡ x ++ drop mid file → drop mid file ≡ y ++ drop to file → length x + length y ≤ length (drop from file)
 length_left file from x y mid to first second =
     omega (arith, ap length first, ap length second, length-append x (drop mid file), length-append y (drop to file))
@@ -255,7 +256,7 @@ alone_put tells file old new object text name records law read short goes is =
     }
 
 -- a reader that went on over the record of an object whose nodes are all new, and took its nodes, its object and
--- its digests, has read records, those of the file where it is told
+-- its digests, has read records, those of the file where its contents are known
 pub alone_read : (tells : Type 0) (file : List ℕ) (old new : Reader) (object : ObjectFields) (bytes : ℕ) (text name : List ℕ) (placed : ObjectRef) → (at : IsAtHead tells file old (alone_found bytes object))
     → Goes tells file old new.input at.records (alone_record old object text) → new.shape ≡ old.shape → IsGrown old.lattice (old.lattice.n + object.count) new.lattice
     → name ≡ bytes_at object.long 8 old.input.cursor.bytes → placed ≡ record { first = object.first; count = object.count; length = object.size; digest = object.digest }
@@ -338,7 +339,7 @@ joined_put tells file old new object parts first text name records law read shor
     }
 
 -- a reader that went on over the record of an object in parts, and took its new nodes, its object with the parts
--- and its digests, has read records, those of the file where it is told
+-- and its digests, has read records, those of the file where its contents are known
 pub joined_read : (tells : Type 0) (file : List ℕ) (old new : Reader) (object : ObjectFields) (bytes parts : ℕ) (first text name : List ℕ) (all : List Extent) (placed : ObjectRef) → (at : IsAtHead tells file old (joined_found bytes object parts))
     → Goes tells file old new.input at.records (joined_record old object parts first text) → new.shape ≡ old.shape → IsGrown old.lattice (old.lattice.n + object.count) new.lattice
     → name ≡ bytes_at object.long 8 old.input.cursor.bytes → all ≡ extents parts first
@@ -369,7 +370,7 @@ parts_missing tells file old mid object bytes parts place law at tell behind mis
     (ap (λ (x : Result (Record × ℕ) ℕ). bad_of x) (missed (nat_le (object_end object + 4 + 8 * parts) (length (drop old.input.cursor.place file))) _ _ (Err (object_end object + 4))
     (short-has (object_end object + 4 + 8 * parts) (length (drop old.input.cursor.place file)) (omega (arith, missing, length-drop mid.cursor.place file, length-drop old.input.cursor.place file, behind))))) is
 
--- the bytes of a field stand in the bytes
+-- the bytes of a field lie in the bytes
 stands_at : (rest x y z : List ℕ) (at n : ℕ) → rest ≡ x ++ (y ++ z) → length x ≡ at → length y ≡ n → bytes_at n at rest ≡ y
 stands_at rest x y z at n is long wide =
     ap (λ (l : List ℕ). take n (drop at l)) is ∙ ap (take n) (drop_at x (y ++ z) at long) ∙ take_at y z n wide
@@ -391,7 +392,7 @@ parts_bad tells file old mid behind object bytes parts place none all law at tel
     (ap (λ (l : List ℕ). are_parts old.shape object.size (nodes_of at.records + object.count) (extents parts l)) field
     ∙ (λ i. are_parts old.shape object.size (sym nodes i + object.count) (sym all_is i)) ∙ bad))) is
 
--- what is judged behind parts that are good
+-- what is judged after parts that are good
 behind_parts : (tells : Type 0) (file : List ℕ) (old : Reader) (mid behind : Input) (object : ObjectFields) (bytes parts : ℕ) (none all : List Extent)
     → (at : IsAtHead tells file old (joined_found bytes object parts)) → tells → HasPassed tells file old.input mid (take (object_end object + 4) old.input.cursor.bytes) → (ps : HasParts tells file mid behind parts none all)
     → none ≡ [] → old.lattice.n ≡ nodes_of at.records → are_parts old.shape object.size (old.lattice.n + object.count) all ≡ true
@@ -411,7 +412,7 @@ behind_parts tells file old mid behind object bytes parts none all at tell head 
     (ap (λ (l : List ℕ). are_parts old.shape object.size (nodes_of at.records + object.count) (extents parts l)) field
     ∙ (λ i. are_parts old.shape object.size (sym nodes i + object.count) (sym all_is i)) ∙ good)
 
--- where the file is told, and the digests of an object in parts are not all there behind its parts, which are
+-- where the file's contents are known, and the digests of an object in parts are not all there after its parts, which are
 -- valid, the file is bad where they begin
 pub joined_missing : (tells : Type 0) (file : List ℕ) (old : Reader) (mid behind : Input) (object : ObjectFields) (bytes parts count place : ℕ) (none all : List Extent) → TailsAreJudged
     → (at : IsAtHead tells file old (joined_found bytes object parts)) → tells → HasPassed tells file old.input mid (take (object_end object + 4) old.input.cursor.bytes) → HasParts tells file mid behind parts none all
@@ -426,7 +427,7 @@ joined_missing tells file old mid behind object bytes parts count place none all
     ∙ digests_missing old.shape bytes (54 + 8 * parts) (stored_at (take 315 old.input.cursor.bytes) object) (λ p. Joined p (extents parts (bytes_at (8 * parts) (object_end object + 4) (drop old.input.cursor.place file)))) (object_end object + 4 + 8 * parts) (drop old.input.cursor.place file)
     (omega (arith, missing, length-drop behind.cursor.place file, length-drop old.input.cursor.place file, there.place, length-append (take (object_end object + 4) old.input.cursor.bytes) ps.text, size, ps.long, many))) is
 
--- where the file is told, and the number of bytes of an object in parts is another, its parts being valid and its
+-- where the file's contents are known, and the number of bytes of an object in parts is another, its parts being valid and its
 -- digests there, the file is bad at this number
 pub joined_wrong : (tells : Type 0) (file : List ℕ) (old : Reader) (mid behind new : Input) (object : ObjectFields) (bytes parts count place : ℕ) (none all : List Extent) (before after : List (List ℕ)) → TailsAreJudged
     → (at : IsAtHead tells file old (joined_found bytes object parts)) → tells → HasPassed tells file old.input mid (take (object_end object + 4) old.input.cursor.bytes) → HasParts tells file mid behind parts none all
@@ -459,7 +460,7 @@ short_goes tells file old found new r law at passed spells =
     goes_on tells file old found new [] r law at (subst (HasPassed tells file old.input new) (sym (append-nil (take (head_end found.fields) old.input.cursor.bytes))) passed) (All-nil (λ b. b < 2 ^ 8)) spells
 
 -- a reader that went on over a fence with 4 as its number of bytes, and set it, has read records, those of the
--- file where it is told, and is further on
+-- file where its contents are known, and is further on
 pub fence_read : (tells : Type 0) (file : List ℕ) (old new : Reader) (bytes node : ℕ) → TailsAreSpelled → (at : IsAtHead tells file old (fence_found bytes node)) → HasPassed tells file old.input new.input (take 10 old.input.cursor.bytes)
     → bytes ≡ 4 → new.shape ≡ old.shape → IsFenced old.lattice new.lattice → new.catalog.objects ≡ old.catalog.objects → new.raised ≡ old.raised → new.digests.items ≡ old.digests.items → IsReading tells file new × (old.input.cursor.place < new.input.cursor.place)
 fence_read tells file old new bytes node law at passed four shape lattice objects raised items =
@@ -494,7 +495,7 @@ fence_read tells file old new bytes node law at passed four shape lattice object
     )
 
 -- a reader that went on over a raise with 4 as its number of bytes, and took it, has read records, those of the
--- file where it is told, and is further on
+-- file where its contents are known, and is further on
 pub raise_read : (tells : Type 0) (file : List ℕ) (old new : Reader) (bytes : ℕ) → TailsAreSpelled → (at : IsAtHead tells file old (raise_found bytes)) → HasPassed tells file old.input new.input (take 10 old.input.cursor.bytes)
     → bytes ≡ 4 → new.shape ≡ old.shape → new.lattice ≡ old.lattice → new.catalog.objects ≡ old.catalog.objects → new.raised ≡ true → new.digests.items ≡ old.digests.items → IsReading tells file new × (old.input.cursor.place < new.input.cursor.place)
 raise_read tells file old new bytes law at passed four shape lattice objects raised items =
@@ -534,7 +535,7 @@ pub fence_wrong : (tells : Type 0) (file : List ℕ) (old : Reader) (bytes node 
 fence_wrong tells file old bytes node place law at tell wrong is =
     bad_tail tells file old (fence_found bytes node) 2 place law at tell (ap (λ (x : Result (Record × ℕ) ℕ). bad_of x) (unless (bytes == 4) _ (Err 2) (ne_eqb bytes 4 wrong))) is
 
--- where the file is told, and the number of bytes of a raise is not 4, the file is bad at this number
+-- where the file's contents are known, and the number of bytes of a raise is not 4, the file is bad at this number
 pub raise_wrong : (tells : Type 0) (file : List ℕ) (old : Reader) (bytes place : ℕ) → TailsAreJudged → IsAtHead tells file old (raise_found bytes) → tells → bytes ≢ 4 → place ≡ old.input.cursor.place + 2 → IsBadAt file place
 raise_wrong tells file old bytes place law at tell wrong is =
     bad_tail tells file old (raise_found bytes) 2 place law at tell (ap (λ (x : Result (Record × ℕ) ℕ). bad_of x) (unless (bytes == 4) _ (Err 2) (ne_eqb bytes 4 wrong))) is

@@ -15,7 +15,7 @@ bare_written old bytes empty few =
     let none : length old ≡ 0 = ap length empty in
     inl (omega (arith, length-overwritten old 0 bytes, none, few))
 
--- what is written behind a closed gate leaves it closed
+-- what is written past a closed gate leaves it closed
 pub bare_behind : (old bytes : List ℕ) → old ≡ 0 ∷ [] → IsBare (overwritten old 1 bytes)
 bare_behind old bytes begun =
     let size : length old ≡ 1 = ap length begun in
@@ -50,7 +50,7 @@ torn_bare old new empty torn =
     let most = torn.no_longer in
     inl (omega (arith, size, most))
 
--- what is taken behind a place is taken from there on, whatever was written behind it
+-- what is taken past a place is taken from there on, whatever was written past it
 pub behind_torn : (old mid : State) (at place n : ℕ) → (b : TakesBehind old at) → at ≤ place → Torn place n (old.files 0) (mid.files 0) → KeepsTaking old mid → TakesBehind mid at
 behind_torn old mid at place n b later torn goes =
     let same : take b.from (mid.files 0) ≡ take b.from (old.files 0) = torn_front place n (old.files 0) (mid.files 0) b.from (let k = b.before in omega (arith, k, later)) b.there torn in

@@ -1,4 +1,4 @@
--- A call and a sync behind it, taken as one call; and what a write at a gate, or behind it, does to the bytes.
+-- A call and a sync after it, taken as one call; and what a write at a gate, or past it, does to the bytes.
 use Rattle.std.proofs.Common.{◌≡◌, ⊎_elim, inl, inr, refl, ℕ, ◌+◌, ◌-◌, ◌<◌, ◌≤◌, List, [], ◌∷◌, ◌++◌, length, take, drop, get_or, sym, ◌∙◌, ap, arith, add-one, add-zero, length-append, drop-cons, append_assoc}
 use Rattle.std.proofs.lemmas.Bool.{cases_lt}
 use Rattle.std.specs.Prelude.{replicate}
@@ -52,7 +52,7 @@ holds_gate front gate rest new holds =
     let is : get_or new n 0 ≡ 1 = ap (λ (l : List ℕ). get_or l n 0) holds ∙ ap (λ (k : ℕ). get_or (overwritten old n (1 ∷ [])) k 0) (sym (add-zero n)) ∙ get_or-overwritten_at old n (1 ∷ []) 0 (omega arith) in
     torn_gate front gate rest new (holds_torn n (1 ∷ []) old new holds) ∙ ap (λ (g : ℕ). front ++ g ∷ rest) is
 
--- a write behind a gate
+-- a write past a gate
 pub torn_behind : (front : List ℕ) (gate : ℕ) (rest : List ℕ) (n : ℕ) (new : List ℕ) → Torn (length front + 1) n (front ++ gate ∷ rest) new → new ≡ front ++ gate ∷ drop (length front + 1) new
 torn_behind front gate rest n new torn =
     let k = length front in
@@ -87,7 +87,7 @@ length-before old at = omega (arith, length-append (take at old) (replicate (at 
 four : (a b c d : List ℕ) → a ++ b ++ c ++ d ≡ (a ++ b) ++ (c ++ d)
 four a b c d = simp append_assoc refl
 
--- a write is those bytes, what is written, and what stands behind
+-- a write is those bytes, what is written, and what follows
 pub overwritten_is : (old : List ℕ) (at : ℕ) (bytes : List ℕ) → overwritten old at bytes ≡ before old at ++ (bytes ++ drop (at + length bytes) old)
 overwritten_is old at bytes = four (take at old) (replicate (at - length old) 0) bytes (drop (at + length bytes) old)
 
@@ -113,7 +113,7 @@ front-before old rest at n =
     ∙ take-take at (at + n) old (omega arith) ∙ sym plain)
     (cases_lt (length old) at)
 
--- bytes that were written behind a place, and then others at it
+-- bytes that were written past a place, and then others at it
 pub overwritten_both : (old : List ℕ) (at : ℕ) (front back : List ℕ) → overwritten (overwritten old (at + length front) back) at front ≡ overwritten old at (front ++ back)
 overwritten_both old at front back =
     let n = length front in
@@ -134,7 +134,7 @@ overwritten_both old at front back =
     ∙ ap (λ (k : ℕ). before old at ++ ((front ++ back) ++ drop k old)) end
     ∙ sym (overwritten_is old at (front ++ back))
 
--- a write right behind the place of some bytes, and then one of these there, leave what one write of both leaves
+-- a write right after the place of some bytes, and then one of these there, leave what one write of both leaves
 pub holds_both : (at : ℕ) (front back old mid new : List ℕ) → Holds (at + length front) back old mid → Holds at front mid new → Holds at (front ++ back) old new
 holds_both at front back old mid new early late = late ∙ ap (λ (l : List ℕ). overwritten l at front) early ∙ overwritten_both old at front back
 

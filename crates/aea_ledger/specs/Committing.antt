@@ -31,7 +31,7 @@ pub record HasTaken (v : Opened) (r : Record) (w : Opened) : Type 0 where
   pub end : w.end ≡ v.end + length (entry r)
   pub live : w.live ≡ true
 
--- What a call leaves that commits a record, whatever it answers: the old ledger or the new one at each moment; a new one
+-- What a call leaves that commits a record, whatever it returns: the old ledger or the new one at each moment; a new one
 -- stays; and no write ends past the gate that ends the new ledger.
 pub record LeavesOldOrNew (tells : Type 0) (v : Opened) (r : Record) (old new : State) : Type 0 where
   pub any_moment : tells → (records : List Record) → AreItsRecords v records (old.files 0) → During old new (λ c. HasOldOrNew v.shape records r (c 0))
@@ -39,7 +39,7 @@ pub record LeavesOldOrNew (tells : Type 0) (v : Opened) (r : Record) (old new : 
   pub reads : tells → (records : List Record) → AreItsRecords v records (old.files 0) → HasOldOrNew v.shape records r (new.files 0)
   pub long : tells → length (new.files 0) ≤ max (length (old.files 0)) (v.end + length (entry r) + 1)
 
--- What stands at Ok: the new ledger, in the value and on the disk, byte for byte, and all of it sure.
+-- What holds at Ok: the new ledger, in the value and on the disk, byte for byte, and all of it durable.
 pub record HasCommitted (tells : Type 0) (v w : Opened) (r : Record) (old new : State) : Type 0 where
   pub value : (records : List Record) → HasRecords v records → HasRecords w (records ++ r ∷ [])
   pub same_shape : w.shape ≡ v.shape

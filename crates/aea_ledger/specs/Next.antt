@@ -1,28 +1,17 @@
 -- “Next record” of an append call, and what the call leaves.
 use Rattle.std.specs.Prelude.{◌≡◌, ℕ, ◌+◌, List, Option, None, Some, true, IsTrue}
 use Rattle.aea_catalog.specs.declared.objects.Extent.{Extent}
-use Rattle.aea_records.specs.Format.{Stored, Record, Object, Joined, nodes_for}
+use Rattle.aea_records.specs.Format.{Stored, Record, nodes_for}
 use Rattle.aea_records.specs.Fields.{are_parts}
 use Rattle.aea_records.specs.Grammar.{IsLedger}
-use Rattle.aea_records.specs.declared.heads.ObjectFields.{ObjectFields}
 use Rattle.aea_ledger.specs.Values.{Opened, HasRecords}
 
--- the object of these arguments, behind the nodes that the ledger has
+-- the object of these arguments, after the nodes that the ledger has
 abbrev pub next_stored : Opened → List ℕ → ℕ → List ℕ → ℕ → List (List ℕ) → Stored
 next_stored v name size digest count digests =
     record { name = name; size = size; digest = digest; first = v.lattice.n + 1; count = count; digests = digests }
 
--- the object of these fields, under the name and with the digests
-abbrev pub stored_as : List ℕ → ObjectFields → List (List ℕ) → Stored
-stored_as name o digests =
-    record { name = name; size = o.size; digest = o.digest; first = o.first; count = o.count; digests = digests }
-
--- the record of an object, which is in parts where there are some
-abbrev pub made : Stored → Option (List Extent) → Record
-made o None = Object o
-made o (Some parts) = Joined o parts
-
--- So many new nodes, with the parts where there are some, are what an object of this size takes behind the opened ledger.
+-- So many new nodes, with the parts where there are some, are what an object of this size takes after the opened ledger.
 abbrev pub HasNodes : Opened → ℕ → ℕ → Option (List Extent) → Type 0
 HasNodes v size count None = count ≡ nodes_for v.shape size
 HasNodes v size count (Some parts) = (v.raised ≡ true) × IsTrue (are_parts v.shape size (v.lattice.n + count) parts)

@@ -33,7 +33,7 @@ IsBadAsSaid file (LedgerBad at) = IsBadAt file at
 IsBadAsSaid file DiskFault = Unit {0}
 IsBadAsSaid file NoMemory = Unit {0}
 
--- The input went on over these bytes, which are those of the file at its place, where it is told.
+-- The input went on over these bytes, which are those of the file at its place, where its contents are known.
 pub record HasPassed (tells : Type 0) (file : List ℕ) (old new : Input) (text : List ℕ) : Type 0 where
   pub are : AreBytes text
   pub holds : (message : List ℕ) → Holds256 old.hasher message → Holds256 new.hasher (message ++ text)
@@ -41,21 +41,21 @@ pub record HasPassed (tells : Type 0) (file : List ℕ) (old new : Input) (text 
   pub ahead : tells → IsAhead new.cursor file
   pub bytes : tells → drop old.cursor.place file ≡ text ++ drop new.cursor.place file
 
--- The input went on over so many digests, which were put behind others.
+-- The input went on over so many digests, which were put after others.
 pub record HasDigests (tells : Type 0) (file : List ℕ) (old new : Input) (count : ℕ) (before after : List (List ℕ)) : Type 0 where
   pub text : List ℕ
   pub long : length text ≡ 32 * count
   pub passed : HasPassed tells file old new text
   pub digests : after ≡ before ++ pieces 32 count text
 
--- The input went on over so many parts, which were put behind others.
+-- The input went on over so many parts, which were put after others.
 pub record HasParts (tells : Type 0) (file : List ℕ) (old new : Input) (count : ℕ) (before after : List Extent) : Type 0 where
   pub text : List ℕ
   pub long : length text ≡ 8 * count
   pub passed : HasPassed tells file old new text
   pub parts : after ≡ before ++ extents count text
 
--- The reader has read these records, and stands at the gate behind them.
+-- The reader has read these records, and is at the gate after them.
 pub record HasRead (r : Reader) (records : List Record) : Type 0 where
   pub valid : AreRecords r.shape records
   pub lattice : IsLatticeOf r.shape (nodes_of records) (fences_of records) r.lattice
@@ -71,19 +71,19 @@ pub record AreIn (r : Reader) (records : List Record) (file : List ℕ) : Type 0
   pub spelling : file ≡ spelled r.shape records ++ drop r.input.cursor.place file
   pub ahead : IsAhead r.input.cursor file
 
--- The reader has read some records; they are those of the file, where it is told.
+-- The reader has read some records; they are those of the file, where its contents are known.
 pub record IsReading (tells : Type 0) (file : List ℕ) (r : Reader) : Type 0 where
   pub records : List Record
   pub read : HasRead r records
   pub told : tells → AreIn r records file
 
--- The reader has read all records; they are those of the file, where it is told.
+-- The reader has read all records; they are those of the file, where its contents are known.
 pub record IsWhole (tells : Type 0) (file : List ℕ) (r : Reader) : Type 0 where
   pub records : List Record
   pub read : HasRead r records
   pub told : tells → IsLedger file r.shape records r.input.cursor.place
 
--- The reader has read some records, and at its place stands an open gate and a head, which its window has whole.
+-- The reader has read some records, and at its place are an open gate and a head, which its window has whole.
 pub record IsAtHead (tells : Type 0) (file : List ℕ) (r : Reader) (found : Found) : Type 0 where
   pub records : List Record
   pub read : HasRead r records

@@ -26,15 +26,15 @@ pub record MakesArchive (shape : Shape) (old new : Files) : Type 0 where
   pub ledger : IsBeingMade shape (old 0) (new 0)
   pub others : ChangesOnly 0 old new
 
--- The file with bytes written behind the gate at this place, and then the gate opened. Everything else stays.
+-- The file with bytes written past the gate at this place, and then the gate opened. Everything else stays.
 abbrev pub committed : List ℕ → ℕ → List ℕ → List ℕ
 committed file end behind = overwritten (overwritten file (end + 1) behind) end (open_gate ∷ [])
 
--- what stands behind the gate of the last record, whose body is in two pieces: the body, and a gate that is not open
+-- what follows the gate of the last record, whose body is in two pieces: the body, and a gate that is not open
 abbrev pub closed : List ℕ → List ℕ → List ℕ
 closed front rest = front ++ (rest ++ 0 ∷ [])
 
--- The file has these records, whatever stands behind its ending gate.
+-- The file has these records, whatever follows its ending gate.
 abbrev pub HasLedger : Shape → List Record → List ℕ → Type 0
 HasLedger shape records bytes = IsLedger bytes shape records (length (spelled shape records))
 
@@ -42,14 +42,14 @@ HasLedger shape records bytes = IsLedger bytes shape records (length (spelled sh
 abbrev pub HasOldOrNew : Shape → List Record → Record → List ℕ → Type 0
 HasOldOrNew shape records r bytes = HasLedger shape records bytes ⊎ HasLedger shape (records ++ r ∷ []) bytes
 
--- To the ledger with these records, which ends at this place, the record is added by these bytes behind its ending gate:
+-- To the ledger with these records, which ends at this place, the record is added by these bytes after its ending gate:
 -- it may follow, and the bytes are its body and a gate that is not open.
 pub record IsAdded (shape : Shape) (records : List Record) (r : Record) (old : List ℕ) (end : ℕ) (behind : List ℕ) : Type 0 where
   pub ledger : IsLedger old shape records end
   pub next : IsNext shape records r
   pub bytes : behind ≡ body r ++ 0 ∷ []
 
--- The body is staged: it stands behind the closed gate that ends the ledger, and a closed gate behind it.
+-- The body is staged: it follows the closed gate that ends the ledger, and a closed gate follows it.
 pub record IsStaged (shape : Shape) (records : List Record) (r : Record) (bytes : List ℕ) (end : ℕ) : Type 0 where
   pub valid : AreRecords shape records
   pub next : IsNext shape records r

@@ -18,7 +18,7 @@ use Rattle.aea_records.specs.Catalogued.{objects_of}
 use Rattle.aea_ledger.specs.Recorded.{IsLatticeOf}
 
 -- An opened ledger: its shape; its lattice, with its fences; its objects by their names; whether the limit was raised; the
--- digests of all blocks in number order; the running hash of what stands before its ending gate, the seal, the place of
+-- digests of all blocks in number order; the running hash of what comes before its ending gate, the seal, the place of
 -- that gate, and whether it may be appended to.
 pub record Opened : Type 0 where
   pub shape : Shape

@@ -12,20 +12,22 @@ ghost use Rattle.aea_lattice.specs.Data.{IsBytes};
 ghost use Rattle.aea_catalog.specs.Names.{IsName};
 ghost use Rattle.aea_records.specs.TableLaws.{AreBytes};
 ghost use Rattle.aea_records.specs.Format.{Object, Joined, greatest_objects, raised_limit, nodes_for, limit_when, entry};
+ghost use Rattle.aea_records.specs.Objects.{stored_as, made};
 ghost use Rattle.aea_records.specs.Fields.{are_parts};
 ghost use Rattle.aea_records.specs.Catalogued.{with_record};
 ghost use Rattle.aea_ledger.specs.Values.{IsThisOne};
 ghost use Rattle.aea_ledger.specs.Taking.{FitsAdding};
-ghost use Rattle.aea_ledger.specs.Next.{next_stored, stored_as, made, HasNodes};
+ghost use Rattle.aea_ledger.specs.Next.{next_stored, HasNodes};
 ghost use Rattle.aea_ledger.specs.Committing.{IsNextOf, LeavesOldOrNew, HasCommitted};
 
-use crate::body::body_front;
-use crate::commit::commit_next;
+use crate::entry::write_next_entry;
 use crate::ledger::Ledger;
 use crate::reader::{joined_ref, more_nodes, object_ref};
 use aea_catalog::{Catalog, Extent};
 use aea_disk::Disk;
-use aea_records::{ObjectFields, new_names_are_free, objects_are_counted, records_are_few};
+use aea_records::{
+    ObjectFields, body_front, new_names_are_free, objects_are_counted, records_are_few,
+};
 use sha2::{Digest, Sha256};
 use std::alloc::{AllocError, Global};
 
@@ -126,7 +128,7 @@ fn reserve(
     digests.reserve(more)
 }
 
-// Puts an object, in parts where there are some, where there is room for it.
+// Puts an object, in parts where there are some, where there is space for it.
 fn put_object(
     catalog: &mut Catalog,
     name: Vec<u8>,
@@ -148,7 +150,7 @@ fn put_object(
     }
 }
 
-// Puts digests where there is room for them.
+// Puts digests where there is space for them.
 fn put_digests(digests: &mut Vec<[u8; 32]>, more: &[[u8; 32]])
     requires capacity { vec_len digests.old + length more.now ≤ vec_capacity digests.old }
     ensures { digests.new.items ≡ digests.old.items ++ more.now }
@@ -169,7 +171,7 @@ pub(crate) fn take_entry(hasher: &mut Sha256, front: &[u8], rest: &[u8]) -> [u8;
 }
 
 impl Ledger {
-    // The fields of an object behind the nodes that there are.
+    // The fields of an object after the nodes that there are.
     fn next_fields(&self, name: &[u8], size: u64, digest: [u8; 32], count: u32) -> ObjectFields
         ensures { result ≡ record { long = length name.now; size = size; digest = digest; first = self.now.lattice.n + 1; count = count } }
     {
@@ -220,7 +222,7 @@ impl Ledger {
         let front = body_front(alloc, name, object, parts, digests)?;
         let rest = digests.as_flattened();
         reserve(&mut self.catalog, &mut self.digests, digests.len())?;
-        if commit_next(disk, self.end, &front, rest).is_err() {
+        if write_next_entry(disk, self.end, &front, rest).is_err() {
             self.live = false;
             return Err(AppendFault::DiskFault);
         }
@@ -234,7 +236,7 @@ impl Ledger {
 
     /// Adds a record of an object whose nodes are all new: its name; its length in bytes, its SHA-256 (FIPS 180-4) and its
     /// number of nodes; and the digests of its blocks in number order, which are written as they are lent. All memory is
-    /// taken before the first write. At `Ok` every file is sure. After a fault of the disk, which may have left the record
+    /// taken before the first write. At `Ok` every file is synced. After a fault of the disk, which may have left the record
     /// or not, the ledger has to be opened anew.
     pub fn append<D: Disk>(
         &mut self,
@@ -272,7 +274,7 @@ impl Ledger {
 
     /// Adds a record of an object in parts, which may be of earlier nodes too: its name; its length in bytes, its SHA-256
     /// (FIPS 180-4) and its number of new nodes; the digests of their blocks in number order, which are written as they are
-    /// lent; and its parts. All memory is taken before the first write. At `Ok` every file is sure. After a fault of the
+    /// lent; and its parts. All memory is taken before the first write. At `Ok` every file is synced. After a fault of the
     /// disk, which may have left the record or not, the ledger has to be opened anew.
     pub fn append_parts<D: Disk>(
         &mut self,

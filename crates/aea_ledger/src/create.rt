@@ -8,7 +8,7 @@ ghost use Rattle.aea_records.specs.Faults.{HasOpenHeader, IsNoArchive};
 ghost use Rattle.aea_ledger.specs.Taking.{FitsTo, FitsMaking};
 ghost use Rattle.aea_ledger.specs.Stops.{empty_ledger, IsNoneOrEmpty, IsBeingMade, MakesArchive, IsOpened, HasOpening};
 
-use crate::commit::write_through;
+use crate::entry::write_through;
 use aea_disk::{Disk, DiskFault};
 use aea_lattice::Shape;
 
@@ -31,7 +31,7 @@ impl From<DiskFault> for CreateFault {
     }
 }
 
-// Makes all files sure, and looks whether the ledger's file has an open header.
+// Syncs all files, and looks whether the ledger's file has an open header.
 fn is_occupied<D: Disk>(disk: &mut D) -> Result<bool, DiskFault>
     ensures occupied { IfOk result (λ found. D.tells → IsTrue found ↔ HasOpenHeader ((D.state disk.old).files 0)) }
     ensures durable { OnOk result (D.tells → IsSynced (D.state disk.new)) }
@@ -43,7 +43,7 @@ fn is_occupied<D: Disk>(disk: &mut D) -> Result<bool, DiskFault>
     Ok(count == 18 && front[0] == 1)
 }
 
-// Empties the ledger's file, and makes that sure.
+// Empties the ledger's file, and syncs that.
 fn empty<D: Disk>(disk: &mut D) -> Result<(), DiskFault>
     ensures emptied { OnOk result (D.tells → (D.state disk.new).files 0 ≡ []) }
     ensures durable { OnOk result (D.tells → IsSynced (D.state disk.new)) }
@@ -68,7 +68,7 @@ fn begin<D: Disk>(disk: &mut D) -> Result<(), DiskFault>
     write_through(disk, 0, &[0])
 }
 
-// What stands in an empty ledger behind the gate of its header.
+// What follows the gate of the header in an empty ledger.
 pub(crate) fn behind_gate(shape: &Shape) -> [u8; 17]
     ensures { result ≡ drop 1 (empty_ledger shape.now) }
 {
@@ -94,7 +94,7 @@ pub(crate) fn behind_gate(shape: &Shape) -> [u8; 17]
     ]
 }
 
-// Writes what stands behind a closed gate at the start of the ledger's file, and then opens the gate.
+// Writes what follows a closed gate at the start of the ledger's file, and then opens the gate.
 fn finish<D: Disk>(disk: &mut D, shape: &Shape) -> Result<(), DiskFault>
     requires begun { D.tells → (D.state disk.old).files 0 ≡ 0 ∷ [] }
     requires fixed { D.tells → IsFixed (D.state disk.old) 0 }
@@ -127,7 +127,7 @@ fn make<D: Disk>(disk: &mut D, shape: &Shape) -> Result<(), DiskFault>
 }
 
 /// Makes an archive of this shape in file 0, the ledger, of a folder that has none. At `Ok` the file has exactly the
-/// 18 bytes of a ledger without records, and every file is sure. The folder is occupied where the file has at least 18
+/// 18 bytes of a ledger without records, and every file is synced. The folder is occupied where the file has at least 18
 /// bytes and the first of them is 1, and is then left as it is. It takes no memory.
 pub fn create_ledger<D: Disk>(disk: &mut D, shape: &Shape) -> Result<(), CreateFault>
     // When the folder is occupied, and that it is left as it is.
@@ -135,11 +135,11 @@ pub fn create_ledger<D: Disk>(disk: &mut D, shape: &Shape) -> Result<(), CreateF
     ensures free { OnOk result (D.tells → IsNoArchive ((D.state disk.old).files 0)) }
     ensures untouched { result ≡ Err CreateFault.Occupied → KeepsImages (D.state disk.old) (D.state disk.new) × (D.tells → (D.state disk.new).files ≡ (D.state disk.old).files) }
 
-    // What stands at Ok. Nothing is pending on any file after any answer but a fault.
+    // What holds at Ok. Nothing is pending on any file after any result but a fault.
     ensures created { OnOk result (D.tells → (D.state disk.new).files 0 ≡ empty_ledger shape.now) }
     ensures durable { result ≢ Err CreateFault.DiskFault → D.tells → IsSynced (D.state disk.new) }
 
-    // What a stop at any moment leaves, and what stands after a fault. Any other answer comes after the first sync.
+    // What a stop at any moment leaves, and what is there after a fault. Any other result comes after the first sync.
     ensures stops { D.tells → HasOpening (D.state disk.old) (D.state disk.new) (MakesArchive shape.now (D.state disk.old).files) }
     ensures opened { result ≢ Err CreateFault.DiskFault → D.tells → IsOpened (D.state disk.old) (D.state disk.new) (MakesArchive shape.now (D.state disk.old).files) }
     ensures reads { D.tells → IsBeingMade shape.now ((D.state disk.old).files 0) ((D.state disk.new).files 0) }

@@ -33,7 +33,7 @@ impl Model for Cursor {
     ghost invariant = { λ a. (a.start ≤ a.end) × (a.end ≤ 65536) × (length a.buffer.items ≡ 65536) × (a.end - a.start ≤ a.next) };
 }
 
-// Reads bytes of the file behind the first ones of the buffer.
+// Reads bytes of the file after the first ones of the buffer.
 fn read_behind<D: Disk>(
     disk: &mut D,
     at: u64,
@@ -66,7 +66,7 @@ impl Cursor {
         })
     }
 
-    // Reads on, as far as the buffer has room.
+    // Reads on, as far as the buffer has space.
     fn refill<D: Disk>(&mut self, disk: &mut D) -> Result<(), DiskFault>
         requires range { self.old.place ≤ 2 ^ 61 }
         requires told { D.tells → IsAhead self.old ((D.state disk.old).files 0) }
@@ -111,7 +111,7 @@ impl Cursor {
         &self.buffer[self.start..self.start + count]
     }
 
-    // Goes on behind the first bytes of those that were read.
+    // Goes on after the first bytes of those that were read.
     pub(crate) fn skip(&mut self, count: usize)
         requires { count ≤ length self.old.bytes }
         ensures place { self.new.place ≡ self.old.place + count }

@@ -11,7 +11,7 @@ ghost use Rattle.aea_ledger.specs.Taking.{FitsAdding};
 ghost use Rattle.aea_ledger.specs.Committing.{LeavesOldOrNew, HasCommitted};
 
 use crate::append::take_entry;
-use crate::commit::commit_next;
+use crate::entry::write_next_entry;
 use crate::ledger::Ledger;
 use aea_disk::Disk;
 use aea_lattice::Lattice;
@@ -20,7 +20,7 @@ use aea_records::{fence_body, fences_may_follow, records_are_few};
 /// Why a fence was not added.
 #[derive(Clone, Copy, Debug, PartialEq, Eq)]
 pub enum FenceFault {
-    /// There is no node, or a fence stands behind the last one. The number of nodes.
+    /// There is no node, or a fence lies after the last one. The number of nodes.
     AlreadyFenced { nodes: u32 },
     /// The archive has the most fences that there may be.
     TooManyFences,
@@ -40,7 +40,7 @@ fn last_fence(lattice: &Lattice) -> u32
 }
 
 impl Ledger {
-    /// Adds a fence behind the last node, and gives that node. It takes no memory. At `Ok` every file is sure. After a
+    /// Adds a fence after the last node, and gives that node. It takes no memory. At `Ok` every file is synced. After a
     /// fault of the disk, which may have left the record or not, the ledger has to be opened anew.
     pub fn append_fence<D: Disk>(&mut self, disk: &mut D) -> Result<u32, FenceFault>
         requires live { self.old.live ≡ true }
@@ -72,7 +72,7 @@ impl Ledger {
         };
         let behind = fence_body(nodes);
         let (front, rest) = behind[..9].split_at(5);
-        if commit_next(disk, self.end, front, rest).is_err() {
+        if write_next_entry(disk, self.end, front, rest).is_err() {
             self.live = false;
             return Err(FenceFault::DiskFault);
         }

@@ -76,7 +76,7 @@ fn header_in(window: &[u8]) -> Result<Shape, OpenFault>
     }
 }
 
-// Room for the digests of a file of so many bytes: for as many as it can have.
+// Space for the digests of a file of so many bytes: for as many as it can have.
 fn digests_room(shape: &Shape, bytes: u64) -> usize
     ensures { result ≡ min (bytes / 32) (1048576 * (1 + shape.now.alpha)) }
 {
@@ -163,7 +163,7 @@ fn read_ledger<D: Disk>(alloc: Global, disk: &mut D) -> Result<Ledger, OpenFault
     finish(reader)
 }
 
-// Makes all files sure, and reads the ledger.
+// Syncs all files, and reads the ledger.
 fn read_surely<D: Disk>(alloc: Global, disk: &mut D) -> Result<Ledger, OpenFault>
     ensures answers { D.tells → Answers ((D.state disk.old).files 0) result }
     ensures records { IfOk result HasSomeRecords }
@@ -181,18 +181,18 @@ fn read_surely<D: Disk>(alloc: Global, disk: &mut D) -> Result<Ledger, OpenFault
 ///
 /// It takes a piece of 65,536 bytes beside the ledger.
 pub fn open_ledger<D: Disk>(alloc: Global, disk: &mut D) -> Result<Ledger, OpenFault>
-    // Each answer has its cause in the bytes, and the bytes have that answer alone.
+    // Each result has its cause in the bytes, and the bytes have that result alone.
     ensures answers { D.tells → Answers ((D.state disk.old).files 0) result }
     ensures exactly { D.tells → IsAnswered ((D.state disk.old).files 0) result }
 
-    // Over any disk, also one that tells nothing, it is the ledger of some records.
+    // Over any disk, also one whose contents are not known, it is the ledger of some records.
     ensures records { IfOk result HasSomeRecords }
     ensures live { IfOk result (λ v. v.live ≡ true) }
 
     // Nothing is pending then, but after a fault of the disk.
     ensures synced { result ≢ Err OpenFault.DiskFault → D.tells → IsSynced (D.state disk.new) }
 
-    // Once the first sync has succeeded every image has every file as it reads. Any answer but a fault comes after it.
+    // Once the first sync has succeeded every image has every file as it reads. Any result but a fault comes after it.
     ensures stops { D.tells → HasOpening (D.state disk.old) (D.state disk.new) (StaysAll (D.state disk.old).files) }
     ensures opened { result ≢ Err OpenFault.DiskFault → D.tells → IsOpened (D.state disk.old) (D.state disk.new) (StaysAll (D.state disk.old).files) }
 

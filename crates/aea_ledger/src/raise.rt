@@ -10,7 +10,7 @@ ghost use Rattle.aea_ledger.specs.Taking.{FitsAdding};
 ghost use Rattle.aea_ledger.specs.Committing.{LeavesOldOrNew, HasCommitted};
 
 use crate::append::take_entry;
-use crate::commit::commit_next;
+use crate::entry::write_next_entry;
 use crate::ledger::Ledger;
 use aea_disk::Disk;
 use aea_records::{raise_body, records_are_few};
@@ -25,7 +25,7 @@ pub enum UpgradeFault {
 }
 
 impl Ledger {
-    /// Raises the limit on nodes. It takes no memory. At `Ok` every file is sure. After a fault of the disk, which may
+    /// Raises the limit on nodes. It takes no memory. At `Ok` every file is synced. After a fault of the disk, which may
     /// have left the record or not, the ledger has to be opened anew.
     pub fn append_upgrade<D: Disk>(&mut self, disk: &mut D) -> Result<(), UpgradeFault>
         requires live { self.old.live ≡ true }
@@ -50,7 +50,7 @@ impl Ledger {
         }
         let behind = raise_body();
         let (front, rest) = behind[..9].split_at(5);
-        if commit_next(disk, self.end, front, rest).is_err() {
+        if write_next_entry(disk, self.end, front, rest).is_err() {
             self.live = false;
             return Err(UpgradeFault::DiskFault);
         }

@@ -21,7 +21,7 @@ use aea_records::{
 };
 use std::alloc::{AllocError, Global};
 
-// The most bytes of a gate and the head behind it.
+// The most bytes of a gate and the head after it.
 const HEAD: usize = 315;
 
 // What was read up to a gate: the nodes and fences of the lattice, the objects, whether the limit was raised, and the
@@ -47,7 +47,7 @@ pub(crate) fn more_nodes(lattice: &Lattice, count: u32) -> Lattice
     lattice
 }
 
-// The lattice with a fence behind its last node.
+// The lattice with a fence after its last node.
 fn with_fence(lattice: &Lattice) -> Lattice
     requires before { last_fence lattice.now.fences < lattice.now.n }
     requires few { length lattice.now.fences < greatest_fences }
@@ -59,7 +59,7 @@ fn with_fence(lattice: &Lattice) -> Lattice
     lattice
 }
 
-// The name of this length behind a head's first fields.
+// The name of this length after a head's first fields.
 fn name_in(alloc: Global, input: &Input, long: usize) -> Result<Vec<u8>, AllocError>
     requires long { long ≤ 255 }
     requires there { 8 + long ≤ length input.now.cursor.bytes }
@@ -122,7 +122,7 @@ pub(crate) fn joined_ref(object: &ObjectFields, parts: &[Extent]) -> ObjectRef
 }
 
 impl Reader {
-    // Reads the record of an object whose nodes are all new, at whose head the reader stands.
+    // Reads the record of an object whose nodes are all new, at whose head the reader is.
     fn read_alone<D: Disk>(
         &mut self,
         disk: &mut D,
@@ -158,7 +158,7 @@ impl Reader {
         Ok(())
     }
 
-    // Reads the record of an object in so many parts, at whose head the reader stands.
+    // Reads the record of an object in so many parts, at whose head the reader is.
     fn read_joined<D: Disk>(
         &mut self,
         disk: &mut D,
@@ -213,7 +213,7 @@ impl Reader {
         Ok(())
     }
 
-    // Reads the record at whose head the reader stands.
+    // Reads the record at whose head the reader is.
     fn read_record<D: Disk>(&mut self, disk: &mut D, found: &Found) -> Result<(), OpenFault>
         requires range { self.old.input.cursor.place ≤ 2 ^ 45 }
         requires stands { IsAtHead D.tells ((D.state disk.old).files 0) self.old found.now }
@@ -249,7 +249,7 @@ impl Reader {
         }
     }
 
-    // Reads a gate and the record behind it, if it is open: it says whether it was.
+    // Reads a gate and the record after it, if it is open: it says whether it was.
     fn read_gate<D: Disk>(&mut self, disk: &mut D) -> Result<bool, OpenFault>
         requires reading { IsReading D.tells ((D.state disk.old).files 0) self.old }
         ensures more { IfOk result (λ more. IsTrue more → IsReading D.tells ((D.state disk.old).files 0) self.new) }

@@ -1,4 +1,4 @@
--- One reading, and one outcome, of what stands behind the header.
+-- One reading, and one outcome, of what follows the header.
 use Rattle.std.proofs.Common.{◌≡◌, ◌≢◌, ◌⊎◌, ℕ, zero, suc, ◌+◌, ◌^◌, ◌<◌, ◌≤◌, Bool, true, false, ◌&&◌, ◌||◌, ◌==◌, List, [], ◌∷◌, ◌++◌, length, drop, Result, Ok, Err, None, Some, refl, sym, ap, subst, ◌∙◌, append_assoc, arith, inl, inr}
 use Rattle.std.specs.Prelude.{slice_index, if◌then◌else◌}
 use Rattle.std.specs.List.{flat_map}
@@ -19,19 +19,10 @@ use Rattle.aea_records.specs.Faults.{bad_of, is_full, gate_fault}
 use Rattle.aea_records.proofs.Rests.{AreBehind, IsBadBehind, HaveOneReading, RecordsAreNotBad, AreBadAtOnePlace, EachAreOneOrBad}
 use Rattle.aea_records.proofs.Objects.{next_is_spelled}
 use Rattle.aea_records.proofs.Read.{spelled_is_next}
+use Rattle.aea_records.proofs.OneMore.{MayFollow-push, stored_of-push}
 use Rattle.aea_records.proofs.Gates.{closed_gate, opened_gate, next_gate}
 
--- records that may follow, and then one more
-pub MayFollow-push : (shape : Shape) (earlier records : List Record) (r : Record) → MayFollow shape earlier records
-    → IsNext shape (earlier ++ records) r → MayFollow shape earlier (records ++ r ∷ [])
-MayFollow-push shape earlier [] r follow next = (subst (λ (e : List Record). IsNext shape e r) (append-nil earlier) next, tt)
-MayFollow-push shape earlier (q ∷ records) r follow next = (
-  follow.0,
-  MayFollow-push shape (earlier ++ q ∷ []) records r follow.1
-      (subst (λ (e : List Record). IsNext shape e r) (sym (append_assoc earlier (q ∷ []) records)) next),
-)
-
--- behind these records, and what stands there, one more is next
+-- after these records, and by what is there, one more is next
 record GoesOn (shape : Shape) (earlier : List Record) (rest : List ℕ) : Type 0 where
   r : Record
   next : IsNext shape earlier r
@@ -83,7 +74,7 @@ compare shape earlier (r ∷ records) (q ∷ others) x y follow follows same =
     (subst (λ (e : Record). MayFollow shape (earlier ++ e ∷ []) others) one follows.1) rest in
     subst (λ (e : Record). Compared shape earlier (r ∷ records) (e ∷ others) x y) (sym one) (one_more shape earlier r records others x y more)
 
--- no record is next behind a closed gate
+-- no record is next after a closed gate
 closed_ends : (shape : Shape) (earlier : List Record) (gate : ℕ) (after : List ℕ) → gate ≢ open_gate → GoesOn shape earlier (gate ∷ after) → ⊥
 closed_ends shape earlier gate after closed on = closed (ap (λ (l : List ℕ). slice_index l 0) on.spelling)
 
@@ -101,7 +92,7 @@ on_is_good : (shape : Shape) (earlier : List Record) (rest : List ℕ) (fault : 
 on_is_good shape earlier rest fault on bad =
     none_is_not_some fault (sym (ap (gate_fault shape (known_of earlier)) on.spelling ∙ next_gate shape earlier on.r on.after on.next) ∙ bad)
 
--- behind the header, the same bytes are not two lists of records that a closed gate ends
+-- after the header, the same bytes are not two lists of records that a closed gate ends
 pub have_one_reading : HaveOneReading
 have_one_reading shape records others rest mine theirs =
     elim (compare shape [] records others (mine.gate ∷ mine.after) (theirs.gate ∷ theirs.after) mine.valid theirs.valid (sym mine.spelling ∙ theirs.spelling)) [
@@ -110,7 +101,7 @@ have_one_reading shape records others rest mine theirs =
       | inr (inr on) ↦ absurd (closed_ends shape records mine.gate mine.after mine.closed on)
     ]
 
--- behind the header, records that a closed gate ends are bad at no place
+-- after the header, records that a closed gate ends are bad at no place
 pub records_are_not_bad : RecordsAreNotBad
 records_are_not_bad shape records rest at mine bad =
     elim (compare shape [] records bad.records (mine.gate ∷ mine.after) bad.more mine.valid bad.valid (sym mine.spelling ∙ bad.spelling)) [
@@ -120,7 +111,7 @@ records_are_not_bad shape records rest at mine bad =
       | inr (inr on) ↦ closed_ends shape records mine.gate mine.after mine.closed on
     ]
 
--- behind the header, no bytes are bad at two places
+-- after the header, no bytes are bad at two places
 pub are_bad_at_one_place : AreBadAtOnePlace
 are_bad_at_one_place shape rest at other mine theirs =
     elim (compare shape [] mine.records theirs.records mine.more theirs.more mine.valid theirs.valid (sym mine.spelling ∙ theirs.spelling)) [
@@ -136,7 +127,7 @@ are_bad_at_one_place shape rest at other mine theirs =
 -- one more record adds at most one object
 pub stored-push : (records : List Record) (r : Record) → length (stored_of (records ++ r ∷ [])) ≡ length (stored_of records) + length (stored_in r)
 stored-push records r =
-    ap length (flat_map-append stored_in records (r ∷ []) ∙ ap (λ l. stored_of records ++ l) (append-nil (stored_in r))) ∙ length-append (stored_of records) (stored_in r)
+    ap length (stored_of-push records r) ∙ length-append (stored_of records) (stored_in r)
 
 -- there are not too many objects
 pub few-next : (shape : Shape) (earlier : List Record) (r : Record) → IsNext shape earlier r → length (stored_of earlier) ≤ greatest_objects → length (stored_of (earlier ++ r ∷ [])) ≤ greatest_objects
@@ -213,6 +204,6 @@ from_gate (suc bound) shape rest records (gate ∷ after) valid few spelling are
           ]
     ]
 
--- behind the header, any bytes are records that a closed gate ends, or bad at some place
+-- after the header, any bytes are records that a closed gate ends, or bad at some place
 pub each_are_one_or_bad : EachAreOneOrBad
 each_are_one_or_bad shape rest are = from_gate (suc (length rest)) shape rest [] rest tt (omega arith) refl are (omega arith)

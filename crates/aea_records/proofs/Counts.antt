@@ -6,9 +6,7 @@ use Rattle.std.specs.Int.{w32, to_be_bytes}
 use Rattle.std.proofs.lemmas.Bool.{and_parts, and_from, leb-true, le-leb}
 use Rattle.std.proofs.lemmas.List.{append-nil, length-append}
 use Rattle.std.proofs.lemmas.List.Elements.{All-head, All-tail}
-use Rattle.std.proofs.lemmas.List.Concat.{flat_map-append}
-use Rattle.std.proofs.lemmas.List.Folds.{list_any-append}
-use Rattle.std.proofs.lemmas.List.Sums.{sum_by-append, sum_by-cons}
+use Rattle.std.proofs.lemmas.List.Sums.{sum_by-cons}
 use Rattle.std.proofs.Math.Nat.{add-mul}
 use Rattle.aea_lattice.specs.declared.shape.Shape.{Shape}
 use Rattle.aea_lattice.specs.Fences.{greatest_fences, rise_to}
@@ -21,6 +19,7 @@ use Rattle.aea_records.proofs.Sizes.{limit_small, few-digests, length-object, le
 use Rattle.aea_records.proofs.Pieces.{few-parts}
 use Rattle.aea_records.proofs.Names.{name-length, new-fence}
 use Rattle.aea_records.proofs.Fencing.{may_stand}
+use Rattle.aea_records.proofs.OneMore.{fences_of-push, nodes_of-push, digests_of-push, or_false, raised-push, entries-push}
 use Rattle.aea_records.proofs.Behind.{few-next, stored-push}
 
 -- what holds of no record and of one more than it holds of, holds of records
@@ -29,29 +28,6 @@ pub along : (shape : Shape) (P : List Record → Type 0) → ((earlier : List Re
 along shape P step earlier [] holds follow = subst P (sym (append-nil earlier)) holds
 along shape P step earlier (r ∷ records) holds follow =
     subst P (append_assoc earlier (r ∷ []) records) (along shape P step (earlier ++ r ∷ []) records (step earlier r holds follow.0) follow.1)
-
--- one record more
-pub stored_of-push : (records : List Record) (r : Record) → stored_of (records ++ r ∷ []) ≡ stored_of records ++ stored_in r
-stored_of-push records r = flat_map-append stored_in records (r ∷ []) ∙ ap (λ (l : List Stored). stored_of records ++ l) (append-nil (stored_in r))
-
-pub fences_of-push : (records : List Record) (r : Record) → fences_of (records ++ r ∷ []) ≡ fences_of records ++ fence_in r
-fences_of-push records r = flat_map-append fence_in records (r ∷ []) ∙ ap (λ (l : List ℕ). fences_of records ++ l) (append-nil (fence_in r))
-
-pub nodes_of-push : (records : List Record) (r : Record) → nodes_of (records ++ r ∷ []) ≡ nodes_of records + sum_by (λ o. o.count) (stored_in r)
-nodes_of-push records r = ap (sum_by (λ (o : Stored). o.count)) (stored_of-push records r) ∙ sum_by-append (λ (o : Stored). o.count) (stored_of records) (stored_in r)
-
-pub digests_of-push : (records : List Record) (r : Record) → digests_of (records ++ r ∷ []) ≡ digests_of records ++ flat_map (λ o. o.digests) (stored_in r)
-digests_of-push records r = ap (flat_map (λ (o : Stored). o.digests)) (stored_of-push records r) ∙ flat_map-append (λ (o : Stored). o.digests) (stored_of records) (stored_in r)
-
-or_false : (a : Bool) → (a || false) ≡ a
-or_false true = refl
-or_false false = refl
-
-pub raised-push : (records : List Record) (r : Record) → list_any is_raise (records ++ r ∷ []) ≡ (list_any is_raise records || is_raise r)
-raised-push records r = list_any-append is_raise records (r ∷ []) ∙ ap (λ (b : Bool). list_any is_raise records || b) (or_false (is_raise r))
-
-pub entries-push : (records : List Record) (r : Record) → flat_map entry (records ++ r ∷ []) ≡ flat_map entry records ++ entry r
-entries-push records r = flat_map-append entry records (r ∷ []) ∙ ap (λ (l : List ℕ). flat_map entry records ++ l) (append-nil (entry r))
 
 -- ---- fences
 
@@ -203,7 +179,7 @@ few_fences shape records valid = (bounded shape records valid).few_fences
 pub digests_are_counted : DigestsAreCounted
 digests_are_counted shape records valid = (bounded shape records valid).digests
 
--- a fence may follow records of a ledger behind the last node, where the last fence stands before that node and
+-- a fence may follow records of a ledger after the last node, where the last fence is before that node and
 -- there are fewer fences than the most
 pub fences_may_follow : FencesMayFollow
 fences_may_follow shape records valid before few =

@@ -1,4 +1,4 @@
--- A fence may stand behind the last node where the last fence stands before it.
+-- A fence may come after the last node where the last fence is before it.
 use Rattle.std.proofs.Common.{◌≡◌, ◌≢◌, ℕ, suc, ◌<◌, ◌≤◌, Bool, true, false, ◌&&◌, ◌||◌, ◌==◌, not, List, [], ◌∷◌, length, refl, sym, ap, ◌∙◌, arith, inl, inr}
 use Rattle.std.specs.Prelude.{nat_le, nat_lt}
 use Rattle.std.specs.List.{list_any}
@@ -8,11 +8,11 @@ use Rattle.aea_lattice.specs.Fences.{greatest_fences, rise_to, last_fence}
 use Rattle.aea_records.specs.Known.{Known}
 use Rattle.aea_records.specs.Fields.{is_next_fence}
 
--- whether a fence stands at n
+-- whether a fence is at n
 abbrev stands : List ℕ → ℕ → Bool
 stands fences n = list_any (λ f. f == n) fences
 
--- none does where the last one stands before n, and the other way round
+-- none does where the last one is before n, and the other way round
 last_before : (fences : List ℕ) (f low n : ℕ) → rise_to low n (f ∷ fences) ≡ true
     → (last_fence (f ∷ fences) < n → stands (f ∷ fences) n ≡ false) × (stands (f ∷ fences) n ≡ false → last_fence (f ∷ fences) < n)
 last_before [] f low n rise =
@@ -38,7 +38,7 @@ last_before (g ∷ fences) f low n rise =
       λ none. more.1 (or_parts (f == n) (stands (g ∷ fences) n) none).1,
     )
 
--- where fences rise up to n, and the last stands before n, n is not 0 and none stands there
+-- where fences rise up to n, and the last is before n, n is not 0 and none is there
 pub may_stand : (fences : List ℕ) (n : ℕ) → rise_to 0 n fences ≡ true → last_fence fences < n → (not (n == 0) ≡ true) × (stands fences n ≡ false)
 may_stand [] n rise lt = (ap not (ne_eqb n 0 (λ e. absurd (omega (arith, lt, e)))), refl)
 may_stand (f ∷ fences) n rise lt = (ap not (ne_eqb n 0 (λ e. absurd (omega (arith, lt, e)))), (last_before fences f 0 n rise).0 lt)
@@ -72,7 +72,7 @@ by_true true never = absurd (never refl)
 by_true false never = refl
 
 -- where the nodes and fences known are a lattice's, no fence may be next at its last node, unless the last one
--- stands before it and there are fewer than the most
+-- is before it and there are fewer than the most
 pub no_fence_there : (known : Known) (l : Lattice) (node : ℕ) → known.nodes ≡ l.n → known.fences ≡ l.fences → node ≡ l.n → (last_fence l.fences < l.n → length l.fences < greatest_fences → ⊥) → false ≡ is_next_fence known node
 no_fence_there known l node nodes fences last never =
     by_true (is_next_fence known node) (λ is.

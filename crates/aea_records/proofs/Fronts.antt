@@ -18,7 +18,7 @@ use Rattle.aea_records.specs.Fields.{Head, is_kind, is_length, is_new_name, is_n
 pub are_front : (a b : List ℕ) → AreBytes (a ++ b) → AreBytes a
 are_front a b are = subst AreBytes (take_at a b (length a) refl) (All-take (λ x. x < 2 ^ 8) (length a) (a ++ b) are)
 
--- where two lists one behind the other are of bytes, the second is
+-- where two lists one after the other are of bytes, the second is
 pub are_back : (a b : List ℕ) → AreBytes (a ++ b) → AreBytes b
 are_back a b are = subst AreBytes (drop_at a b (length a) refl) (All-drop (λ x. x < 2 ^ 8) (length a) (a ++ b) are)
 
@@ -38,7 +38,7 @@ pub record IsFront (known : Known) (next : Stored → Table (ℕ × Head)) (text
   pub are : AreBytes rest
   pub more : Spells (next (stored_with name size digest first)) rest v
 
--- bytes that the first fields of an object and what is behind them spell begin with these fields, all of them
+-- bytes that the first fields of an object and what follows them spell begin with these fields, all of them
 -- valid
 pub front_spelled : (known : Known) (next : Stored → Table (ℕ × Head)) (text : List ℕ) (v : ℕ × Head) → AreBytes text → Spells (front_fields known next) text v → IsFront known next text v
 front_spelled known next text v are spells =

@@ -16,7 +16,7 @@ use Rattle.aea_records.proofs.Objects.{next_is_spelled}
 pub closed_gate : (shape : Shape) (known : Known) (gate : ℕ) (after : List ℕ) → gate ≢ open_gate → gate_fault shape known (gate ∷ after) ≡ None
 closed_gate shape known gate after closed = rw (ne_eqb gate open_gate closed)
 
--- behind an open gate
+-- after an open gate
 pub opened_gate : (shape : Shape) (known : Known) (gate : ℕ) (after : List ℕ) → gate ≡ open_gate
     → gate_fault shape known (gate ∷ after) ≡ (if is_full known (gate ∷ after) then Some 0 else bad_of (judge (record_fields shape known) 1 (gate ∷ after)))
 opened_gate shape known gate after opened = rw (eq-eqb gate open_gate opened)

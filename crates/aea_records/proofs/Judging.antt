@@ -13,7 +13,7 @@ chosen : {X : Type 0} (b : Bool) (x y : X) → b ≡ true → (if b then x else 
 chosen true x y e = refl
 chosen false x y e = cc
 
--- what a table spells is judged so where it stands in bytes, whatever follows it
+-- what a table spells is judged so wherever it is in bytes, whatever follows it
 pub spelled_is_judged : SpelledIsJudged
 spelled_is_judged A (Part n test next) text rest bytes at v spells within stands =
     let part = spells.0 in
@@ -39,7 +39,7 @@ made : {X Y : Type 0} (b : Bool) (x : Result X Y) (e : Y) (v : X) → (if b then
 made true x e v is = (refl, is)
 made false x e v is = absurd (let h : Err e ≡ Ok v = is in cc)
 
--- what stands in the successes that are one
+-- what is in successes that are equal
 pub both : {X Y Z : Type 0} (p q : X × Y) (e : Z) → (let r : Result (X × Y) Z = Ok p in r) ≡ Ok q → p ≡ q
 both {X = X} {Y = Y} {Z = Z} p q e same = ap (λ (r : Result (X × Y) Z). held r) same
   where
@@ -50,7 +50,7 @@ both {X = X} {Y = Y} {Z = Z} p q e same = ap (λ (r : Result (X × Y) Z). held r
 whole-AreBytes : (bytes : List ℕ) (at n : ℕ) → at + n ≤ length bytes → AreBytes bytes → AreBytes (bytes_at n at bytes)
 whole-AreBytes bytes at n within are = part-AreBytes bytes at n (length bytes) within (subst AreBytes (sym (take_all (length bytes) bytes (omega arith))) are)
 
--- where a table judges bytes to be valid, a text of it stands there that says what was judged
+-- where a table judges bytes to be valid, a text of it is there that says what was judged
 pub judged_is_spelled : JudgedIsSpelled
 judged_is_spelled A (Part n test next) bytes at end v are within judged =
     let part : List ℕ = bytes_at n at bytes in

@@ -1,4 +1,5 @@
-mod Stretches
+pub mod OneMore
+pub mod Stretches
 mod Judging
 mod Turns
 mod Numbers
@@ -6,7 +7,8 @@ mod Spelling
 mod Names
 mod Shapes
 mod Pieces
-mod Sizes
+pub mod Sizes
+mod ObjectBodies
 mod Spelled
 mod Objects
 mod Fronts

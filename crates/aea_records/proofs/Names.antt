@@ -25,7 +25,7 @@ free-new earlier name h =
     list_any_none (λ (r : Stored). bytes_eq r.name name) earlier
     (λ k d lt. false_from_ne_true (bytes_eq (get_or earlier k d).name name) (λ e. h k d lt ((bytes_eq-Decides (get_or earlier k d).name name).0 e)))
 
--- where the test finds no fence at the node, all of them stand elsewhere
+-- where the test finds no fence at the node, all of them are elsewhere
 pub new-fence : (fences : List ℕ) (node : ℕ) → list_any (λ f. f == node) fences ≡ false → All (λ f. f ≢ node) fences
 new-fence [] node e = All-nil (λ (f : ℕ). f ≢ node)
 new-fence (f ∷ fences) node e =
@@ -34,7 +34,7 @@ new-fence (f ∷ fences) node e =
     (λ same. false≢true (sym parts.0 ∙ eq-eqb f node same))
     (new-fence fences node parts.1)
 
--- and the other way round: where all stand elsewhere, the test finds none
+-- and the other way round: where all are elsewhere, the test finds none
 pub fence-new : (fences : List ℕ) (node : ℕ) → All (λ f. f ≢ node) fences → list_any (λ f. f == node) fences ≡ false
 fence-new fences node h =
     list_any_none (λ (f : ℕ). f == node) fences

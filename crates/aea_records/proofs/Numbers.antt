@@ -16,7 +16,7 @@ one_byte [] len small = absurd (omega (arith, len))
 one_byte (x ∷ []) len small = ap (λ (n : ℕ). n ∷ []) (omega (arith, small))
 one_byte (x ∷ y ∷ bytes) len small = absurd (omega (arith, len))
 
--- each byte is below 256, and so is what stands past the end
+-- each byte is below 256, and so is what is read past the end
 byte_below : (bytes : List ℕ) → AreBytes bytes → (i : ℕ) → get_or bytes i 0 < 256
 byte_below bytes fits i =
     elim (cases_lt i (length bytes)) [

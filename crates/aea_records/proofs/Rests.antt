@@ -1,4 +1,4 @@
--- What stands behind the header of a ledger, and what follows of it.
+-- What follows the header of a ledger, and what can be concluded from it.
 use Rattle.std.specs.Prelude.{◌≡◌, ◌≢◌, ◌⊎◌, ◌≤◌, ◌+◌, ℕ, List, ◌∷◌, ◌++◌, length, take, Some}
 use Rattle.std.specs.List.{flat_map}
 use Rattle.aea_lattice.specs.declared.shape.Shape.{Shape}
@@ -10,7 +10,7 @@ use Rattle.aea_records.specs.Fields.{head_fields}
 use Rattle.aea_records.specs.Grammar.{AreRecords}
 use Rattle.aea_records.specs.Faults.{gate_fault}
 
--- What stands behind the header: these records, and then a gate that is not open.
+-- What follows the header: these records, and then a gate that is not open.
 pub record AreBehind (shape : Shape) (records : List Record) (rest : List ℕ) : Type 0 where
   pub valid : AreRecords shape records
   pub gate : ℕ
@@ -18,7 +18,7 @@ pub record AreBehind (shape : Shape) (records : List Record) (rest : List ℕ) :
   pub after : List ℕ
   pub spelling : rest ≡ flat_map entry records ++ gate ∷ after
 
--- What stands behind the header is bad at this place of it.
+-- What follows the header is bad at this place in it.
 pub record IsBadBehind (shape : Shape) (rest : List ℕ) (at : ℕ) : Type 0 where
   pub records : List Record
   pub valid : AreRecords shape records

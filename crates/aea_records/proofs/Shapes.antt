@@ -21,7 +21,7 @@ same_shape a b alpha s p block sites = λ i. record {
       (λ j. Bool-set (is_shape (alpha j) (s j) (p j) (block j) (sites j)) true) a.in_profile b.in_profile i;
 }
 
--- what a shape tells of its numbers
+-- what a shape says of its numbers
 pub record AreSmall (alpha s p block sites : ℕ) : Type 0 where
   pub alpha_some : 1 ≤ alpha
   -- α is at most 3

@@ -8,7 +8,8 @@ use Rattle.aea_records.specs.Format.{Record, Object, Joined, Fence, Raise, raise
 use Rattle.aea_records.specs.Grammar.{IsNext, AreRecords}
 use Rattle.aea_records.specs.Laws.{RecordsAreShort}
 use Rattle.aea_records.proofs.Behind.{stored-push}
-use Rattle.aea_records.proofs.Counts.{along, fences_of-push, raised-push, raises, raises-small, object_size, joined_size, few_fences, records_are_few}
+use Rattle.aea_records.proofs.OneMore.{fences_of-push, raised-push}
+use Rattle.aea_records.proofs.Counts.{along, raises, raises-small, object_size, joined_size, few_fences, records_are_few}
 
 -- each record is of an object, a fence or a raise
 record AreCounted (records : List Record) : Type 0 where
@@ -49,7 +50,7 @@ counted shape records valid =
     })
     [] records (record { each = All-nil (λ (q : Record). length (rest_of q) < 2 ^ 28); kinds = refl }) valid
 
--- no record of a ledger is long, and there are not many: where records end is told by a ledger's gates, and within the
+-- no record of a ledger is long, and there are not many: a ledger's gates show where records end, and within the
 -- limits of a copy
 pub records_are_short : RecordsAreShort
 records_are_short shape records valid =

@@ -1,4 +1,4 @@
--- Numbers that are fields, and tables one behind the other.
+-- Numbers that are fields, and tables one after the other.
 use Rattle.std.proofs.Common.{◌≡◌, ℕ, ◌^◌, ◌<◌, Bool, true, List, [], ◌++◌, length, refl, sym, ap, subst, ◌∙◌, append_assoc}
 use Rattle.std.specs.Int.{Width, from_be_bytes, to_be_bytes}
 use Rattle.std.proofs.lemmas.List.{take_at, drop_at}
@@ -7,7 +7,7 @@ use Rattle.aea_records.specs.TableLaws.{AreBytes}
 use Rattle.aea_records.specs.Tables.{Table, Part, Late, End, Spells, number, and_then}
 use Rattle.aea_records.proofs.Numbers.{IsWide}
 
--- a number that passes, and the fields behind it
+-- a number that passes, and the fields after it
 pub spell_number : {A : Type 0} (w : Width) (limit : ℕ) (wide : IsWide w limit) (test : ℕ → Bool) (next : ℕ → Table A) (n : ℕ) (rest : List ℕ) (v : A)
     → n < limit → test n ≡ true → Spells (next n) rest v → Spells (number w test next) (to_be_bytes w n ++ rest) v
 spell_number {A = A} w limit wide test next n rest v small passes more = (
@@ -29,7 +29,7 @@ pub record IsNumber {A : Type 0} (w : Width) (limit : ℕ) (test : ℕ → Bool)
   pub are : AreBytes rest
   pub more : Spells (next n) rest v
 
--- bytes that a number and the fields behind it spell begin with a number below the limit that passes its test
+-- bytes that a number and the fields after it spell begin with a number below the limit that passes its test
 pub number_spelled : {A : Type 0} (w : Width) (limit : ℕ) (wide : IsWide w limit) (test : ℕ → Bool) (next : ℕ → Table A) (text : List ℕ) (v : A)
     → AreBytes text → Spells (number w test next) text v → IsNumber w limit test next text v
 number_spelled w limit wide test next text v are spells =
@@ -69,7 +69,7 @@ pub record AreTwo {A B : Type 0} (table : Table A) (more : A → Table B) (text 
   pub first : Spells table front v
   pub second : Spells (more v) back w
 
--- what two tables one behind the other spell is a text of the first, and behind it one of the second
+-- what two tables one after the other spell is a text of the first, and after it one of the second
 pub then_spelled : {A B : Type 0} (table : Table A) (more : A → Table B) (text : List ℕ) (w : B) → Spells (and_then table more) text w → AreTwo table more text w
 then_spelled (Part n test next) more text w spells =
     let two = then_spelled (next spells.0) more spells.1 w spells.5 in

@@ -117,7 +117,7 @@ pub to_first : (known : Known) (next : Stored → Table (ℕ × Head)) (name : L
 to_first known next name size w at digest there is =
     passes 32 any (λ d. first_part known next name size d) at w there refl ∙ ap (λ (d : List ℕ). judge (first_part known next name size d) (at + 32) w) (sym is)
 
--- where its first new node is there and valid, what is judged from it on is what is judged of the fields behind it
+-- where its first new node is there and valid, what is judged from it on is what is judged of the fields after it
 pub to_next : (known : Known) (next : Stored → Table (ℕ × Head)) (name : List ℕ) (size : ℕ) (digest : List ℕ) (w : List ℕ) (at first : ℕ) → has w (at + 4) ≡ true
     → first ≡ from_be_bytes w32 (bytes_at 4 at w) → is_next_node known first ≡ true
     → judge (first_part known next name size digest) at w ≡ judge (next (stored_with name size digest first)) (at + 4) w
@@ -158,7 +158,7 @@ missing_first known next name size digest w at none = is_missing 4 (λ b. is_nex
 pub invalid_first : (known : Known) (next : Stored → Table (ℕ × Head)) (name : List ℕ) (size : ℕ) (digest w : List ℕ) (at : ℕ) → is_next_node known (from_be_bytes w32 (bytes_at 4 at w)) ≡ false → judge (first_part known next name size digest) at w ≡ Err at
 invalid_first known next name size digest w at bad = is_invalid 4 (λ b. is_next_node known (from_be_bytes w32 b)) (λ b. next (stored_with name size digest (from_be_bytes w32 b))) at w bad
 
--- ---- the fields of an object behind its first
+-- ---- the fields of an object after its first
 
 abbrev pub is_count : Shape → Known → ℕ → ℕ → Bool
 is_count shape known size count = count == nodes_for shape size && is_within known count

@@ -1,4 +1,4 @@
--- Where a part of a list of bytes stands, and the numbers that parts spell.
+-- Where a part of a list of bytes lies, and the numbers that parts spell.
 use Rattle.std.proofs.Common.{◌≡◌, ℕ, ◌+◌, ◌-◌, ◌^◌, ◌<◌, ◌≤◌, List, ◌++◌, length, get_or, take, drop, sym, ap, subst, ◌∙◌, arith, inl, inr}
 use Rattle.std.proofs.lemmas.Bool.{cases_lt}
 use Rattle.std.proofs.lemmas.List.{take_at, drop_at, take-append-drop, length-append, length-take, length-drop, get_or_past, drop-drop, drop-take, take-take}
@@ -6,12 +6,12 @@ use Rattle.std.proofs.lemmas.List.Elements.{All-take, All-drop, All-get_or}
 use Rattle.aea_records.specs.TableLaws.{AreBytes}
 use Rattle.aea_records.specs.Tables.{bytes_at}
 
--- from this place on, within the bytes, stands this rest
+-- this rest lies within the bytes, from this place on
 pub record Stands (bytes : List ℕ) (at : ℕ) (rest : List ℕ) : Type 0 where
   pub within : at ≤ length bytes
   pub same : drop at bytes ≡ rest
 
--- behind a part stands what follows it
+-- what follows a part lies after it
 pub part_stands : (bytes part rest : List ℕ) (at n next : ℕ) → Stands bytes at (part ++ rest) → length part ≡ n → at + n ≡ next
     → (bytes_at n at bytes ≡ part) × Stands bytes next rest
 part_stands bytes part rest at n next s long sum =
@@ -44,7 +44,7 @@ part-AreBytes bytes at n size h fits =
     subst AreBytes (front-bytes_at bytes at n size h)
     (All-take (λ b. b < 2 ^ 8) n (drop at (take size bytes)) (All-drop (λ b. b < 2 ^ 8) at (take size bytes) fits))
 
--- each byte is below 256, and so is what stands past the end
+-- each byte is below 256, and so is what is read past the end
 byte_below : (bytes : List ℕ) → AreBytes bytes → (i : ℕ) → get_or bytes i 0 < 256
 byte_below bytes fits i =
     elim (cases_lt i (length bytes)) [

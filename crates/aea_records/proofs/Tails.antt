@@ -1,4 +1,4 @@
--- A head in a window, and the fields behind it in the bytes.
+-- A head in a window, and the fields after it in the bytes.
 use Rattle.std.proofs.Common.{◌≡◌, ℕ, ◌^◌, ◌<◌, ◌≤◌, Bool, true, false, ◌&&◌, ◌||◌, ◌==◌, List, [], ◌∷◌, ◌++◌, length, take, drop, Result, Err, Some, refl, sym, ap, ◌∙◌, arith}
 use Rattle.std.specs.Prelude.{slice_index, if◌then◌else◌}
 use Rattle.std.proofs.lemmas.List.{get_or-take, length-take, length-append, drop_more, take_at}
@@ -45,7 +45,7 @@ head_fault shape known window rest some gate room is =
     ∙ ap (λ (x : Result ((ℕ × Head) × ℕ) ℕ). bad_of (judge_then x (λ v end. judge (tail_fields shape known v) end rest)))
     (sym (heads_are_short shape known rest 315 (omega arith)) ∙ ap (judge (head_fields shape known) 1) (sym is))
 
--- where a gate is open, before no object past the most, and the fields behind it up to the first that may be long
+-- where a gate is open, before no object past the most, and the fields after it up to the first that may be long
 -- are valid in the first 315 bytes, what is bad from the gate on is what is bad of the others
 pub tails_are_judged : TailsAreJudged
 tails_are_judged shape known window rest v end head is =
@@ -76,7 +76,7 @@ no_gate shape known window [] none is = refl
 no_gate shape known window (x ∷ rest) none is = absurd (omega (arith, none, ap length is, length-take 315 (x ∷ rest)))
 
 -- an open gate, before no object past the most, valid fields up to the first that may be long, and a text of the
--- others behind them are the entry of a record that may follow those of a ledger
+-- others after them are the entry of a record that may follow those of a ledger
 pub tails_are_spelled : TailsAreSpelled
 tails_are_spelled shape earlier window back v end r valid head are spells =
     let known : Known = known_of earlier in

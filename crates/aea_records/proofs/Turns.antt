@@ -1,4 +1,4 @@
--- Fronts of the bytes, tables one behind the other, and one text.
+-- Fronts of the bytes, tables one after the other, and one text.
 use Rattle.std.proofs.Common.{◌≡◌, ℕ, ◌+◌, ◌≤◌, Bool, true, false, ◌&&◌, List, ◌++◌, length, take, Result, Err, refl, sym, ap, ◌∙◌, arith, inl, inr}
 use Rattle.std.specs.Prelude.{if◌then◌else◌}
 use Rattle.std.proofs.lemmas.Bool.{cases_lt, and_parts, le-leb}
@@ -42,7 +42,7 @@ judge_chosen : {A B : Type 0} (b : Bool) (x : Result (A × ℕ) ℕ) (e : ℕ) (
 judge_chosen true x e more = refl
 judge_chosen false x e more = refl
 
--- two tables one behind the other are judged one after the other
+-- two tables in a row are judged one after the other
 pub judged_in_turn : JudgedInTurn
 judged_in_turn A B (Part n test next) more bytes at =
     let go : Bool = has bytes (at + n) && test (bytes_at n at bytes) in

@@ -17,7 +17,7 @@ header_of : (shape : Shape) (records : List Record) (rest bytes : List ℕ) → 
 header_of shape records rest bytes spelling =
     spelled_header shape (flat_map entry records ++ rest) bytes (spelling ∙ append_assoc (header shape) (flat_map entry records) rest)
 
--- what stands behind the header
+-- what follows the header
 behind : (shape : Shape) (records : List Record) (rest bytes : List ℕ) → bytes ≡ spelled shape records ++ rest → drop 17 bytes ≡ flat_map entry records ++ rest
 behind shape records rest bytes spelling =
     ap (drop 17) (spelling ∙ append_assoc (header shape) (flat_map entry records) rest) ∙ drop_at (header shape) (flat_map entry records ++ rest) 17 refl
@@ -109,7 +109,7 @@ cases_first : (o : Option ℕ) → (o ≡ None) ⊎ ((at : ℕ) × (o ≡ Some a
 cases_first None = inl refl
 cases_first (Some at) = inr (at, refl)
 
--- what stands behind a header, behind it
+-- what follows a header, after it
 in_front : (shape : Shape) (records : List Record) (rest more bytes : List ℕ) → bytes ≡ header shape ++ rest → rest ≡ flat_map entry records ++ more → bytes ≡ spelled shape records ++ more
 in_front shape records rest more bytes spelling is =
     spelling ∙ ap (λ (l : List ℕ). header shape ++ l) is ∙ sym (append_assoc (header shape) (flat_map entry records) more)

@@ -14,13 +14,13 @@ abbrev pub bad_of : {A : Type 0} → Result (A × ℕ) ℕ → Option ℕ
 bad_of (Ok found) = None
 bad_of (Err at) = Some at
 
--- behind an open gate stands the kind of a record of an object, and the ledger has the most objects already
+-- after an open gate is the kind of a record of an object, and the ledger has the most objects already
 abbrev pub is_full : Known → List ℕ → Bool
 is_full known bytes =
     known.objects == greatest_objects && (slice_index bytes 1 == 1 || (slice_index bytes 1 == 3 && known.raised))
 
 -- What is bad from a gate on, if anything is, by what is known of the records before it: the gate where it is missing, or
--- where it is open before an object past the most; and behind an open gate the first bad field. The bytes begin at the
+-- where it is open before an object past the most; and after an open gate the first bad field. The bytes begin at the
 -- gate, and the place counts from it.
 abbrev pub gate_fault : Shape → Known → List ℕ → Option ℕ
 gate_fault shape known [] = Some 0
@@ -48,7 +48,7 @@ is_s alpha s = if alpha == 1 then s == 1 else (nat_le 2 s && nat_le s 16)
 abbrev pub is_p : ℕ → ℕ → ℕ → Bool
 is_p alpha s p = if alpha == 1 then p == 0 else (nat_le s p && nat_le p 64)
 
--- The fields of the header behind its gate: the mark, α, s, p, the number of sites, and the block size. A file of 18
+-- The fields of the header after its gate: the mark, α, s, p, the number of sites, and the block size. A file of 18
 -- bytes has all of them.
 abbrev pub header_fields : List ℕ → List (ℕ × Bool)
 header_fields bytes =
@@ -73,7 +73,7 @@ IsNoArchive bytes = (length bytes < 18) ⊎ (slice_index bytes 0 ≢ open_gate)
 abbrev pub IsBadHeaderAt : List ℕ → ℕ → Type 0
 IsBadHeaderAt bytes at = first_bad (header_fields bytes) ≡ Some at
 
--- Behind the header and these records the file is bad, at this place: that of the gate, or of a field behind it.
+-- After the header and these records the file is bad, at this place: that of the gate, or of a field after it.
 pub record IsBadRecordAt (bytes : List ℕ) (at : ℕ) : Type 0 where
   pub shape : Shape
   pub records : List Record

@@ -1,4 +1,4 @@
--- The fields of a record behind its gate, and which values are valid.
+-- The fields of a record after its gate, and which values are valid.
 use Rattle.std.specs.Prelude.{ℕ, ◌+◌, ◌-◌, ◌*◌, zero, suc, Bool, true, ◌&&◌, ◌||◌, ◌==◌, not, nat_le, nat_lt, if◌then◌else◌, List, [], ◌∷◌, length, take, drop}
 use Rattle.std.specs.List.{sum_by, list_any}
 use Rattle.std.specs.Int.{w8, w16, w32, w64, from_be_bytes}
@@ -20,7 +20,7 @@ abbrev pub extents : ℕ → List ℕ → List Extent
 extents zero bytes = []
 extents (suc n) bytes = record { first = from_be_bytes w32 (bytes_at 4 0 bytes); count = from_be_bytes w32 (bytes_at 4 4 bytes) } ∷ extents n (drop 8 bytes)
 
--- each part has a node at least, begins behind the end of the one before, the first of them behind this node, and ends at
+-- each part has a node at least, begins past the end of the one before, the first of them past this node, and ends at
 -- this node or before
 abbrev pub are_apart : ℕ → ℕ → List Extent → Bool
 are_apart after nodes [] = true
@@ -35,7 +35,7 @@ are_parts shape size nodes parts = are_apart 0 nodes parts && sum_by (λ e. e.co
 abbrev pub is_kind : Known → ℕ → Bool
 is_kind known kind = kind == 1 || kind == 2 || kind == 4 || (kind == 3 && known.raised)
 
--- what stands at the head of a record: its kind with the fields up to the first that may be long
+-- what is at the head of a record: its kind with the fields up to the first that may be long
 pub data Head : Type 0 where
   ObjectHead : Stored → Head
   JoinedHead : Stored → ℕ → Head
@@ -49,7 +49,7 @@ is_length long = nat_le 1 long && nat_le long 255
 abbrev pub is_new_name : Known → List ℕ → Bool
 is_new_name known name = is_name name && not (known.taken name)
 
--- the new nodes begin behind all others
+-- the new nodes come after all others
 abbrev pub is_next_node : Known → ℕ → Bool
 is_next_node known first = first == known.nodes + 1
 
@@ -57,7 +57,7 @@ is_next_node known first = first == known.nodes + 1
 abbrev pub is_within : Known → ℕ → Bool
 is_within known count = nat_le (known.nodes + count) (limit_when known.raised)
 
--- the fence stands behind the last node, no other stands there, and there are not too many
+-- the fence comes after the last node, no other is there, and there are not too many
 abbrev pub is_next_fence : Known → ℕ → Bool
 is_next_fence known node = node == known.nodes && not (node == 0) && not (list_any (λ f. f == node) known.fences) && nat_lt (length known.fences) greatest_fences
 
@@ -80,7 +80,7 @@ front_fields known next =
     number w32 (is_next_node known) (λ first.
     next (stored_with name size digest first))))))
 
--- behind them, of an object with new nodes alone: how many there are, as many as its length takes
+-- after them, of an object with new nodes alone: how many there are, as many as its length takes
 abbrev pub object_fields : Shape → Known → ℕ → Stored → Table (ℕ × Head)
 object_fields shape known bytes o =
     number w32 (λ count. count == nodes_for shape o.size && is_within known count) (λ count.
@@ -93,7 +93,7 @@ joined_fields known bytes o =
     number w32 (λ parts. nat_le parts raised_limit) (λ parts.
     End (bytes, JoinedHead (record o { count = count }) parts)))
 
--- the fields of a head behind the kind and the number of bytes, which is kept
+-- the fields of a head after the kind and the number of bytes, which is kept
 abbrev pub kind_fields : Shape → Known → ℕ → ℕ → Table (ℕ × Head)
 kind_fields shape known bytes kind =
     if kind == 1 then front_fields known (object_fields shape known bytes)
@@ -101,7 +101,7 @@ kind_fields shape known bytes kind =
     else if kind == 3 then front_fields known (joined_fields known bytes)
     else number w32 (is_raise_to known) (λ limit. End (bytes, Whole Raise))
 
--- the head: the kind, the number of bytes behind this field, any, and the fields of the kind
+-- the head: the kind, the number of bytes after this field, any, and the fields of the kind
 abbrev pub head_fields : Shape → Known → Table (ℕ × Head)
 head_fields shape known = number w8 (is_kind known) (λ kind. number w32 any (λ bytes. kind_fields shape known bytes kind))
 
@@ -112,7 +112,7 @@ digest_fields shape bytes others o make =
     Late 2 (bytes == others + length o.name + 32 * (o.count * (1 + shape.alpha)))
     (End (make (record o { digests = pieces 32 (o.count * (1 + shape.alpha)) all }))))
 
--- The fields behind a head: of an object its digests, before them its parts, all of them one field; and last of all the
+-- The fields after a head: of an object its digests, before them its parts, all of them one field; and last of all the
 -- value of the number of bytes.
 abbrev pub tail_fields : Shape → Known → ℕ × Head → Table Record
 tail_fields shape known (bytes, ObjectHead o) = digest_fields shape bytes 50 o (λ p. Object p)

@@ -16,7 +16,7 @@ pub record Stored : Type 0 where
   pub count : ℕ
   pub digests : List (List ℕ)
 
--- A record: an object whose nodes are all new; an object in parts, which may be of earlier nodes too; a fence behind a
+-- A record: an object whose nodes are all new; an object in parts, which may be of earlier nodes too; a fence after a
 -- node; or a raise of the limit on nodes.
 pub data Record : Type 0 where
   Object : Stored → Record
@@ -95,7 +95,7 @@ is_raise Raise = true
 abbrev pub limit_when : Bool → ℕ
 limit_when raised = if raised then raised_limit else first_limit
 
--- the limit on nodes behind these records
+-- the limit on nodes after these records
 abbrev pub limit_of : List Record → ℕ
 limit_of records = limit_when (list_any is_raise records)
 
@@ -117,7 +117,7 @@ front o =
 abbrev pub part : Extent → List ℕ
 part e = to_be_bytes w32 e.first ++ to_be_bytes w32 e.count
 
--- The kind of a record, and the fields behind the number of bytes that they have: of an object with new nodes alone, its
+-- The kind of a record, and the fields after the number of bytes that they have: of an object with new nodes alone, its
 -- first fields and the digests, in 32 bytes each; of one in parts, besides the number of parts, in 4, and the parts before
 -- the digests; of a fence its node, in 4; of a raise the new limit, in 4.
 abbrev pub kind_of : Record → ℕ
@@ -136,7 +136,7 @@ rest_of Raise = to_be_bytes w32 raised_limit
 abbrev pub body : Record → List ℕ
 body r = kind_of r ∷ to_be_bytes w32 (length (rest_of r)) ++ rest_of r
 
--- an open gate, and the body behind it
+-- an open gate, and the body after it
 abbrev pub entry : Record → List ℕ
 entry r = open_gate ∷ body r
 

@@ -8,7 +8,7 @@ use Rattle.aea_records.specs.Format.{Stored, Record, Object, Joined, Fence, Rais
 use Rattle.aea_lattice.specs.Fences.{greatest_fences}
 use Rattle.aea_records.specs.Fields.{are_parts}
 
--- The object may follow these earlier records: its name is a name and none of theirs; its new nodes begin behind theirs
+-- The object may follow these earlier records: its name is a name and none of theirs; its new nodes come after theirs
 -- and fit the limit; and it has a digest for each of the new blocks.
 pub record MayBeStored (shape : Shape) (earlier : List Record) (o : Stored) : Type 0 where
   pub few : length (stored_of earlier) < greatest_objects
@@ -33,7 +33,7 @@ pub record IsNextJoined (shape : Shape) (earlier : List Record) (o : Stored) (pa
   pub stored : MayBeStored shape earlier o
   pub apart : IsTrue (are_parts shape o.size (nodes_of earlier + o.count) parts)
 
--- the fence stands behind the last node, no other stands there, and there are not too many
+-- the fence comes after the last node, no other is there, and there are not too many
 pub record IsNextFence (earlier : List Record) (node : ℕ) : Type 0 where
   pub last : node ≡ nodes_of earlier
   pub some : 1 ≤ node
@@ -53,12 +53,12 @@ abbrev pub MayFollow : Shape → List Record → List Record → Type 0
 MayFollow shape earlier [] = Unit {0}
 MayFollow shape earlier (r ∷ records) = IsNext shape earlier r × MayFollow shape (earlier ++ r ∷ []) records
 
--- the records may stand in a ledger of this shape
+-- the records may be in a ledger of this shape
 abbrev pub AreRecords : Shape → List Record → Type 0
 AreRecords shape records = MayFollow shape [] records
 
 -- The file is a ledger of this shape with these records, and ends at this place: it begins with the header and, for each
--- record, an open gate and its body, and the gate behind these is not open. What follows that gate has no meaning.
+-- record, an open gate and its body, and the gate after these is not open. What follows that gate has no meaning.
 pub record IsLedger (bytes : List ℕ) (shape : Shape) (records : List Record) (end : ℕ) : Type 0 where
   pub valid : AreRecords shape records
   pub gate : ℕ

@@ -100,7 +100,7 @@ pub record AreFew (shape : Shape) (records : List Record) : Type 0 where
 abbrev pub RecordsAreFew : Type 0
 RecordsAreFew = (shape : Shape) (records : List Record) → AreRecords shape records → AreFew shape records
 
--- What stands behind the length of each record is shorter than this, and there are not more records than may be of objects,
+-- What follows the length of each record is shorter than this, and there are not more records than may be of objects,
 -- 16 of fences and one of a raise.
 pub record AreShort (records : List Record) : Type 0 where
   pub each : All (λ r. length (rest_of r) < 2 ^ 28) records
@@ -109,7 +109,7 @@ pub record AreShort (records : List Record) : Type 0 where
 abbrev pub RecordsAreShort : Type 0
 RecordsAreShort = (shape : Shape) (records : List Record) → AreRecords shape records → AreShort records
 
--- A fence may follow behind the last node where the last fence stands before it and there are not too many.
+-- A fence may come after the last node where the last fence is before it and there are not too many.
 abbrev pub FencesMayFollow : Type 0
 FencesMayFollow =
     (shape : Shape) (records : List Record) → AreRecords shape records → last_fence (fences_of records) < nodes_of records → length (fences_of records) < greatest_fences
@@ -120,13 +120,13 @@ abbrev pub DigestsAreCounted : Type 0
 DigestsAreCounted =
     (shape : Shape) (records : List Record) → AreRecords shape records → length (digests_of records) ≡ nodes_of records * (1 + shape.alpha)
 
--- Where the bytes from a gate on begin with a head that is valid, what is bad of them is what is bad of the fields behind it.
+-- Where the bytes from a gate on begin with a head that is valid, what is bad in them is what is bad in the fields after it.
 abbrev pub TailsAreJudged : Type 0
 TailsAreJudged =
     (shape : Shape) (known : Known) (window rest : List ℕ) (v : ℕ × Head) (end : ℕ) → IsHead shape known window v end → window ≡ take 315 rest
     → gate_fault shape known rest ≡ bad_of (judge (tail_fields shape known v) end rest)
 
--- A gate and a head that are valid, with the fields behind them, are the entry of a record that may follow.
+-- A gate and a head that are valid, with the fields after them, are the entry of a record that may follow.
 abbrev pub TailsAreSpelled : Type 0
 TailsAreSpelled =
     (shape : Shape) (earlier : List Record) (window back : List ℕ) (v : ℕ × Head) (end : ℕ) (r : Record) → AreRecords shape earlier

@@ -1,6 +1,7 @@
 pub mod Tables
 pub mod TableLaws
 pub mod Format
+pub mod Objects
 pub mod Known
 pub mod Fields
 pub mod Grammar

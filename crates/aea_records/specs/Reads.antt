@@ -33,14 +33,14 @@ abbrev pub IsJudged : {X Y : Type 0} → (X → Y) → (X → ℕ) → Result X 
 IsJudged view end (Ok x) judged = judged ≡ Ok (view x, end x)
 IsJudged view end (Err at) judged = judged ≡ Err at
 
--- What a function returned is what is judged of the first fields of an object, whatever is judged behind them.
+-- What a function returned is what is judged of the first fields of an object, whatever is judged after them.
 abbrev pub IsFrontJudged : Known → List ℕ → Result Front ℕ → Type 0
 IsFrontJudged known window (Ok f) =
     (next : Stored → Table (ℕ × Head))
     → judge (front_fields known next) 6 window ≡ judge (next (stored_with (bytes_at f.long 8 window) f.size f.digest f.first)) (8 + f.long + 8 + 32 + 4) window
 IsFrontJudged known window (Err at) = (next : Stored → Table (ℕ × Head)) → judge (front_fields known next) 6 window ≡ Err at
 
--- the object that these fields are of, whose name stands in the window
+-- the object that these fields are of, whose name is in the window
 abbrev pub stored_at : List ℕ → ObjectFields → Stored
 stored_at window o = record (stored_with (bytes_at o.long 8 window) o.size o.digest o.first) { count = o.count }
 
@@ -51,11 +51,11 @@ head_at window (InParts o parts) = JoinedHead (stored_at window o) parts
 head_at window (Fenced node) = Whole (Fence node)
 head_at window Raised = Whole Raise
 
--- the place behind the fields of an object up to its number of new nodes
+-- the place after the fields of an object up to its number of new nodes
 abbrev pub object_end : ObjectFields → ℕ
 object_end o = 8 + o.long + 8 + 32 + 4 + 4
 
--- the place behind a head
+-- the place after a head
 abbrev pub head_end : HeadFields → ℕ
 head_end (Alone o) = object_end o
 head_end (InParts o parts) = object_end o + 4

@@ -9,7 +9,7 @@ use Rattle.aea_records.specs.Format.{Stored, Record, Object, Joined, Fence, Rais
 abbrev pub blocks_in : List Extent → List (List ℕ) → List (List ℕ)
 blocks_in parts datas = flat_map (λ e. take e.count (drop (e.first - 1) datas)) parts
 
--- In its parts of the data list stand the bytes of an object that has its length and digest, and then zeros.
+-- Its parts of the data list contain the bytes of an object that has its length and digest, and then zeros.
 pub record HoldsObject (datas : List (List ℕ)) (o : Stored) (parts : List Extent) : Type 0 where
   pub bytes : List ℕ
   pub long : length bytes ≡ o.size

@@ -33,7 +33,7 @@ FrontsAreJudgedAlike =
     (A : Type 0) (table : Table A) (bytes : List ℕ) (at size : ℕ) → IsWithin table at size
     → judge table at (take size bytes) ≡ judge table at bytes
 
--- Two tables one behind the other are judged one after the other.
+-- Two tables in a row are judged one after the other.
 abbrev pub JudgedInTurn : Type 1
 JudgedInTurn =
     (A B : Type 0) (table : Table A) (more : A → Table B) (bytes : List ℕ) (at : ℕ)

@@ -1,9 +1,9 @@
--- Tables of fields: what stands one behind another in some bytes, and which of it is valid.
+-- Tables of fields: what lies one after another in some bytes, and which of it is valid.
 use Rattle.std.specs.Prelude.{◌≡◌, ℕ, ◌+◌, ◌≤◌, Bool, true, ◌&&◌, nat_le, if◌then◌else◌, List, [], ◌++◌, length, take, drop, Result, Ok, Err}
 use Rattle.std.specs.Int.{Width, byte_len, from_be_bytes}
 
--- A table of fields. Part: a field of so many bytes, a test that they must pass, and the fields behind it, which may depend
--- on these bytes. Late: a test of a field that stands at an earlier place and is judged only here. End: what the fields
+-- A table of fields. Part: a field of so many bytes, a test that they must pass, and the fields after it, which may depend
+-- on these bytes. Late: a test of a field that lies at an earlier place and is judged only here. End: what the fields
 -- say.
 pub data Table (A : Type 0) : Type 0 where
   Part : ℕ → (List ℕ → Bool) → (List ℕ → Table A) → Table A
@@ -39,7 +39,7 @@ Spells (Part n test next) text v =
 Spells (Late place good next) text v = (good ≡ true) × Spells next text v
 Spells (End a) text v = (text ≡ []) × (v ≡ a)
 
--- The fields that stand in the bytes from this place on, judged in their order: what they say, and the place behind them;
+-- The fields that lie in the bytes from this place on, judged in their order: what they say, and the place after them;
 -- or the place of the first that the bytes do not have whole or that is not valid.
 abbrev pub judge : {A : Type 0} → Table A → ℕ → List ℕ → Result (A × ℕ) ℕ
 judge (Part n test next) at bytes =
@@ -47,7 +47,7 @@ judge (Part n test next) at bytes =
 judge (Late place good next) at bytes = if good then judge next at bytes else Err place
 judge (End a) at bytes = Ok (a, at)
 
--- No field from this place on ends past the end, whichever valid bytes stand in those before it.
+-- No field from this place on ends past the end, whichever valid bytes are in those before it.
 abbrev pub IsWithin : {A : Type 0} → Table A → ℕ → ℕ → Type 0
 IsWithin (Part n test next) at end = (at + n ≤ end) × ((part : List ℕ) → test part ≡ true → IsWithin (next part) (at + n) end)
 IsWithin (Late place good next) at end = IsWithin next at end

@@ -94,7 +94,7 @@ fn digest_in(window: &[u8], at: usize) -> Result<[u8; 32], u64>
     Ok(digest_at(window, at))
 }
 
-// Whether a fence may stand behind this node of the lattice.
+// Whether a fence may follow this node of the lattice.
 pub(crate) fn is_next_fence(lattice: &Lattice, node: u32) -> bool
     ensures value { (known : Known) → known.nodes ≡ lattice.now.n → known.fences ≡ lattice.now.fences → result ≡ is_next_fence known node }
     ensures room { IsTrue result → (last_fence lattice.now.fences < lattice.now.n) × (length lattice.now.fences < greatest_fences) }

@@ -10,7 +10,7 @@ ghost use Rattle.aea_records.specs.Faults.{first_bad, number_at, is_alpha, is_s,
 use crate::fields::number32;
 use aea_lattice::Shape;
 
-// Whether the mark of a ledger stands behind the gate.
+// Whether the mark of a ledger follows the gate.
 fn is_marked(window: &[u8]) -> bool
     requires { 17 ≤ length window.now }
     ensures { result ≡ bytes_eq (bytes_at 8 1 window.now) (codes "AEALEDG1") }

@@ -14,7 +14,7 @@ use crate::fields::{Front, front_in, is_next_fence, is_within, nodes_for, number
 use aea_catalog::Catalog;
 use aea_lattice::{Lattice, Shape};
 
-/// The fields of an object behind its number of bytes: the length of its name, its length and its digest, its first new
+/// The fields of an object after its number of bytes: the length of its name, its length and its digest, its first new
 /// node, and how many new nodes it has.
 #[derive(Clone, Copy, Debug)]
 pub struct ObjectFields {
@@ -32,7 +32,7 @@ pub enum HeadFields {
     Alone(ObjectFields),
     /// An object in parts, and how many parts there are.
     InParts(ObjectFields, u32),
-    /// A fence behind this node.
+    /// A fence after this node.
     Fenced(u32),
     /// A raise of the limit on nodes.
     Raised,
@@ -247,7 +247,7 @@ fn is_full(catalog: &Catalog, raised: bool, window: &[u8]) -> bool
     catalog.len() == 65_536 && (kind == 1 || (kind == 3 && raised))
 }
 
-/// The head behind the gate with which a window begins, None where the gate is closed, or the place at which they are
+/// The head after the gate with which a window begins, None where the gate is closed, or the place at which they are
 /// bad. The window has 315 bytes, or all that are left of the file.
 pub fn gate_in(
     shape: &Shape,

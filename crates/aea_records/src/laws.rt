@@ -72,7 +72,7 @@ pub fn records_are_short()
     ensures { RecordsAreShort }
 {}
 
-/// A fence may follow behind the last node where the last fence stands before it and there are not too many.
+/// A fence may come after the last node where the last fence is before it and there are not too many.
 pub fn fences_may_follow()
     ensures { FencesMayFollow }
 {}
@@ -82,12 +82,12 @@ pub fn digests_are_counted()
     ensures { DigestsAreCounted }
 {}
 
-/// Behind a head that is valid, what is bad is what is bad of the fields behind it.
+/// After a head that is valid, what is bad is what is bad in the fields after it.
 pub fn tails_are_judged()
     ensures { TailsAreJudged }
 {}
 
-/// A head that is valid, and the fields behind it, are the entry of a record that may follow.
+/// A head that is valid, and the fields after it, are the entry of a record that may follow.
 pub fn tails_are_spelled()
     ensures { TailsAreSpelled }
 {}

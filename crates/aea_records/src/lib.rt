@@ -13,14 +13,14 @@
 //! `aea_catalog`, and on `sha2`.
 #![tactic(auto)]
 
-pub mod bodies;
+mod bodies;
 mod fields;
-pub mod header;
-pub mod heads;
-pub mod laws;
-pub mod parts;
+mod header;
+mod heads;
+mod laws;
+mod parts;
 
-pub use bodies::{fence_body, raise_body};
+pub use bodies::{body_front, fence_body, raise_body};
 pub use header::shape_in;
 pub use heads::{Found, HeadFields, ObjectFields, gate_in};
 pub use laws::{

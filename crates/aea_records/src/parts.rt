@@ -8,7 +8,7 @@ use crate::fields::nodes_for;
 use aea_catalog::Extent;
 use aea_lattice::Shape;
 
-// Whether each part has a node at least, begins behind the end of the one before, and ends at the last node or before.
+// Whether each part has a node at least, begins past the end of the one before, and ends at the last node or before.
 fn are_apart(nodes: u32, parts: &[Extent]) -> bool
     ensures { result ≡ are_apart 0 nodes parts.now }
 {

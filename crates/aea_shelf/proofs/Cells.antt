@@ -16,7 +16,7 @@ use Rattle.aea_shelf.specs.Writes.{KeepsHomes, KeepsIntact}
 pub length-home : (shape : Shape) (b : BlockId) (c : Files) → home_place shape b + cell_size shape ≤ length (c (home_file shape b)) → length (home_bytes shape b c) ≡ cell_size shape
 length-home shape b c within = omega (arith, within, length-take (cell_size shape) (drop (home_place shape b) (c (home_file shape b))), length-drop (home_place shape b) (c (home_file shape b)))
 
--- what stands at a home, with as many bytes as a cell
+-- what is at a home, with as many bytes as a cell
 pub at_home : (shape : Shape) (b : BlockId) (bytes : List ℕ) (c : Files) → length bytes ≡ cell_size shape → HasAtHome shape b bytes c
     → (home_bytes shape b c ≡ bytes) × (home_place shape b + cell_size shape ≤ length (c (home_file shape b)))
 at_home shape b bytes c size here =
@@ -39,7 +39,7 @@ keeps_intact shape keep old new keeps a recorded has_a kept intact =
     let size : length (home_bytes shape a old) ≡ cell_size shape = length-home shape a old intact.within in
     intact_of shape a recorded (home_bytes shape a old) new size (keeps a (home_bytes shape a old) has_a kept (omega (arith, size)) (at_intact shape a recorded old intact)) intact.here
 
--- bytes written at a home stand there
+-- bytes written at a home are there
 pub written_here : (shape : Shape) (b : BlockId) (bytes : List ℕ) (old new : Files) → ChangesFile (home_file shape b) (Holds (home_place shape b) bytes) old new → HasAtHome shape b bytes new
 written_here shape b bytes old new changes =
     ap (λ (xs : List ℕ). take (length bytes) (drop (home_place shape b) xs)) changes.here ∙ range-overwritten (old (home_file shape b)) (home_place shape b) bytes

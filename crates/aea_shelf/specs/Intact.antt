@@ -34,3 +34,7 @@ pub record IsHeldIn (shape : Shape) (b : BlockId) (recorded : List ℕ) (image :
 -- the payload in a cell: bytes 16 to 15+B
 abbrev pub payload_in : Shape → List ℕ → List ℕ
 payload_in shape cell = take shape.block (drop 16 cell)
+
+-- what is at a block's home in the place of its payload
+abbrev pub payload_at : Shape → Files → BlockId → List ℕ
+payload_at shape c b = payload_in shape (home_bytes shape b c)

@@ -1,4 +1,4 @@
--- Where the cells of an archive's blocks stand on its disk.
+-- Where the cells of an archive's blocks lie on its disk.
 use Rattle.std.specs.Prelude.{ℕ, ◌+◌, ◌-◌, ◌*◌, ◌/◌, List, ◌++◌, take, drop, replicate}
 use Rattle.aea_lattice.specs.declared.blocks.BlockId.{BlockId}
 use Rattle.aea_lattice.specs.declared.shape.Shape.{Shape}

@@ -12,7 +12,7 @@ use Rattle.aea_shelf.specs.Intact.{IsIntact}
 abbrev pub ChangesHome : Shape → BlockId → Files → Files → Type 0
 ChangesHome shape b = ChangesFile (home_file shape b) (Torn (home_place shape b) (cell_size shape))
 
--- Each home that is to stay has the bytes that stood there, also where the file had but the first of them.
+-- Each home that is to stay has the bytes that were there, also where the file had only the first of them.
 abbrev pub KeepsHomes : Shape → (BlockId → Type 0) → Files → Files → Type 0
 KeepsHomes shape keep old new =
     (a : BlockId) (bytes : List ℕ) → IsBlockOf shape a → keep a → length bytes ≤ cell_size shape

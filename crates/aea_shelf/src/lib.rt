@@ -1,7 +1,7 @@
 //! The shelf: the cells of an archive's blocks on its disk. Each cell is read and written at the block's home by one
 //! call of the disk, in a buffer that the caller lends.
 //!
-//! Promises to the archive above, over a disk that tells its contents, that `read_cell` is Intact exactly where the
+//! Promises to the archive above, over a disk whose contents are known, that `read_cell` is Intact exactly where the
 //! block is; that `write_cell` leaves the block's cell at its home, and every other home, intact block and file as it
 //! was, as the disk reads and in every image; and over any disk that a read changes nothing, and that a fault comes
 //! only where its count rose. Read `Places` and `Intact` first. It rests on `aea_disk`, `aea_envelope` and `aea_place`.
@@ -30,9 +30,9 @@
 //! honesty of all survivors and of those of a test.
 #![tactic(auto)]
 
-pub mod facts;
+mod facts;
 mod places;
-pub mod shelf;
+mod shelf;
 
 pub use facts::{
     cells_are_apart, held_is_held_now, homes_are_in_rows, homes_are_on_its_sites,

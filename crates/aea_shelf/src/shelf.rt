@@ -20,7 +20,7 @@ use aea_envelope::{decode, digest_of, encode};
 use aea_lattice::{BlockId, Shape};
 use aea_place::rows_go_over_sites;
 
-/// What stands at the home of a block: its cell with the digest that is recorded, or something else.
+/// What is at the home of a block: its cell with the digest that is recorded, or something else.
 #[derive(Clone, Copy, Debug, PartialEq, Eq)]
 pub enum Cell {
     Intact,
@@ -75,7 +75,7 @@ pub fn read_cell<D: Disk>(
     // block of the list's lattice.
     ensures honest { IfOk result (λ r. r ≡ Cell.Intact → D.tells → (picks : BlockId → Bool) (l : Lattice) (recorded : BlockId → List ℕ) (datas : List (List ℕ)) → HasBlock l b → IsTrue (picks b) → recorded b ≡ want.now → IsHonestOn picks l shape.now recorded datas (D.state disk.old).files → payload_in shape.now cell.new ≡ value_of l shape.now.block datas b) }
 
-    // Also of a bad cell the buffer begins with what stands at the home, all within the file.
+    // Also of a bad cell the buffer begins with what is at the home, all within the file.
     ensures home { IfOk result (λ r. D.tells → take (length (home_bytes shape.now b (D.state disk.old).files)) cell.new ≡ home_bytes shape.now b (D.state disk.old).files) }
 
     ensures settled { Settles (D.state disk.old) (D.state disk.new) }

@@ -1,6 +1,6 @@
 use Rattle.std.proofs.Common.{subst}
 use Rattle.aea_records.specs.TableLaws.{AreBytes}
-use Rattle.aea_ledger.proofs.Bodies.{each_part}
+use Rattle.aea_ledger.proofs.Digests.{each_part}
 use Rattle.aea_ledger.proofs.append.are_digests.Goals as goal
 
 pub returns : goal.returns

@@ -1,5 +1,5 @@
 use Rattle.std.proofs.Common.{option_map, length}
-use Rattle.aea_ledger.specs.Next.{stored_as}
+use Rattle.aea_records.specs.Objects.{stored_as}
 use Rattle.aea_ledger.proofs.Small.{few_digests}
 use Rattle.aea_ledger.proofs.Appends.{made_next, made_few}
 use Rattle.aea_ledger.proofs.append.may_follow.Goals as goal

@@ -11,7 +11,7 @@ use Rattle.aea_catalog.specs.declared.objects.Extent.{Extent}
 use Rattle.aea_records.specs.Format.{entry, greatest_objects}
 use Rattle.aea_records.specs.Catalogued.{with_record}
 use Rattle.aea_ledger.specs.Values.{Opened, HasSomeRecords}
-use Rattle.aea_ledger.specs.Next.{stored_as, made}
+use Rattle.aea_records.specs.Objects.{stored_as, made}
 use Rattle.aea_ledger.specs.Committing.{HasTaken}
 use Rattle.aea_ledger.proofs.Appends.{HasMade, made_taken, with_made, made_small, few_objects, of_view, short_end, length-closed, leaves_none, has_some_more, when_ok}
 use Rattle.aea_ledger.proofs.ledger.Ledger.add.Given.{Over}
@@ -63,20 +63,20 @@ returns-in_err-reserve-clause-writes g c =
     let p = err_from_is_err_and c.from_residual-in_err-reserve.result c.from_residual-in_err-reserve.ensures.1 in rw (p.1, p.2)
     (writes_as g.D.Disk.tells _ _ ⊥ _ (ChangesOnly 0) (g.D.Disk.state c.args.disk.now) (g.D.Disk.state c.args.disk.now) (λ is. cc) (λ none. absurd none) (writes_none g.D.Disk.tells _ _ (ChangesOnly 0) (g.D.Disk.state c.args.disk.now) (λ d f other. refl)))
 
-pub commit_next-requires-clause-range : goal.commit_next-requires-clause-range
-commit_next-requires-clause-range g c =
+pub write_next_entry-requires-clause-range : goal.write_next_entry-requires-clause-range
+write_next_entry-requires-clause-range g c =
     let some : HasSomeRecords c.args.self.now = subst HasSomeRecords c.self.view_is c.self.invariant in
     let short = short_end c.args.self.now some.0 (made (stored_as c.args.name.now c.args.object.now c.args.digests.now) (option_map (λ e. e.now) c.args.parts)) c.records_are_few.ensures some.1 (c.may_follow.ensures.next some.0 some.1) in
     let size = length-closed c.deref.result.now c.as_flattened-rest.result.now (made (stored_as c.args.name.now c.args.object.now c.args.digests.now) (option_map (λ e. e.now) c.args.parts)) ((λ i. c.deref.ensures.value i ++ c.as_flattened-rest.ensures.value i) ∙ c.in_ok-front.ensures) in
     omega (arith, short, size, (ap (λ (v : Opened). v.end) c.self.view_is))
 
 pub returns-then-is_err-clause-leaves : goal.returns-then-is_err-clause-leaves
-returns-then-is_err-clause-leaves g c = c.commit_next.ensures.leaves c.args.self.now (made (stored_as c.args.name.now c.args.object.now c.args.digests.now) (option_map (λ e. e.now) c.args.parts)) (sym (ap (λ (v : Opened). v.end) c.self.view_is)) ((λ i. c.deref.ensures.value i ++ c.as_flattened-rest.ensures.value i) ∙ c.in_ok-front.ensures) c.may_follow.ensures.next
+returns-then-is_err-clause-leaves g c = c.write_next_entry.ensures.leaves c.args.self.now (made (stored_as c.args.name.now c.args.object.now c.args.digests.now) (option_map (λ e. e.now) c.args.parts)) (sym (ap (λ (v : Opened). v.end) c.self.view_is)) ((λ i. c.deref.ensures.value i ++ c.as_flattened-rest.ensures.value i) ∙ c.in_ok-front.ensures) c.may_follow.ensures.next
 
 pub returns-then-is_err-clause-writes : goal.returns-then-is_err-clause-writes
 returns-then-is_err-clause-writes g c =
-    writes_as g.D.Disk.tells _ _ _ _ (ChangesOnly 0) (g.D.Disk.state c.args.disk.now) (g.D.Disk.state c.commit_next.new.disk) (λ is. sym c.is_err.ensures.value ∙ c.if-is_err.true) (λ is. cc)
-    (c.commit_next.ensures.writes c.args.self.now (made (stored_as c.args.name.now c.args.object.now c.args.digests.now) (option_map (λ e. e.now) c.args.parts)) (sym (ap (λ (v : Opened). v.end) c.self.view_is)) ((λ i. c.deref.ensures.value i ++ c.as_flattened-rest.ensures.value i) ∙ c.in_ok-front.ensures) c.may_follow.ensures.next c.requires.this)
+    writes_as g.D.Disk.tells _ _ _ _ (ChangesOnly 0) (g.D.Disk.state c.args.disk.now) (g.D.Disk.state c.write_next_entry.new.disk) (λ is. sym c.is_err.ensures.value ∙ c.if-is_err.true) (λ is. cc)
+    (c.write_next_entry.ensures.writes c.args.self.now (made (stored_as c.args.name.now c.args.object.now c.args.digests.now) (option_map (λ e. e.now) c.args.parts)) (sym (ap (λ (v : Opened). v.end) c.self.view_is)) ((λ i. c.deref.ensures.value i ++ c.as_flattened-rest.ensures.value i) ∙ c.in_ok-front.ensures) c.may_follow.ensures.next c.requires.this)
 
 pub put_object-requires-clause-few : goal.put_object-requires-clause-few
 put_object-requires-clause-few g c =
@@ -119,14 +119,14 @@ pub invariant_of-self-2 : goal.invariant_of-self-2
 invariant_of-self-2 g c = has_some_more c.args.self.now (record { shape = c.self.inside.shape; lattice = c.more_nodes-self-inside.result; objects = c.put_object.new.catalog.objects; raised = c.self.inside.raised; digests = c.put_digests.new.digests.items; hasher = c.take_entry-self-inside.new.hasher; seal = c.take_entry-self-inside.result; end = c.self.inside.end + (1 + c.len-2.result + length c.as_flattened-rest.result.now); live = c.self.inside.live }) (made (stored_as c.args.name.now c.args.object.now c.args.digests.now) (option_map (λ e. e.now) c.args.parts)) (taken g c) c.may_follow.ensures.next (subst HasSomeRecords c.self.view_is c.self.invariant)
 
 pub returns-clause-leaves : goal.returns-clause-leaves
-returns-clause-leaves g c = c.commit_next.ensures.leaves c.args.self.now (made (stored_as c.args.name.now c.args.object.now c.args.digests.now) (option_map (λ e. e.now) c.args.parts)) (sym (ap (λ (v : Opened). v.end) c.self.view_is)) ((λ i. c.deref.ensures.value i ++ c.as_flattened-rest.ensures.value i) ∙ c.in_ok-front.ensures) c.may_follow.ensures.next
+returns-clause-leaves g c = c.write_next_entry.ensures.leaves c.args.self.now (made (stored_as c.args.name.now c.args.object.now c.args.digests.now) (option_map (λ e. e.now) c.args.parts)) (sym (ap (λ (v : Opened). v.end) c.self.view_is)) ((λ i. c.deref.ensures.value i ++ c.as_flattened-rest.ensures.value i) ∙ c.in_ok-front.ensures) c.may_follow.ensures.next
 
 pub returns-clause-committed : goal.returns-clause-committed
 returns-clause-committed g c =
-    when_ok c.commit_next.result c.if-is_err.ensures.negation c.commit_next.ensures.committed c.args.self.now (record { shape = c.self.inside.shape; lattice = c.more_nodes-self-inside.result; objects = c.put_object.new.catalog.objects; raised = c.self.inside.raised; digests = c.put_digests.new.digests.items; hasher = c.take_entry-self-inside.new.hasher; seal = c.take_entry-self-inside.result; end = c.self.inside.end + (1 + c.len-2.result + length c.as_flattened-rest.result.now); live = c.self.inside.live }) (made (stored_as c.args.name.now c.args.object.now c.args.digests.now) (option_map (λ e. e.now) c.args.parts)) (sym (ap (λ (v : Opened). v.end) c.self.view_is)) ((λ i. c.deref.ensures.value i ++ c.as_flattened-rest.ensures.value i) ∙ c.in_ok-front.ensures) c.may_follow.ensures.next
+    when_ok c.write_next_entry.result c.if-is_err.ensures.negation c.write_next_entry.ensures.committed c.args.self.now (record { shape = c.self.inside.shape; lattice = c.more_nodes-self-inside.result; objects = c.put_object.new.catalog.objects; raised = c.self.inside.raised; digests = c.put_digests.new.digests.items; hasher = c.take_entry-self-inside.new.hasher; seal = c.take_entry-self-inside.result; end = c.self.inside.end + (1 + c.len-2.result + length c.as_flattened-rest.result.now); live = c.self.inside.live }) (made (stored_as c.args.name.now c.args.object.now c.args.digests.now) (option_map (λ e. e.now) c.args.parts)) (sym (ap (λ (v : Opened). v.end) c.self.view_is)) ((λ i. c.deref.ensures.value i ++ c.as_flattened-rest.ensures.value i) ∙ c.in_ok-front.ensures) c.may_follow.ensures.next
     c.requires.this (taken g c)
 
 pub returns-clause-writes : goal.returns-clause-writes
 returns-clause-writes g c =
-    writes_as g.D.Disk.tells _ _ _ _ (ChangesOnly 0) (g.D.Disk.state c.args.disk.now) (g.D.Disk.state c.commit_next.new.disk) (λ is. absurd (cc)) (λ is. absurd (ok_not_err c.commit_next.result c.if-is_err.ensures.negation is))
-    (c.commit_next.ensures.writes c.args.self.now (made (stored_as c.args.name.now c.args.object.now c.args.digests.now) (option_map (λ e. e.now) c.args.parts)) (sym (ap (λ (v : Opened). v.end) c.self.view_is)) ((λ i. c.deref.ensures.value i ++ c.as_flattened-rest.ensures.value i) ∙ c.in_ok-front.ensures) c.may_follow.ensures.next c.requires.this)
+    writes_as g.D.Disk.tells _ _ _ _ (ChangesOnly 0) (g.D.Disk.state c.args.disk.now) (g.D.Disk.state c.write_next_entry.new.disk) (λ is. absurd (cc)) (λ is. absurd (ok_not_err c.write_next_entry.result c.if-is_err.ensures.negation is))
+    (c.write_next_entry.ensures.writes c.args.self.now (made (stored_as c.args.name.now c.args.object.now c.args.digests.now) (option_map (λ e. e.now) c.args.parts)) (sym (ap (λ (v : Opened). v.end) c.self.view_is)) ((λ i. c.deref.ensures.value i ++ c.as_flattened-rest.ensures.value i) ∙ c.in_ok-front.ensures) c.may_follow.ensures.next c.requires.this)

@@ -8,7 +8,7 @@ use Rattle.aea_lattice.specs.Fences.{greatest_fences, last_fence}
 use Rattle.aea_records.specs.Format.{Fence, body, entry}
 use Rattle.aea_ledger.specs.Values.{Opened, HasSomeRecords}
 use Rattle.aea_ledger.specs.Committing.{HasTaken}
-use Rattle.aea_ledger.proofs.Records.{or_false}
+use Rattle.aea_records.proofs.OneMore.{or_false}
 use Rattle.aea_ledger.proofs.Small.{is_full}
 use Rattle.aea_ledger.proofs.Appends.{fence_next, short_end, length-closed, cut-behind, leaves_none, has_some_more, when_ok}
 use Rattle.aea_ledger.proofs.ledger.Ledger.append_fence.Goals as goal
@@ -34,8 +34,8 @@ pub returns-in_default-clause-writes : goal.returns-in_default-clause-writes
 returns-in_default-clause-writes g c = (let s = (g.D.Disk.state c.args.disk.now) in
     writes_as g.D.Disk.tells _ _ ⊥ _ (ChangesOnly 0) s s (λ is. cc) (λ none. absurd none) (writes_none g.D.Disk.tells _ _ (ChangesOnly 0) s (λ d f other. refl)))
 
-pub commit_next-requires-clause-range : goal.commit_next-requires-clause-range
-commit_next-requires-clause-range g c =
+pub write_next_entry-requires-clause-range : goal.write_next_entry-requires-clause-range
+write_next_entry-requires-clause-range g c =
     let may = (rw c.in-Some.is at c.fenced.ensures.valid).0 refl in
     let some : HasSomeRecords c.args.self.now = subst HasSomeRecords c.self.view_is c.self.invariant in
     let short = short_end c.args.self.now some.0 (Fence c.args.self.now.lattice.n) c.records_are_few.ensures some.1 ((fence_next c.args.self.now c.fences_may_follow.ensures (subst (λ (v : Opened). last_fence v.lattice.fences < v.lattice.n) c.self.view_is may.0) (subst (λ (v : Opened). length v.lattice.fences < greatest_fences) c.self.view_is may.1)) some.0 some.1) in
@@ -45,13 +45,13 @@ commit_next-requires-clause-range g c =
 pub returns-then-is_err-clause-leaves : goal.returns-then-is_err-clause-leaves
 returns-then-is_err-clause-leaves g c =
     let may = (rw c.in-Some.is at c.fenced.ensures.valid).0 refl in
-    c.commit_next.ensures.leaves c.args.self.now (Fence c.args.self.now.lattice.n) (sym (ap (λ (v : Opened). v.end) c.self.view_is)) ((λ i. c.split_at.ensures.front i ++ c.split_at.ensures.back i) ∙ cut-behind (Fence c.args.self.now.lattice.n) c.fence_body-behind.result 9 5 (c.fence_body-behind.ensures ∙ ap (λ (n : ℕ). body (Fence n) ++ 0 ∷ []) (ap (λ (v : Opened). v.lattice.n) c.self.view_is)) refl) (fence_next c.args.self.now c.fences_may_follow.ensures (subst (λ (v : Opened). last_fence v.lattice.fences < v.lattice.n) c.self.view_is may.0) (subst (λ (v : Opened). length v.lattice.fences < greatest_fences) c.self.view_is may.1))
+    c.write_next_entry.ensures.leaves c.args.self.now (Fence c.args.self.now.lattice.n) (sym (ap (λ (v : Opened). v.end) c.self.view_is)) ((λ i. c.split_at.ensures.front i ++ c.split_at.ensures.back i) ∙ cut-behind (Fence c.args.self.now.lattice.n) c.fence_body-behind.result 9 5 (c.fence_body-behind.ensures ∙ ap (λ (n : ℕ). body (Fence n) ++ 0 ∷ []) (ap (λ (v : Opened). v.lattice.n) c.self.view_is)) refl) (fence_next c.args.self.now c.fences_may_follow.ensures (subst (λ (v : Opened). last_fence v.lattice.fences < v.lattice.n) c.self.view_is may.0) (subst (λ (v : Opened). length v.lattice.fences < greatest_fences) c.self.view_is may.1))
 
 pub returns-then-is_err-clause-writes : goal.returns-then-is_err-clause-writes
 returns-then-is_err-clause-writes g c =
     let may = (rw c.in-Some.is at c.fenced.ensures.valid).0 refl in
-    writes_as g.D.Disk.tells _ _ _ _ (ChangesOnly 0) (g.D.Disk.state c.args.disk.now) (g.D.Disk.state c.commit_next.new.disk) (λ is. sym c.is_err.ensures.value ∙ c.if-is_err.true) (λ is. cc)
-    (c.commit_next.ensures.writes c.args.self.now (Fence c.args.self.now.lattice.n) (sym (ap (λ (v : Opened). v.end) c.self.view_is)) ((λ i. c.split_at.ensures.front i ++ c.split_at.ensures.back i) ∙ cut-behind (Fence c.args.self.now.lattice.n) c.fence_body-behind.result 9 5 (c.fence_body-behind.ensures ∙ ap (λ (n : ℕ). body (Fence n) ++ 0 ∷ []) (ap (λ (v : Opened). v.lattice.n) c.self.view_is)) refl) (fence_next c.args.self.now c.fences_may_follow.ensures (subst (λ (v : Opened). last_fence v.lattice.fences < v.lattice.n) c.self.view_is may.0) (subst (λ (v : Opened). length v.lattice.fences < greatest_fences) c.self.view_is may.1)) c.requires.this)
+    writes_as g.D.Disk.tells _ _ _ _ (ChangesOnly 0) (g.D.Disk.state c.args.disk.now) (g.D.Disk.state c.write_next_entry.new.disk) (λ is. sym c.is_err.ensures.value ∙ c.if-is_err.true) (λ is. cc)
+    (c.write_next_entry.ensures.writes c.args.self.now (Fence c.args.self.now.lattice.n) (sym (ap (λ (v : Opened). v.end) c.self.view_is)) ((λ i. c.split_at.ensures.front i ++ c.split_at.ensures.back i) ∙ cut-behind (Fence c.args.self.now.lattice.n) c.fence_body-behind.result 9 5 (c.fence_body-behind.ensures ∙ ap (λ (n : ℕ). body (Fence n) ++ 0 ∷ []) (ap (λ (v : Opened). v.lattice.n) c.self.view_is)) refl) (fence_next c.args.self.now c.fences_may_follow.ensures (subst (λ (v : Opened). last_fence v.lattice.fences < v.lattice.n) c.self.view_is may.0) (subst (λ (v : Opened). length v.lattice.fences < greatest_fences) c.self.view_is may.1)) c.requires.this)
 
 pub invariant_of-self-2 : goal.invariant_of-self-2
 invariant_of-self-2 g c =
@@ -76,12 +76,12 @@ invariant_of-self-2 g c =
 pub returns-clause-leaves : goal.returns-clause-leaves
 returns-clause-leaves g c =
     let may = (rw c.in-Some.is at c.fenced.ensures.valid).0 refl in
-    c.commit_next.ensures.leaves c.args.self.now (Fence c.args.self.now.lattice.n) (sym (ap (λ (v : Opened). v.end) c.self.view_is)) ((λ i. c.split_at.ensures.front i ++ c.split_at.ensures.back i) ∙ cut-behind (Fence c.args.self.now.lattice.n) c.fence_body-behind.result 9 5 (c.fence_body-behind.ensures ∙ ap (λ (n : ℕ). body (Fence n) ++ 0 ∷ []) (ap (λ (v : Opened). v.lattice.n) c.self.view_is)) refl) (fence_next c.args.self.now c.fences_may_follow.ensures (subst (λ (v : Opened). last_fence v.lattice.fences < v.lattice.n) c.self.view_is may.0) (subst (λ (v : Opened). length v.lattice.fences < greatest_fences) c.self.view_is may.1))
+    c.write_next_entry.ensures.leaves c.args.self.now (Fence c.args.self.now.lattice.n) (sym (ap (λ (v : Opened). v.end) c.self.view_is)) ((λ i. c.split_at.ensures.front i ++ c.split_at.ensures.back i) ∙ cut-behind (Fence c.args.self.now.lattice.n) c.fence_body-behind.result 9 5 (c.fence_body-behind.ensures ∙ ap (λ (n : ℕ). body (Fence n) ++ 0 ∷ []) (ap (λ (v : Opened). v.lattice.n) c.self.view_is)) refl) (fence_next c.args.self.now c.fences_may_follow.ensures (subst (λ (v : Opened). last_fence v.lattice.fences < v.lattice.n) c.self.view_is may.0) (subst (λ (v : Opened). length v.lattice.fences < greatest_fences) c.self.view_is may.1))
 
 pub returns-clause-committed : goal.returns-clause-committed
 returns-clause-committed g c =
     let may = (rw c.in-Some.is at c.fenced.ensures.valid).0 refl in
-    when_ok c.commit_next.result c.if-is_err.ensures.negation c.commit_next.ensures.committed c.args.self.now (record { shape = c.self.inside.shape; lattice = c.in-Some.lattice; objects = c.self.inside.catalog.objects; raised = c.self.inside.raised; digests = c.self.inside.digests.items; hasher = c.take_entry-self-inside.new.hasher; seal = c.take_entry-self-inside.result; end = c.self.inside.end + 10; live = c.self.inside.live }) (Fence c.args.self.now.lattice.n) (sym (ap (λ (v : Opened). v.end) c.self.view_is)) ((λ i. c.split_at.ensures.front i ++ c.split_at.ensures.back i) ∙ cut-behind (Fence c.args.self.now.lattice.n) c.fence_body-behind.result 9 5 (c.fence_body-behind.ensures ∙ ap (λ (n : ℕ). body (Fence n) ++ 0 ∷ []) (ap (λ (v : Opened). v.lattice.n) c.self.view_is)) refl) (fence_next c.args.self.now c.fences_may_follow.ensures (subst (λ (v : Opened). last_fence v.lattice.fences < v.lattice.n) c.self.view_is may.0) (subst (λ (v : Opened). length v.lattice.fences < greatest_fences) c.self.view_is may.1)) c.requires.this (subst (λ (v : Opened). HasTaken v (Fence c.args.self.now.lattice.n) (record { shape = c.self.inside.shape; lattice = c.in-Some.lattice; objects = c.self.inside.catalog.objects; raised = c.self.inside.raised; digests = c.self.inside.digests.items; hasher = c.take_entry-self-inside.new.hasher; seal = c.take_entry-self-inside.result; end = c.self.inside.end + 10; live = c.self.inside.live })) c.self.view_is
+    when_ok c.write_next_entry.result c.if-is_err.ensures.negation c.write_next_entry.ensures.committed c.args.self.now (record { shape = c.self.inside.shape; lattice = c.in-Some.lattice; objects = c.self.inside.catalog.objects; raised = c.self.inside.raised; digests = c.self.inside.digests.items; hasher = c.take_entry-self-inside.new.hasher; seal = c.take_entry-self-inside.result; end = c.self.inside.end + 10; live = c.self.inside.live }) (Fence c.args.self.now.lattice.n) (sym (ap (λ (v : Opened). v.end) c.self.view_is)) ((λ i. c.split_at.ensures.front i ++ c.split_at.ensures.back i) ∙ cut-behind (Fence c.args.self.now.lattice.n) c.fence_body-behind.result 9 5 (c.fence_body-behind.ensures ∙ ap (λ (n : ℕ). body (Fence n) ++ 0 ∷ []) (ap (λ (v : Opened). v.lattice.n) c.self.view_is)) refl) (fence_next c.args.self.now c.fences_may_follow.ensures (subst (λ (v : Opened). last_fence v.lattice.fences < v.lattice.n) c.self.view_is may.0) (subst (λ (v : Opened). length v.lattice.fences < greatest_fences) c.self.view_is may.1)) c.requires.this (subst (λ (v : Opened). HasTaken v (Fence c.args.self.now.lattice.n) (record { shape = c.self.inside.shape; lattice = c.in-Some.lattice; objects = c.self.inside.catalog.objects; raised = c.self.inside.raised; digests = c.self.inside.digests.items; hasher = c.take_entry-self-inside.new.hasher; seal = c.take_entry-self-inside.result; end = c.self.inside.end + 10; live = c.self.inside.live })) c.self.view_is
     (record {
       shape = refl;
       alpha = c.in-Some.ensures.fenced.shape.alpha;
@@ -101,5 +101,5 @@ returns-clause-committed g c =
 pub returns-clause-writes : goal.returns-clause-writes
 returns-clause-writes g c =
     let may = (rw c.in-Some.is at c.fenced.ensures.valid).0 refl in
-    writes_as g.D.Disk.tells _ _ _ _ (ChangesOnly 0) (g.D.Disk.state c.args.disk.now) (g.D.Disk.state c.commit_next.new.disk) (λ is. absurd (cc)) (λ is. absurd (ok_not_err c.commit_next.result c.if-is_err.ensures.negation is))
-    (c.commit_next.ensures.writes c.args.self.now (Fence c.args.self.now.lattice.n) (sym (ap (λ (v : Opened). v.end) c.self.view_is)) ((λ i. c.split_at.ensures.front i ++ c.split_at.ensures.back i) ∙ cut-behind (Fence c.args.self.now.lattice.n) c.fence_body-behind.result 9 5 (c.fence_body-behind.ensures ∙ ap (λ (n : ℕ). body (Fence n) ++ 0 ∷ []) (ap (λ (v : Opened). v.lattice.n) c.self.view_is)) refl) (fence_next c.args.self.now c.fences_may_follow.ensures (subst (λ (v : Opened). last_fence v.lattice.fences < v.lattice.n) c.self.view_is may.0) (subst (λ (v : Opened). length v.lattice.fences < greatest_fences) c.self.view_is may.1)) c.requires.this)
+    writes_as g.D.Disk.tells _ _ _ _ (ChangesOnly 0) (g.D.Disk.state c.args.disk.now) (g.D.Disk.state c.write_next_entry.new.disk) (λ is. absurd (cc)) (λ is. absurd (ok_not_err c.write_next_entry.result c.if-is_err.ensures.negation is))
+    (c.write_next_entry.ensures.writes c.args.self.now (Fence c.args.self.now.lattice.n) (sym (ap (λ (v : Opened). v.end) c.self.view_is)) ((λ i. c.split_at.ensures.front i ++ c.split_at.ensures.back i) ∙ cut-behind (Fence c.args.self.now.lattice.n) c.fence_body-behind.result 9 5 (c.fence_body-behind.ensures ∙ ap (λ (n : ℕ). body (Fence n) ++ 0 ∷ []) (ap (λ (v : Opened). v.lattice.n) c.self.view_is)) refl) (fence_next c.args.self.now c.fences_may_follow.ensures (subst (λ (v : Opened). last_fence v.lattice.fences < v.lattice.n) c.self.view_is may.0) (subst (λ (v : Opened). length v.lattice.fences < greatest_fences) c.self.view_is may.1)) c.requires.this)

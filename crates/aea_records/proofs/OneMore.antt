@@ -1,13 +1,13 @@
--- One record more behind others, and parts of bytes.
-use Rattle.std.proofs.Common.{◌≡◌, ℕ, ◌+◌, ◌-◌, ◌≤◌, Bool, true, false, ◌||◌, List, [], ◌∷◌, ◌++◌, length, take, drop, refl, sym, ap, subst, ◌∙◌, append_assoc, arith}
+-- One record more after others: what it adds to their objects, nodes, fences and digests, to the limit, to the catalogue and
+-- to the spelling. By these a call that adds a record goes from the records before it to those after it.
+use Rattle.std.proofs.Common.{◌≡◌, ℕ, ◌+◌, Bool, true, false, ◌||◌, List, [], ◌∷◌, ◌++◌, refl, sym, ap, subst, ◌∙◌, append_assoc}
 use Rattle.std.specs.List.{flat_map, list_any, sum_by}
-use Rattle.std.proofs.lemmas.List.{append-nil, length-take, length-drop, drop-take, take-take}
+use Rattle.std.proofs.lemmas.List.{append-nil}
 use Rattle.std.proofs.lemmas.List.Concat.{flat_map-append}
 use Rattle.std.proofs.lemmas.List.Folds.{list_any-append}
 use Rattle.std.proofs.lemmas.List.Sums.{sum_by-append}
 use Rattle.aea_lattice.specs.declared.shape.Shape.{Shape}
 use Rattle.aea_catalog.specs.Catalogs.{Objects}
-use Rattle.aea_records.specs.Tables.{bytes_at}
 use Rattle.aea_records.specs.Format.{Stored, Record, is_raise, stored_in, stored_of, nodes_of, digests_of, fence_in, fences_of, header, entry, spelled}
 use Rattle.aea_records.specs.Grammar.{IsNext, MayFollow}
 use Rattle.aea_records.specs.Catalogued.{with_record, objects_from}
@@ -22,10 +22,11 @@ MayFollow-push shape earlier (q ∷ records) r follow next = (
       (subst (λ (e : List Record). IsNext shape e r) (sym (append_assoc earlier (q ∷ []) records)) next),
 )
 
-stored_of-push : (records : List Record) (r : Record) → stored_of (records ++ r ∷ []) ≡ stored_of records ++ stored_in r
+-- one record more puts its object, if it is of one, after those of the others
+pub stored_of-push : (records : List Record) (r : Record) → stored_of (records ++ r ∷ []) ≡ stored_of records ++ stored_in r
 stored_of-push records r = flat_map-append stored_in records (r ∷ []) ∙ ap (λ (l : List Stored). stored_of records ++ l) (append-nil (stored_in r))
 
--- one record more puts its fence, if it is one, behind the fences of the others
+-- one record more puts its fence, if it is one, after the fences of the others
 pub fences_of-push : (records : List Record) (r : Record) → fences_of (records ++ r ∷ []) ≡ fences_of records ++ fence_in r
 fences_of-push records r = flat_map-append fence_in records (r ∷ []) ∙ ap (λ (l : List ℕ). fences_of records ++ l) (append-nil (fence_in r))
 
@@ -33,7 +34,7 @@ fences_of-push records r = flat_map-append fence_in records (r ∷ []) ∙ ap (�
 pub nodes_of-push : (records : List Record) (r : Record) → nodes_of (records ++ r ∷ []) ≡ nodes_of records + sum_by (λ o. o.count) (stored_in r)
 nodes_of-push records r = ap (sum_by (λ (o : Stored). o.count)) (stored_of-push records r) ∙ sum_by-append (λ (o : Stored). o.count) (stored_of records) (stored_in r)
 
--- one record more puts the digests of its object, if it is of one, behind those of the others
+-- one record more puts the digests of its object, if it is of one, after those of the others
 pub digests_of-push : (records : List Record) (r : Record) → digests_of (records ++ r ∷ []) ≡ digests_of records ++ flat_map (λ o. o.digests) (stored_in r)
 digests_of-push records r = ap (flat_map (λ (o : Stored). o.digests)) (stored_of-push records r) ∙ flat_map-append (λ (o : Stored). o.digests) (stored_of records) (stored_in r)
 
@@ -64,23 +65,16 @@ pub objects-push : (m : Objects) (records : List Record) (r : Record) → object
 objects-push m [] r = refl
 objects-push m (e ∷ records) r = objects-push (with_record m e) records r
 
--- one record more puts its entry behind the spelling of the others
+-- one record more puts its entry after those of the others
+pub entries-push : (records : List Record) (r : Record) → flat_map entry (records ++ r ∷ []) ≡ flat_map entry records ++ entry r
+entries-push records r = flat_map-append entry records (r ∷ []) ∙ ap (λ (l : List ℕ). flat_map entry records ++ l) (append-nil (entry r))
+
+-- one record more puts its entry after the spelling of the others
 pub spelled-push : (shape : Shape) (records : List Record) (r : Record) → spelled shape (records ++ r ∷ []) ≡ spelled shape records ++ entry r
 spelled-push shape records r =
-    ap (λ (l : List ℕ). header shape ++ l)
-    (flat_map-append entry records (r ∷ []) ∙ ap (λ (l : List ℕ). flat_map entry records ++ l) (append-nil (entry r)))
-    ∙ sym (append_assoc (header shape) (flat_map entry records) (entry r))
+    ap (λ (l : List ℕ). header shape ++ l) (entries-push records r) ∙ sym (append_assoc (header shape) (flat_map entry records) (entry r))
 
--- ---- parts of bytes
-
--- a part within the bytes is as long as it says
-pub length-bytes_at : (bytes : List ℕ) (at n : ℕ) → at + n ≤ length bytes → length (bytes_at n at bytes) ≡ n
-length-bytes_at bytes at n h = omega (arith, length-take n (drop at bytes), length-drop at bytes)
-
--- a part that ends within a front is one of the front
-pub front-bytes_at : (bytes : List ℕ) (at n size : ℕ) → at + n ≤ size → bytes_at n at (take size bytes) ≡ bytes_at n at bytes
-front-bytes_at bytes at n size h =
-    let sum : size ≡ at + (size - at) = omega arith in
-    let front : drop at (take size bytes) ≡ take (size - at) (drop at bytes) =
-    ap (λ (k : ℕ). drop at (take k bytes)) sum ∙ drop-take at (size - at) bytes in
-    ap (take n) front ∙ take-take n (size - at) (drop at bytes) (omega arith)
+-- the nodes of records and of others after them
+pub nodes_of-append : (records added : List Record) → nodes_of (records ++ added) ≡ nodes_of records + nodes_of added
+nodes_of-append records added =
+    ap (sum_by (λ (o : Stored). o.count)) (flat_map-append stored_in records added) ∙ sum_by-append (λ (o : Stored). o.count) (stored_of records) (stored_of added)

@@ -5,7 +5,7 @@ use Rattle.aea_disk.proofs.Frames.{ok_fine, writes_both, writes_faulted, writes_
 use Rattle.aea_disk.proofs.Moments.{during_both, during_more, stays_both}
 use Rattle.aea_ledger.specs.Taking.{TakesBehind, TakesThrough, TakesCommit, FitsThrough, FitsCommit}
 use Rattle.aea_ledger.specs.Stops.{HasLedger, HasOldOrNew, closed, committed}
-use Rattle.aea_ledger.proofs.commit.commit.Goals as goal
+use Rattle.aea_ledger.proofs.entry.write_entry.Goals as goal
 
 pub returns-in_err-write_body-clause-any_moment : goal.returns-in_err-write_body-clause-any_moment
 returns-in_err-write_body-clause-any_moment g c told shape records r added =

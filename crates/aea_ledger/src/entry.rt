@@ -1,4 +1,4 @@
-// Writes to the ledger file that are made sure, and the commit of a record by its gate.
+// Writes to the ledger file that are synced, and the entry of a record, which its gate commits.
 ghost use Rattle.std.specs.Prelude.{◌≡◌, ◌+◌, ◌^◌, ◌≤◌, [], ◌∷◌, ◌++◌, List, length, max, IsErr, OnOk};
 ghost use Rattle.aea_lattice.specs.declared.shape.Shape.{Shape};
 ghost use Rattle.aea_disk.specs.Files.{ChangesFile, ChangesOnly, Holds, Torn, overwritten};
@@ -13,7 +13,7 @@ ghost use Rattle.aea_ledger.specs.Stops.{HasLedger, HasOldOrNew, IsAdded, IsStag
 
 use aea_disk::{Disk, DiskFault};
 
-// Writes bytes of the ledger file, and makes them sure. It leaves what a write leaves, and at Ok nothing is pending.
+// Writes bytes of the ledger file, and syncs them. It leaves what a write leaves, and at Ok nothing is pending.
 pub(crate) fn write_through<D: Disk>(disk: &mut D, at: u64, bytes: &[u8]) -> Result<(), DiskFault>
     requires { at + length bytes.now ≤ 2 ^ 62 }
     ensures written { OnOk result (D.tells → ChangesFile 0 (Holds at bytes.now) (D.state disk.old).files (D.state disk.new).files) }
@@ -26,7 +26,7 @@ pub(crate) fn write_through<D: Disk>(disk: &mut D, at: u64, bytes: &[u8]) -> Res
     disk.sync()
 }
 
-// Writes bytes of the ledger file and others behind them: those behind first, so that want of room shows at the first
+// Writes bytes of the ledger file and others after them: the later ones first, so that a lack of space shows at the first
 // call. It leaves what a write of both leaves.
 fn write_both<D: Disk>(disk: &mut D, at: u64, front: &[u8], back: &[u8]) -> Result<(), DiskFault>
     requires { at + (length front.now + length back.now) ≤ 2 ^ 62 }
@@ -38,7 +38,7 @@ fn write_both<D: Disk>(disk: &mut D, at: u64, front: &[u8], back: &[u8]) -> Resu
     disk.write(0, at, front)
 }
 
-// Writes the body of a record, which is in two pieces, and a closed gate behind it, and makes them sure.
+// Writes the body of a record, which is in two pieces, and a closed gate after it, and syncs them.
 fn write_closed<D: Disk>(disk: &mut D, at: u64, front: &[u8], rest: &[u8]) -> Result<(), DiskFault>
     requires { at + (length front.now + (length rest.now + 1)) ≤ 2 ^ 62 }
     ensures written { OnOk result (D.tells → ChangesFile 0 (Holds at (closed front.now rest.now)) (D.state disk.old).files (D.state disk.new).files) }
@@ -50,7 +50,7 @@ fn write_closed<D: Disk>(disk: &mut D, at: u64, front: &[u8], rest: &[u8]) -> Re
     write_through(disk, at, front)
 }
 
-// Writes the body of a record, which is in two pieces, and a closed gate behind the gate at `end`, and makes them sure.
+// Writes the body of a record, which is in two pieces, and a closed gate past the gate at `end`, and syncs them.
 // The ledger stays what it was.
 pub(crate) fn write_body<D: Disk>(
     disk: &mut D,
@@ -61,7 +61,7 @@ pub(crate) fn write_body<D: Disk>(
     requires range { end + 1 + (length front.now + (length rest.now + 1)) ≤ 2 ^ 62 }
     requires fixed { D.tells → IsFixed (D.state disk.old) 0 }
 
-    // The old ledger at each moment; at Ok the body stands behind its gate.
+    // The old ledger at each moment; at Ok the body follows its gate.
     ensures any_moment { D.tells → (shape : Shape) (records : List Record) → IsLedger ((D.state disk.old).files 0) shape records end → During (D.state disk.old) (D.state disk.new) (λ c. HasLedger shape records (c 0)) }
     ensures reads { D.tells → (shape : Shape) (records : List Record) → IsLedger ((D.state disk.old).files 0) shape records end → HasLedger shape records ((D.state disk.new).files 0) }
     ensures stays { D.tells → (shape : Shape) (records : List Record) (r : Record) → IsLedger ((D.state disk.old).files 0) shape records end → Stays (D.state disk.old) (D.state disk.new) (λ c. HasLedger shape (records ++ r ∷ []) (c 0)) }
@@ -76,7 +76,7 @@ pub(crate) fn write_body<D: Disk>(
     write_closed(disk, end + 1, front, rest)
 }
 
-// Opens the gate at `end`, behind which the body of a record stands, and makes that sure.
+// Opens the gate at `end`, after which the body of a record lies, and syncs that.
 pub(crate) fn open_gate<D: Disk>(disk: &mut D, end: u64) -> Result<(), DiskFault>
     requires range { end + 1 ≤ 2 ^ 62 }
     requires fixed { D.tells → IsFixed (D.state disk.old) 0 }
@@ -95,9 +95,9 @@ pub(crate) fn open_gate<D: Disk>(disk: &mut D, end: u64) -> Result<(), DiskFault
     write_through(disk, end, &[1])
 }
 
-// Commits a record: writes its body, which is in two pieces, and a closed gate behind the gate at `end`, makes them sure,
-// and then opens the gate, and makes that sure.
-pub(crate) fn commit<D: Disk>(
+// Commits a record: writes its body, which is in two pieces, and a closed gate past the gate at `end`, syncs them,
+// and then opens the gate, and syncs that.
+pub(crate) fn write_entry<D: Disk>(
     disk: &mut D,
     end: u64,
     front: &[u8],
@@ -110,7 +110,7 @@ pub(crate) fn commit<D: Disk>(
     ensures any_moment { D.tells → (shape : Shape) (records : List Record) (r : Record) → IsAdded shape records r ((D.state disk.old).files 0) end (closed front.now rest.now) → During (D.state disk.old) (D.state disk.new) (λ c. HasOldOrNew shape records r (c 0)) }
     ensures stays { D.tells → (shape : Shape) (records : List Record) (r : Record) → IsAdded shape records r ((D.state disk.old).files 0) end (closed front.now rest.now) → Stays (D.state disk.old) (D.state disk.new) (λ c. HasLedger shape (records ++ r ∷ []) (c 0)) }
     ensures reads { D.tells → (shape : Shape) (records : List Record) (r : Record) → IsAdded shape records r ((D.state disk.old).files 0) end (closed front.now rest.now) → HasOldOrNew shape records r ((D.state disk.new).files 0) }
-    // At Ok the file is the old one with these bytes behind the gate, and the gate opened.
+    // At Ok the file is the old one with these bytes past the gate, and the gate opened.
     ensures exactly { OnOk result (D.tells → (D.state disk.new).files 0 ≡ committed ((D.state disk.old).files 0) end (closed front.now rest.now)) }
     ensures appended { OnOk result (D.tells → (shape : Shape) (records : List Record) (r : Record) → IsAdded shape records r ((D.state disk.old).files 0) end (closed front.now rest.now) → HasLedger shape (records ++ r ∷ []) ((D.state disk.new).files 0)) }
     ensures durable { OnOk result (D.tells → IsSynced (D.state disk.new)) }
@@ -124,7 +124,7 @@ pub(crate) fn commit<D: Disk>(
 }
 
 // Commits the record r of which these two pieces are the body, to an opened ledger v that ends at this place.
-pub(crate) fn commit_next<D: Disk>(
+pub(crate) fn write_next_entry<D: Disk>(
     disk: &mut D,
     end: u64,
     front: &[u8],
@@ -136,6 +136,6 @@ pub(crate) fn commit_next<D: Disk>(
     ensures committed { OnOk result ((v w : Opened) (r : Record) → v.end ≡ end → front.now ++ rest.now ≡ body r → IsNextOf v r → (D.tells → IsThisOne v ((D.state disk.old).files 0)) → HasTaken v r w → HasCommitted D.tells v w r (D.state disk.old) (D.state disk.new)) }
     ensures writes { (v : Opened) (r : Record) → v.end ≡ end → front.now ++ rest.now ≡ body r → IsNextOf v r → (D.tells → IsThisOne v ((D.state disk.old).files 0)) → OnlyWrites D.tells (IsReady (D.state disk.old)) (FitsAdding (D.state disk.old) 1 (v.end + length (entry r))) (IsErr result) (ChangesOnly 0) (D.state disk.old) (D.state disk.new) }
 {
-    commit(disk, end, front, rest)?;
+    write_entry(disk, end, front, rest)?;
     Ok(())
 }

@@ -7,7 +7,7 @@ use Rattle.aea_records.specs.Grammar.{IsLedger}
 use Rattle.aea_ledger.specs.Taking.{TakesThrough, FitsThrough}
 use Rattle.aea_ledger.specs.Stops.{HasLedger, HasOldOrNew}
 use Rattle.aea_ledger.proofs.Commits.{old_staged, old_or_new, new_opened, not_both}
-use Rattle.aea_ledger.proofs.commit.open_gate.Goals as goal
+use Rattle.aea_ledger.proofs.entry.open_gate.Goals as goal
 
 pub returns-clause-any_moment : goal.returns-clause-any_moment
 returns-clause-any_moment g c told shape records r is =

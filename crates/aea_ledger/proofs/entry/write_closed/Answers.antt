@@ -8,7 +8,7 @@ use Rattle.aea_ledger.specs.Stops.{closed}
 use Rattle.aea_ledger.specs.Taking.{TakesBehind, TakesThrough, FitsThrough}
 use Rattle.aea_ledger.proofs.Takings.{behind_torn, behind_more, behind_through}
 use Rattle.aea_ledger.proofs.Writes.{changes_both, torn_both, torn_late, holds_both}
-use Rattle.aea_ledger.proofs.commit.write_closed.Goals as goal
+use Rattle.aea_ledger.proofs.entry.write_closed.Goals as goal
 
 pub returns-in_err-write_both-clause-writes : goal.returns-in_err-write_both-clause-writes
 returns-in_err-write_both-clause-writes g c =

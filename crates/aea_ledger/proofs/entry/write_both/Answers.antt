@@ -7,7 +7,7 @@ use Rattle.std.proofs.lemmas.Result.{on_ok_weaker}
 use Rattle.aea_ledger.specs.Taking.{TakesBehind}
 use Rattle.aea_ledger.proofs.Takings.{behind_torn, behind_more, behind_through}
 use Rattle.aea_ledger.proofs.Writes.{changes_both, torn_both, torn_late, holds_both}
-use Rattle.aea_ledger.proofs.commit.write_both.Goals as goal
+use Rattle.aea_ledger.proofs.entry.write_both.Goals as goal
 
 pub returns-in_err-write-clause-writes : goal.returns-in_err-write-clause-writes
 returns-in_err-write-clause-writes g c =

@@ -1,8 +1,8 @@
 use Rattle.std.proofs.Common.{◌≡◌, ap, length, List, ℕ, arith}
 use Rattle.std.specs.List.{flat_map}
-use Rattle.aea_ledger.specs.Next.{stored_as}
-use Rattle.aea_ledger.proofs.Bodies.{alone_is}
-use Rattle.aea_ledger.proofs.body.alone_front.Goals as goal
+use Rattle.aea_records.specs.Objects.{stored_as}
+use Rattle.aea_records.proofs.ObjectBodies.{alone_is}
+use Rattle.aea_records.proofs.bodies.alone_front.Goals as goal
 
 pub returns : goal.returns
 returns c =

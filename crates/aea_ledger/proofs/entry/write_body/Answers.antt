@@ -7,7 +7,7 @@ use Rattle.aea_records.specs.Format.{spelled}
 use Rattle.aea_ledger.specs.Taking.{TakesBehind, FitsThrough}
 use Rattle.aea_ledger.specs.Stops.{HasLedger, closed}
 use Rattle.aea_ledger.proofs.Commits.{old_behind, staged, not_both}
-use Rattle.aea_ledger.proofs.commit.write_body.Goals as goal
+use Rattle.aea_ledger.proofs.entry.write_body.Goals as goal
 
 pub returns-clause-any_moment : goal.returns-clause-any_moment
 returns-clause-any_moment g c told shape records ledger =

@@ -4,7 +4,7 @@ use Rattle.aea_disk.specs.State.{HasRoomTo, TakesFrom}
 use Rattle.aea_disk.proofs.Frames.{ok_fine, reads_one, writes_one, writes_failed, writes_wider, writes_then_reads, torn_anyway}
 use Rattle.aea_ledger.specs.Taking.{TakesThrough, FitsThrough}
 use Rattle.aea_ledger.proofs.Writes.{settles_then_kept}
-use Rattle.aea_ledger.proofs.commit.write_through.Goals as goal
+use Rattle.aea_ledger.proofs.entry.write_through.Goals as goal
 
 pub returns-clause-settled : goal.returns-clause-settled
 returns-clause-settled g c =

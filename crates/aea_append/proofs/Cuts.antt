@@ -6,7 +6,7 @@ use Rattle.aea_lattice.specs.declared.shape.Shape.{Shape}
 use Rattle.aea_records.specs.Format.{nodes_for}
 use Rattle.aea_archive.specs.Next.{cut_blocks, object_blocks}
 
--- a list has its first bytes where it is long enough, whatever stands behind it
+-- a list has its first bytes where it is long enough, whatever follows it
 take-front : (n : ℕ) (xs ys : List ℕ) → n ≤ length xs → take n (xs ++ ys) ≡ take n xs
 take-front zero xs ys few = refl
 take-front (suc n) [] ys few = absurd (omega arith)
@@ -63,7 +63,7 @@ filled-more (suc size) (x ∷ piece) m few short =
     let e : size - length piece ≡ suc size - length (x ∷ piece) = omega arith in
     ap (λ (l : List ℕ). x ∷ l) (filled-more size piece m (omega arith) (omega (arith, short)) ∙ ap (λ (n : ℕ). piece ++ replicate n 0) e)
 
--- a piece with zeros behind it is its first block
+-- a piece with zeros after it is its first block
 pub filled : (size : ℕ) (piece : List ℕ) → length piece ≤ size → take size (piece ++ replicate size 0) ≡ piece ++ replicate (size - length piece) 0
 filled size piece short = filled-more size piece size (omega arith) short
 

@@ -16,7 +16,7 @@ use Rattle.aea_append.specs.declared.frame.Head.TheVariants.{Cut, Whole}
 use Rattle.aea_append.proofs.Cuts.{nil_of}
 use Rattle.aea_append.specs.Frames.{name_length, frame_name, object_length, frame_head, HasNameLength, HasNoName, HasHead, HasBadName, EndsInHead, EndsInside}
 
--- what is left of a told source
+-- what is left of a source whose bytes are known
 pub told_some : (stream bytes : List ℕ) (rest : Option (List ℕ)) → Consumes (Some stream) rest bytes → (ys : List ℕ) × (rest ≡ Some ys) × (stream ≡ bytes ++ ys)
 told_some stream bytes None none = absurd none
 told_some stream bytes (Some ys) is = (ys, refl, is)
@@ -68,13 +68,13 @@ head_is two name eight size long bytes number wide more is =
 pub length-head : (name : List ℕ) (size : ℕ) → length (frame_head name size) ≡ 10 + length name
 length-head name size = length-append (to_be_bytes w16 (length name)) (name ++ to_be_bytes w64 size) ∙ omega (arith, length-append name (to_be_bytes w64 size), (let e : length (to_be_bytes w16 (length name)) ≡ 2 = refl in e), (let f : length (to_be_bytes w64 size) ≡ 8 = refl in f))
 
--- what is left behind a head that was taken of a told source
+-- what is left after a head that was taken of a source whose bytes are known
 pub behind_head : (left mid : Option (List ℕ)) (stream name : List ℕ) (size : ℕ) → left ≡ Some stream → Consumes left mid (frame_head name size) → (ys : List ℕ) × (mid ≡ Some ys) × (length stream ≡ 10 + length name + length ys)
 behind_head left mid stream name size is taken =
     let some = told_rest left mid stream (frame_head name size) is taken in
     (some.0, some.1, ap length some.2 ∙ length-append (frame_head name size) some.0 ∙ omega (arith, length-head name size))
 
--- ---- what was read of a told source: two bytes, then a name, and then eight
+-- ---- what was read of a source whose bytes are known: two bytes, then a name, and then eight
 
 -- the source was at its end, if no byte was taken and it is there then
 pub end_before : (left rest : Option (List ℕ)) (bytes : List ℕ) → length bytes ≡ 0 → Consumes left rest bytes → IsAtEnd rest → IsAtEnd left

@@ -1,9 +1,8 @@
--- What the answers of a call that takes a frame hold, and what stands where it wrote nothing.
-use Rattle.std.proofs.Common.{◌≡◌, ⊎_elim, inl, inr, ℕ, ◌+◌, ◌<◌, ◌≤◌, List, ◌++◌, length, Option, Result, Ok, Err, sym, ap, subst, arith}
+-- What is known from the results of a call that takes a frame, and what holds where it wrote nothing.
+use Rattle.std.proofs.Common.{◌≡◌, ⊎_elim, inl, inr, refl, ◌∙◌, ℕ, ◌+◌, ◌<◌, ◌≤◌, List, ◌++◌, length, Option, Result, Ok, Err, sym, ap, subst, arith}
 use Rattle.std.specs.Io.KnownBytes.{Consumes}
 use Rattle.std.proofs.KnownBytes.{Consumes-trans}
 use Rattle.aea_faults.specs.Faults.{Rose}
-use Rattle.aea_lattice.specs.declared.blocks.BlockId.{BlockId}
 use Rattle.aea_disk.specs.State.{State, IsFixed}
 use Rattle.aea_disk.specs.Frames.{OnlyWrites}
 use Rattle.aea_disk.proofs.Frames.{writes_none, writes_as}
@@ -14,17 +13,22 @@ use Rattle.aea_archive.specs.Blocks.{IsBlockIn}
 use Rattle.aea_archive.specs.Cells.{IsBesides, ChangesArchive}
 use Rattle.aea_archive.specs.Next.{NewObject}
 use Rattle.aea_archive.proofs.Cells.{changes_none}
-use Rattle.aea_append.specs.declared.store.StoredObject.{StoredObject}
+use Rattle.aea_append.specs.declared.store.Stored.{Stored}
 use Rattle.aea_append.specs.declared.ingest.Ingest.{Ingest}
-use Rattle.aea_append.specs.declared.ingest.Ingest.TheVariants.{Stored, End}
+use Rattle.aea_append.specs.declared.ingest.Ingest.TheVariants as frame
 use Rattle.aea_append.specs.declared.ingest.IngestFault.{IngestFault}
-use Rattle.aea_append.specs.declared.ingest.IngestFault.TheVariants.{HeadDamaged, Full, BadStream}
+use Rattle.aea_append.specs.declared.ingest.IngestFault.TheVariants.{BadStream}
+use Rattle.aea_append.specs.declared.fault.PutFault.{PutFault}
+use Rattle.aea_append.specs.declared.fault.PutFault.TheVariants as put
+use Rattle.aea_append.specs.Faults.{ingest_of, as_put}
+use Rattle.aea_append.specs.Causes.{IsHeadRefused}
 use Rattle.aea_append.specs.Taking.{room_left}
 use Rattle.aea_append.specs.Puts.{IsCut, MayHaveStored, LeavesLedger}
-use Rattle.aea_append.specs.Frames.{frame_head, IsFramed}
-use Rattle.aea_append.proofs.Rooms.{fits_room, room_fits}
+use Rattle.aea_append.specs.Frames.{frame_head, IsFramed, IsHeadFault}
+use Rattle.aea_append.proofs.Faults.{fault_is}
+use Rattle.aea_append.proofs.Rooms.{fits_room, room_fits, less_by}
 use Rattle.aea_append.proofs.Leaving.{leaves_ledger}
-use Rattle.aea_append.proofs.Writes.{cells_none}
+use Rattle.aea_archive.proofs.Writes.{cells_none}
 
 abbrev err_in : {T : Type 0} → IngestFault → Result T IngestFault → IngestFault
 err_in other (Ok x) = other
@@ -34,41 +38,63 @@ abbrev ok_in : Ingest → Result Ingest IngestFault → Ingest
 ok_in other (Ok x) = x
 ok_in other (Err e) = other
 
-abbrev block_in : BlockId → IngestFault → BlockId
-block_in other (HeadDamaged b) = b
-block_in other fault = other
-
-abbrev nodes_in : IngestFault → ℕ
-nodes_in (Full n) = n
-nodes_in fault = 0
-
 abbrev at_in : IngestFault → ℕ
 at_in (BadStream n) = n
 at_in fault = 0
 
 abbrev text_in : List ℕ → Ingest → List ℕ
-text_in other (Stored text stored) = text
-text_in other End = other
+text_in other (frame.Stored text stored) = text
+text_in other frame.End = other
 
-abbrev stored_in : StoredObject → Ingest → StoredObject
-stored_in other (Stored text stored) = stored
-stored_in other End = other
+abbrev stored_in : Stored → Ingest → Stored
+stored_in other (frame.Stored text stored) = stored
+stored_in other frame.End = other
 
--- answers that are the same name the same block, the same number, and the same object
-pub same_block : {T : Type 0} (x y : BlockId) → ◌≡◌ {A = Result T IngestFault} (Err (HeadDamaged x)) (Err (HeadDamaged y)) → x ≡ y
-same_block x y e = ap (λ (r : Result _ IngestFault). block_in x (err_in (HeadDamaged x) r)) e
-
-pub same_count : {T : Type 0} (m n : ℕ) → ◌≡◌ {A = Result T IngestFault} (Err (Full m)) (Err (Full n)) → m ≡ n
-same_count m n e = ap (λ (r : Result _ IngestFault). nodes_in (err_in (Full m) r)) e
-
+-- equal results name the same place, and the same object
 pub same_at : {T : Type 0} (m n : ℕ) → ◌≡◌ {A = Result T IngestFault} (Err (BadStream m)) (Err (BadStream n)) → m ≡ n
 same_at m n e = ap (λ (r : Result _ IngestFault). at_in (err_in (BadStream m) r)) e
 
-pub same_text : (s t : List ℕ) (x y : StoredObject) → ◌≡◌ {A = Result Ingest IngestFault} (Ok (Stored s x)) (Ok (Stored t y)) → s ≡ t
-same_text s t x y e = ap (λ (r : Result Ingest IngestFault). text_in s (ok_in End r)) e
+pub same_text : (s t : List ℕ) (x y : Stored) → ◌≡◌ {A = Result Ingest IngestFault} (Ok (frame.Stored s x)) (Ok (frame.Stored t y)) → s ≡ t
+same_text s t x y e = ap (λ (r : Result Ingest IngestFault). text_in s (ok_in frame.End r)) e
 
-pub same_stored : (s t : List ℕ) (x y : StoredObject) → ◌≡◌ {A = Result Ingest IngestFault} (Ok (Stored s x)) (Ok (Stored t y)) → x ≡ y
-same_stored s t x y e = ap (λ (r : Result Ingest IngestFault). stored_in x (ok_in End r)) e
+pub same_stored : (s t : List ℕ) (x y : Stored) → ◌≡◌ {A = Result Ingest IngestFault} (Ok (frame.Stored s x)) (Ok (frame.Stored t y)) → x ≡ y
+same_stored s t x y e = ap (λ (r : Result Ingest IngestFault). stored_in x (ok_in frame.End r)) e
+
+-- the fault of a frame is that of its put, if it is one
+put_back : (f : PutFault) → as_put (ingest_of f) ≡ Ok f
+put_back put.BadName = refl
+put_back put.NameTaken = refl
+put_back put.CatalogFull = refl
+put_back (put.HeadDamaged block) = refl
+put_back (put.Full nodes) = refl
+put_back put.ReadFault = refl
+put_back put.DiskFault = refl
+put_back put.NoMemory = refl
+
+abbrev put_in : PutFault → Result PutFault ℕ → PutFault
+put_in other (Ok f) = f
+put_in other (Err at) = other
+
+pub came : {T : Type 0} {x : IngestFault} {f : PutFault} → x ≡ ingest_of f → (g : PutFault) → ◌≡◌ {A = Result T IngestFault} (Err x) (Err (ingest_of g)) → f ≡ g
+came {T} {x} {f} from g is =
+    let same : x ≡ ingest_of g = ap (err_in x) is in
+    ap (put_in f) (sym (put_back f) ∙ ap as_put (sym from ∙ same) ∙ put_back g)
+
+pub went : {T : Type 0} {x : IngestFault} {f g : PutFault} → x ≡ ingest_of f → f ≡ g → ◌≡◌ {A = Result T IngestFault} (Err x) (Err (ingest_of g))
+went {T} {x} {f} {g} from is = ap (λ (y : IngestFault). let r : Result T IngestFault = Err y in r) (from ∙ ap ingest_of is)
+
+-- a put does not say that the stream ended
+pub never_cut : {T : Type 0} {x : IngestFault} {n : ℕ} (f : PutFault) → x ≡ ingest_of f → ◌≡◌ {A = Result T IngestFault} (Err x) (Err (BadStream n)) → ⊥
+never_cut {T} {x} {n} f from is =
+    let same : x ≡ BadStream n = ap (err_in x) is in
+    let no : (let r : Result PutFault ℕ = Ok f in r ≡ Err n) = sym (put_back f) ∙ ap as_put (sym from ∙ same) in
+    cc
+
+-- nor does it hide a damaged last parity
+pub head_fault : {T : Type 0} {x : IngestFault} {f : PutFault} → x ≡ ingest_of f → IsHeadRefused {T = T} (Err f) → IsHeadFault {T = T} (Err x)
+head_fault {T} {x} {f} from (inl head) = inl (head.0, went from (fault_is f (put.HeadDamaged head.0) head.1))
+head_fault {T} {x} {f} from (inr (inl disk)) = inr (inl (went from (fault_is f put.DiskFault disk)))
+head_fault {T} {x} {f} from (inr (inr memory)) = inr (inr (went from (fault_is f put.NoMemory memory)))
 
 -- nothing was written
 pub nothing_written : (tells taken fits fault : Type 0) (v : Opened) (s : State) → (fault → ⊥)
@@ -82,18 +108,11 @@ nothing_written tells taken fits fault v s fine =
 pub leaves_same : (tells : Type 0) → tells → (v : Opened) (s : State) → IsFixed s 0 → LeavesLedger s s
 leaves_same tells told v s fixed = leaves_ledger tells ⊥ told v s s fixed (cells_none tells ⊥ v.shape (limit_when v.raised) (IsBlockIn v.shape v.lattice.n) s (λ none. none))
 
--- what is not less is at least as much
-pub not_less : (a b : ℕ) → (a < b → ⊥) → b ≤ a
-not_less a b not = omega (arith, not)
-
-pub less_by : (a b : ℕ) → (b ≤ a → ⊥) → a < b
-less_by a b not = omega (arith, not)
-
--- what does not fit is more than the room
+-- what does not fit is more than the space
 pub over_room : RecordsAreFew → (v : Opened) (k : ℕ) → HasSomeRecords v → limit_when v.raised < v.lattice.n + nodes_for v.shape k → room_left v < k
 over_room law v k some past = less_by (room_left v) k (λ few. (let f = room_fits law v k some few in omega (arith, f, past)))
 
--- and what is more than the room does not fit
+-- and what is more than the space does not fit
 pub over_limit : (v : Opened) (k : ℕ) → room_left v < k → limit_when v.raised < v.lattice.n + nodes_for v.shape k
 over_limit v k over = less_by (limit_when v.raised) (v.lattice.n + nodes_for v.shape k) (λ fits. (let f = fits_room v k fits in omega (arith, f, over)))
 
@@ -114,7 +133,7 @@ may_as v Fits More old new so may = record {
   long = may.long;
 }
 
--- an object behind the head of its frame is framed
+-- an object after the head of its frame is framed
 pub framed_of : (left mid rest : Option (List ℕ)) (name : List ℕ) (size : ℕ) (o : NewObject) → Consumes left mid (frame_head name size) → IsCut name size mid rest o → IsFramed left rest o
 framed_of left mid rest name size o head cut =
     let all : Consumes left rest (frame_head name size ++ o.bytes) = Consumes-trans left mid rest (frame_head name size) o.bytes head cut.taken in

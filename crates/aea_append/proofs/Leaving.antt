@@ -1,4 +1,4 @@
--- What is left at each end of a call that puts: before the record, and behind it.
+-- What is left at each end of a call that puts: before the record, and after it.
 use Rattle.std.proofs.Common.{◌≡◌, inl, inr, ℕ, List, [], ◌∷◌, ◌++◌, length, take, drop, Option, All, refl, sym, ap, subst, arith}
 use Rattle.std.proofs.lemmas.List.{append-nil}
 use Rattle.std.proofs.lemmas.List.Elements.{All-cons}
@@ -23,7 +23,7 @@ use Rattle.aea_ledger.specs.Next.{AreItsRecords}
 use Rattle.aea_ledger.specs.Recorded.{AreRecordsOf}
 use Rattle.aea_ledger.specs.Stops.{HasLedger}
 use Rattle.aea_archive.specs.Blocks.{IsBlockIn}
-use Rattle.aea_archive.specs.Cells.{IsBesides, IsNoSite, ChangesArchive, FitsRows, AreAtHome}
+use Rattle.aea_archive.specs.Cells.{IsBesides, IsNoSite, ChangesArchive, FitsRows, AreAtHome, WritesCells}
 use Rattle.aea_archive.specs.Next.{NewObject}
 use Rattle.aea_archive.specs.Data.{RecordsMore}
 use Rattle.aea_archive.specs.Stretches.{Adds}
@@ -31,7 +31,7 @@ use Rattle.aea_archive.proofs.Cells.{changes_both, changes_less, changes_ledger,
 use Rattle.aea_archive.proofs.Stretches.{has_ledger, adds_nothing, adds_later}
 use Rattle.aea_append.specs.Causes.{HasWantedRoom}
 use Rattle.aea_append.specs.Puts.{MayHaveStored, LeavesLedger}
-use Rattle.aea_append.specs.Weaving.{WritesCells}
+use Rattle.aea_append.specs.Wanted.{KeepsHomes, StoresNone}
 use Rattle.aea_append.proofs.Wanted.{wanted_sites}
 
 -- the blocks of the archive
@@ -53,6 +53,10 @@ leaves_ledger tells fault told v old new fixed writes = record {
   images = file_kept tells (IsReady old) (FitsRows v.shape (limit_when v.raised) old) fault v.shape (limit_when v.raised) (IsBlockIn v.shape v.lattice.n) (IsNoSite v.shape) old new 0 (inl refl) writes fixed;
   reads = (writes.contents told).stay 0 (inl refl);
 }
+
+-- so nothing was stored
+pub stores_none : (tells fault : Type 0) (v : Opened) (old new : State) → (tells → IsFixed old 0) → WritesCells tells v.shape (limit_when v.raised) (IsBlockIn v.shape v.lattice.n) fault old new → KeepsHomes tells v old new → StoresNone tells v v old new
+stores_none tells fault v old new fixed writes padded = record { same = refl; leaves = λ told. leaves_ledger tells fault told v old new (fixed told) writes; padded = padded }
 
 -- no object more records no data more
 none_more : (shape : Shape) (records : List Record) (datas : List (List ℕ)) (l : Lattice) (payload : BlockId → List ℕ) → AreRecordsOf shape records datas → RecordsMore shape records [] datas [] l l payload
@@ -88,10 +92,10 @@ stopped_before one tells fault told v Fits old new fixed writes =
       long = (let same = ap length leaves.reads in omega (arith, same));
     }
 
--- ---- a commit behind the cells
+-- ---- a commit after the cells
 
 -- cells that are written, and then the ledger's file alone, are a change of the archive that leaves its old blocks
--- and the files besides it, where the room of a put has that of the ledger's write
+-- and the files besides it, where the space of a put includes that of the ledger's write
 pub both_write : (tells first second : Type 0) (v : Opened) (name : List ℕ) (want : Option ℕ) (left rest : Option (List ℕ)) (end : ℕ) (old mid new : State) → (first → ⊥)
     → WritesCells tells v.shape (limit_when v.raised) (IsBlockIn v.shape v.lattice.n) first old mid
     → OnlyWrites tells (IsReady mid) (FitsAdding mid 1 end) second (ChangesOnly 0) mid new → (HasWantedRoom v name want left rest old → FitsAdding old 1 end)
@@ -106,7 +110,7 @@ both_write tells first second v name want left rest end old mid new fine cells c
     (λ _ is. is) (λ _ is step goes. ready_same old mid (step.stay 0 (inl refl)) goes is)
     (λ _ has. wanted_sites v name want left rest old has) (λ _ has step time. adding_later old mid 1 end (step.stay 0 (inl refl)) time (room has)) cells commit
 
--- where the disk tells, and nothing was pending on the ledger's file, calls that write cells and then add a record
+-- where the disk's contents are known, and nothing was pending on the ledger's file, calls that write cells and then add a record
 -- by a change of that file alone add it over all
 pub adds_put : HasOneReading → (tells first second taken fits : Type 0) → tells → (v : Opened) (records : List Record) (r : Record) (payload : BlockId → List ℕ) (old mid new : State) → AreItsRecords v records (old.files 0) → IsFixed old 0
     → WritesCells tells v.shape (limit_when v.raised) (IsBlockIn v.shape v.lattice.n) first old mid → OnlyWrites tells taken fits second (ChangesOnly 0) mid new
@@ -120,11 +124,11 @@ adds_put one tells first second taken fits told v records r payload old mid new 
     (shelf_others tells v.shape (IsBlockIn v.shape (nodes_of records)) 0 mid new (λ a block. no_home_in_ledger v.shape a) (writes_others tells taken fits second (ChangesOnly 0) 0 mid new (λ c d step f other. step f other) commit))
     late
 
--- the records of the ledger are those of its file behind the cells
+-- the records of the ledger are those of its file after the cells
 pub its_later : (tells fault : Type 0) → tells → (v : Opened) (records : List Record) (old mid : State) → WritesCells tells v.shape (limit_when v.raised) (IsBlockIn v.shape v.lattice.n) fault old mid → AreItsRecords v records (old.files 0) → AreItsRecords v records (mid.files 0)
 its_later tells fault told v records old mid cells its = subst (λ (l : List ℕ). AreItsRecords v records l) (sym ((cells.contents told).stay 0 (inl refl))) its
 
--- cells stand behind a commit
+-- cells stay after a commit
 pub cells_stay : (shape : Shape) (before last : ℕ) (payload : BlockId → List ℕ) (mid new : Files) → ChangesOnly 0 mid new → AreAtHome shape before last payload mid → AreAtHome shape before last payload new
 cells_stay shape before last payload mid new only cells b on =
     subst (λ (l : List ℕ). take (length (cell_of b (payload b))) (drop (home_place shape b) l) ≡ cell_of b (payload b)) (sym (only (home_file shape b) (no_home_in_ledger shape b))) (cells b on)

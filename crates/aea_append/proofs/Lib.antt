@@ -1,4 +1,3 @@
-mod Writes
 mod Steps
 mod Cuts
 mod Takings
@@ -8,7 +7,7 @@ mod Starts
 mod Rooms
 mod Storing
 mod Leaving
-mod Entries
 mod Wanted
+mod Ended
 mod Frames
 mod Ingesting

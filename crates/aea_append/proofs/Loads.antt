@@ -137,15 +137,15 @@ load_none tells v c heads lattice size zeros = record {
   least = λ told b last lt. absurd (omega (arith, lt));
 }
 
--- ---- the same over files that read the same, where the disk tells
+-- ---- the same over files that read the same, where the disk's contents are known
 
--- a head that is loaded from some files is loaded from others that are the same where the disk tells
+-- a head that is loaded from some files is loaded from others that are the same where the disk's contents are known
 pub loaded_same : (tells : Type 0) (v : Opened) (c d : Files) (class : Class) (head : List ℕ) → (tells → c ≡ d) → (last : Option ℕ) → IsLoaded tells v c class head last → IsLoaded tells v d class head last
 loaded_same tells v c d class head same None loaded = loaded
 loaded_same tells v c d class head same (Some g) loaded =
     (loaded.0, loaded.1, λ told. subst (λ (f : Files). HasAtHome v.shape (block_of g class) (cell_of (block_of g class) head) f) (same told) (loaded.2 told))
 
--- what was found on a strand in some files is found there in others that are the same where the disk tells
+-- what was found on a strand in some files is found there in others that are the same where the disk's contents are known
 pub found_same : (tells : Type 0) (v : Opened) (c d : Files) (class : Class) (strand : ℕ) → (tells → c ≡ d) → (found : Option BlockId) → IsFoundOn tells v c class strand found → IsFoundOn tells v d class strand found
 found_same tells v c d class strand same None found = λ told b last is on. subst (λ (f : Files). IsIntactBy v.shape v.digests f b) (same told) (found told b last is on)
 found_same tells v c d class strand same (Some b) found =

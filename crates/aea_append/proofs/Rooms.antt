@@ -1,4 +1,4 @@
--- The room that the ledger's limit leaves, in nodes and in bytes.
+-- The space that the ledger's limit leaves, in nodes and in bytes.
 use Rattle.std.proofs.Common.{◌≡◌, ℕ, ◌+◌, ◌-◌, ◌*◌, ◌/◌, ◌<◌, ◌≤◌, Bool, true, false, sym, ◌∙◌, ap, subst, arith, List, length, Option, None, Some, length-append}
 use Rattle.std.specs.Io.KnownBytes.{Consumes, IsAtEnd}
 use Rattle.std.proofs.lemmas.Bool.Decides.{nat_tests}
@@ -13,9 +13,9 @@ use Rattle.aea_disk.specs.Files.{Files}
 use Rattle.aea_disk.specs.State.{State}
 use Rattle.aea_shelf.specs.Writes.{KeepsPadded}
 use Rattle.aea_archive.specs.Blocks.{IsBlockIn}
-use Rattle.aea_append.specs.Weaving.{WritesCells}
+use Rattle.aea_archive.specs.Cells.{WritesCells}
 use Rattle.aea_append.specs.Taking.{room_left}
-use Rattle.aea_append.proofs.Writes.{cells_as}
+use Rattle.aea_archive.proofs.Writes.{cells_as}
 use Rattle.aea_append.proofs.Cuts.{some_bytes}
 
 -- no limit is greater than that of lattices
@@ -64,9 +64,9 @@ room_few v =
     let wide = block_few v.shape in
     omega (arith, bytes, wide)
 
--- ---- what getters of a ledger answered, as its value has it
+-- ---- what getters of a ledger returned, as its value has it
 
--- what the getters of a ledger answered gives its room: the nodes that are left times the bytes of a block
+-- what the getters of a ledger returned gives its space: the nodes that are left times the bytes of a block
 pub limit_is : (v : Opened) (limit n from block from2 : ℕ) (l : Lattice) (shape : Shape) → limit ≡ limit_when v.raised → l ≡ v.lattice → n ≡ l.n → from ≡ limit - n → shape ≡ v.shape → block ≡ shape.block → from2 ≡ block → from * from2 ≡ room_left v
 limit_is v limit n from block from2 l shape a b c d e f g =
     let one : from ≡ limit_when v.raised - v.lattice.n = omega (arith, d, a, c, ap (λ (m : Lattice). m.n) b) in
@@ -84,7 +84,7 @@ all_writes law tells fault other v shape l limit old new some same grid is so ba
     cells_as tells fault other v.shape (limit_when v.raised) (IsBlockIn v.shape v.lattice.n) old new so back
     (two (limit_when v.raised) (room_fits law v limit some (omega (arith, is))))
 
--- the homes that are kept, with zeros past the ends, by a ledger's shape and lattice as its getters answered them
+-- the homes that are kept, with zeros past the ends, by a ledger's shape and lattice as its getters returned them
 -- are kept by those of its value
 pub all_padded : (v : Opened) (shape : Shape) (l : Lattice) (old new : Files) → shape ≡ v.shape → l ≡ v.lattice → KeepsPadded shape (IsBlockIn shape l.n) old new → KeepsPadded v.shape (IsBlockIn v.shape v.lattice.n) old new
 all_padded v shape l old new same grid padded =
@@ -94,7 +94,7 @@ all_padded v shape l old new same grid padded =
 nodes-hold : (shape : Shape) (k : ℕ) → k ≤ nodes_for shape k * shape.block
 nodes-hold shape k = let h = shape.in_profile in grind (arith, nat_tests)
 
--- what fits is within the room
+-- what fits is within the space
 pub fits_room : (v : Opened) (k : ℕ) → v.lattice.n + nodes_for v.shape k ≤ limit_when v.raised → k ≤ room_left v
 fits_room v k fits =
     let less : nodes_for v.shape k ≤ limit_when v.raised - v.lattice.n = omega (arith, fits) in
@@ -102,13 +102,13 @@ fits_room v k fits =
     let hold = nodes-hold v.shape k in
     omega (arith, bytes, hold)
 
--- ---- bytes that were taken of a told source
+-- ---- bytes that were taken of a source whose bytes are known
 
 taken_some : (bytes xs : List ℕ) (rest : Option (List ℕ)) → Consumes (Some bytes) rest xs → length xs ≤ length bytes
 taken_some bytes xs None none = absurd none
 taken_some bytes xs (Some ys) is = omega (arith, ap length is, length-append xs ys)
 
--- what was taken of a source that tells its bytes is no longer than these
+-- what was taken of a source whose bytes are known is no longer than these
 pub taken_long : (left : Option (List ℕ)) (bytes xs : List ℕ) (rest : Option (List ℕ)) → left ≡ Some bytes → Consumes left rest xs → length xs ≤ length bytes
 taken_long left bytes xs rest is taken = taken_some bytes xs rest (subst (λ (l : Option (List ℕ)). Consumes l rest xs) is taken)
 
@@ -116,6 +116,14 @@ all_some : (bytes xs : List ℕ) (rest : Option (List ℕ)) → Consumes (Some b
 all_some bytes xs None none end = absurd none
 all_some bytes xs (Some ys) is end = omega (arith, ap length is, length-append xs ys, ap length end)
 
--- what was taken of a source that tells its bytes, up to its end, is as long as these
+-- what was taken of a source whose bytes are known, up to its end, is as long as these
 pub all_long : (left : Option (List ℕ)) (bytes xs : List ℕ) (rest : Option (List ℕ)) → left ≡ Some bytes → Consumes left rest xs → IsAtEnd rest → length xs ≡ length bytes
 all_long left bytes xs rest is taken end = all_some bytes xs rest (subst (λ (l : Option (List ℕ)). Consumes l rest xs) is taken) end
+
+-- what is not less is at least as much
+pub not_less : (a b : ℕ) → (a < b → ⊥) → b ≤ a
+not_less a b not = omega (arith, not)
+
+-- and what is not at most it is less
+pub less_by : (a b : ℕ) → (b ≤ a → ⊥) → a < b
+less_by a b not = omega (arith, not)

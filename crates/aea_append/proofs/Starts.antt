@@ -49,7 +49,7 @@ heads_start tells v files heads has c strand parity below =
     head_start tells v files heads has.size c strand (last_open v.lattice c strand) refl (all_loaded tells v files heads has c strand p u)
     ∙ ap (λ (l : Lattice). head_by heads.size (loaded_payload v.lattice heads) c (last_open l c strand)) (sym has.lattice)
 
--- where all heads are loaded and nothing was found damaged, they are those of no data woven behind the lattice
+-- where all heads are loaded and nothing was found damaged, they are those of no data woven after the lattice
 pub woven_start : (tells : Type 0) (v : Opened) (files after : Files) (heads : Woven) → HasLoaded tells v files heads (all_strands v.lattice) None
     → HasWoven tells v.shape v.lattice v.digests files after heads [] []
 woven_start tells v files after heads has =
@@ -75,11 +75,11 @@ woven_start tells v files after heads has =
       wide = λ b on. absurd (let x = on.after in let y = on.most in omega (arith, x, y, n));
     }
 
--- where all strands were looked at and nothing was found damaged, all last parities are intact if the disk tells
+-- where all strands were looked at and nothing was found damaged, all last parities are intact if the disk's contents are known
 pub intact_start : (tells : Type 0) (v : Opened) (files : Files) (heads : Woven) → HasLoaded tells v files heads (all_strands v.lattice) None → tells → AreLastsIntact v.shape v.lattice v.digests files
 intact_start tells v files heads has told b last = has.least told b last (place_below v.lattice b last)
 
--- a block that was found when all strands were looked at is a last parity and, if the disk tells, the damaged one
+-- a block that was found when all strands were looked at is a last parity and, if the disk's contents are known, the damaged one
 -- with the least number
 pub first_damaged : (tells : Type 0) (v : Opened) (files : Files) (heads : Woven) (b : BlockId) → HasLoaded tells v files heads (all_strands v.lattice) (Some b)
     → IsLastParity v.lattice b × (tells → IsFirstDamagedLast v.shape v.lattice v.digests files b)

@@ -79,7 +79,7 @@ differ_test a b lt = grind (arith, nat_tests)
 same_test : (a : ℕ) → (a == a) ≡ true
 same_test a = grind (arith, nat_tests)
 
--- the place of a digest among those behind n nodes
+-- the place of a digest among those after n nodes
 place_of : (q n i c : ℕ) → n < i → (i - 1) * q + c - n * q ≡ (i - 1 - n) * q + c
 place_of q n i c after =
     let split : i - 1 ≡ n + (i - 1 - n) = omega (arith, after) in
@@ -119,7 +119,7 @@ module _ (enter : LastsEnter) (v w : Woven) (x : List ℕ) (weaves : Weaves v w 
   last-within : (c : Class) (strand g : ℕ) → last_open v.lattice c strand ≡ Some g → g ≤ v.lattice.n
   last-within c strand g is = (let at = IsLast-last_of (is_on v.lattice c strand (v.lattice.n + 1)) v.lattice.n g is in at.most)
 
-  -- what stands before the new node
+  -- what is before the new node
   enters : (c : Class) → previous w.lattice c w.lattice.n ≡ last_open v.lattice c (strand_of w.lattice c w.lattice.n)
   enters c =
       ap (previous w.lattice c) grown_n

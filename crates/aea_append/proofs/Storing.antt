@@ -21,7 +21,7 @@ use Rattle.aea_records.specs.Laws.{DigestsAreCounted}
 use Rattle.aea_ledger.specs.Values.{Opened, HasRecords}
 use Rattle.aea_ledger.specs.Next.{next_stored}
 use Rattle.aea_ledger.specs.Recorded.{AreRecordsOf}
-use Rattle.aea_ledger.proofs.Records.{nodes_of-push, fences_of-push, digests_of-push}
+use Rattle.aea_records.proofs.OneMore.{nodes_of-push, fences_of-push, digests_of-push}
 use Rattle.aea_archive.specs.Blocks.{IsBlockOn, IsBlockIn, recorded_in}
 use Rattle.aea_archive.specs.Cells.{AreAtHome}
 use Rattle.aea_archive.specs.Lasts.{AreLastsHonest}
@@ -31,7 +31,7 @@ use Rattle.aea_archive.specs.Laws.{NextRecordsMore, LastsAreValues, SurvivorsSta
 use Rattle.aea_archive.specs.Stretches.{HasAdded}
 use Rattle.aea_archive.proofs.Honest.{stands}
 use Rattle.aea_archive.proofs.Values.{last_inside}
-use Rattle.aea_archive.proofs.Records.{lattice_equal}
+use Rattle.aea_lattice.proofs.OneLattice.{lattice_equal}
 use Rattle.aea_append.specs.Taking.{TakesObject}
 
 -- the last of records may follow those before it
@@ -47,7 +47,7 @@ module _ (tells : Type 0) (v : Opened) (name : List ℕ) (k count : ℕ) (digest
   pub grown_by : IsGrown v.lattice (v.lattice.n + count) t.heads.lattice
   grown_by = record { shape = t.woven.grown.shape; nodes = (let n = t.nodes in omega (arith, n, counted)); fences = t.woven.grown.fences }
 
-  -- all that a source had, taken and woven behind the ledger's lattice, is the next record's object under the name
+  -- all that a source had, taken and woven after the ledger's lattice, is the next record's object under the name
   pub next_woven : IsNextStored v.shape v.lattice t.heads.lattice t.woven.payload name t.bytes (next_stored v name k digest count digests)
   next_woven = record {
     name_is = refl;
@@ -70,7 +70,7 @@ module _ (tells : Type 0) (v : Opened) (name : List ℕ) (k count : ℕ) (digest
       ∙ ap (λ (n : ℕ). get_or digests (number_in v.shape b - n) []) long
       ∙ t.woven.digests_are.each b on)
 
-  -- all that was added stands
+  -- all that was added is there
   pub added_of : CellsHaveLengths → CellsHaveParts → DigestsAreCounted → (records : List Record) → HasRecords v records → (new : State)
       → AreAtHome v.shape v.lattice.n t.heads.lattice.n t.woven.payload new.files → HasLedger v.shape (records ++ Object (next_stored v name k digest count digests) ∷ []) (new.files 0) → IsSynced new
       → HasAdded v.shape records (Object (next_stored v name k digest count digests) ∷ []) new
@@ -94,7 +94,7 @@ module _ (tells : Type 0) (v : Opened) (name : List ℕ) (k count : ℕ) (digest
         (recorded_of (digests_of records) b long here ∙ ap (λ (ds : List (List ℕ)). recorded_in v.shape ds b) all) (cells b here)).intact;
   }
 
-  -- where it stands, it records the data before and the object's blocks
+  -- where it is in the ledger, it records the data before and the object's blocks
   pub more_where : NextRecordsMore → LastsAreValues → tells → (records : List Record) (datas : List (List ℕ)) → HasRecords v records
       → AreRecords v.shape (records ++ Object (next_stored v name k digest count digests) ∷ []) → AreRecordsOf v.shape records datas → AreLastsHonest v.shape v.lattice v.digests datas first
       → RecordsMore v.shape records (Object (next_stored v name k digest count digests) ∷ []) datas (object_blocks v.shape t.bytes ++ []) v.lattice t.heads.lattice t.woven.payload

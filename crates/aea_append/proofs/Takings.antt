@@ -7,7 +7,7 @@ use Rattle.std.proofs.lemmas.List.Elements.{All-append}
 use Rattle.sha2.specs.declared.Sha256.{Sha256}
 use Rattle.sha2.specs.Hashers.{Holds256}
 use Rattle.sha2.specs.Sha256.{sha256}
-use Rattle.aea_io.specs.Taken.{TakesAtMost}
+use Rattle.aea_io.specs.Taken.{TakesAtMost, Counts}
 use Rattle.aea_lattice.specs.declared.grid.Lattice.{Lattice}
 use Rattle.aea_lattice.specs.declared.shape.Shape.{Shape}
 use Rattle.aea_lattice.specs.Growth.{IsGrown}
@@ -17,7 +17,7 @@ use Rattle.aea_records.specs.Format.{nodes_for}
 use Rattle.aea_ledger.specs.Values.{Opened}
 use Rattle.aea_archive.specs.Next.{cut_blocks, object_blocks}
 use Rattle.aea_append.specs.Weaving.{HasWoven}
-use Rattle.aea_append.specs.Taking.{Takes, TakesObject, Counts}
+use Rattle.aea_append.specs.Taking.{Takes, TakesObject}
 use Rattle.aea_append.proofs.Cuts.{cut-push, some_bytes, nodes_none, nodes_one, nodes-push, nodes-whole, no_blocks, one_block}
 
 -- a lattice with as many nodes
@@ -37,7 +37,7 @@ takes_none tells shape left h v digests files = record {
   size = refl;
 }
 
--- the blocks of whole blocks and a piece behind them
+-- the blocks of whole blocks and a piece after them
 blocks_both : (shape : Shape) (n : ℕ) (xs ys : List ℕ) → length xs ≡ n * shape.block → length ys ≤ shape.block → object_blocks shape (xs ++ ys) ≡ object_blocks shape xs ++ object_blocks shape ys
 blocks_both shape n xs [] whole short =
     ap (object_blocks shape) (append-nil xs) ∙ sym (ap (λ (d : List (List ℕ)). object_blocks shape xs ++ d) (no_blocks shape [] refl) ∙ append-nil (object_blocks shape xs))
@@ -92,7 +92,7 @@ takes_both tells shape n k left mid rest h i g v u w digests some more old betwe
       size = second.size ∙ first.size;
     }
 
--- all that a source had, woven behind the nodes of an archive
+-- all that a source had, woven after the nodes of an archive
 pub takes_object : (tells : Type 0) (v : Opened) (shape : Shape) → shape ≡ v.shape → (k : ℕ) (left mid rest : Option (List ℕ)) (h g : Sha256) (heads w : Woven) (digests more : List (List ℕ)) (first files after : Files) (digest : List ℕ)
     → Takes tells shape k left mid h g heads w digests more files after → HasWoven tells v.shape v.lattice v.digests first files heads [] [] → digests ≡ [] → Holds256 h []
     → ((m : List ℕ) → Holds256 g m → digest ≡ sha256 m) → heads.lattice ≡ v.lattice → Consumes mid rest []

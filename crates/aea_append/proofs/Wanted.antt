@@ -17,12 +17,12 @@ pub wanted_of : (want : Option ℕ) (name bytes : List ℕ) (left rest : Option 
 wanted_of None name bytes left rest taken end long = record { name_is = refl; taken = taken; end = end refl }
 wanted_of (Some n) name bytes left rest taken end long = record { name_is = refl; taken = taken; long = long n refl }
 
--- the room of the sites
+-- the space of the sites
 pub wanted_sites : (v : Opened) (name : List ℕ) (want : Option ℕ) (left rest : Option (List ℕ)) (s : State) → HasWantedRoom v name want left rest s → FitsRows v.shape (limit_when v.raised) s
 wanted_sites v name None left rest s room = room.sites
 wanted_sites v name (Some n) left rest s room = room.sites
 
--- the room of the ledger for the record of what was taken
+-- the space of the ledger for the record of what was taken
 pub wanted_ledger : (v : Opened) (name : List ℕ) (want : Option ℕ) (left rest : Option (List ℕ)) (s : State) → HasWantedRoom v name want left rest s → (bytes : List ℕ) → Consumes left rest bytes
     → ((n : ℕ) → want ≡ Some n → length bytes ≡ n) → v.lattice.n + nodes_for v.shape (length bytes) ≤ limit_when v.raised
     → FitsAdding s 1 (next_end v.end (length name) (nodes_for v.shape (length bytes) * (1 + v.shape.alpha)))
@@ -30,7 +30,7 @@ wanted_ledger v name None left rest s room bytes taken long fits = room.ledger b
 wanted_ledger v name (Some n) left rest s room bytes taken long fits =
     subst (λ (k : ℕ). v.lattice.n + nodes_for v.shape k ≤ limit_when v.raised → FitsAdding s 1 (next_end v.end (length name) (nodes_for v.shape k * (1 + v.shape.alpha)))) (sym (long n refl)) room.ledger fits
 
--- what is over the room does not fit
+-- what exceeds the space does not fit
 pub over_none : (v : Opened) (want : Option ℕ) (left rest : Option (List ℕ)) (bytes : List ℕ) → left ≡ Some bytes → IsOver v want left rest → v.lattice.n + nodes_for v.shape (long_of want bytes) ≤ limit_when v.raised → ⊥
 over_none v None left rest bytes is passed fits =
     let long = taken_long left bytes passed.0 rest is passed.1 in
@@ -40,7 +40,7 @@ over_none v (Some n) left rest bytes is over fits =
     let room = fits_room v n fits in
     omega (arith, over, room)
 
--- what is wanted within the room is at most what is taken
+-- what is wanted within the space is at most what is taken
 pub limit_most : (want : Option ℕ) (room : ℕ) → limit_of want room ≤ room → limit_of want room ≤ most_of want room
 limit_most None room within = omega arith
 limit_most (Some n) room within = omega (arith, within)
@@ -50,7 +50,7 @@ pub limit_more : (want : Option ℕ) (room : ℕ) → want ≡ None → limit_of
 limit_more None room is = omega arith
 limit_more (Some n) room is = absurd (let e = is in cc)
 
--- where all is wanted, the limit is the room
+-- where all is wanted, the limit is the space
 pub limit_all : (want : Option ℕ) (room : ℕ) → want ≡ None → limit_of want room ≡ room
 limit_all None room is = refl
 limit_all (Some n) room is = absurd (let e = is in cc)
@@ -60,12 +60,12 @@ pub limit_cut : (want : Option ℕ) (room n : ℕ) → want ≡ Some n → limit
 limit_cut None room n is = absurd (let e = is in cc)
 limit_cut (Some m) room n is = (let e = is in cc)
 
--- more than the room is wanted where the limit is over it
+-- more than the space is wanted where the limit exceeds it
 pub over_limit : (v : Opened) (want : Option ℕ) (left rest : Option (List ℕ)) → room_left v < limit_of want (room_left v) → IsOver v want left rest
 over_limit v None left rest over = absurd (omega (arith, over))
 over_limit v (Some n) left rest over = over
 
--- where all is wanted, that is a byte past the room
+-- where all is wanted, that is a byte past the space
 pub over_all : (v : Opened) (want : Option ℕ) (left rest : Option (List ℕ)) → want ≡ None → HasPassedRoom v left rest → IsOver v want left rest
 over_all v None left rest all passed = passed
 over_all v (Some n) left rest all passed = absurd (let e = all in cc)

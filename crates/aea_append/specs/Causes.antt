@@ -1,4 +1,4 @@
--- The causes of what `put` answers, in the order in which they are met.
+-- The causes of what `put` returns, in the order in which they are met.
 use Rattle.std.specs.Prelude.{◌≡◌, ◌≢◌, ◌⊎◌, ◌≤◌, ℕ, ◌+◌, ◌*◌, List, length, Option, None, Some, Result, Err}
 use Rattle.std.specs.FinMap.{get, len}
 use Rattle.std.specs.Io.KnownBytes.{Consumes}
@@ -26,11 +26,11 @@ pub record MayEnter (v : Opened) (name : List ℕ) : Type 0 where
 abbrev pub IsEarly : {T : Type 0} → Result T PutFault → Type 0
 IsEarly result = (result ≡ Err BadName) ⊎ ((result ≡ Err NameTaken) ⊎ (result ≡ Err CatalogFull))
 
--- a fault of the disk, or want of memory
+-- a fault of the disk, or lack of memory
 abbrev pub IsOutside : {T : Type 0} → Result T PutFault → Type 0
 IsOutside result = (result ≡ Err DiskFault) ⊎ (result ≡ Err NoMemory)
 
--- some last parity is damaged, but for a fault of the disk and want of memory
+-- some last parity is damaged, but for a fault of the disk and lack of memory
 abbrev pub IsHeadRefused : {T : Type 0} → Result T PutFault → Type 0
 IsHeadRefused result = ((b : BlockId) × (result ≡ Err (HeadDamaged b))) ⊎ IsOutside result
 
@@ -38,29 +38,29 @@ IsHeadRefused result = ((b : BlockId) × (result ≡ Err (HeadDamaged b))) ⊎ I
 abbrev pub next_end : ℕ → ℕ → ℕ → ℕ
 next_end end long digests = end + 56 + long + 32 * digests
 
--- the ledger has room for the record of each object that the source can have given
+-- the ledger has space for the record of each object that the source can have given
 abbrev pub HasLedgerRoom : Opened → List ℕ → Option (List ℕ) → Option (List ℕ) → State → Type 0
 HasLedgerRoom v name left rest s =
     (bytes : List ℕ) → Consumes left rest bytes → v.lattice.n + nodes_for v.shape (length bytes) ≤ limit_when v.raised
     → FitsAdding s 1 (next_end v.end (length name) (nodes_for v.shape (length bytes) * (1 + v.shape.alpha)))
 
--- the disk has room for all that may be written
+-- the disk has space for all that may be written
 pub record HasPutRoom (v : Opened) (name : List ℕ) (left rest : Option (List ℕ)) (s : State) : Type 0 where
   pub sites : FitsRows v.shape (limit_when v.raised) s
   pub ledger : HasLedgerRoom v name left rest s
 
--- the ledger has room for the record of an object of so many bytes, if its nodes fit
+-- the ledger has space for the record of an object of so many bytes, if its nodes fit
 abbrev pub HasRecordRoom : Opened → List ℕ → ℕ → State → Type 0
 HasRecordRoom v name size s =
     v.lattice.n + nodes_for v.shape size ≤ limit_when v.raised
     → FitsAdding s 1 (next_end v.end (length name) (nodes_for v.shape size * (1 + v.shape.alpha)))
 
--- the disk has room for all that may be written for an object of so many bytes
+-- the disk has space for all that may be written for an object of so many bytes
 pub record HasCutRoom (v : Opened) (name : List ℕ) (size : ℕ) (s : State) : Type 0 where
   pub sites : FitsRows v.shape (limit_when v.raised) s
   pub ledger : HasRecordRoom v name size s
 
--- the disk has room for all that may be written for what is wanted of a source
+-- the disk has space for all that may be written for what is wanted of a source
 abbrev pub HasWantedRoom : Opened → List ℕ → Option ℕ → Option (List ℕ) → Option (List ℕ) → State → Type 0
 HasWantedRoom v name None left rest s = HasPutRoom v name left rest s
 HasWantedRoom v name (Some want) left rest s = HasCutRoom v name want s

@@ -31,11 +31,11 @@ IsFramed left rest o = Consumes left rest (frame_of o)
 abbrev pub name_length : List ℕ → ℕ
 name_length stream = from_be_bytes w16 (take 2 stream)
 
--- the name behind it
+-- the name after it
 abbrev pub frame_name : List ℕ → List ℕ
 frame_name stream = take (name_length stream) (drop 2 stream)
 
--- the length of the object, behind the name
+-- the length of the object, after the name
 abbrev pub object_length : List ℕ → ℕ
 object_length stream = from_be_bytes w64 (take 8 (drop (2 + name_length stream) stream))
 
@@ -55,7 +55,7 @@ pub record HasHead (stream : List ℕ) : Type 0 where
   pub name : HasNameLength stream
   pub there : 10 + name_length stream ≤ length stream
 
--- the stream ends inside the head of a frame: in the length of the name, or behind it, where that is one
+-- the stream ends inside the head of a frame: in the length of the name, or after it, where that is one
 abbrev pub EndsInHead : List ℕ → Type 0
 EndsInHead stream = (length stream ≡ 1) ⊎ (HasNameLength stream × (length stream < 10 + name_length stream))
 
@@ -95,7 +95,7 @@ EndsInside v stream = EndsInHead stream ⊎ (HasEntry v stream × FitsFrame v st
 abbrev pub IsEarlyFault : {T : Type 0} → Result T IngestFault → Type 0
 IsEarlyFault result = (result ≡ Err BadName) ⊎ ((result ≡ Err NameTaken) ⊎ (result ≡ Err CatalogFull))
 
--- some last parity is damaged, but for a fault of the disk and want of memory
+-- some last parity is damaged, but for a fault of the disk and lack of memory
 abbrev pub IsHeadFault : {T : Type 0} → Result T IngestFault → Type 0
 IsHeadFault result = ((b : BlockId) × (result ≡ Err (HeadDamaged b))) ⊎ ((result ≡ Err DiskFault) ⊎ (result ≡ Err NoMemory))
 
@@ -111,7 +111,7 @@ IsByHead result = (result ≡ Err NameTaken) ⊎ ((result ≡ Err CatalogFull) �
 abbrev pub BeginsWith : Option (List ℕ) → List ℕ → ℕ → Type 0
 BeginsWith left name size = (rest : Option (List ℕ)) × Consumes left rest (frame_head name size)
 
--- The disk has room for all that may be written for the frame that the source can begin with.
+-- The disk has space for all that may be written for the frame that the source can begin with.
 pub record HasFrameRoom (v : Opened) (left : Option (List ℕ)) (s : State) : Type 0 where
   pub sites : FitsRows v.shape (limit_when v.raised) s
   pub ledger : (name : List ℕ) (size : ℕ) → BeginsWith left name size → HasRecordRoom v name size s

@@ -20,8 +20,8 @@ use Rattle.aea_archive.specs.Lasts.{IsLastParity, IsDamagedLast}
 abbrev pub place_of : Lattice → BlockId → ℕ
 place_of l b = strands_before l b.class + strand_of l b.class b.node
 
--- The head is what the archive has of a strand whose last open node is this one: the payload of its parity, with the
--- recorded digest, of a block's size and, where the disk tells, with its cell at its home; zeros where the strand has none.
+-- The head is what the archive has of a strand whose last open node is this one: the payload of its parity, with the recorded
+-- digest, of a block's size and, where the disk's contents are known, with its cell at its home; zeros where the strand has none.
 abbrev pub IsLoaded : Type 0 → Opened → Files → Class → List ℕ → Option ℕ → Type 0
 IsLoaded tells v c class head None = head ≡ replicate v.shape.block 0
 IsLoaded tells v c class head (Some g) =
@@ -60,7 +60,7 @@ pub record HasLoaded (tells : Type 0) (v : Opened) (c : Files) (heads : Woven) (
       → count ≤ strands_before v.lattice class + strand → head_of heads class strand ≡ replicate v.shape.block 0
   pub least : IsFound tells v c count found
 
--- the answer is the one of two blocks that has the lesser number, if there is any
+-- the result is the one of two blocks that has the lesser number, if there is any
 pub record IsLesser (l : Lattice) (a b answer : Option BlockId) : Type 0 where
   pub none : answer ≡ None → (a ≡ None) × (b ≡ None)
   pub some : (x : BlockId) → answer ≡ Some x → (a ≡ Some x) ⊎ (b ≡ Some x)

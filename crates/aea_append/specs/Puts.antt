@@ -6,7 +6,7 @@ use Rattle.sha2.specs.Sha256.{sha256}
 use Rattle.aea_lattice.specs.declared.blocks.BlockId.{BlockId}
 use Rattle.aea_lattice.specs.declared.grid.Lattice.{Lattice}
 use Rattle.aea_disk.specs.State.{State, During}
-use Rattle.aea_records.specs.Format.{Stored, Record, Object, nodes_for, entry}
+use Rattle.aea_records.specs.Format.{Stored as StoredRecord, Record, Object, nodes_for, entry}
 use Rattle.aea_records.specs.Grammar.{AreRecords}
 use Rattle.aea_ledger.specs.Values.{Opened, HasRecords, IsThisOne}
 use Rattle.aea_ledger.specs.Next.{AreItsRecords}
@@ -19,7 +19,7 @@ use Rattle.aea_archive.specs.Lasts.{IsLastParity, AreLastsRecorded, AreLastsAtHo
 use Rattle.aea_archive.specs.Next.{NewObject, object_blocks, IsNextStored, AreNextRecords}
 use Rattle.aea_archive.specs.Stretches.{Adds, HasAdded}
 use Rattle.aea_archive.specs.Data.{AreSurvivorsHonest, IsDamagePlain, RecordsMore}
-use Rattle.aea_append.specs.declared.store.StoredObject.{StoredObject}
+use Rattle.aea_append.specs.declared.store.Stored.{Stored}
 
 -- the payloads of the last parities are of a block's size
 abbrev pub AreLastsWide : Shape → Lattice → (BlockId → List ℕ) → Type 0
@@ -30,26 +30,26 @@ abbrev pub AreBlocksWide : Shape → ℕ → ℕ → (BlockId → List ℕ) → 
 AreBlocksWide shape before last payload = (b : BlockId) → IsBlockOn shape before last b → length (payload b) ≡ shape.block
 
 -- The object was stored: with which payloads of its blocks, and by which record.
-pub record HasStored (tells : Type 0) (v w : Opened) (o : NewObject) (old new : State) (stored : StoredObject) : Type 0 where
-  -- what the caller is told
+pub record HasStored (tells : Type 0) (v w : Opened) (o : NewObject) (old new : State) (stored : Stored) : Type 0 where
+  -- what is returned to the caller
   pub count : stored.nodes ≡ nodes_for v.shape (length o.bytes)
   pub size : stored.length ≡ length o.bytes
   pub digest : stored.digest ≡ sha256 o.bytes
-  -- the payloads: of the last parities as they are recorded and stand at their homes, of the new blocks as they are woven
+  -- the payloads: of the last parities as they are recorded and are at their homes, of the new blocks as they are woven
   pub payload : BlockId → List ℕ
   pub lasts : AreLastsRecorded v.shape v.lattice v.digests payload
   pub homes : tells → AreLastsAtHome v.shape v.lattice payload old.files
   pub lasts_wide : AreLastsWide v.shape v.lattice payload
   pub wide : AreBlocksWide v.shape v.lattice.n w.lattice.n payload
   pub bytes : AreBytes o.bytes
-  pub r : Stored
+  pub r : StoredRecord
   pub next : IsNextStored v.shape v.lattice w.lattice payload o.name o.bytes r
-  -- the opened ledger has the record behind those that it had
+  -- the opened ledger has the record after those that it had
   pub value : (records : List Record) → HasRecords v records → HasRecords w (records ++ Object r ∷ [])
   pub live : w.live ≡ true
   pub same_shape : w.shape ≡ v.shape
   pub this_one : tells → IsThisOne w (new.files 0)
-  -- the disk: what each image of each moment has, and what stands
+  -- the disk: what each image of each moment has, and what is there in the end
   pub adds : tells → (records : List Record) → AreItsRecords v records (old.files 0) → Adds v.shape records (Object r ∷ []) payload old new
   pub added : tells → (records : List Record) → AreItsRecords v records (old.files 0) → HasAdded v.shape records (Object r ∷ []) new
   -- the cells of the new blocks, as the disk reads
@@ -82,11 +82,11 @@ IsWanted None name left rest o = IsWhole name left rest o
 IsWanted (Some want) name left rest o = IsCut name want left rest o
 
 -- what was wanted of the source was stored under the name
-abbrev pub HasKept : Type 0 → Opened → Opened → List ℕ → Option ℕ → Option (List ℕ) → Option (List ℕ) → State → State → StoredObject → Type 0
+abbrev pub HasKept : Type 0 → Opened → Opened → List ℕ → Option ℕ → Option (List ℕ) → Option (List ℕ) → State → State → Stored → Type 0
 HasKept tells v w name want left rest old new stored = (o : NewObject) × IsWanted want name left rest o × HasStored tells v w o old new stored
 
 -- all that the source had was stored under the name
-abbrev pub HasPut : Type 0 → Opened → Opened → List ℕ → Option (List ℕ) → Option (List ℕ) → State → State → StoredObject → Type 0
+abbrev pub HasPut : Type 0 → Opened → Opened → List ℕ → Option (List ℕ) → Option (List ℕ) → State → State → Stored → Type 0
 HasPut tells v w name left rest old new stored = (o : NewObject) × IsWhole name left rest o × HasStored tells v w o old new stored
 
 -- The disk failed: the archive is the one before, or that with an object of which the fact holds.
@@ -101,7 +101,7 @@ pub record MayHaveStored (v : Opened) (Fits : NewObject → Type 0) (old new : S
   pub lattice : Lattice
   pub next : AreNextRecords v.shape v.lattice lattice payload objects added
   pub adds : (records : List Record) → AreItsRecords v records (old.files 0) → Adds v.shape records added payload old new
-  -- where the record stands, each data list that was recorded, and for which the last parities are honest, is recorded with
+  -- where the ledger has the record, each data list that was recorded, and for which the last parities are honest, is recorded with
   -- the object's blocks
   pub records_more : (records : List Record) (datas : List (List ℕ)) → HasRecords v records → AreRecords v.shape (records ++ added)
       → AreRecordsOf v.shape records datas → AreLastsHonest v.shape v.lattice v.digests datas old.files

@@ -16,7 +16,7 @@ use Rattle.aea_archive.specs.Next.{object_blocks}
 use Rattle.aea_append.specs.Weaving.{HasWoven}
 
 -- Bytes of the source were taken, k of them, and woven: the hasher took them too, and whatever had been woven is now woven
--- with their blocks behind it.
+-- with their blocks after it.
 pub record Takes (tells : Type 0) (shape : Shape) (k : ℕ) (left rest : Option (List ℕ)) (h g : Sha256) (v w : Woven) (digests more : List (List ℕ)) (old new : Files) : Type 0 where
   pub bytes : List ℕ
   pub are : AreBytes bytes
@@ -35,7 +35,7 @@ pub record TakesPiece (tells : Type 0) (shape : Shape) (want k : ℕ) (left rest
   pub most : k ≤ want
   pub end : k < want → IsAtEnd rest
 
--- Bytes of the source were taken and woven behind the nodes of a lattice: so many bytes, with this digest, and these
+-- Bytes of the source were taken and woven after the nodes of a lattice: so many bytes, with this digest, and these
 -- digests of the new blocks.
 pub record TakesObject (tells : Type 0) (shape : Shape) (l : Lattice) (recorded : List (List ℕ)) (k : ℕ) (digest : List ℕ) (left rest : Option (List ℕ)) (digests : List (List ℕ)) (first files : Files) : Type 0 where
   pub bytes : List ℕ
@@ -55,19 +55,12 @@ room_left v = (limit_when v.raised - v.lattice.n) * v.shape.block
 abbrev pub HasPassedRoom : Opened → Option (List ℕ) → Option (List ℕ) → Type 0
 HasPassedRoom v left rest = (bytes : List ℕ) × Consumes left rest bytes × (length bytes ≡ room_left v + 1)
 
--- At most n bytes of the source were taken, and the number that counts them grew by as many.
-pub record Counts (left rest : Option (List ℕ)) (before after n : ℕ) : Type 0 where
-  pub bytes : List ℕ
-  pub taken : Consumes left rest bytes
-  pub counted : after ≡ before + length bytes
-  pub most : length bytes ≤ n
-
--- How many bytes are wanted: a number of them, or all that there are, within the room.
+-- How many bytes are wanted: a number of them, or all that there are, within the space.
 abbrev pub limit_of : Option ℕ → ℕ → ℕ
 limit_of None room = room
 limit_of (Some want) room = want
 
--- How many bytes are taken at most: of a number that is wanted none where the room is less; of all one more than the room.
+-- How many bytes are taken at most: of a number that is wanted none where the space is less; of all one more than the space.
 abbrev pub most_of : Option ℕ → ℕ → ℕ
 most_of None room = room + 1
 most_of (Some want) room = min want room

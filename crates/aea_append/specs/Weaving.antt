@@ -11,12 +11,10 @@ use Rattle.aea_lattice.specs.Ends.{strands_of, last_open}
 use Rattle.aea_lattice.specs.Growth.{IsGrown}
 use Rattle.aea_envelope.specs.Cells.{block_digest, cell_of}
 use Rattle.aea_disk.specs.Files.{Files}
-use Rattle.aea_disk.specs.State.{State, IsReady}
-use Rattle.aea_disk.specs.Frames.{OnlyWrites}
 use Rattle.aea_shelf.specs.Places.{HasAtHome}
 use Rattle.aea_weave.specs.Woven.{Woven, head_of}
 use Rattle.aea_archive.specs.Blocks.{IsBlockOn}
-use Rattle.aea_archive.specs.Cells.{IsNoSite, ChangesArchive, FitsRows, AreAtHome}
+use Rattle.aea_archive.specs.Cells.{AreAtHome}
 use Rattle.aea_archive.specs.Lasts.{IsLastParity, AreLastsRecorded, AreLastsAtHome}
 use Rattle.aea_archive.specs.Next.{HoldsData, IsWovenAfter, AreDigestsOn}
 use Rattle.aea_append.specs.declared.fault.PutFault.{PutFault}
@@ -31,7 +29,7 @@ last_payload v datum c = head_of v c (strand_of v.lattice c v.lattice.n)
 abbrev pub last_digest : Woven → List ℕ → Class → List ℕ
 last_digest v datum c = block_digest (block_of v.lattice.n c) (last_payload v datum c)
 
--- the cells of that node stand at their homes
+-- the cells of that node are at their homes
 abbrev pub AreLastAtHome : Shape → Woven → List ℕ → Files → Type 0
 AreLastAtHome shape v datum c =
     (class : Class) → class_number class ≤ shape.alpha
@@ -48,10 +46,10 @@ AreHeads v payload =
     (c : Class) (strand : ℕ) → HasParity v.lattice c → strand < strands_of v.lattice c
     → head_of v c strand ≡ head_by v.size payload c (last_open v.lattice c strand)
 
--- Nodes were woven behind those of a lattice, of these data blocks: with which payloads, and with which digests.
+-- Nodes were woven after those of a lattice, of these data blocks: with which payloads, and with which digests.
 pub record HasWoven (tells : Type 0) (shape : Shape) (l : Lattice) (recorded : List (List ℕ)) (first files : Files) (v : Woven) (datas digests : List (List ℕ)) : Type 0 where
   pub payload : BlockId → List ℕ
-  -- the last parities of the lattice have the recorded digests and, where the disk tells, stood at their homes
+  -- the last parities of the lattice have the recorded digests and, where the disk's contents are known, were at their homes
   pub lasts : AreLastsRecorded shape l recorded payload
   pub homes : tells → AreLastsAtHome shape l payload first
   pub lasts_wide : (b : BlockId) → IsLastParity l b → length (payload b) ≡ shape.block
@@ -60,15 +58,9 @@ pub record HasWoven (tells : Type 0) (shape : Shape) (l : Lattice) (recorded : L
   pub blocks : HoldsData l.n datas payload
   pub woven : IsWovenAfter v.lattice l.n payload
   pub digests_are : AreDigestsOn shape l.n v.lattice.n payload digests
-  -- the cells of the new blocks stand at their homes
+  -- the cells of the new blocks are at their homes
   pub cells : tells → AreAtHome shape l.n v.lattice.n payload files
   pub wide : (b : BlockId) → IsBlockOn shape l.n v.lattice.n b → length (payload b) ≡ shape.block
-
--- Cells were written, whose sites have room for the rows of so many nodes: these blocks stay, and so does each file without
--- cells.
-abbrev pub WritesCells : Type 0 → Shape → ℕ → (BlockId → Type 0) → Type 0 → State → State → Type 0
-WritesCells tells shape nodes keep fault old new =
-    OnlyWrites tells (IsReady old) (FitsRows shape nodes old) fault (ChangesArchive shape nodes keep (IsNoSite shape)) old new
 
 -- the fault is of the disk, or of memory
 abbrev pub IsStopping : PutFault → Type 0

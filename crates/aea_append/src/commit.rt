@@ -19,7 +19,7 @@ use aea_disk::Disk;
 use aea_ledger::{AppendFault, Ledger};
 use aea_records::ledgers_have_one_reading;
 
-/// Makes the cells of an object sure, and then commits its record. All memory is taken before the record's first write.
+/// Syncs the cells of an object, and then commits its record. All memory is taken before the record's first write.
 pub(crate) fn commit_object<D: Disk>(
     ledger: &mut Ledger,
     disk: &mut D,
@@ -38,7 +38,7 @@ pub(crate) fn commit_object<D: Disk>(
     requires this { D.tells → IsThisOne ledger.old ((D.state disk.old).files 0) }
     requires fixed { D.tells → IsFixed (D.state disk.old) 0 }
 
-    // One record more, with the cells that stand.
+    // One record more, with the cells that are at their homes.
     ensures adds { D.tells → (records : List Record) (payload : BlockId → List ℕ) → AreItsRecords ledger.old records ((D.state disk.old).files 0)
         → AreAtHome ledger.old.shape ledger.old.lattice.n (ledger.old.lattice.n + count) payload (D.state disk.old).files
         → Adds ledger.old.shape records (Object (next_stored ledger.old name.now size digest count digests.now) ∷ []) payload (D.state disk.old) (D.state disk.new) }

@@ -3,12 +3,11 @@
 ghost use Rattle.std.specs.Prelude.{◌≡◌, ◌⊎◌, ◌+◌, ◌<◌, ◌≤◌, ◌^◌, true, false, ℕ, List, length, take, Some, IfOk, IfErr};
 ghost use Rattle.std.specs.Io.KnownBytes.{Consumes, IsAtEnd};
 ghost use Rattle.aea_faults.specs.Faults.{HasCause};
+ghost use Rattle.aea_io.specs.Taken.{Counts};
 ghost use Rattle.aea_records.specs.TableLaws.{AreBytes};
-ghost use Rattle.aea_append.specs.Taking.{Counts};
 ghost use Rattle.aea_append.specs.Frames.{IsHeadOf, HasNameLength, name_length, frame_head};
 
-use crate::fill::fill;
-use aea_io::{ReadFault, Source};
+use aea_io::{ReadFault, Source, read_full};
 
 /// What a stream begins with.
 #[derive(Clone, Copy)]
@@ -59,7 +58,7 @@ pub(crate) fn read_head<S: Source>(
     ensures cause { HasCause (S.state source.old).faults (S.state source.new).faults result }
 {
     let mut two = [0; 2];
-    let count = match fill(source, &mut two, at) {
+    let count = match read_full(source, &mut two, at) {
         Ok(count) => count,
         Err(fault) => return Err(fault),
     };
@@ -74,7 +73,7 @@ pub(crate) fn read_head<S: Source>(
     if is_no_length(long) {
         return Ok(Head::NoName);
     }
-    let named = match fill(source, &mut buffer[..long], at) {
+    let named = match read_full(source, &mut buffer[..long], at) {
         Ok(named) => named,
         Err(fault) => return Err(fault),
     };
@@ -82,7 +81,7 @@ pub(crate) fn read_head<S: Source>(
         return Ok(Head::Cut);
     }
     let mut eight = [0; 8];
-    let sized = match fill(source, &mut eight, at) {
+    let sized = match read_full(source, &mut eight, at) {
         Ok(sized) => sized,
         Err(fault) => return Err(fault),
     };

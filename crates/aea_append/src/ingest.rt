@@ -4,6 +4,7 @@ ghost use Rattle.std.specs.Prelude.{◌≡◌, ◌≢◌, ◌⊎◌, ◌↔◌, 
 ghost use Rattle.std.specs.FinMap.{len};
 ghost use Rattle.std.specs.Io.KnownBytes.{IsAtEnd};
 ghost use Rattle.aea_faults.specs.Faults.{Rose};
+ghost use Rattle.aea_io.specs.Taken.{Counts};
 ghost use Rattle.aea_lattice.specs.declared.blocks.BlockId.{BlockId};
 ghost use Rattle.aea_disk.specs.State.{IsFixed, IsReady};
 ghost use Rattle.aea_disk.specs.Frames.{OnlyReads, OnlyWrites};
@@ -15,15 +16,16 @@ ghost use Rattle.aea_archive.specs.Blocks.{IsBlockIn};
 ghost use Rattle.aea_archive.specs.Cells.{IsBesides, ChangesArchive};
 ghost use Rattle.aea_archive.specs.Lasts.{IsLastParity, IsDamagedLast, IsFirstDamagedLast, AreLastsIntact};
 ghost use Rattle.aea_archive.specs.Next.{NewObject};
-ghost use Rattle.aea_append.specs.Taking.{Counts, HasEnded, room_left};
+ghost use Rattle.aea_append.specs.Taking.{HasEnded, room_left};
 ghost use Rattle.aea_append.specs.Puts.{IsCut, HasKept, HasStored, MayHaveStored, LeavesLedger};
+ghost use Rattle.aea_append.specs.Faults.{as_put};
 ghost use Rattle.aea_append.specs.Causes.{IsTaken, MayEnter, HasCutRoom, next_end};
 ghost use Rattle.aea_append.specs.Frames.{IsFramed, HasHead, HasNoName, HasBadName, HasEntry, FitsFrame, IsTooLong, EndsInside, IsEarlyFault, IsHeadFault, IsReadOrHeadFault, IsByHead, HasFrameRoom, name_length, frame_name, object_length, frame_length};
-ghost use Rattle.aea_append.specs.declared.store.StoredObject.{StoredObject};
+ghost use Rattle.aea_append.specs.declared.store.Stored.{Stored};
 
 use crate::fault::PutFault;
 use crate::frame::{Head, read_head};
-use crate::store::{StoredObject, may_enter, put_wanted};
+use crate::store::{Stored, may_enter, put_wanted};
 use aea_catalog::NameText;
 use aea_disk::Disk;
 use aea_io::Source;
@@ -35,10 +37,7 @@ use std::alloc::{AllocError, Global};
 /// What was taken from the stream: the frame of an object that is stored now, or nothing, since the stream was at its end.
 #[derive(Debug, Drop)]
 pub enum Ingest {
-    Stored {
-        name: NameText,
-        stored: StoredObject,
-    },
+    Stored { name: NameText, stored: Stored },
     End,
 }
 
@@ -63,6 +62,44 @@ pub enum IngestFault {
     DiskFault,
     /// There was no memory.
     NoMemory,
+}
+
+impl From<PutFault> for IngestFault {
+    ghost use Rattle.aea_append.specs.Faults.{ingest_of};
+
+    ghost from_gives = { λ put fault. fault ≡ ingest_of put };
+
+    fn from(fault: PutFault) -> IngestFault {
+        match fault {
+            PutFault::BadName => IngestFault::BadName,
+            PutFault::NameTaken => IngestFault::NameTaken,
+            PutFault::CatalogFull => IngestFault::CatalogFull,
+            PutFault::HeadDamaged { block } => IngestFault::HeadDamaged { block },
+            PutFault::Full { nodes } => IngestFault::Full { nodes },
+            PutFault::ReadFault => IngestFault::ReadFault,
+            PutFault::DiskFault => IngestFault::DiskFault,
+            PutFault::NoMemory => IngestFault::NoMemory,
+        }
+    }
+}
+
+impl IngestFault {
+    /// Why the object of the frame was not put; or, as an error, after how many bytes the stream ended inside the frame.
+    pub fn as_put(self) -> Result<PutFault, u64>
+        ensures { result ≡ as_put self }
+    {
+        match self {
+            IngestFault::BadName => Ok(PutFault::BadName),
+            IngestFault::NameTaken => Ok(PutFault::NameTaken),
+            IngestFault::CatalogFull => Ok(PutFault::CatalogFull),
+            IngestFault::HeadDamaged { block } => Ok(PutFault::HeadDamaged { block }),
+            IngestFault::Full { nodes } => Ok(PutFault::Full { nodes }),
+            IngestFault::BadStream { at } => Err(at),
+            IngestFault::ReadFault => Ok(PutFault::ReadFault),
+            IngestFault::DiskFault => Ok(PutFault::DiskFault),
+            IngestFault::NoMemory => Ok(PutFault::NoMemory),
+        }
+    }
 }
 
 // The name as a text of its own.
@@ -92,8 +129,8 @@ fn store_frame<D: Disk, S: Source>(
     requires count { at.old ≤ 2 ^ 63 + 265 }
 
     // Stored.
-    ensures stored { (text : List ℕ) (stored : StoredObject) → result ≡ Ok (Ingest.Stored text stored) → (text ≡ name.now) × HasKept D.tells ledger.old ledger.new name.now (Some size) (S.state source.old).left (S.state source.new).left (D.state disk.old) (D.state disk.new) stored }
-    ensures exact { (text : List ℕ) (stored : StoredObject) → result ≡ Ok (Ingest.Stored text stored) → at.new ≡ at.old + stored.length }
+    ensures stored { (text : List ℕ) (stored : Stored) → result ≡ Ok (Ingest.Stored text stored) → (text ≡ name.now) × HasKept D.tells ledger.old ledger.new name.now (Some size) (S.state source.old).left (S.state source.new).left (D.state disk.old) (D.state disk.new) stored }
+    ensures exact { (text : List ℕ) (stored : Stored) → result ≡ Ok (Ingest.Stored text stored) → at.new ≡ at.old + stored.length }
     ensures kind { result ≢ Ok Ingest.End }
 
     // Refusals by the name and the number of objects.
@@ -120,16 +157,16 @@ fn store_frame<D: Disk, S: Source>(
     ensures bad_stream_refused { (bytes : List ℕ) → (S.state source.old).left ≡ Some bytes → MayEnter ledger.old name.now → ledger.old.lattice.n + nodes_for ledger.old.shape size ≤ limit_when ledger.old.raised → length bytes < size
         → (result ≡ Err (IngestFault.BadStream at.new)) ⊎ IsReadOrHeadFault result }
 
-    // Where nothing stands against it and no count of faults rises, it is stored, but for want of memory.
+    // Where no reason for refusal holds and no count of faults rises, it is stored, unless memory runs out.
     ensures complete { D.tells → (bytes : List ℕ) → (S.state source.old).left ≡ Some bytes → MayEnter ledger.old name.now → size ≤ length bytes
         → AreLastsIntact ledger.old.shape ledger.old.lattice ledger.old.digests (D.state disk.old).files
         → ledger.old.lattice.n + nodes_for ledger.old.shape size ≤ limit_when ledger.old.raised
         → (Rose (D.state disk.old).faults (D.state disk.new).faults → ⊥) → (Rose (S.state source.old).faults (S.state source.new).faults → ⊥)
-        → ((text : List ℕ) × (stored : StoredObject) × (result ≡ Ok (Ingest.Stored text stored))) ⊎ (result ≡ Err IngestFault.NoMemory) }
+        → ((text : List ℕ) × (stored : Stored) × (result ≡ Ok (Ingest.Stored text stored))) ⊎ (result ≡ Err IngestFault.NoMemory) }
 
-    // What stands after each other answer.
-    ensures refused { result ≢ Err IngestFault.DiskFault → ((text : List ℕ) (stored : StoredObject) → result ≢ Ok (Ingest.Stored text stored)) → ledger.new ≡ ledger.old }
-    ensures refused_leaves { result ≢ Err IngestFault.DiskFault → ((text : List ℕ) (stored : StoredObject) → result ≢ Ok (Ingest.Stored text stored)) → D.tells → LeavesLedger (D.state disk.old) (D.state disk.new) }
+    // What holds after each other result.
+    ensures refused { result ≢ Err IngestFault.DiskFault → ((text : List ℕ) (stored : Stored) → result ≢ Ok (Ingest.Stored text stored)) → ledger.new ≡ ledger.old }
+    ensures refused_leaves { result ≢ Err IngestFault.DiskFault → ((text : List ℕ) (stored : Stored) → result ≢ Ok (Ingest.Stored text stored)) → D.tells → LeavesLedger (D.state disk.old) (D.state disk.new) }
     ensures dead { result ≡ Err IngestFault.DiskFault → ledger.new ≡ record ledger.old { live = false } }
     ensures stopped { result ≡ Err IngestFault.DiskFault → D.tells → MayHaveStored ledger.old (IsCut name.now size (S.state source.old).left (S.state source.new).left) (D.state disk.old) (D.state disk.new) }
 
@@ -146,7 +183,7 @@ fn store_frame<D: Disk, S: Source>(
     ensures source_still { result ≢ Err IngestFault.ReadFault → (S.state source.new).faults ≡ (S.state source.old).faults }
 
     // No write goes past the gate that ends the new ledger.
-    ensures ledger { (text : List ℕ) (stored : StoredObject) → result ≡ Ok (Ingest.Stored text stored) → D.tells → length ((D.state disk.new).files 0) ≤ max (length ((D.state disk.old).files 0)) (next_end ledger.old.end (length name.now) (stored.nodes * (1 + ledger.old.shape.alpha)) + 1) }
+    ensures ledger { (text : List ℕ) (stored : Stored) → result ≡ Ok (Ingest.Stored text stored) → D.tells → length ((D.state disk.new).files 0) ≤ max (length ((D.state disk.old).files 0)) (next_end ledger.old.end (length name.now) (stored.nodes * (1 + ledger.old.shape.alpha)) + 1) }
 {
     records_are_few();
     match may_enter(ledger, name) {
@@ -163,19 +200,14 @@ fn store_frame<D: Disk, S: Source>(
     match put_wanted(alloc, ledger, disk, name, source, Some(size), at) {
         Ok(Some(stored)) => Ok(Ingest::Stored { name: text, stored }),
         Ok(None) => Err(IngestFault::BadStream { at: *at }),
-        Err(PutFault::DiskFault) => Err(IngestFault::DiskFault),
-        Err(PutFault::HeadDamaged { block }) => Err(IngestFault::HeadDamaged { block }),
-        Err(PutFault::Full { nodes }) => Err(IngestFault::Full { nodes }),
-        Err(PutFault::ReadFault) => Err(IngestFault::ReadFault),
-        Err(PutFault::NoMemory) => Err(IngestFault::NoMemory),
-        Err(_) => unreachable!(),
+        Err(fault) => Err(IngestFault::from(fault)),
     }
 }
 
-/// Takes one frame from the source, and stores its object as `put` does: the cells of the object are made sure before its
-/// record is committed, and at `Stored` every file is sure. A frame is the length of a name (2 bytes), the name, the length
+/// Takes one frame from the source, and stores its object as `put` does: the cells of the object are synced before its
+/// record is committed, and at `Stored` every file is synced. A frame is the length of a name (2 bytes), the name, the length
 /// of the object (8 bytes), and its bytes, numbers with high bytes first. `at` counts the bytes that were taken of the
-/// source, whatever the answer, and none past the frame is. It takes the memory that `put` takes, and that of the name; none
+/// source, whatever the result, and none past the frame is. It takes the memory that `put` takes, and that of the name; none
 /// from the first write of the record on.
 pub fn ingest_one<D: Disk, S: Source>(
     alloc: Global,
@@ -193,12 +225,12 @@ pub fn ingest_one<D: Disk, S: Source>(
     ensures taken { Counts (S.state source.old).left (S.state source.new).left at.old at.new (265 + room_left ledger.old) }
     ensures within { (stream : List ℕ) → (S.state source.old).left ≡ Some stream → HasHead stream → at.new ≤ at.old + frame_length stream }
     ensures short { (stream : List ℕ) → (S.state source.old).left ≡ Some stream → HasHead stream → result ≡ Err IngestFault.ReadFault → at.new < at.old + frame_length stream }
-    ensures exact { (name : List ℕ) (stored : StoredObject) → result ≡ Ok (Ingest.Stored name stored) → at.new ≡ at.old + 10 + length name + stored.length }
+    ensures exact { (name : List ℕ) (stored : Stored) → result ≡ Ok (Ingest.Stored name stored) → at.new ≡ at.old + 10 + length name + stored.length }
     ensures by_head { (stream : List ℕ) → (S.state source.old).left ≡ Some stream → IsByHead result → at.new ≡ at.old + 10 + name_length stream }
     ensures by_name { (stream : List ℕ) → (S.state source.old).left ≡ Some stream → result ≡ Err IngestFault.BadName → (HasNoName stream → at.new ≡ at.old + 2) × (HasHead stream → at.new ≡ at.old + 10 + name_length stream) }
 
     // Stored.
-    ensures stored { (name : List ℕ) (stored : StoredObject) → result ≡ Ok (Ingest.Stored name stored) → (o : NewObject) × (o.name ≡ name) × IsFramed (S.state source.old).left (S.state source.new).left o × HasStored D.tells ledger.old ledger.new o (D.state disk.old) (D.state disk.new) stored }
+    ensures stored { (name : List ℕ) (stored : Stored) → result ≡ Ok (Ingest.Stored name stored) → (o : NewObject) × (o.name ≡ name) × IsFramed (S.state source.old).left (S.state source.new).left o × HasStored D.tells ledger.old ledger.new o (D.state disk.old) (D.state disk.new) stored }
 
     // The end of the stream.
     ensures end { result ≡ Ok Ingest.End → IsAtEnd (S.state source.old).left × (ledger.new ≡ ledger.old) × (disk.new ≡ disk.old) × (at.new ≡ at.old) }
@@ -230,15 +262,15 @@ pub fn ingest_one<D: Disk, S: Source>(
     ensures bad_stream_told { (n : ℕ) (stream : List ℕ) → (S.state source.old).left ≡ Some stream → result ≡ Err (IngestFault.BadStream n) → EndsInside ledger.old stream }
     ensures bad_stream_refused { (stream : List ℕ) → (S.state source.old).left ≡ Some stream → EndsInside ledger.old stream → (result ≡ Err (IngestFault.BadStream at.new)) ⊎ IsReadOrHeadFault result }
 
-    // Where nothing stands against it and no count of faults rises, it is stored, but for want of memory.
+    // Where no reason for refusal holds and no count of faults rises, it is stored, unless memory runs out.
     ensures complete { D.tells → (stream : List ℕ) → (S.state source.old).left ≡ Some stream → HasEntry ledger.old stream → FitsFrame ledger.old stream → frame_length stream ≤ length stream
         → AreLastsIntact ledger.old.shape ledger.old.lattice ledger.old.digests (D.state disk.old).files
         → (Rose (D.state disk.old).faults (D.state disk.new).faults → ⊥) → (Rose (S.state source.old).faults (S.state source.new).faults → ⊥)
-        → ((name : List ℕ) × (stored : StoredObject) × (result ≡ Ok (Ingest.Stored name stored))) ⊎ (result ≡ Err IngestFault.NoMemory) }
+        → ((name : List ℕ) × (stored : Stored) × (result ≡ Ok (Ingest.Stored name stored))) ⊎ (result ≡ Err IngestFault.NoMemory) }
 
-    // What stands after each other answer.
-    ensures refused { result ≢ Err IngestFault.DiskFault → ((name : List ℕ) (stored : StoredObject) → result ≢ Ok (Ingest.Stored name stored)) → ledger.new ≡ ledger.old }
-    ensures refused_leaves { result ≢ Err IngestFault.DiskFault → ((name : List ℕ) (stored : StoredObject) → result ≢ Ok (Ingest.Stored name stored)) → D.tells → LeavesLedger (D.state disk.old) (D.state disk.new) }
+    // What holds after each other result.
+    ensures refused { result ≢ Err IngestFault.DiskFault → ((name : List ℕ) (stored : Stored) → result ≢ Ok (Ingest.Stored name stored)) → ledger.new ≡ ledger.old }
+    ensures refused_leaves { result ≢ Err IngestFault.DiskFault → ((name : List ℕ) (stored : Stored) → result ≢ Ok (Ingest.Stored name stored)) → D.tells → LeavesLedger (D.state disk.old) (D.state disk.new) }
     ensures dead { result ≡ Err IngestFault.DiskFault → ledger.new ≡ record ledger.old { live = false } }
     ensures stopped { result ≡ Err IngestFault.DiskFault → D.tells → MayHaveStored ledger.old (IsFramed (S.state source.old).left (S.state source.new).left) (D.state disk.old) (D.state disk.new) }
 
@@ -253,7 +285,7 @@ pub fn ingest_one<D: Disk, S: Source>(
     ensures source_still { result ≢ Err IngestFault.ReadFault → (S.state source.new).faults ≡ (S.state source.old).faults }
 
     // No write goes past the gate that ends the new ledger.
-    ensures ledger { (name : List ℕ) (stored : StoredObject) → result ≡ Ok (Ingest.Stored name stored) → D.tells → length ((D.state disk.new).files 0) ≤ max (length ((D.state disk.old).files 0)) (next_end ledger.old.end (length name) (stored.nodes * (1 + ledger.old.shape.alpha)) + 1) }
+    ensures ledger { (name : List ℕ) (stored : Stored) → result ≡ Ok (Ingest.Stored name stored) → D.tells → length ((D.state disk.new).files 0) ≤ max (length ((D.state disk.old).files 0)) (next_end ledger.old.end (length name) (stored.nodes * (1 + ledger.old.shape.alpha)) + 1) }
 {
     let mut buffer = [0; 255];
     match read_head(source, &mut buffer, at) {

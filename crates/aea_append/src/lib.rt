@@ -1,11 +1,11 @@
 //! Objects that are put into an archive: woven of what a source has, their cells written, and their record committed.
 //!
 //! Promises to the commands above that `put` stores all that a source has as one object, and `ingest_one` one that it
-//! takes from a stream, or says why not; and that whatever it answers, in every image of every moment the ledger is the
+//! takes from a stream, or says why not; and that whatever it returns, in every image of every moment the ledger is the
 //! old one or has the record, and then the cells of its blocks (`HasPut`, `HasStored`, `MayHaveStored`). A fault of the disk
-//! or of the source is answered as such and never as want of memory: after any other answer its count is what it was.
+//! or of the source is returned as such and never as lack of memory: after any other result its count is what it was.
 //!
-//! `specs/Loading.antt` says what of the last parities is loaded, `specs/Weaving.antt` what was woven behind the nodes of a
+//! `specs/Loading.antt` says what of the last parities is loaded, `specs/Weaving.antt` what was woven after the nodes of a
 //! lattice, `specs/Taking.antt` what of a source was taken and woven, `specs/Causes.antt` why an object is not stored,
 //! `specs/Puts.antt` what is left where one was stored, or may have been, and `specs/Frames.antt` what a stream of objects is.
 //!
@@ -14,16 +14,15 @@
 #![tactic(auto)]
 
 mod commit;
-pub mod fault;
-mod fill;
+mod fault;
 mod frame;
-pub mod ingest;
+mod ingest;
 mod load;
 mod object;
 mod piece;
-pub mod store;
+mod store;
 mod weave;
 
 pub use fault::PutFault;
 pub use ingest::{Ingest, IngestFault, ingest_one};
-pub use store::{StoredObject, put};
+pub use store::{Stored, put};

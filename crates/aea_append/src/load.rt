@@ -62,7 +62,7 @@ fn lesser(lattice: &Lattice, a: Option<BlockId>, b: Option<BlockId>) -> Option<B
     }
 }
 
-// Loads the head of a strand from the home of its last parity, if the strand has one. Answers this parity where it is
+// Loads the head of a strand from the home of its last parity, if the strand has one. Returns this parity where it is
 // damaged.
 fn load_strand<D: Disk>(
     disk: &mut D,
@@ -101,7 +101,7 @@ fn load_strand<D: Disk>(
     }
 }
 
-/// Loads the heads of all strands from the homes of the last parities. Answers the damaged one with the least number, if
+/// Loads the heads of all strands from the homes of the last parities. Returns the damaged one with the least number, if
 /// there is any; the heads are then of no use.
 pub(crate) fn load_heads<D: Disk>(
     disk: &mut D,

@@ -3,6 +3,7 @@
 ghost use Rattle.std.specs.Prelude.{◌≡◌, ◌≢◌, ◌⊎◌, ◌+◌, ◌^◌, ◌<◌, ◌≤◌, true, false, ℕ, List, length, [], None, Some, IfOk, IfErr, OnOk};
 ghost use Rattle.std.specs.Io.KnownBytes.{Consumes, IsAtEnd};
 ghost use Rattle.aea_faults.specs.Faults.{Rose};
+ghost use Rattle.aea_io.specs.Taken.{Counts};
 ghost use Rattle.aea_lattice.specs.declared.blocks.BlockId.{BlockId};
 ghost use Rattle.aea_disk.specs.Files.{Files};
 ghost use Rattle.aea_disk.specs.State.{HasEarlier};
@@ -12,16 +13,17 @@ ghost use Rattle.aea_shelf.specs.Writes.{KeepsPadded};
 ghost use Rattle.aea_records.specs.Format.{nodes_for, limit_when};
 ghost use Rattle.aea_archive.specs.Blocks.{IsBlockIn};
 ghost use Rattle.aea_archive.specs.Lasts.{IsLastParity, IsFirstDamagedLast, AreLastsIntact};
-ghost use Rattle.aea_append.specs.Weaving.{HasWoven, WritesCells, IsBroken, IsStopping};
+ghost use Rattle.aea_archive.specs.Cells.{WritesCells};
+ghost use Rattle.aea_append.specs.Weaving.{HasWoven, IsBroken, IsStopping};
 ghost use Rattle.aea_append.specs.Causes.{IsHeadRefused};
-ghost use Rattle.aea_append.specs.Taking.{TakesObject, Counts, IsOver, limit_of, most_of, room_left};
+ghost use Rattle.aea_append.specs.Taking.{TakesObject, IsOver, limit_of, most_of, room_left};
 
 use crate::fault::PutFault;
-use crate::fill::fill;
 use crate::load::load_heads;
 use crate::piece::weave_all;
+use aea_archive::cell_buffer;
 use aea_disk::Disk;
-use aea_io::Source;
+use aea_io::{Source, read_full};
 use aea_ledger::Ledger;
 use aea_records::records_are_few;
 use aea_shelf::homes_are_on_its_sites;
@@ -69,22 +71,22 @@ fn ready_heads<D: Disk>(
 }
 
 // The buffers that weaving takes: a cell and a block of zeros.
-fn buffers(alloc: Global, size: usize) -> Result<(Vec<u8>, Vec<u8>), PutFault>
-    requires { size ≤ 65536 }
-    ensures cell { IfOk result (λ b. length b.0.items ≡ size + 48) }
-    ensures block { IfOk result (λ b. length b.1.items ≡ size) }
+fn buffers(alloc: Global, ledger: &Ledger) -> Result<(Vec<u8>, Vec<u8>), PutFault>
+    ensures cell { IfOk result (λ b. length b.0.items ≡ cell_size ledger.now.shape) }
+    ensures block { IfOk result (λ b. length b.1.items ≡ ledger.now.shape.block) }
     ensures memory { IfErr result (λ f. f ≡ PutFault.NoMemory) }
 {
-    let Ok(cell) = vec![in alloc; 0; size + 48] else {
+    let Ok(cell) = cell_buffer(alloc, ledger) else {
         return Err(PutFault::NoMemory);
     };
+    let size = ledger.shape().block() as usize;
     let Ok(block) = vec![in alloc; 0; size] else {
         return Err(PutFault::NoMemory);
     };
     Ok((cell, block))
 }
 
-// Whether the source has a byte more, where as many were taken as there is room for. It is taken.
+// Whether the source has a byte more, where as many were taken as there is space for. It is taken.
 fn has_more<S: Source>(source: &mut S, full: bool, at: &mut u64) -> Result<bool, PutFault>
     requires count { at.old + 1 < 2 ^ 64 }
     ensures more { result ≡ Ok true → (full ≡ true) × ((bytes : List ℕ) × Consumes (S.state source.old).left (S.state source.new).left bytes × (length bytes ≡ 1)) }
@@ -102,7 +104,7 @@ fn has_more<S: Source>(source: &mut S, full: bool, at: &mut u64) -> Result<bool,
         return Ok(false);
     }
     let mut one = [0; 1];
-    match fill(source, &mut one, at) {
+    match read_full(source, &mut one, at) {
         Ok(count) => Ok(count != 0),
         Err(_) => Err(PutFault::ReadFault),
     }
@@ -118,7 +120,7 @@ fn greatest_length(want: Option<u64>, room: u64) -> u64
     }
 }
 
-// Whether all is wanted and the room is full.
+// Whether all is wanted and the space is used up.
 fn is_full(want: Option<u64>, length: u64, room: u64) -> bool
     ensures yes { result ≡ true → (want ≡ None) × (length ≡ room) }
     ensures no { result ≡ false → want ≡ None → length ≡ room → ⊥ }
@@ -203,10 +205,10 @@ fn take_object<D: Disk, S: Source>(
     }
 }
 
-/// Takes what is wanted of the source: so many bytes, fewer only at its end, or all that it has. It weaves them behind the
+/// Takes what is wanted of the source: so many bytes, fewer only at its end, or all that it has. It weaves them after the
 /// nodes of the archive, and writes the cells of their blocks. The last parity of each strand has to be intact. More bytes
 /// than the nodes that are left can hold are refused: a number of them before one is read; where all are wanted, one byte
-/// past them is read at most. `at` grows by the bytes that were taken, whatever the answer. It takes memory for a block, a
+/// past them is read at most. `at` grows by the bytes that were taken, whatever the result. It takes memory for a block, a
 /// cell, the heads and 32 bytes for each new block; the list of these grows by doubling.
 pub(crate) fn weave_object<D: Disk, S: Source>(
     alloc: Global,
@@ -241,8 +243,7 @@ pub(crate) fn weave_object<D: Disk, S: Source>(
     ensures source_still { result ≢ Err PutFault.ReadFault → (S.state source.new).faults ≡ (S.state source.old).faults }
 {
     homes_are_on_its_sites();
-    let size = ledger.shape().block() as usize;
-    let (mut cell, mut block) = match buffers(alloc, size) {
+    let (mut cell, mut block) = match buffers(alloc, ledger) {
         Ok(buffers) => buffers,
         Err(_) => return Err(PutFault::NoMemory),
     };

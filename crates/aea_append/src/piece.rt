@@ -3,25 +3,26 @@
 ghost use Rattle.std.specs.Prelude.{◌≡◌, ◌≢◌, ◌+◌, ◌-◌, ◌*◌, ◌^◌, ◌<◌, ◌≤◌, ◌++◌, ℕ, length, take, replicate, IfErr, IfOk};
 ghost use Rattle.std.specs.Io.KnownBytes.{Consumes, IsAtEnd};
 ghost use Rattle.aea_faults.specs.Faults.{HasCause, Rose};
+ghost use Rattle.aea_io.specs.Taken.{Counts};
 ghost use Rattle.aea_lattice.specs.Profile.{greatest_nodes};
 ghost use Rattle.aea_shelf.specs.Places.{cell_size};
 ghost use Rattle.aea_shelf.specs.Writes.{KeepsPadded};
 ghost use Rattle.aea_records.specs.TableLaws.{AreBytes};
 ghost use Rattle.aea_records.specs.Format.{nodes_for};
 ghost use Rattle.aea_archive.specs.Blocks.{IsBlockIn};
-ghost use Rattle.aea_append.specs.Weaving.{WritesCells, IsBroken};
-ghost use Rattle.aea_append.specs.Taking.{Takes, TakesPiece, Counts};
+ghost use Rattle.aea_archive.specs.Cells.{WritesCells};
+ghost use Rattle.aea_append.specs.Weaving.{IsBroken};
+ghost use Rattle.aea_append.specs.Taking.{Takes, TakesPiece};
 
 use crate::fault::PutFault;
-use crate::fill::fill;
 use crate::weave::weave_node;
 use aea_disk::Disk;
-use aea_io::{ReadFault, Source};
+use aea_io::{ReadFault, Source, read_full};
 use aea_lattice::Shape;
 use aea_weave::Heads;
 use sha2::{Digest, Sha256};
 
-// Fills a block with the next bytes of the source, at most `want` of them, and zeros behind them. Answers how many bytes
+// Fills a block with the next bytes of the source, at most `want` of them, and zeros after them. Returns how many bytes
 // there were: fewer than `want` only at the source's end.
 fn read_piece<S: Source>(
     source: &mut S,
@@ -41,7 +42,7 @@ fn read_piece<S: Source>(
     ensures short { IfErr result (λ f. at.new < at.old + want) }
     ensures cause { HasCause (S.state source.old).faults (S.state source.new).faults result }
 {
-    let count = match fill(source, &mut block[..want], at) {
+    let count = match read_full(source, &mut block[..want], at) {
         Ok(count) => count,
         Err(fault) => return Err(fault),
     };
@@ -49,7 +50,7 @@ fn read_piece<S: Source>(
     Ok(count)
 }
 
-// Takes the next piece of the source, at most `want` bytes, and weaves one node of it where there is any. Answers how
+// Takes the next piece of the source, at most `want` bytes, and weaves one node of it where there is any. Returns how
 // many bytes it took. `at` grows by the bytes that were taken.
 fn weave_piece<D: Disk, S: Source>(
     disk: &mut D,
@@ -97,8 +98,8 @@ fn weave_piece<D: Disk, S: Source>(
 }
 
 /// Takes the bytes of the source up to its end, at most `limit` of them, and weaves them, the last block filled with
-/// zeros. Answers how many bytes it took: fewer than `limit` only at the source's end. `at` grows by the bytes that were
-/// taken, whatever the answer.
+/// zeros. Returns how many bytes it took: fewer than `limit` only at the source's end. `at` grows by the bytes that were
+/// taken, whatever the result.
 pub(crate) fn weave_all<D: Disk, S: Source>(
     disk: &mut D,
     shape: &Shape,

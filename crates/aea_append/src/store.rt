@@ -3,7 +3,7 @@
 ghost use Rattle.std.specs.Prelude.{◌≡◌, ◌≢◌, ◌⊎◌, ◌↔◌, ◌+◌, ◌*◌, ◌^◌, ◌≤◌, ◌<◌, true, false, ℕ, List, length, max, None, Some, IfOk, IfSome, OnOk, IsOk, IsErr};
 ghost use Rattle.std.specs.FinMap.{len};
 ghost use Rattle.aea_faults.specs.Faults.{Rose};
-ghost use Rattle.aea_io.specs.Taken.{TakesAtMost};
+ghost use Rattle.aea_io.specs.Taken.{TakesAtMost, Counts};
 ghost use Rattle.aea_lattice.specs.declared.blocks.BlockId.{BlockId};
 ghost use Rattle.aea_disk.specs.State.{IsFixed, IsReady};
 ghost use Rattle.aea_disk.specs.Frames.{OnlyReads, OnlyWrites};
@@ -14,8 +14,9 @@ ghost use Rattle.aea_ledger.specs.Values.{HasSomeRecords, IsThisOne};
 ghost use Rattle.aea_archive.specs.Blocks.{IsBlockIn};
 ghost use Rattle.aea_archive.specs.Cells.{IsBesides, ChangesArchive};
 ghost use Rattle.aea_archive.specs.Lasts.{IsLastParity, IsDamagedLast, IsFirstDamagedLast, AreLastsIntact};
-ghost use Rattle.aea_append.specs.Taking.{HasPassedRoom, Counts, IsOver, IsThere, HasEnded, room_left, most_of, long_of};
+ghost use Rattle.aea_append.specs.Taking.{HasPassedRoom, IsOver, IsThere, HasEnded, room_left, most_of, long_of};
 ghost use Rattle.aea_append.specs.Puts.{IsWhole, IsWanted, HasKept, HasPut, MayHaveStored, LeavesLedger};
+ghost use Rattle.aea_append.specs.Wanted.{StoresWanted};
 ghost use Rattle.aea_append.specs.Causes.{IsTaken, MayEnter, IsEarly, IsHeadRefused, HasPutRoom, HasWantedRoom, next_end};
 
 use crate::commit::commit_object;
@@ -32,7 +33,7 @@ use std::alloc::Global;
 
 /// What was stored: the nodes of the object, its bytes, and their SHA-256 (FIPS 180-4).
 #[derive(Clone, Copy, Debug, PartialEq, Eq)]
-pub struct StoredObject {
+pub struct Stored {
     pub nodes: u32,
     pub length: u64,
     pub digest: [u8; 32],
@@ -75,8 +76,11 @@ fn is_short(want: Option<u64>, length: u64) -> bool
     }
 }
 
-/// Stores what is wanted of the source under a name that may enter: a number of bytes, or all that it has. Answers None
-/// where it ends before that number. `at` grows by the bytes that were taken, whatever the answer.
+/// Stores what is wanted of the source under a name that may enter: a number of bytes, or all that it has. Returns None
+/// where it ends before that number. `at` grows by the bytes that were taken, whatever the result.
+///
+/// Its clauses: `stores` says what is left, by how it ended (`StoresWanted`, with a record for each end); the others what
+/// holds in any case.
 pub(crate) fn put_wanted<D: Disk, S: Source>(
     alloc: Global,
     ledger: &mut Ledger,
@@ -85,7 +89,7 @@ pub(crate) fn put_wanted<D: Disk, S: Source>(
     source: &mut S,
     want: Option<u64>,
     at: &mut u64,
-) -> Result<Option<StoredObject>, PutFault>
+) -> Result<Option<Stored>, PutFault>
     requires enters { MayEnter ledger.old name.now }
     requires opened { HasSomeRecords ledger.old }
     requires live { ledger.old.live ≡ true }
@@ -93,57 +97,19 @@ pub(crate) fn put_wanted<D: Disk, S: Source>(
     requires fixed { D.tells → IsFixed (D.state disk.old) 0 }
     requires count { at.old ≤ 2 ^ 63 + 265 }
 
-    // Stored.
-    ensures stored { IfOk result (λ kept. IfSome kept (HasKept D.tells ledger.old ledger.new name.now want (S.state source.old).left (S.state source.new).left (D.state disk.old) (D.state disk.new))) }
-    ensures exact { IfOk result (λ kept. IfSome kept (λ stored. at.new ≡ at.old + stored.length)) }
-
+    ensures stores { StoresWanted D.tells (source.new ≡ source.old) ledger.old ledger.new name.now want (S.state source.old).left (S.state source.new).left at.old at.new (D.state disk.old) (D.state disk.new) result }
     ensures late { IsEarly result → ⊥ }
-
-    // The source ended before the number of bytes that was wanted.
-    ensures ended { result ≡ Ok None → HasEnded want (S.state source.old).left (S.state source.new).left }
     ensures whole { want ≡ None → result ≡ Ok None → ⊥ }
-    ensures ended_intact { result ≡ Ok None → D.tells → AreLastsIntact ledger.old.shape ledger.old.lattice ledger.old.digests (D.state disk.old).files }
-
-    // A last parity that is damaged.
-    ensures head { (b : BlockId) → result ≡ Err (PutFault.HeadDamaged b) → IsLastParity ledger.old.lattice b × (D.tells → IsFirstDamagedLast ledger.old.shape ledger.old.lattice ledger.old.digests (D.state disk.old).files b) }
-    ensures head_leaves { (b : BlockId) → result ≡ Err (PutFault.HeadDamaged b) → (source.new ≡ source.old) × OnlyReads D.tells ⊥ (D.state disk.old) (D.state disk.new) }
-    ensures head_counts { (b : BlockId) → result ≡ Err (PutFault.HeadDamaged b) → at.new ≡ at.old }
-    ensures head_refused { D.tells → (a : BlockId) → IsDamagedLast ledger.old.shape ledger.old.lattice ledger.old.digests (D.state disk.old).files a → IsHeadRefused result }
-
-    // More bytes than there are nodes for.
-    ensures full { (nodes : ℕ) → result ≡ Err (PutFault.Full nodes) → (nodes ≡ ledger.old.lattice.n) × (IsOver ledger.old want (S.state source.old).left (S.state source.new).left × (D.tells → AreLastsIntact ledger.old.shape ledger.old.lattice ledger.old.digests (D.state disk.old).files)) }
-    ensures full_leaves { (nodes n : ℕ) → result ≡ Err (PutFault.Full nodes) → want ≡ Some n → (source.new ≡ source.old) × (at.new ≡ at.old) }
-    ensures full_refused { (bytes : List ℕ) → (S.state source.old).left ≡ Some bytes → want ≡ None → limit_when ledger.old.raised < ledger.old.lattice.n + nodes_for ledger.old.shape (length bytes)
-        → (result ≡ Err (PutFault.Full ledger.old.lattice.n)) ⊎ ((result ≡ Err PutFault.ReadFault) ⊎ IsHeadRefused result) }
-    ensures over_refused { (n : ℕ) → want ≡ Some n → room_left ledger.old < n → (result ≡ Err (PutFault.Full ledger.old.lattice.n)) ⊎ IsHeadRefused result }
-
-    // Where nothing stands against it and no count of faults rises, it is stored, but for want of memory.
-    ensures complete { D.tells → (bytes : List ℕ) → (S.state source.old).left ≡ Some bytes → IsThere want bytes
-        → AreLastsIntact ledger.old.shape ledger.old.lattice ledger.old.digests (D.state disk.old).files
-        → ledger.old.lattice.n + nodes_for ledger.old.shape (long_of want bytes) ≤ limit_when ledger.old.raised
-        → (Rose (D.state disk.old).faults (D.state disk.new).faults → ⊥) → (Rose (S.state source.old).faults (S.state source.new).faults → ⊥)
-        → ((stored : StoredObject) × (result ≡ Ok (Some stored))) ⊎ (result ≡ Err PutFault.NoMemory) }
-
-    // What stands after each other answer.
-    ensures refused { result ≢ Err PutFault.DiskFault → ((stored : StoredObject) → result ≢ Ok (Some stored)) → ledger.new ≡ ledger.old }
-    ensures refused_leaves { result ≢ Err PutFault.DiskFault → ((stored : StoredObject) → result ≢ Ok (Some stored)) → D.tells → LeavesLedger (D.state disk.old) (D.state disk.new) }
-    ensures dead { result ≡ Err PutFault.DiskFault → ledger.new ≡ record ledger.old { live = false } }
-    ensures stopped { result ≡ Err PutFault.DiskFault → D.tells → MayHaveStored ledger.old (IsWanted want name.now (S.state source.old).left (S.state source.new).left) (D.state disk.old) (D.state disk.new) }
 
     // The blocks that the archive had and the other files stay, no site grows past the rows that the archive can have, and
     // when the disk is at fault.
     ensures writes { OnlyWrites D.tells (IsReady (D.state disk.old)) (HasWantedRoom ledger.old name.now want (S.state source.old).left (S.state source.new).left (D.state disk.old)) (result ≡ Err PutFault.DiskFault) (ChangesArchive ledger.old.shape (limit_when ledger.old.raised) (IsBlockIn ledger.old.shape ledger.old.lattice.n) (IsBesides ledger.old.shape)) (D.state disk.old) (D.state disk.new) }
-    ensures padded { result ≢ Err PutFault.DiskFault → D.tells → KeepsPadded ledger.old.shape (IsBlockIn ledger.old.shape ledger.old.lattice.n) (D.state disk.old).files (D.state disk.new).files }
 
     // How many bytes are taken, and when the source is at fault.
     ensures counted { Counts (S.state source.old).left (S.state source.new).left at.old at.new (most_of want (room_left ledger.old)) }
-    ensures short { (n : ℕ) → want ≡ Some n → result ≡ Err PutFault.ReadFault → at.new < at.old + n }
     ensures source_kept { (S.state source.old).faults ≤ (S.state source.new).faults }
     ensures read_cause { result ≡ Err PutFault.ReadFault → Rose (S.state source.old).faults (S.state source.new).faults }
     ensures source_still { result ≢ Err PutFault.ReadFault → (S.state source.new).faults ≡ (S.state source.old).faults }
-
-    // No write goes past the gate that ends the new ledger.
-    ensures ledger { IfOk result (λ kept. IfSome kept (λ stored. D.tells → length ((D.state disk.new).files 0) ≤ max (length ((D.state disk.old).files 0)) (next_end ledger.old.end (length name.now) (stored.nodes * (1 + ledger.old.shape.alpha)) + 1))) }
 {
     ledgers_have_one_reading();
     next_records_more();
@@ -182,7 +148,7 @@ pub(crate) fn put_wanted<D: Disk, S: Source>(
         nodes,
         digests.as_slice(),
     ) {
-        Ok(()) => Ok(Some(StoredObject {
+        Ok(()) => Ok(Some(Stored {
             nodes,
             length,
             digest,
@@ -193,8 +159,8 @@ pub(crate) fn put_wanted<D: Disk, S: Source>(
     }
 }
 
-/// Stores all that the source has as one object under the name. The cells of the object are written and made sure
-/// before its record is committed, and at `Ok` every file is sure. The last parity of each strand has to be intact. It
+/// Stores all that the source has as one object under the name. The cells of the object are written and synced
+/// before its record is committed, and at `Ok` every file is synced. The last parity of each strand has to be intact. It
 /// takes memory for a block, a cell, the heads, and 64 bytes for each new block, in lists that grow by doubling; none from
 /// the first write of the record on.
 pub fn put<D: Disk, S: Source>(
@@ -203,7 +169,7 @@ pub fn put<D: Disk, S: Source>(
     disk: &mut D,
     name: &[u8],
     source: &mut S,
-) -> Result<StoredObject, PutFault>
+) -> Result<Stored, PutFault>
     requires live { ledger.old.live ≡ true }
     requires this { D.tells → IsThisOne ledger.old ((D.state disk.old).files 0) }
     requires fixed { D.tells → IsFixed (D.state disk.old) 0 }
@@ -227,14 +193,14 @@ pub fn put<D: Disk, S: Source>(
     ensures full_refused { (bytes : List ℕ) → (S.state source.old).left ≡ Some bytes → MayEnter ledger.old name.now → limit_when ledger.old.raised < ledger.old.lattice.n + nodes_for ledger.old.shape (length bytes)
         → (result ≡ Err (PutFault.Full ledger.old.lattice.n)) ⊎ ((result ≡ Err PutFault.ReadFault) ⊎ IsHeadRefused result) }
 
-    // Where nothing stands against it and no count of faults rises, it is stored, but for want of memory.
+    // Where no reason for refusal holds and no count of faults rises, it is stored, unless memory runs out.
     ensures complete { D.tells → (bytes : List ℕ) → (S.state source.old).left ≡ Some bytes → MayEnter ledger.old name.now
         → AreLastsIntact ledger.old.shape ledger.old.lattice ledger.old.digests (D.state disk.old).files
         → ledger.old.lattice.n + nodes_for ledger.old.shape (length bytes) ≤ limit_when ledger.old.raised
         → (Rose (D.state disk.old).faults (D.state disk.new).faults → ⊥) → (Rose (S.state source.old).faults (S.state source.new).faults → ⊥)
         → IsOk result ⊎ (result ≡ Err PutFault.NoMemory) }
 
-    // What stands after each other answer.
+    // What holds after each other result.
     ensures refused { IsErr result → result ≢ Err PutFault.DiskFault → ledger.new ≡ ledger.old }
     ensures refused_leaves { IsErr result → result ≢ Err PutFault.DiskFault → D.tells → LeavesLedger (D.state disk.old) (D.state disk.new) }
     ensures dead { result ≡ Err PutFault.DiskFault → ledger.new ≡ record ledger.old { live = false } }

@@ -13,7 +13,8 @@ ghost use Rattle.aea_envelope.specs.Cells.{block_digest, cell_of};
 ghost use Rattle.aea_shelf.specs.Places.{cell_size, HasAtHome};
 ghost use Rattle.aea_shelf.specs.Writes.{KeepsPadded};
 ghost use Rattle.aea_weave.specs.Woven.{head_of};
-ghost use Rattle.aea_append.specs.Weaving.{last_payload, last_digest, AreLastAtHome, HasWoven, WritesCells, IsStopping};
+ghost use Rattle.aea_archive.specs.Cells.{WritesCells};
+ghost use Rattle.aea_append.specs.Weaving.{last_payload, last_digest, AreLastAtHome, HasWoven, IsStopping};
 
 use crate::fault::PutFault;
 use aea_disk::Disk;

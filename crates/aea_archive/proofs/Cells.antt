@@ -44,7 +44,7 @@ changes_less shape nodes blocks fewer files less c d some few changes = record {
 pub no_home : (shape : Shape) (b : BlockId) (f : ℕ) → IsNoSite shape f → f ≢ home_file shape b
 no_home shape b f none same = ⊎_elim {C = ⊥} (λ ledger. no_home_in_ledger shape b (sym same ∙ ledger)) (λ past. no_home_outside shape b f past (sym same)) none
 
--- the write of one cell of so many nodes, whatever it answers
+-- the write of one cell of so many nodes, whatever it returns
 pub changes_cell : CellsAreApart → HomesAreInRows → (shape : Shape) (nodes : ℕ) (b : BlockId) (c d : Files) → IsBlockOf shape b → b.node ≤ nodes → ChangesHome shape b c d
     → ChangesArchive shape nodes (λ a. a ≢ b) (IsNoSite shape) c d
 changes_cell apart rows shape nodes b c d has_b within changes =
@@ -99,11 +99,11 @@ fixed_kept tells taken fits fault shape nodes blocks files old new f told kept w
     file_kept tells taken fits fault shape nodes blocks files old new f kept writes fixed new.moment c writes.time.later (omega arith) here
     ∙ sym ((writes.contents told).stay f kept)
 
--- where the sites have room, the disk has some
+-- where the sites have space, the disk has some
 pub room_some : HomesAreOnItsSites → (shape : Shape) (nodes : ℕ) (s : State) → HaveSitesRoom shape nodes s → HasRoom s
 room_some sites shape nodes s room = (1, site_bytes shape nodes, room 1 (omega arith) (sites shape).0)
 
--- and with room to sync it has room for calls that only read
+-- and with the space to sync it has space for calls that only read
 pub rows_roomy : HomesAreOnItsSites → (shape : Shape) (nodes : ℕ) (s : State) → FitsRows shape nodes s → IsRoomy s
 rows_roomy sites shape nodes s fit = record { some = room_some sites shape nodes s fit.sites; sync = fit.sync }
 

@@ -1,4 +1,4 @@
--- The digests of all blocks: those of the blocks before, and behind them those of the new ones.
+-- The digests of all blocks: those of the blocks before, and after them those of the new ones.
 use Rattle.std.proofs.Common.{◌≡◌, ⊎_elim, ℕ, zero, suc, ◌+◌, ◌-◌, ◌*◌, ◌/◌, ◌%◌, ◌<◌, ◌≤◌, List, [], ◌++◌, length, map, get_or, refl, sym, ◌∙◌, ap, subst, arith, length-append}
 use Rattle.std.specs.Prelude.{slice_get, Some}
 use Rattle.std.proofs.lemmas.Bool.{cases_lt}
@@ -107,7 +107,7 @@ module _ (longer : LongerDataKeepValues) (shape : Shape) (l m : Lattice) (grown 
       omega (arith, below, past, same_number b)))
       (cases_lt l.n b.node)
 
-  -- the digests of the old blocks, with those of the new ones behind them, are those of all blocks of the grown
+  -- the digests of the old blocks, with those of the new ones after them, are those of all blocks of the grown
   -- lattice, where the new payloads are its values
   pub digests-joined : (olds ds : List (List ℕ)) → olds ≡ map old_digest (blocks_of l) → AreDigestsOn shape l.n m.n payload ds → olds ++ ds ≡ map new_digest (blocks_of m)
   digests-joined olds ds are on =

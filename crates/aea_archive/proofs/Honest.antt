@@ -1,4 +1,4 @@
--- Payloads that stand at homes, and survivors that stay honest while blocks are added.
+-- Payloads that are at homes, and survivors that stay honest while blocks are added.
 use Rattle.std.proofs.Common.{◌≡◌, ⊎_elim, ℕ, ◌+◌, ◌-◌, ◌*◌, ◌<◌, ◌≤◌, List, [], ◌++◌, length, take, drop, get_or, refl, sym, ◌∙◌, ap, subst, arith}
 use Rattle.std.proofs.Math.Nat.{mul-le-mul_right}
 use Rattle.std.proofs.lemmas.Bool.{cases_lt}
@@ -22,12 +22,12 @@ use Rattle.aea_archive.specs.Next.{AreDigestsOn}
 use Rattle.aea_archive.specs.Laws.{LastsAreValues, SurvivorsStayHonest}
 use Rattle.aea_archive.proofs.Values.{grown-continues}
 
--- what stands at a home: a block that is intact, and its payload
+-- what is at a home: a block that is intact, and its payload
 pub record StandsAtHome (shape : Shape) (b : BlockId) (recorded payload : List ℕ) (c : Files) : Type 0 where
   pub intact : IsIntact shape b recorded c
   pub payload_is : payload_in shape (home_bytes shape b c) ≡ payload
 
--- a block whose cell stands at its home, with the recorded digest and a payload of a block's size, is intact and
+-- a block whose cell is at its home, with the recorded digest and a payload of a block's size, is intact and
 -- has this payload there
 pub stands : CellsHaveLengths → CellsHaveParts → (shape : Shape) (b : BlockId) (recorded payload : List ℕ) (c : Files) → length payload ≡ shape.block → block_digest b payload ≡ recorded → HasAtHome shape b (cell_of b payload) c
     → StandsAtHome shape b recorded payload c
@@ -41,7 +41,7 @@ stands lengths parts shape b recorded payload c wide digest here =
           ∙ (parts b payload).1;
     }
 
--- last parities with the recorded digests, whose cells stand at their homes, have the payloads of the lattice of
+-- last parities with the recorded digests, whose cells are at their homes, have the payloads of the lattice of
 -- each data list for which they are honest
 pub lasts_are_values : CellsHaveLengths → CellsHaveParts → LastsAreValues
 lasts_are_values lengths parts shape l digests datas payload c honest recorded home wide b last =

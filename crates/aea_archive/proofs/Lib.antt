@@ -1,4 +1,5 @@
 pub mod Cells
+pub mod Writes
 pub mod Stretches
 pub mod Values
 pub mod Pieces

@@ -16,7 +16,7 @@ use Rattle.aea_records.specs.Grammar.{MayFollow}
 use Rattle.aea_records.specs.Recorded.{blocks_in, HoldsObject, HoldsRecord, HoldsRecords}
 use Rattle.aea_archive.specs.Next.{cut_blocks, object_blocks}
 use Rattle.aea_archive.proofs.Pieces.{cut-length, cut-joined}
-use Rattle.aea_archive.proofs.Stretches.{nodes_of-append}
+use Rattle.aea_records.proofs.OneMore.{nodes_of-append}
 
 -- ---- the objects before
 
@@ -100,7 +100,7 @@ records-more shape earlier (r ∷ records) datas more follow le holds =
 pub nodes-hold : (shape : Shape) (long : ℕ) → long ≤ nodes_for shape long * shape.block
 nodes-hold shape long = let h = shape.in_profile in grind (arith, nat_tests)
 
--- what stands in its blocks is its bytes and then zeros
+-- its blocks contain its bytes and then zeros
 held-by : (shape : Shape) (datas : List (List ℕ)) (bytes : List ℕ) (o : Stored) (parts : List Extent) → o.size ≡ length bytes → o.digest ≡ sha256 bytes
     → flat_map (λ d. d) (blocks_in parts (datas ++ object_blocks shape bytes)) ≡ bytes ++ replicate (nodes_for shape (length bytes) * shape.block - length bytes) 0
     → HoldsObject (datas ++ object_blocks shape bytes) o parts

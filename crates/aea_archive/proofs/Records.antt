@@ -1,27 +1,24 @@
 -- What records record: no data where there are none, and with the next one the data before and those of its object.
-use Rattle.std.proofs.Common.{◌≡◌, ℕ, ◌≤◌, true, List, [], ◌∷◌, ◌++◌, length, map, refl, sym, ◌∙◌, ap, subst, arith, length-append}
+use Rattle.std.proofs.Common.{◌≡◌, ℕ, ◌≤◌, List, [], ◌∷◌, ◌++◌, length, map, refl, sym, ◌∙◌, ap, subst, arith, length-append}
 use Rattle.std.specs.Prelude.{◌&&◌, nat_le}
 use Rattle.std.specs.List.{sum_by}
 use Rattle.std.proofs.lemmas.Bool.{and_parts, leb-true}
 use Rattle.std.proofs.lemmas.List.{append-nil}
 use Rattle.std.proofs.lemmas.List.Elements.{All-append, All-cons}
-use Rattle.std.proofs.Math.Bridge.{le_prop}
-use mathlib.Core.HLevel.{is_prop→PathP}
-use mathlib.Core.Bool.{Bool-set}
 use Rattle.aea_lattice.specs.declared.blocks.BlockId.{BlockId}
 use Rattle.aea_lattice.specs.declared.grid.Lattice.{Lattice}
 use Rattle.aea_lattice.specs.declared.shape.Shape.{Shape}
 use Rattle.aea_lattice.specs.Blocks.{blocks_of}
 use Rattle.aea_lattice.specs.Data.{IsBytes, IsDataList, value_of}
-use Rattle.aea_lattice.specs.Fences.{are_fences}
 use Rattle.aea_lattice.specs.Growth.{IsGrown}
-use Rattle.aea_lattice.specs.Profile.{is_profile, greatest_nodes}
+use Rattle.aea_lattice.specs.Profile.{is_profile}
+use Rattle.aea_lattice.proofs.OneLattice.{lattice_equal}
 use Rattle.aea_envelope.specs.Cells.{block_digest}
 use Rattle.aea_weave.specs.Sums.{LongerDataKeepValues}
 use Rattle.aea_records.specs.Format.{Stored, Record, Object, nodes_for, nodes_of, fences_of, digests_of}
 use Rattle.aea_records.specs.Recorded.{HoldsRecord}
 use Rattle.aea_ledger.specs.Recorded.{IsLatticeOf}
-use Rattle.aea_ledger.proofs.Records.{MayFollow-push, nodes_of-push, fences_of-push, digests_of-push}
+use Rattle.aea_records.proofs.OneMore.{MayFollow-push, nodes_of-push, fences_of-push, digests_of-push}
 use Rattle.aea_archive.specs.Blocks.{IsBlockOn}
 use Rattle.aea_archive.specs.Next.{object_blocks}
 use Rattle.aea_archive.specs.Laws.{NoneRecordNone, NextRecordsMore}
@@ -29,21 +26,6 @@ use Rattle.aea_archive.proofs.Pieces.{cut-length, cut-bytes}
 use Rattle.aea_archive.proofs.Values.{value-new}
 use Rattle.aea_archive.proofs.Digests.{digests-joined}
 use Rattle.aea_archive.proofs.Objects.{records-more, next-held}
-
--- two lattices with the same numbers and fences are one
-pub lattice_equal : (a b : Lattice) → a.alpha ≡ b.alpha → a.s ≡ b.s → a.p ≡ b.p → a.n ≡ b.n → a.fences ≡ b.fences → a ≡ b
-lattice_equal a b alpha s p n fences = λ i. record {
-  alpha = alpha i;
-  s = s i;
-  p = p i;
-  n = n i;
-  fences = fences i;
-  in_profile = is_prop→PathP (λ j. is_profile (alpha j) (s j) (p j) ≡ true)
-      (λ j. Bool-set (is_profile (alpha j) (s j) (p j)) true) a.in_profile b.in_profile i;
-  in_range = is_prop→PathP (λ j. n j ≤ greatest_nodes) (λ j h k. le_prop h k) a.in_range b.in_range i;
-  fenced = is_prop→PathP (λ j. are_fences (n j) (fences j) ≡ true)
-      (λ j. Bool-set (are_fences (n j) (fences j)) true) a.fenced b.fenced i;
-}
 
 -- there is one lattice of a shape with so many nodes and these fences
 pub one_lattice : (shape : Shape) (nodes : ℕ) (fences : List ℕ) (a b : Lattice) → IsLatticeOf shape nodes fences a → IsLatticeOf shape nodes fences b → a ≡ b
@@ -83,8 +65,8 @@ none_record_none shape = record {
   objects = λ k d inside. absurd (omega (arith, inside));
 }
 
--- records of a data list, with the next record of an object behind them, record the list with the object's blocks
--- behind it, where the payloads of the last parities are those of its lattice
+-- records of a data list, with the next record of an object after them, record the list with the object's blocks
+-- after it, where the payloads of the last parities are those of its lattice
 pub next_records_more : LongerDataKeepValues → NextRecordsMore
 next_records_more longer shape records datas l m payload name bytes o old is lasts are next n =
     let w = shape.block in

@@ -17,7 +17,7 @@ use Rattle.aea_records.specs.TableLaws.{AreBytes}
 use Rattle.aea_records.specs.Format.{Stored, Record, Object, nodes_of, fences_of}
 use Rattle.aea_records.specs.Grammar.{IsNext}
 use Rattle.aea_ledger.specs.Recorded.{IsLatticeOf, AreRecordsOf}
-use Rattle.aea_ledger.proofs.Records.{nodes_of-push, fences_of-push}
+use Rattle.aea_records.proofs.OneMore.{nodes_of-push, fences_of-push}
 use Rattle.aea_archive.specs.Blocks.{IsBlockOn}
 use Rattle.aea_archive.specs.Lasts.{IsLastParity, AreLastsOf}
 use Rattle.aea_archive.specs.Next.{object_blocks, IsNextStored, NewObject, AreNextRecords}
@@ -69,8 +69,8 @@ All-head P o objects all = all 0 o (omega arith)
 All-tail : (P : NewObject → Type 0) (o : NewObject) (objects : List NewObject) → All P (o ∷ objects) → All P objects
 All-tail P o objects all = λ k d inside. all (suc k) d (omega (arith, inside))
 
--- records of a data list, with those of objects put one after the other behind them, record the list with the blocks
--- of all these objects behind it, where the payloads of the last parities are those of its lattice
+-- records of a data list, with those of objects put one after the other after these, record the list with the blocks
+-- of all these objects after it, where the payloads of the last parities are those of its lattice
 pub objects_record_more : LongerDataKeepValues → ObjectsRecordMore
 objects_record_more longer shape records [] datas l m payload [] old is lasts bytes follow same = record {
   recorded = subst (λ (rs : List Record). AreRecordsOf shape rs (datas ++ [])) (sym (append-nil records)) (subst (λ (ds : List (List ℕ)). AreRecordsOf shape records ds) (sym (append-nil datas)) old);

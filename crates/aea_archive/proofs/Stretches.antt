@@ -1,11 +1,8 @@
 -- How stretches in which records are added go on: where none is added, where one is appended, and two of them one after the
 -- other. They rest on the law that each file has one reading.
 use Rattle.std.proofs.Common.{◌≡◌, ⊎_elim, ℕ, zero, suc, ◌+◌, ◌-◌, ◌≤◌, List, [], ◌∷◌, ◌++◌, length, take, refl, sym, ◌∙◌, ap, subst, arith, length-append, append_assoc}
-use Rattle.std.specs.List.{sum_by}
 use Rattle.std.proofs.lemmas.Bool.{cases_lt}
 use Rattle.std.proofs.lemmas.List.{length-take, append-nil}
-use Rattle.std.proofs.lemmas.List.Concat.{flat_map-append}
-use Rattle.std.proofs.lemmas.List.Sums.{sum_by-append}
 use Rattle.aea_lattice.specs.declared.blocks.BlockId.{BlockId}
 use Rattle.aea_lattice.specs.declared.shape.Shape.{Shape}
 use Rattle.aea_lattice.specs.Shapes.{IsBlockOf}
@@ -16,9 +13,10 @@ use Rattle.aea_disk.proofs.Moments.{during_both, during_more, stays_both, stays_
 use Rattle.aea_shelf.specs.Places.{cell_size, home_file, home_place, HasAtHome}
 use Rattle.aea_shelf.specs.Writes.{KeepsShelf}
 use Rattle.aea_shelf.proofs.Runs.{during_shelf, no_home_in_ledger}
-use Rattle.aea_records.specs.Format.{Stored, Record, stored_in, stored_of, nodes_of}
+use Rattle.aea_records.specs.Format.{Record, nodes_of}
 use Rattle.aea_records.specs.Grammar.{IsLedger}
 use Rattle.aea_records.specs.Laws.{HasOneReading}
+use Rattle.aea_records.proofs.OneMore.{nodes_of-append}
 use Rattle.aea_ledger.specs.Stops.{HasLedger, HasOldOrNew}
 use Rattle.aea_ledger.specs.Values.{Opened}
 use Rattle.aea_ledger.specs.Next.{AreItsRecords}
@@ -26,11 +24,6 @@ use Rattle.aea_archive.specs.Blocks.{IsBlockOn, IsBlockIn}
 use Rattle.aea_archive.specs.Stretches.{HasAtLeast, HasPrefix, Adds}
 
 -- ---- records in order
-
--- the nodes of records and of others behind them
-pub nodes_of-append : (records added : List Record) → nodes_of (records ++ added) ≡ nodes_of records + nodes_of added
-nodes_of-append records added =
-    ap (sum_by (λ (o : Stored). o.count)) (flat_map-append stored_in records added) ∙ sum_by-append (λ (o : Stored). o.count) (stored_of records) (stored_of added)
 
 take_front : (xs ys : List Record) (k : ℕ) → k ≤ length xs → take k (xs ++ ys) ≡ take k xs
 take_front xs ys zero few = refl
@@ -221,7 +214,7 @@ stays_where old new A P Q during there back stays t u from later to every c here
 gives_where : (old new : State) (A P Q B : Files → Type 0) → During old new A → ((c : Files) → A c → Q c → P c) → SomeGivesEvery old new P B → SomeGivesEvery old new Q B
 gives_where old new A P Q B during back gives t from to c d here has there = gives t from to c d here (back c (during t c from to here) has) there
 
--- The records of both stretches, where all of the first stand between them. Their payloads are told by one function.
+-- The records of both stretches, where all of the first are there between them. Their payloads are given by one function.
 pub adds_both : HasOneReading → (tells : Type 0) (shape : Shape) (records xs ys : List Record) (payload : BlockId → List ℕ) (old mid new : State)
     → Passes old mid → Passes mid new → HasEarlier old mid
     → Adds shape records xs payload old mid

@@ -1,4 +1,4 @@
--- The test that tells the survivors: it can be decided whether the bytes at a home are the cell of its block with a digest.
+-- The test that distinguishes the survivors: it can be decided whether the bytes at a home are the cell of its block with a digest.
 use Rattle.std.proofs.Common.{◌≡◌, ◌⊎◌, inl, inr, ℕ, suc, ◌+◌, ◌-◌, Bool, true, false, List, [], ◌∷◌, length, take, drop, get_or, refl, sym, ◌∙◌, ap, arith}
 use Rattle.std.specs.Prelude.{◌↔◌, IsTrue}
 use Rattle.std.proofs.lemmas.Bool.{cases_lt, cases_eq, false≢true}
@@ -29,7 +29,7 @@ same_text (x ∷ xs) (y ∷ ys) = elim (cases_eq x y) [
   | inr other ↦ inr (λ e. other (ap (λ (l : List ℕ). get_or l 0 0) e))
 ]
 
--- what stands between the head and the digest of a cell
+-- what lies between the head and the digest of a cell
 abbrev payload_of : List ℕ → List ℕ
 payload_of bytes = take (length bytes - 48) (drop 16 bytes)
 

@@ -46,7 +46,7 @@ grown-continues l m n grown more = record {
 }
 
 module _ (l m : Lattice) (n : ℕ) (grown : IsGrown l n m) where
-  -- which older nodes are joined with a new one is told by the lattice before
+  -- the lattice before determines which older nodes are joined with a new one
   on-before : (c : Class) (j strand here k : ℕ) → l.n ≤ j → strand ≡ here → is_on m c strand (suc j) k ≡ is_on l c here (l.n + 1) k
   on-before c j strand here k new same =
       let next : suc l.n ≡ l.n + 1 = omega arith in

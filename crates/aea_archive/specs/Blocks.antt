@@ -36,7 +36,7 @@ pub record IsSurvivor (shape : Shape) (nodes : ℕ) (digests : List (List ℕ)) 
   pub block : IsBlockIn shape nodes b
   pub intact : IsIntactBy shape digests c b
 
--- the test tells the survivors among the blocks of the archive
+-- the test distinguishes the survivors among the blocks of the archive
 abbrev pub TellsSurvivors : Shape → ℕ → List (List ℕ) → Files → (BlockId → Bool) → Type 0
 TellsSurvivors shape nodes digests c known =
     (b : BlockId) → IsBlockIn shape nodes b → IsTrue (known b) ↔ IsIntactBy shape digests c b

@@ -22,7 +22,7 @@ AreSomeHonest picks shape l digests datas c = IsHonestOn picks l shape (recorded
 abbrev pub IsDamagePlain : Shape → Lattice → List (List ℕ) → Files → Type 0
 IsDamagePlain shape l digests c = IsPlain l shape (recorded_in shape digests) c
 
--- The records, with one more, record the first data and the others behind them; and the blocks of the nodes after those
+-- The records, with one more, record the first data and the others after them; and the blocks of the nodes after those
 -- of l have these payloads in the lattice m of all.
 pub record RecordsMore (shape : Shape) (records added : List Record) (datas more : List (List ℕ)) (l m : Lattice) (payload : BlockId → List ℕ) : Type 0 where
   pub recorded : AreRecordsOf shape (records ++ added) (datas ++ more)

@@ -1,4 +1,4 @@
--- The last parities of a lattice: those that enter what is woven next. Behind a fence there are none.
+-- The last parities of a lattice: those that enter what is woven next. After a fence there are none.
 use Rattle.std.specs.Prelude.{◌≡◌, ℕ, ◌≤◌, List, Some}
 use Rattle.aea_lattice.specs.declared.blocks.BlockId.{BlockId}
 use Rattle.aea_lattice.specs.declared.grid.Lattice.{Lattice}
@@ -10,8 +10,8 @@ use Rattle.aea_lattice.specs.Shapes.{number_in}
 use Rattle.aea_lattice.specs.Data.{value_of}
 use Rattle.aea_envelope.specs.Cells.{block_digest, cell_of}
 use Rattle.aea_disk.specs.Files.{Files}
-use Rattle.aea_shelf.specs.Places.{HasAtHome, home_bytes}
-use Rattle.aea_shelf.specs.Intact.{payload_in}
+use Rattle.aea_shelf.specs.Places.{HasAtHome}
+use Rattle.aea_shelf.specs.Intact.{payload_at}
 use Rattle.aea_archive.specs.Blocks.{recorded_in, IsIntactBy}
 
 -- a last parity: one of the last node of its strand that no fence parts from the next
@@ -37,13 +37,13 @@ AreLastsIntact shape l digests c = (b : BlockId) → IsLastParity l b → IsInta
 abbrev pub AreLastsHonest : Shape → Lattice → List (List ℕ) → List (List ℕ) → Files → Type 0
 AreLastsHonest shape l digests datas c =
     (b : BlockId) → IsLastParity l b → IsIntactBy shape digests c b
-    → payload_in shape (home_bytes shape b c) ≡ value_of l shape.block datas b
+    → payload_at shape c b ≡ value_of l shape.block datas b
 
 -- The payloads of the last parities are those that the ledger keeps the digests of,
 abbrev pub AreLastsRecorded : Shape → Lattice → List (List ℕ) → (BlockId → List ℕ) → Type 0
 AreLastsRecorded shape l digests payload = (b : BlockId) → IsLastParity l b → block_digest b (payload b) ≡ recorded_in shape digests b
 
--- those that stand at their homes,
+-- those that are at their homes,
 abbrev pub AreLastsAtHome : Shape → Lattice → (BlockId → List ℕ) → Files → Type 0
 AreLastsAtHome shape l payload c = (b : BlockId) → IsLastParity l b → HasAtHome shape b (cell_of b (payload b)) c
 

@@ -51,7 +51,7 @@ PutsRecord =
     → AreRecords shape records → AreNextRecords shape l m payload objects records
     → AreRecordsOf shape records (flat_map (λ o. object_blocks shape o.bytes) objects)
 
--- Last parities whose cells stand at their homes, with the digests that are kept, have the payloads of the lattice of each
+-- Last parities whose cells are at their homes, with the digests that are kept, have the payloads of the lattice of each
 -- data list for which they are honest.
 abbrev pub LastsAreValues : Type 0
 LastsAreValues =
@@ -73,7 +73,7 @@ SurvivorsStayHonest =
     → AreSurvivorsHonest shape l digests datas c → IsDamagePlain shape l digests c
     → AreSurvivorsHonest shape m (digests ++ ds) (datas ++ more) d × IsDamagePlain shape m (digests ++ ds) d
 
--- Whatever stands in the files, some test tells the survivors: what is said of each such test is said of one.
+-- Whatever is in the files, some test distinguishes the survivors: what is said of each such test is said of one.
 abbrev pub SurvivorsAreTold : Type 0
 SurvivorsAreTold =
     (shape : Shape) (nodes : ℕ) (digests : List (List ℕ)) (c : Files)

@@ -1,4 +1,4 @@
--- “Next record” of an object that is put: the blocks of its data, what is woven of them, and what is recorded. It is told
+-- “Next record” of an object that is put: the blocks of its data, what is woven of them, and what is recorded. It is given
 -- by the payloads of blocks: those of the last parities, and those of the new nodes.
 use Rattle.std.specs.Prelude.{◌≡◌, ℕ, zero, suc, ◌+◌, ◌-◌, ◌*◌, ◌<◌, ◌≤◌, List, [], ◌∷◌, ◌++◌, length, take, drop, replicate, slice_index_or, Option, Some, None}
 use Rattle.sha2.specs.Sha256.{sha256}

@@ -10,7 +10,7 @@ use Rattle.aea_records.specs.Format.{Record, nodes_of, digests_of}
 use Rattle.aea_ledger.specs.Stops.{HasLedger}
 use Rattle.aea_archive.specs.Blocks.{IsBlockOn, IsHeldBy}
 
--- The ledger has these records and, behind them, k of the added ones or more, in order.
+-- The ledger has these records and, after them, k of the added ones or more, in order.
 pub record HasAtLeast (shape : Shape) (records added : List Record) (k : ℕ) (bytes : List ℕ) : Type 0 where
   pub count : ℕ
   pub enough : k ≤ count
@@ -21,7 +21,7 @@ pub record HasAtLeast (shape : Shape) (records added : List Record) (k : ℕ) (b
 abbrev pub HasPrefix : Shape → List Record → List Record → List ℕ → Type 0
 HasPrefix shape records added bytes = HasAtLeast shape records added 0 bytes
 
--- In a stretch these records are added one by one behind those that the ledger had, with these payloads of their blocks.
+-- In a stretch these records are added one by one after those that the ledger had, with these payloads of their blocks.
 pub record Adds (shape : Shape) (records added : List Record) (payload : BlockId → List ℕ) (old new : State) : Type 0 where
   -- every image of every moment has the old records and the first of the added ones, and so does what is read
   pub prefix : During old new (λ c. HasPrefix shape records added (c 0))
@@ -33,7 +33,7 @@ pub record Adds (shape : Shape) (records added : List Record) (payload : BlockId
       → IsBlockOn shape (nodes_of records) (nodes_of (records ++ take k added)) b
       → SomeGivesEvery old new (λ c. HasAtLeast shape records added k (c 0)) (HasAtHome shape b (cell_of b (payload b)))
 
--- and all of them stand at its end, where nothing is pending: the ledger has them, and their blocks are held
+-- and all of them are there at its end, where nothing is pending: the ledger has them, and their blocks are held
 pub record HasAdded (shape : Shape) (records added : List Record) (s : State) : Type 0 where
   pub ledger : HasLedger shape (records ++ added) (s.files 0)
   pub synced : IsSynced s

@@ -32,7 +32,7 @@ pub fn puts_record()
     longer_data_keep_values();
 }
 
-/// Last parities that stand at their homes have the payloads of the lattice of each data list for which they are honest.
+/// Last parities that are at their homes have the payloads of the lattice of each data list for which they are honest.
 pub fn lasts_are_values()
     ensures { LastsAreValues }
 {
@@ -50,7 +50,7 @@ pub fn survivors_stay_honest()
     longer_data_keep_values();
 }
 
-/// Whatever stands in the files, some test tells which blocks are intact.
+/// Whatever is in the files, some test says which blocks are intact.
 pub fn survivors_are_told()
     ensures { SurvivorsAreTold }
 {

@@ -1,4 +1,4 @@
-//! A block of the archive that is read.
+//! A block of the archive that is read, and the buffer that it takes.
 
 ghost use Rattle.std.specs.Prelude.{◌≡◌, ◌↔◌, Bool, List, ℕ, length, take, IsTrue, IsErr, IfOk};
 ghost use Rattle.aea_lattice.specs.Blocks.{HasBlock};
@@ -15,6 +15,7 @@ use aea_disk::{Disk, DiskFault};
 use aea_lattice::BlockId;
 use aea_ledger::Ledger;
 use aea_shelf::{Cell, read_cell};
+use std::alloc::{AllocError, Global};
 
 /// The digest that the ledger keeps of a block of its lattice.
 pub fn recorded(ledger: &Ledger, b: BlockId) -> [u8; 32]
@@ -47,7 +48,7 @@ pub fn read_block<D: Disk>(
     // block of the list's lattice.
     ensures honest { IfOk result (λ r. r ≡ Cell.Intact → D.tells → (picks : BlockId → Bool) (datas : List (List ℕ)) → IsTrue (picks b) → AreSomeHonest picks ledger.now.shape ledger.now.lattice ledger.now.digests datas (D.state disk.old).files → payload_in ledger.now.shape cell.new ≡ value_of ledger.now.lattice ledger.now.shape.block datas b) }
 
-    // Also of a bad cell the buffer begins with what stands at the home, all within the file.
+    // Also of a bad cell the buffer begins with what is at the home, all within the file.
     ensures home { IfOk result (λ r. D.tells → take (length (home_bytes ledger.now.shape b (D.state disk.old).files)) cell.new ≡ home_bytes ledger.now.shape b (D.state disk.old).files) }
 
     ensures settled { Settles (D.state disk.old) (D.state disk.new) }
@@ -55,4 +56,32 @@ pub fn read_block<D: Disk>(
 {
     let want = recorded(ledger, b);
     read_cell(disk, &ledger.shape(), b, &want, cell)
+}
+
+/// Whether a block of the archive is intact. It reads its cell into the buffer, which has the bytes of a cell, B + 48, and is of
+/// no use afterwards.
+pub fn is_block_intact<D: Disk>(
+    disk: &mut D,
+    ledger: &Ledger,
+    b: BlockId,
+    cell: &mut [u8],
+) -> Result<bool, DiskFault>
+    requires block { HasBlock ledger.now.lattice b }
+    requires buffer { length cell.old ≡ cell_size ledger.now.shape }
+    ensures intact { IfOk result (λ intact. D.tells → IsTrue intact ↔ IsIntactBy ledger.now.shape ledger.now.digests (D.state disk.old).files b) }
+    ensures reads { OnlyReads D.tells (IsErr result) (D.state disk.old) (D.state disk.new) }
+{
+    match read_block(disk, ledger, b, cell) {
+        Ok(Cell::Intact) => Ok(true),
+        Ok(Cell::Bad) => Ok(false),
+        Err(fault) => Err(fault),
+    }
+}
+
+/// A buffer for a cell of the archive, B + 48 bytes.
+pub fn cell_buffer(alloc: Global, ledger: &Ledger) -> Result<Vec<u8>, AllocError>
+    ensures { IfOk result (λ cell. length cell.items ≡ cell_size ledger.now.shape) }
+{
+    let size = ledger.shape().block() as usize;
+    vec![in alloc; 0; size + 48]
 }

@@ -1,4 +1,4 @@
--- The equations in which a block stands.
+-- The equations in which a block occurs.
 use Rattle.std.proofs.Common.{◌≡◌, ◌<◌, ◌≤◌, ℕ, inl, inr, ◌⊎◌, Some, IsTrue, refl, sym, ◌∙◌, ap, subst, arith}
 use Rattle.aea_lattice.specs.declared.blocks.BlockId.{BlockId}
 use Rattle.aea_lattice.specs.declared.blocks.EqId.{EqId}
@@ -27,7 +27,12 @@ found_as known part i c e node class found has =
     subst (AreFound known part) (ap (λ k. equation_of k c) (sym node) ∙ ap (λ d. equation_of e.node d) (sym class))
     (found (subst (HasParity known.lattice) class has.class))
 
--- a parity stands in the equation of its node and class, and in that of the next node
+-- what is found by equal known blocks is found
+pub found_next : (known same part : Marked) (i : ℕ) (c : Class) → same ≡ known → (HasParity same.lattice c → AreFound same part (equation_of i c))
+    → HasParity known.lattice c → AreFound known part (equation_of i c)
+found_next known same part i c is found = subst (λ (k : Marked). HasParity k.lattice c → AreFound k part (equation_of i c)) is found
+
+-- a parity is in the equation of its node and class, and in that of the next node
 pub parity_in : (l : Lattice) (e : EqId) (i : ℕ) (c : Class) → 1 ≤ class_number c → IsTrue (is_in_equation l e (block_of i c))
     → ((e.node ≡ i) × (e.class ≡ c)) ⊎ ((e.class ≡ c) × (previous l c e.node ≡ Some i))
 parity_in l e i c parity h =
@@ -39,7 +44,7 @@ parity_in l e i c parity h =
           inr (class, ap (λ d. previous l d e.node) (sym class) ∙ was ∙ ap (λ k. Some k) (sym (ap (λ (b : BlockId). b.node) same)))
     ]
 
--- a datum stands in the equations of its node
+-- a datum is in the equations of its node
 pub datum_in_node : (l : Lattice) (e : EqId) (b : BlockId) → b.class ≡ Datum → HasEquation l e → IsTrue (is_in_equation l e b) → e.node ≡ b.node
 datum_in_node l e b class has h =
     elim (member l e b h) [
@@ -52,6 +57,6 @@ datum_in_node l e b class has h =
           absurd (omega (arith, has.class.parity))
     ]
 
--- the node of which this one stands just before
+-- the node that this one comes just before
 pub next_inside : (l : Lattice) (c : Class) (i j : ℕ) → j ≤ l.n → previous l c j ≡ Some i → HasNode l j
 next_inside l c i j below was = record { first = let after : i < j = previous-before l c j i was in omega arith; last = below }

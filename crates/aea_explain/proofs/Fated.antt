@@ -53,7 +53,7 @@ fate_same stay l known test same (Word b nodes) is = word_same stay l known test
 
 -- ---- the fate of one block
 
--- the fate of a block of the part, where all that stands outside is known too, is that for the known blocks alone
+-- the fate of a block of the part, where all that is outside is known too, is that for the known blocks alone
 pub fate_alone : PartsStandAlone → (l : Lattice) (known part : BlockId → Bool) → IsPart l known part → (b : BlockId) → HasBlock l b → IsTrue (part b)
     → (fate : Fate) → block_of_fate fate ≡ b → IsFate l (known_or_outside known part) fate → IsFate l known fate
 fate_alone alone l known part is_part b has inside (Sum d equations) same is =
@@ -61,7 +61,7 @@ fate_alone alone l known part is_part b has inside (Sum d equations) same is =
 fate_alone alone l known part is_part b has inside (Word d nodes) same is =
     (alone l known part is_part d (subst (HasBlock l) (sym same) has) (ap part same ∙ inside)).1 nodes is
 
--- what holds of each item holds of one that stands in the list
+-- what holds of each item holds of one that is in the list
 pub each_of : {X : Type 0} (P : X → Type 0) (xs : List X) (x : X) → All P xs → Contains xs x → P x
 each_of P xs x all contains = subst P contains.2 (all contains.0 x contains.1)
 
@@ -80,9 +80,9 @@ fate_of_part alone stay l known part outside fates b fate same is_part inside ma
     (fate_same stay l (is_marked outside) (known_or_outside known part) (λ d in_l. marks d (subst (λ (x : Lattice). HasBlock x d) (sym same) in_l)) fate
     (each_of (IsFate l (is_marked outside)) fates fate are.each contains))
 
--- ---- marks that are turned
+-- ---- marks that are flipped
 
--- a block is marked by turned marks exactly where it is not
+-- a block is marked by flipped marks exactly where it is not
 pub turned : (m n : Marked) → n.lattice ≡ m.lattice → n.marks ≡ map not m.marks → IsWhole m → (b : BlockId) → HasBlock m.lattice b → is_marked n b ≡ not (is_marked m b)
 turned m n same marks whole b has =
     let k = number_of m.lattice b in
@@ -94,7 +94,7 @@ only_unknown true true h = absurd (false≢true (sym (h refl)))
 only_unknown true false h = refl
 only_unknown false part h = refl
 
--- where the blocks of a part are not known, those of turned marks are the known ones and all outside
+-- where the blocks of a part are not known, those of flipped marks are the known ones and all outside
 pub outside_marks : (known part outside : Marked) → part.lattice ≡ known.lattice → outside.lattice ≡ part.lattice → outside.marks ≡ map not part.marks → IsWhole part
     → ((d : BlockId) → HasBlock known.lattice d → IsTrue (is_marked part d) → is_marked known d ≡ false)
     → AreMarks outside (known_or_outside (is_marked known) (is_marked part))
@@ -120,7 +120,7 @@ take_suc (y ∷ ys) (suc k) x here = ap (λ zs. y ∷ zs) (take_suc ys k x here)
 pub take_more : {X : Type 0} (xs : List X) (k : ℕ) (x : X) → slice_get xs k ≡ Some x → take (k + 1) xs ≡ take k xs ++ x ∷ []
 take_more xs k x here = let e : k + 1 ≡ suc k = omega arith in ap (λ n. take n xs) e ∙ take_suc xs k x here
 
--- an item at a place stands in the list
+-- an item at a place is in the list
 pub stands_at : {X : Type 0} (xs : List X) (k : ℕ) (x : X) → slice_get xs k ≡ Some x → Contains xs x
 stands_at [] k x here = let none : None ≡ Some x = here in absurd (cc)
 stands_at (y ∷ ys) zero x here = let is : Some y ≡ Some x = here in let same : y ≡ x = cc in (0, omega arith, same)

@@ -13,10 +13,10 @@ use Rattle.aea_lattice.specs.Blocks.{HasBlock, block_of, blocks_count, same_bloc
 use Rattle.aea_lattice.specs.Strands.{previous}
 use Rattle.aea_lattice.specs.Equations.{HasEquation}
 use Rattle.aea_lattice.proofs.Equations.{member, datum, output, input, member_inside, same_block-equal, same_block-refl}
-use Rattle.aea_view.specs.Marked.{Marked, IsWhole, is_marked}
+use Rattle.aea_view.specs.Marked.{Marked, is_marked}
 use Rattle.aea_fates.specs.Laws.{IsPart}
 use Rattle.aea_explain.specs.Flood.{IsFound, AreFound, AreJoined, Finds, IsFlood}
-use Rattle.aea_explain.proofs.Marking.{Sets, mark_here, mark_other, one_marked}
+use Rattle.aea_view.proofs.Marking.{Sets, mark_here, mark_other, one_marked}
 
 all_false : (n k : ℕ) → get_or (replicate n false) k false ≡ false
 all_false zero k = refl
@@ -26,10 +26,8 @@ all_false (suc n) (suc k) = all_false n k
 -- ---- what is found
 
 -- nothing was found
-pub finds_none : (known part : Marked) (waiting : List BlockId) → part.lattice ≡ known.lattice → IsWhole part → Finds known part part waiting waiting
-finds_none known part waiting same whole = record {
-  same = same;
-  whole = whole;
+pub finds_none : (known part : Marked) (waiting : List BlockId) → Finds known part part waiting waiting
+finds_none known part waiting = record {
   kept = λ b has marked. marked;
   more = λ b has marked. inl marked;
   waits = λ b c. c;
@@ -45,16 +43,14 @@ same_or_other d b =
     ]
 
 -- one block was found: it has its mark now, and waits last
-pub finds_one : (known old new : Marked) (before after : List BlockId) (b : BlockId) → old.lattice ≡ known.lattice → IsWhole new → Sets old new b true
+pub finds_one : (known old new : Marked) (before after : List BlockId) (b : BlockId) → old.lattice ≡ known.lattice → Sets old new b true
     → is_marked known b ≡ false → is_marked old b ≡ false → after ≡ before ++ b ∷ [] → Finds known old new before after
-finds_one known old new before after b same whole sets unknown clear waits =
+finds_one known old new before after b same sets unknown clear waits =
     let here : HasBlock known.lattice b = subst (λ (l : Lattice). HasBlock l b) same sets.block in
     let other : (d : BlockId) → HasBlock known.lattice d → d ≢ b → is_marked new d ≡ is_marked old d =
     λ d has apart. mark_other old new b true sets d (subst (λ (l : Lattice). HasBlock l d) (sym same) has) apart in
     let last : Contains after b = subst (λ xs. Contains xs b) (sym waits) (Contains-push before b) in
     record {
-      same = sets.same ∙ same;
-      whole = whole;
       kept = λ d has marked. elim (same_or_other d b) [
         | inl is ↦ ap (is_marked new) is ∙ mark_here old new b true sets
         | inr apart ↦ other d has apart ∙ marked
@@ -74,8 +70,6 @@ finds_one known old new before after b same whole sets unknown clear waits =
 -- some blocks were found, and then others
 pub finds_both : (known a b c : Marked) (xs ys zs : List BlockId) → Finds known a b xs ys → Finds known b c ys zs → Finds known a c xs zs
 finds_both known a b c xs ys zs first then = record {
-  same = then.same;
-  whole = then.whole;
   kept = λ d has marked. then.kept d has (first.kept d has marked);
   more = λ d has marked. elim (then.more d has marked) [
     | inl earlier ↦ elim (first.more d has earlier) [ inl old ↦ inl old | inr found ↦ inr (found.0, then.waits d found.1) ]
@@ -86,6 +80,10 @@ finds_both known a b c xs ys zs first then = record {
   few = omega (arith, first.few, then.few);
 }
 
+-- the same where the second search says so of equal known blocks
+pub finds_next : (known same a b c : Marked) (xs ys zs : List BlockId) → same ≡ known → Finds known a b xs ys → Finds same b c ys zs → Finds known a c xs zs
+finds_next known same a b c xs ys zs is first then = finds_both known a b c xs ys zs first (subst (λ (k : Marked). Finds k b c ys zs) is then)
+
 -- a block that is found stays so
 pub found_still : (known old new : Marked) (xs ys : List BlockId) → Finds known old new xs ys → (b : BlockId) → HasBlock known.lattice b
     → IsFound known old b → IsFound known new b
@@ -95,6 +93,11 @@ found_still known old new xs ys finds b has found unknown = finds.kept b has (fo
 pub all_still : (known old new : Marked) (xs ys : List BlockId) → Finds known old new xs ys → (e : EqId) → HasEquation known.lattice e
     → AreFound known old e → AreFound known new e
 all_still known old new xs ys finds e has found b stands = found_still known old new xs ys finds b (member_inside known.lattice e b has stands) (found b stands)
+
+-- the same where the search says so of equal known blocks
+pub all_next : (known same old new : Marked) (xs ys : List BlockId) → same ≡ known → Finds same old new xs ys → (e : EqId) → HasEquation known.lattice e
+    → AreFound known old e → AreFound known new e
+all_next known same old new xs ys is finds = all_still known old new xs ys (subst (λ (k : Marked). Finds k old new xs ys) is finds)
 
 -- and those that share an equation with a block
 pub joined_still : (known old new : Marked) (xs ys : List BlockId) → Finds known old new xs ys → (b : BlockId) → AreJoined known old b → AreJoined known new b
@@ -131,8 +134,6 @@ flood_begins known old new waiting none finds =
     let found : (b : BlockId) → HasBlock known.lattice b → is_marked new b ≡ true → (is_marked known b ≡ false) × Contains waiting b =
     λ b has marked. elim (finds.more b has marked) [ inl earlier ↦ absurd (false≢true (sym (none b) ∙ earlier)) | inr is ↦ is ] in
     record {
-      same = finds.same;
-      whole = finds.whole;
       unknown = λ b has marked. (found b has marked).0;
       inside = λ b c. elim (finds.inside b c) [ inl earlier ↦ absurd (omega (arith, earlier.1)) | inr has ↦ has ];
       rest = λ b has marked. inl (found b has marked).1;
@@ -142,8 +143,6 @@ flood_begins known old new waiting none finds =
 pub flood_goes : (known old new : Marked) (before after : List BlockId) (b : BlockId) → IsFlood known old (before ++ b ∷ [])
     → Finds known old new before after → AreJoined known new b → IsFlood known new after
 flood_goes known old new before after b flood finds joined = record {
-  same = finds.same;
-  whole = finds.whole;
   unknown = λ d has marked. elim (finds.more d has marked) [ inl earlier ↦ flood.unknown d has earlier | inr is ↦ is.0 ];
   inside = λ d c. elim (finds.inside d c) [ inl earlier ↦ flood.inside d (Contains-append_left before (b ∷ []) d earlier) | inr has ↦ has ];
   rest = λ d has marked. elim (finds.more d has marked) [

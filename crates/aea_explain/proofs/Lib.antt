@@ -1,4 +1,3 @@
-pub mod Marking
 pub mod Around
 pub mod Flooding
 pub mod Fated

@@ -20,7 +20,7 @@ use Rattle.aea_gauss.specs.declared.fates.Fate.TheVariants.{Sum, Word}
 use Rattle.aea_gauss.specs.Fates.{block_of_fate, IsFate}
 use Rattle.aea_explain.specs.declared.explaining.Explanation.{Explanation}
 use Rattle.aea_explain.specs.Explained.{without, Agree, IsExplained, Explains, is_sum, ExplanationsAreOne, SumsExplainDetermined}
-use Rattle.aea_explain.proofs.Marking.{Sets, mark_here, mark_other}
+use Rattle.aea_view.proofs.Marking.{Sets, mark_here, mark_other}
 use Rattle.aea_explain.proofs.Fated.{fate_same}
 
 -- ---- one explanation
@@ -106,7 +106,7 @@ same_truth true y to from = sym (to refl)
 same_truth false true to from = from refl
 same_truth false false to from = refl
 
--- two tests that tell the intact blocks agree
+-- two tests that distinguish the intact blocks agree
 tests_agree : (v : Opened) (c : Files) (known test : BlockId → Bool) → ((b : BlockId) → HasBlock v.lattice b → IsBlockIn v.shape v.lattice.n b)
     → TellsSurvivors v.shape v.lattice.n v.digests c known → TellsSurvivors v.shape v.lattice.n v.digests c test → Agree v.lattice known test
 tests_agree v c known test inside first second b has =

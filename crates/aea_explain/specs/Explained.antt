@@ -23,8 +23,8 @@ pub record IsExplained (l : Lattice) (known : BlockId → Bool) (b : BlockId) (e
   pub block : block_of_fate e.fate ≡ b
   pub fate : IsFate l (without known b) e.fate
 
--- The block of an opened ledger has this explanation. Of a disk that tells its contents it is that by the intact blocks of
--- these files, whichever test tells them; of any other one it is that by some test.
+-- The block of an opened ledger has this explanation. Of a disk whose contents are known it is that by the intact blocks of
+-- these files, whichever test distinguishes them; of any other one it is that by some test.
 pub record Explains (tells : Type 0) (v : Opened) (c : Files) (b : BlockId) (e : Explanation) : Type 0 where
   pub intact : tells → IsTrue e.intact ↔ IsIntactBy v.shape v.digests c b
   pub told : tells → (known : BlockId → Bool) → TellsSurvivors v.shape v.lattice.n v.digests c known → IsExplained v.lattice known b e
@@ -34,7 +34,7 @@ pub record Explains (tells : Type 0) (v : Opened) (c : Files) (b : BlockId) (e :
 abbrev pub Agree : Lattice → (BlockId → Bool) → (BlockId → Bool) → Type 0
 Agree l known test = (d : BlockId) → HasBlock l d → known d ≡ test d
 
--- A block has at most one explanation by tests that agree, as those do that tell the intact blocks of the same files.
+-- A block has at most one explanation by tests that agree, as those do that distinguish the intact blocks of the same files.
 abbrev pub ExplanationsAreOne : Type 0
 ExplanationsAreOne =
     (l : Lattice) (known test : BlockId → Bool) (b : BlockId) (e f : Explanation) → HasBlock l b → Agree l known test

@@ -4,7 +4,7 @@ use Rattle.aea_lattice.specs.declared.blocks.BlockId.{BlockId}
 use Rattle.aea_lattice.specs.declared.blocks.EqId.{EqId}
 use Rattle.aea_lattice.specs.Blocks.{HasBlock}
 use Rattle.aea_lattice.specs.Equations.{HasEquation, is_in_equation}
-use Rattle.aea_view.specs.Marked.{Marked, IsWhole, is_marked, unmarked}
+use Rattle.aea_view.specs.Marked.{Marked, is_marked, unmarked}
 
 -- the block is found, if it is not known
 abbrev pub IsFound : Marked → Marked → BlockId → Type 0
@@ -21,8 +21,6 @@ AreJoined known part b = (e : EqId) → HasEquation known.lattice e → IsTrue (
 -- Blocks that are not known were found, and each of them waits. Each one takes a place among those that wait and a block
 -- that is not found.
 pub record Finds (known old new : Marked) (before after : List BlockId) : Type 0 where
-  pub same : new.lattice ≡ known.lattice
-  pub whole : IsWhole new
   pub kept : (b : BlockId) → HasBlock known.lattice b → is_marked old b ≡ true → is_marked new b ≡ true
   pub more : (b : BlockId) → HasBlock known.lattice b → is_marked new b ≡ true
       → (is_marked old b ≡ true) ⊎ ((is_marked known b ≡ false) × Contains after b)
@@ -33,8 +31,6 @@ pub record Finds (known old new : Marked) (before after : List BlockId) : Type 0
 -- The found blocks are not known, those that wait are blocks of the lattice, and each found block waits, or each that
 -- shares an equation with it is found.
 pub record IsFlood (known part : Marked) (waiting : List BlockId) : Type 0 where
-  pub same : part.lattice ≡ known.lattice
-  pub whole : IsWhole part
   pub unknown : (b : BlockId) → HasBlock known.lattice b → is_marked part b ≡ true → is_marked known b ≡ false
   pub inside : (b : BlockId) → Contains waiting b → HasBlock known.lattice b
   pub rest : (b : BlockId) → HasBlock known.lattice b → is_marked part b ≡ true → Contains waiting b ⊎ AreJoined known part b

@@ -44,7 +44,7 @@ pub fn explain<D: Disk>(
 ) -> Result<Explanation, ExplainFault>
     requires { HasBlock ledger.now.lattice block }
 
-    // The intact blocks give the explanation, by whichever test they are told, and no other one.
+    // The intact blocks give the explanation, by whichever test they are distinguished, and no other one.
     ensures explains { IfOk result (Explains D.tells ledger.now (D.state disk.old).files block) }
 
     // Nothing is written, and when the disk is at fault.

@@ -80,7 +80,7 @@ fn take_fate(alloc: Global, fates: &FateList, block: BlockId) -> Result<Fate, Al
     }
 }
 
-// Marks of all blocks that stand outside the part of this block.
+// Marks of all blocks that are outside the part of this block.
 fn outside_of(alloc: Global, known: &Marks, block: BlockId) -> Result<Marks, AllocError>
     requires block { HasBlock known.now.lattice block }
     requires open { is_marked known.now block ≡ false }
@@ -96,7 +96,7 @@ fn outside_of(alloc: Global, known: &Marks, block: BlockId) -> Result<Marks, All
 
 /// The fate of a block where the marked blocks are known, and the block itself is not. It solves the block's own part: the
 /// block, and what equations join with it, from block to block, the known blocks left out. The rules of choice give each
-/// block of a part the same fate where all outside the part is known. An error is want of memory.
+/// block of a part the same fate where all outside the part is known. An error is lack of memory.
 pub(crate) fn fate_of(alloc: Global, known: &Marks, block: BlockId) -> Result<Fate, AllocError>
     requires block { HasBlock known.now.lattice block }
     requires open { is_marked known.now block ≡ false }

@@ -13,146 +13,114 @@ use aea_lattice::{BlockId, Class, EqId};
 use aea_view::Marks;
 use std::alloc::{AllocError, Global};
 
-// Finds the block, if it is neither known nor found: it gets its mark, and waits.
-fn find(
-    known: &Marks,
-    part: &mut Marks,
-    waiting: &mut Vec<BlockId>,
-    b: BlockId,
-) -> Result<(), AllocError>
-    requires block { HasBlock known.now.lattice b }
-    requires same { part.old.lattice ≡ known.now.lattice }
-    requires whole { IsWhole part.old }
-    ensures finds { OnOk result (Finds known.now part.old part.new waiting.old.items waiting.new.items) }
-    ensures found { OnOk result (IsFound known.now part.new b) }
-{
-    if !known.get(b) && !part.get(b) {
-        part.set(b, true);
-        waiting.push(b)?;
+// A search for the part of a block: the known blocks, the marks of those that were found, and the found ones that wait.
+#[derive(Drop)]
+struct Search<'a> {
+    known: &'a Marks,
+    part: Marks,
+    waiting: Vec<BlockId>,
+    ghost same: { part.lattice ≡ known.now.lattice },
+    ghost whole: { IsWhole part },
+}
+
+impl Search<'_> {
+    // Finds the block, if it is neither known nor found: it gets its mark, and waits.
+    fn find(&mut self, b: BlockId) -> Result<(), AllocError>
+        requires block { HasBlock self.old.known.now.lattice b }
+        ensures known { self.new.known.now ≡ self.old.known.now }
+        ensures finds { OnOk result (Finds self.old.known.now self.old.part self.new.part self.old.waiting.items self.new.waiting.items) }
+        ensures found { OnOk result (IsFound self.old.known.now self.new.part b) }
+    {
+        if !self.known.get(b) && !self.part.get(b) {
+            self.part.set(b, true);
+            self.waiting.push(b)?;
+        }
+        Ok(())
     }
-    Ok(())
-}
 
-// Finds the input of an equation, if it has one.
-fn find_input(
-    known: &Marks,
-    part: &mut Marks,
-    waiting: &mut Vec<BlockId>,
-    input: Option<BlockId>,
-) -> Result<(), AllocError>
-    requires input { ForSome input (HasBlock known.now.lattice) }
-    requires same { part.old.lattice ≡ known.now.lattice }
-    requires whole { IsWhole part.old }
-    ensures finds { OnOk result (Finds known.now part.old part.new waiting.old.items waiting.new.items) }
-    ensures found { OnOk result (ForSome input (IsFound known.now part.new)) }
-{
-    match input {
-        Some(g) => find(known, part, waiting, g),
-        None => Ok(()),
-    }
-}
-
-// Finds the blocks of the equation.
-fn find_blocks(
-    known: &Marks,
-    part: &mut Marks,
-    waiting: &mut Vec<BlockId>,
-    e: EqId,
-) -> Result<(), AllocError>
-    requires equation { HasEquation known.now.lattice e }
-    requires same { part.old.lattice ≡ known.now.lattice }
-    requires whole { IsWhole part.old }
-    ensures finds { OnOk result (Finds known.now part.old part.new waiting.old.items waiting.new.items) }
-    ensures found { OnOk result (AreFound known.now part.new e) }
-{
-    let q = known.lattice().equation(e);
-    find(known, part, waiting, q.datum)?;
-    find(known, part, waiting, q.output)?;
-    find_input(known, part, waiting, q.input)?;
-    Ok(())
-}
-
-// Finds the blocks of the equation of this node and class, if the lattice has the class.
-fn find_class(
-    known: &Marks,
-    part: &mut Marks,
-    waiting: &mut Vec<BlockId>,
-    node: u32,
-    class: Class,
-) -> Result<(), AllocError>
-    requires node { HasNode known.now.lattice node }
-    requires parity { 1 ≤ class_number class }
-    requires same { part.old.lattice ≡ known.now.lattice }
-    requires whole { IsWhole part.old }
-    ensures finds { OnOk result (Finds known.now part.old part.new waiting.old.items waiting.new.items) }
-    ensures found { OnOk result (HasParity known.now.lattice class → AreFound known.now part.new (equation_of node class)) }
-{
-    if class as u8 <= known.lattice().alpha() {
-        return find_blocks(known, part, waiting, EqId { node, class });
-    }
-    Ok(())
-}
-
-// Finds the blocks of the equations of the node.
-fn find_node(
-    known: &Marks,
-    part: &mut Marks,
-    waiting: &mut Vec<BlockId>,
-    node: u32,
-) -> Result<(), AllocError>
-    requires node { HasNode known.now.lattice node }
-    requires same { part.old.lattice ≡ known.now.lattice }
-    requires whole { IsWhole part.old }
-    ensures finds { OnOk result (Finds known.now part.old part.new waiting.old.items waiting.new.items) }
-    ensures found { OnOk result ((e : EqId) → HasEquation known.now.lattice e → e.node ≡ node → AreFound known.now part.new e) }
-{
-    find_class(known, part, waiting, node, Class::Horiz)?;
-    find_class(known, part, waiting, node, Class::Right)?;
-    find_class(known, part, waiting, node, Class::Left)?;
-    Ok(())
-}
-
-// Finds the blocks of the one or two equations in which a parity stands.
-fn find_parity(
-    known: &Marks,
-    part: &mut Marks,
-    waiting: &mut Vec<BlockId>,
-    node: u32,
-    class: Class,
-) -> Result<(), AllocError>
-    requires node { HasNode known.now.lattice node }
-    requires class { HasParity known.now.lattice class }
-    requires same { part.old.lattice ≡ known.now.lattice }
-    requires whole { IsWhole part.old }
-    ensures finds { OnOk result (Finds known.now part.old part.new waiting.old.items waiting.new.items) }
-    ensures joined { OnOk result (AreJoined known.now part.new (block_of node class)) }
-{
-    find_class(known, part, waiting, node, class)?;
-    match known.lattice().next(node, class) {
-        None => Ok(()),
-        Some(next) => {
-            find_class(known, part, waiting, next, class)?;
-            Ok(())
+    // Finds the input of an equation, if it has one.
+    fn find_input(&mut self, input: Option<BlockId>) -> Result<(), AllocError>
+        requires input { ForSome input (HasBlock self.old.known.now.lattice) }
+        ensures known { self.new.known.now ≡ self.old.known.now }
+        ensures finds { OnOk result (Finds self.old.known.now self.old.part self.new.part self.old.waiting.items self.new.waiting.items) }
+        ensures found { OnOk result (ForSome input (IsFound self.old.known.now self.new.part)) }
+    {
+        match input {
+            Some(g) => self.find(g),
+            None => Ok(()),
         }
     }
-}
 
-// Finds the blocks of the equations in which the block stands.
-fn find_around(
-    known: &Marks,
-    part: &mut Marks,
-    waiting: &mut Vec<BlockId>,
-    b: BlockId,
-) -> Result<(), AllocError>
-    requires block { HasBlock known.now.lattice b }
-    requires same { part.old.lattice ≡ known.now.lattice }
-    requires whole { IsWhole part.old }
-    ensures finds { OnOk result (Finds known.now part.old part.new waiting.old.items waiting.new.items) }
-    ensures joined { OnOk result (AreJoined known.now part.new b) }
-{
-    match b.class {
-        Class::Datum => find_node(known, part, waiting, b.node),
-        _ => find_parity(known, part, waiting, b.node, b.class),
+    // Finds the blocks of the equation.
+    fn find_blocks(&mut self, e: EqId) -> Result<(), AllocError>
+        requires equation { HasEquation self.old.known.now.lattice e }
+        ensures known { self.new.known.now ≡ self.old.known.now }
+        ensures finds { OnOk result (Finds self.old.known.now self.old.part self.new.part self.old.waiting.items self.new.waiting.items) }
+        ensures found { OnOk result (AreFound self.old.known.now self.new.part e) }
+    {
+        let q = self.known.lattice().equation(e);
+        self.find(q.datum)?;
+        self.find(q.output)?;
+        self.find_input(q.input)?;
+        Ok(())
+    }
+
+    // Finds the blocks of the equation of this node and class, if the lattice has the class.
+    fn find_class(&mut self, node: u32, class: Class) -> Result<(), AllocError>
+        requires node { HasNode self.old.known.now.lattice node }
+        requires parity { 1 ≤ class_number class }
+        ensures known { self.new.known.now ≡ self.old.known.now }
+        ensures finds { OnOk result (Finds self.old.known.now self.old.part self.new.part self.old.waiting.items self.new.waiting.items) }
+        ensures found { OnOk result (HasParity self.old.known.now.lattice class → AreFound self.old.known.now self.new.part (equation_of node class)) }
+    {
+        if class as u8 <= self.known.lattice().alpha() {
+            return self.find_blocks(EqId { node, class });
+        }
+        Ok(())
+    }
+
+    // Finds the blocks of the equations of the node.
+    fn find_node(&mut self, node: u32) -> Result<(), AllocError>
+        requires node { HasNode self.old.known.now.lattice node }
+        ensures known { self.new.known.now ≡ self.old.known.now }
+        ensures finds { OnOk result (Finds self.old.known.now self.old.part self.new.part self.old.waiting.items self.new.waiting.items) }
+        ensures found { OnOk result ((e : EqId) → HasEquation self.old.known.now.lattice e → e.node ≡ node → AreFound self.old.known.now self.new.part e) }
+    {
+        self.find_class(node, Class::Horiz)?;
+        self.find_class(node, Class::Right)?;
+        self.find_class(node, Class::Left)?;
+        Ok(())
+    }
+
+    // Finds the blocks of the one or two equations in which a parity occurs.
+    fn find_parity(&mut self, node: u32, class: Class) -> Result<(), AllocError>
+        requires node { HasNode self.old.known.now.lattice node }
+        requires class { HasParity self.old.known.now.lattice class }
+        ensures known { self.new.known.now ≡ self.old.known.now }
+        ensures finds { OnOk result (Finds self.old.known.now self.old.part self.new.part self.old.waiting.items self.new.waiting.items) }
+        ensures joined { OnOk result (AreJoined self.old.known.now self.new.part (block_of node class)) }
+    {
+        self.find_class(node, class)?;
+        match self.known.lattice().next(node, class) {
+            None => Ok(()),
+            Some(next) => {
+                self.find_class(next, class)?;
+                Ok(())
+            }
+        }
+    }
+
+    // Finds the blocks of the equations in which the block occurs.
+    fn find_around(&mut self, b: BlockId) -> Result<(), AllocError>
+        requires block { HasBlock self.old.known.now.lattice b }
+        ensures known { self.new.known.now ≡ self.old.known.now }
+        ensures finds { OnOk result (Finds self.old.known.now self.old.part self.new.part self.old.waiting.items self.new.waiting.items) }
+        ensures joined { OnOk result (AreJoined self.old.known.now self.new.part b) }
+    {
+        match b.class {
+            Class::Datum => self.find_node(b.node),
+            _ => self.find_parity(b.node, b.class),
+        }
     }
 }
 
@@ -168,13 +136,19 @@ pub(crate) fn part_of(alloc: Global, known: &Marks, block: BlockId) -> Result<Ma
     ensures unknown { IfOk result (λ part. (d : BlockId) → HasBlock known.now.lattice d → IsTrue (is_marked part d) → is_marked known.now d ≡ false) }
     ensures part { IfOk result (λ part. IsPart known.now.lattice (is_marked known.now) (is_marked part)) }
 {
-    let mut part = Marks::new(alloc, known.lattice())?;
-    let mut waiting = Vec::new(alloc);
-    find(known, &mut part, &mut waiting, block)?;
+    let part = Marks::new(alloc, known.lattice())?;
+    let waiting = Vec::new(alloc);
+    let mut search = Search {
+        known,
+        part,
+        waiting,
+    };
+    search.find(block)?;
 
-    // At each turn each found block waits, or each block that is not known and shares an equation with it is found.
-    while let Some(b) = waiting.pop() {
-        find_around(known, &mut part, &mut waiting, b)?;
+    // At each iteration each found block waits, or each block that is not known and shares an equation with it is found.
+    while let Some(b) = search.waiting.pop() {
+        search.find_around(b)?;
     }
+    let Search { part, .. } = search;
     Ok(part)
 }

@@ -1,8 +1,8 @@
 //! Explanations: whether a block of an archive is intact, and how the other intact blocks determine it, or why they do
 //! not.
 //!
-//! Promises to the command above that `explain` tells of one block whether it is intact, and its fate where all other
-//! intact blocks are known (`Explains`); that over a disk that tells its contents there is one such answer
+//! Promises to the command above that `explain` says of one block whether it is intact, and its fate where all other
+//! intact blocks are known (`Explains`); that over a disk whose contents are known there is one such answer
 //! (`explanations_are_one`); and that nothing is written.
 //!
 //! `specs/Explained.antt` says what an explanation is.
@@ -10,10 +10,10 @@
 //! It rests on `scan` of `aea_scrub` and on `solve` of `aea_gauss`, for the part of the block alone.
 #![tactic(auto)]
 
-pub mod explaining;
+mod explaining;
 mod fate;
 mod flood;
-pub mod laws;
+mod laws;
 
 pub use explaining::{ExplainFault, Explanation, explain};
 pub use laws::{explanations_are_one, sums_explain_determined};

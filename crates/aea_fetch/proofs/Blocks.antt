@@ -74,19 +74,19 @@ part_inside after nodes (x ∷ parts) (suc k) e apart is =
     let both = and_parts (nat_lt after x.first && nat_le 1 x.count && nat_le (x.first + x.count) (nodes + 1)) (are_apart (x.first + x.count - 1) nodes parts) apart in
     part_inside (x.first + x.count - 1) nodes parts k e both.1 is
 
--- the part at a place of what stands under a name, if anything does
+-- the part at a place of what is under a name, if anything does
 pub part_of : (o : Option Placed) (k : ℕ) (e : Extent) → part_at o k ≡ Some e → (p : Placed) × (o ≡ Some p) × (slice_get p.parts k ≡ Some e)
 part_of None k e is = let h : None ≡ Some e = is in cc
 part_of (Some p) k e is = (p, refl, is)
 
--- no part stands there
+-- no part is there
 pub no_part : (o : Option Placed) (k : ℕ) (p : Placed) → part_at o k ≡ None → o ≡ Some p → slice_get p.parts k ≡ None
 no_part o k p is same = subst (λ (x : Option Placed). part_at x k ≡ None) same is
 
 pub same_placed : (o : Option Placed) (p q : Placed) → o ≡ Some p → o ≡ Some q → p ≡ q
 same_placed o p q one two = let h : Some p ≡ Some q = sym one ∙ two in cc
 
--- the part at this place of the object under the name, as a catalogue of the opened ledger's objects answers it
+-- the part at this place of the object under the name, as a catalogue of the opened ledger's objects returns it
 pub part_there : (v : Opened) (name : List ℕ) (objects : Objects) (k : ℕ) (result : Option Extent) (e : Extent) → objects ≡ v.objects → result ≡ part_at (get objects name) k → result ≡ Some e → (p : Placed) × (get v.objects name ≡ Some p) × (slice_get p.parts k ≡ Some e)
 part_there v name objects k result e same is some = part_of (get v.objects name) k e (sym (ap (λ (m : Objects). part_at (get m name) k) same) ∙ sym is ∙ some)
 

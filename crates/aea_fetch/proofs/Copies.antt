@@ -11,7 +11,8 @@ use Rattle.aea_lattice.specs.declared.blocks.BlockId.{BlockId}
 use Rattle.aea_lattice.specs.declared.shape.Shape.{Shape}
 use Rattle.aea_disk.specs.Files.{Files}
 use Rattle.aea_archive.specs.Blocks.{IsIntactBy}
-use Rattle.aea_fetch.specs.Objects.{payload_at, ArePayloads, joined, IsOneOf}
+use Rattle.aea_shelf.specs.Intact.{payload_at}
+use Rattle.aea_fetch.specs.Objects.{ArePayloads, joined, IsOneOf}
 use Rattle.aea_fetch.specs.Gets.{HasCopied, HasBroken, HasSent}
 use Rattle.aea_fetch.specs.declared.fault.GetFault.{GetFault}
 use Rattle.aea_fetch.specs.declared.fault.GetFault.TheVariants.{Damaged, WriteFault}

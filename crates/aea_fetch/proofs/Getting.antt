@@ -1,4 +1,4 @@
--- From what both passes gave to what is answered.
+-- From what both passes gave to what is returned.
 use Rattle.std.proofs.Common.{◌≡◌, ℕ, suc, ◌+◌, ◌*◌, ◌≤◌, List, [], ◌∷◌, ◌++◌, length, take, refl, sym, ◌∙◌, ap, subst, arith, length-append, length-take, Option, Some, None, Ok, Err}
 use Rattle.std.specs.Prelude.{All, option_map}
 use Rattle.std.specs.List.{sum_by}
@@ -96,7 +96,7 @@ printed_all {a} {b} {text} prints =
     subst (λ (zs : List ℕ). Appends a.written b.written zs) same sent.1
 
 module _ (tells : Type 0) (shape : Shape) (digests : List (List ℕ)) (c : Files) (bs : List BlockId) (most : ℕ) (a b d : SinkState) (q : List ℕ) (copied : HasCopied tells shape digests c bs most a [] b q) where
-  -- the sheet was sent
+  -- the page was sent
   pub sent_all : {T E : Type 0} {v : T} → Prints {E = E} b q d [] (Ok v) [] → HasSent tells shape digests c bs most a d
   sent_all {T} {E} {v} last =
       let whole : Prints {T = T} {E = E} a [] d [] (Ok v) (take most (joined copied.payloads)) = prints_then_nothing copied.prints last in

@@ -16,13 +16,13 @@ use Rattle.aea_records.specs.Recorded.{blocks_in}
 use Rattle.aea_archive.specs.Data.{AreSurvivorsHonest}
 use Rattle.aea_fetch.specs.Objects.{data_from, data_in, data_of, ArePayloads, IsPayload}
 
--- the items from a place on are that one and those behind it
+-- the items from a place on are that one and those after it
 drop-item : (w : ℕ) (xs : List (List ℕ)) (k : ℕ) → k < length xs → drop k xs ≡ unwrap_or (slice_get xs k) (replicate w 0) ∷ drop (suc k) xs
 drop-item w [] k below = absurd (omega (arith, below))
 drop-item w (x ∷ xs) zero below = refl
 drop-item w (x ∷ xs) (suc k) below = drop-item w xs k (omega (arith, below))
 
--- payloads of some blocks and of others behind them are some of the ones and some of the others
+-- payloads of some blocks and of others after them are some of the ones and some of the others
 pub record AreSplit (tells : Type 0) (shape : Shape) (digests : List (List ℕ)) (c : Files) (bs cs : List BlockId) (ps : List (List ℕ)) : Type 0 where
   pub front : List (List ℕ)
   pub back : List (List ℕ)
@@ -57,7 +57,7 @@ module _ (tells : Type 0) (shape : Shape) (l : Lattice) (digests : List (List �
       ap (λ (x : List ℕ). x ∷ ps) here ∙ ap (λ (r : List (List ℕ)). datum_at shape.block datas first ∷ r) (rest ∙ ap (λ (k : ℕ). take n (drop k datas)) next) in
       both ∙ sym (ap (take (suc n)) item)
 
-  -- those of parts, one behind the other
+  -- those of parts, one after the other
   pub own_parts_are : (after : ℕ) (parts : List Extent) (ps : List (List ℕ)) → IsTrue (are_apart after l.n parts) → ArePayloads tells shape digests c (data_of parts) ps → ps ≡ blocks_in parts datas
   own_parts_are after [] [] apart are = refl
   own_parts_are after [] (p ∷ ps) apart are = absurd are

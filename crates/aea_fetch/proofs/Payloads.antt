@@ -1,5 +1,5 @@
 -- Payloads of blocks, joined and cut.
-use Rattle.std.proofs.Common.{◌≡◌, ℕ, zero, suc, ◌+◌, ◌-◌, ◌*◌, ◌≤◌, List, [], ◌∷◌, ◌++◌, length, take, drop, sym, ◌∙◌, ap, arith, length-append, length-drop, length-take}
+use Rattle.std.proofs.Common.{◌≡◌, ℕ, zero, suc, ◌+◌, ◌-◌, ◌*◌, List, [], ◌∷◌, ◌++◌, length, take, drop, sym, ◌∙◌, ap, arith, length-append, length-drop, length-take}
 use Rattle.std.proofs.lemmas.List.{append-nil}
 use Rattle.std.proofs.lemmas.List.Concat.{flat_map-append}
 use Rattle.aea_lattice.specs.declared.blocks.BlockId.{BlockId}
@@ -8,11 +8,10 @@ use Rattle.aea_disk.specs.Files.{Files}
 use Rattle.aea_fetch.specs.Objects.{IsPayload, ArePayloads, joined}
 use Rattle.aea_shelf.specs.Places.{HasAtHome, home_bytes, home_file, home_place}
 use Rattle.aea_envelope.specs.Cells.{block_digest}
-use Rattle.std.proofs.lemmas.Bool.Decides.{nat_tests}
 use Rattle.aea_shelf.specs.Intact.{payload_in}
 use Rattle.aea_archive.specs.Blocks.{recorded_in, IsIntactBy}
 
--- payloads of some blocks, and of others behind them
+-- payloads of some blocks, and of others after them
 pub payloads_append : (tells : Type 0) (shape : Shape) (digests : List (List ℕ)) (c : Files) (bs cs : List BlockId) (ps qs : List (List ℕ)) → ArePayloads tells shape digests c bs ps → ArePayloads tells shape digests c cs qs → ArePayloads tells shape digests c (bs ++ cs) (ps ++ qs)
 payloads_append tells shape digests c [] cs [] qs one two = two
 payloads_append tells shape digests c [] cs (p ∷ ps) qs one two = absurd one
@@ -38,7 +37,7 @@ take_both (suc n) (x ∷ xs) ys =
     let e : n - length xs ≡ suc n - suc (length xs) = omega arith in
     ap (λ (l : List ℕ). x ∷ l) (take_both n xs ys ∙ ap (λ (m : ℕ). take n xs ++ take m ys) e)
 
--- the first bytes of payloads and of others behind them
+-- the first bytes of payloads and of others after them
 pub take_joined : (tells : Type 0) (shape : Shape) (digests : List (List ℕ)) (c : Files) (bs : List BlockId) (ps qs : List (List ℕ)) (most : ℕ) → ArePayloads tells shape digests c bs ps
     → take most (joined (ps ++ qs)) ≡ take most (joined ps) ++ take (most - length bs * shape.block) (joined qs)
 take_joined tells shape digests c bs ps qs most are =
@@ -47,11 +46,7 @@ take_joined tells shape digests c bs ps qs most are =
 
 -- ---- the payload in a cell that was read
 
--- a block has not more than 65,536 bytes
-pub block_most : (shape : Shape) → shape.block ≤ 65536
-block_most shape = let h = shape.in_profile in grind (arith, nat_tests)
-
--- what stands at a home is its cell, where all of it does
+-- what is at a home is its cell, where all of it does
 home_is : (shape : Shape) (b : BlockId) (cell : List ℕ) (c : Files) → length cell ≡ shape.block + 48 → HasAtHome shape b cell c → cell ≡ home_bytes shape b c
 home_is shape b cell c long at = sym at ∙ ap (λ (n : ℕ). take n (drop (home_place shape b) (c (home_file shape b)))) long
 

@@ -1,4 +1,4 @@
--- What stands under the name of an object that was put, in the data list that the puts are, is the object.
+-- What is under the name of an object that was put, in the data list that the puts are, is the object.
 use Rattle.std.proofs.Common.{◌≡◌, ◌≢◌, ℕ, zero, suc, ◌+◌, ◌-◌, ◌*◌, ◌==◌, ◌<◌, Bool, true, false, List, [], ◌∷◌, ◌++◌, length, take, drop, refl, sym, ◌∙◌, ap, subst, arith, replicate, Some}
 use Rattle.std.specs.Prelude.{All, slice_index_or, if◌then◌else◌}
 use Rattle.std.specs.List.{sum_by, Contains}
@@ -20,7 +20,7 @@ use Rattle.aea_records.specs.Laws.{ObjectsAreOfRecords}
 use Rattle.aea_records.specs.Recorded.{blocks_in, HoldsObject, HoldsRecord}
 use Rattle.aea_ledger.specs.Recorded.{AreRecordsOf, IsLatticeOf}
 use Rattle.aea_lattice.specs.Data.{IsDataList}
-use Rattle.aea_ledger.proofs.Records.{nodes_of-push}
+use Rattle.aea_records.proofs.OneMore.{stored_of-push, nodes_of-push}
 use Rattle.aea_archive.specs.Next.{NewObject, cut_blocks, object_blocks}
 use Rattle.aea_archive.proofs.Pieces.{cut-length, cut-joined}
 use Rattle.aea_fetch.specs.Objects.{object_in, joined}
@@ -35,7 +35,7 @@ all_taken zero (x ∷ xs) long = absurd (omega (arith, long))
 all_taken (suc n) [] long = absurd (omega (arith, long))
 all_taken (suc n) (x ∷ xs) long = ap (λ (r : List (List ℕ)). x ∷ r) (all_taken n xs (omega (arith, long)))
 
--- the blocks of its own range are those behind the ones before it
+-- the blocks of its own range are those after the ones before it
 own_are : (shape : Shape) (front back : List (List ℕ)) (bytes : List ℕ) (o : Stored) (b : Bool) → (o.count == 0) ≡ b → o.first ≡ length front + 1 → o.count ≡ nodes_for shape (length bytes)
     → blocks_in (if b then [] else record { first = o.first; count = o.count } ∷ []) (front ++ (object_blocks shape bytes ++ back)) ≡ object_blocks shape bytes
 own_are shape front back bytes o true is first count =
@@ -51,7 +51,7 @@ own_are shape front back bytes o false is first count =
     ∙ ap (λ (k : ℕ). take k (mid ++ back)) long
     ∙ take-append_seam mid back
 
--- what stands in it is the object
+-- what is in it is the object
 own_bytes : (shape : Shape) (front back : List (List ℕ)) (bytes : List ℕ) (o : Stored) (p : Placed) → p ≡ placed_object o → o.size ≡ length bytes → o.first ≡ length front + 1 → o.count ≡ nodes_for shape o.size
     → object_in p (front ++ (object_blocks shape bytes ++ back)) ≡ bytes
 own_bytes shape front back bytes o p is size first count =
@@ -66,10 +66,6 @@ own_bytes shape front back bytes o p is size first count =
     ∙ take-append_seam bytes zeros
 
 -- ---- names
-
--- one record more puts its object, if it is of one, behind those of the others
-stored_more : (records : List Record) (r : Record) → stored_of (records ++ r ∷ []) ≡ stored_of records ++ stored_in r
-stored_more records r = flat_map-append stored_in records (r ∷ []) ∙ ap (λ (l : List Stored). stored_of records ++ l) (append-nil (stored_in r))
 
 -- the names of an object that may follow are new
 fresh : (shape : Shape) (earlier : List Record) (r : Record) (name : List ℕ) (p : Placed) → IsNext shape earlier r → PlacesUnder name p r → All (λ e. e.name ≢ name) (stored_of earlier)
@@ -88,7 +84,7 @@ later_fresh shape earlier [] j r name p follow below is places = absurd (omega (
 later_fresh shape earlier (q ∷ records) zero r name p follow below is places = fresh shape earlier q name p follow.0 (subst (PlacesUnder name p) (sym is) places)
 later_fresh shape earlier (q ∷ records) (suc j) r name p follow below is places =
     let rest = later_fresh shape (earlier ++ q ∷ []) records j r name p follow.1 (omega (arith, below)) is places in
-    all_front (λ e. e.name ≢ name) (stored_of earlier) (stored_in q) (subst (All (λ e. e.name ≢ name)) (stored_more earlier q) rest)
+    all_front (λ e. e.name ≢ name) (stored_of earlier) (stored_in q) (subst (All (λ e. e.name ≢ name)) (stored_of-push earlier q) rest)
 
 all_last : (P : Stored → Type 0) (xs : List Stored) (x : Stored) → All P (xs ++ x ∷ []) → P x
 all_last P [] x all = all 0 x (omega arith)
@@ -98,7 +94,7 @@ all_last P (y ∷ xs) x all = all_last P xs x (λ k d below. all (suc k) d (omeg
 no_later : (shape : Shape) (earlier records : List Record) (o : Stored) (j : ℕ) (r : Record) (p : Placed) → MayFollow shape (earlier ++ Object o ∷ []) records → j < length records → slice_index_or records j r ≡ r → PlacesUnder o.name p r → ⊥
 no_later shape earlier records o j r p follow below is places =
     let all = later_fresh shape (earlier ++ Object o ∷ []) records j r o.name p follow below is places in
-    all_last (λ e. e.name ≢ o.name) (stored_of earlier) o (subst (All (λ e. e.name ≢ o.name)) (stored_more earlier (Object o)) all) refl
+    all_last (λ e. e.name ≢ o.name) (stored_of earlier) o (subst (All (λ e. e.name ≢ o.name)) (stored_of-push earlier (Object o)) all) refl
 
 -- each object that was put has a record
 record HasRecord (records : List Record) (o : NewObject) : Type 0 where
@@ -121,7 +117,7 @@ put_has_record (Joined q parts ∷ records) puts k o are below is = absurd are
 put_has_record (Fence node ∷ records) puts k o are below is = has_later (Fence node) records o (put_has_record records puts k o are below is)
 put_has_record (Raise ∷ records) puts k o are below is = has_later Raise records o (put_has_record records puts k o are below is)
 
--- ---- what stands under a name
+-- ---- what is under a name
 
 nodes_stay : (earlier : List Record) (r : Record) (front : List (List ℕ)) → stored_in r ≡ [] → length front ≡ nodes_of earlier → length front ≡ nodes_of (earlier ++ r ∷ [])
 nodes_stay earlier r front none long =
@@ -207,7 +203,7 @@ puts_more (Joined q parts ∷ records) puts o r are named size = absurd are
 puts_more (Fence node ∷ records) puts o r are named size = puts_more records puts o r are named size
 puts_more (Raise ∷ records) puts o r are named size = puts_more records puts o r are named size
 
--- an object more is put behind those that were
+-- an object more is put after those that were
 pub puts_go_on : PutsGoOn
 puts_go_on shape records puts l m payload o r are next = (
   puts_more records puts o r are next.name_is next.size,

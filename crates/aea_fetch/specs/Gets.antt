@@ -25,7 +25,7 @@ pub record HasCopied (tells : Type 0) (shape : Shape) (digests : List (List ℕ)
   pub are : ArePayloads tells shape digests c blocks payloads
   pub prints : Prints {T = Unit {0}} {E = Unit {0}} old before new after (Ok tt) (take most (joined payloads))
 
--- A fault came: of the payloads of some first blocks a first part was appended, behind what was gathered before.
+-- A fault came: of the payloads of some first blocks a first part was appended, after what was gathered before.
 pub record HasBroken (tells : Type 0) (shape : Shape) (digests : List (List ℕ)) (c : Files) (blocks : List BlockId) (most : ℕ) (old : SinkState) (before : List ℕ) (new : SinkState) (fault : GetFault) : Type 0 where
   pub front : List BlockId
   pub is_front : IsFront front blocks
@@ -34,7 +34,7 @@ pub record HasBroken (tells : Type 0) (shape : Shape) (digests : List (List ℕ)
   pub part : AppendsPart old.written new.written (before ++ take most (joined payloads))
   pub kept : old.faults ≤ new.faults
   pub cause : fault ≡ WriteFault → Rose old.faults new.faults
-  -- a sink with room for all does not fail
+  -- a sink with space for all does not fail
   pub fits : (room : ℕ) → old.room ≡ Some room → length (before ++ take most (joined payloads)) ≤ room → (fault ≡ WriteFault → ⊥) × (new.faults ≡ old.faults)
   -- a block is damaged only where it is not intact
   pub damaged : (b : BlockId) → fault ≡ Damaged b → IsOneOf blocks b × (tells → IsIntactBy shape digests c b → ⊥)
@@ -43,7 +43,7 @@ pub record HasBroken (tells : Type 0) (shape : Shape) (digests : List (List ℕ)
 abbrev pub IsCopyFault : GetFault → Type 0
 IsCopyFault fault = ((b : BlockId) × (fault ≡ Damaged b)) ⊎ ((fault ≡ WriteFault) ⊎ (fault ≡ DiskFault))
 
--- The payloads of the blocks were appended, of them the first bytes, so many; and a sink with room for them did not fail.
+-- The payloads of the blocks were appended, of them the first bytes, so many; and a sink with space for them did not fail.
 pub record HasSent (tells : Type 0) (shape : Shape) (digests : List (List ℕ)) (c : Files) (blocks : List BlockId) (most : ℕ) (old new : SinkState) : Type 0 where
   pub payloads : List (List ℕ)
   pub are : ArePayloads tells shape digests c blocks payloads
@@ -58,6 +58,6 @@ pub record HasGot (tells : Type 0) (shape : Shape) (digests : List (List ℕ)) (
   pub long : length (take p.object.length (joined payloads)) ≡ p.object.length
   pub appended : Appends old.written new.written (take p.object.length (joined payloads))
 
--- the disk failed, or memory was wanting
+-- the disk failed, or memory ran out
 abbrev pub IsOutside : {T : Type 0} → Result T GetFault → Type 0
 IsOutside result = (result ≡ Err DiskFault) ⊎ (result ≡ Err NoMemory)

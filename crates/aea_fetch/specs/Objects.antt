@@ -9,8 +9,7 @@ use Rattle.aea_catalog.specs.declared.objects.Extent.{Extent}
 use Rattle.aea_catalog.specs.Catalogs.{Placed}
 use Rattle.aea_envelope.specs.Cells.{block_digest}
 use Rattle.aea_disk.specs.Files.{Files}
-use Rattle.aea_shelf.specs.Places.{home_bytes}
-use Rattle.aea_shelf.specs.Intact.{payload_in}
+use Rattle.aea_shelf.specs.Intact.{payload_at}
 use Rattle.aea_records.specs.Recorded.{blocks_in}
 use Rattle.aea_archive.specs.Blocks.{recorded_in, IsIntactBy}
 
@@ -27,12 +26,8 @@ data_in e = data_from e.first e.count
 abbrev pub data_of : List Extent → List BlockId
 data_of parts = flat_map data_in parts
 
--- what stands at a block's home in the place of its payload
-abbrev pub payload_at : Shape → Files → BlockId → List ℕ
-payload_at shape c b = payload_in shape (home_bytes shape b c)
-
--- A payload of the block: it has the bytes of a block, and the digest that is kept of it; and where the disk tells, it is what
--- stands at the home, in an intact cell.
+-- A payload of the block: it has the bytes of a block, and the digest that is kept of it; and where the disk's contents are
+-- known, it is what is at the home, in an intact cell.
 pub record IsPayload (tells : Type 0) (shape : Shape) (digests : List (List ℕ)) (c : Files) (b : BlockId) (payload : List ℕ) : Type 0 where
   pub wide : length payload ≡ shape.block
   pub digest : block_digest b payload ≡ recorded_in shape digests b

@@ -14,7 +14,7 @@ use Rattle.aea_archive.specs.Next.{NewObject, object_blocks, IsNextStored}
 use Rattle.aea_fetch.specs.Objects.{object_in}
 
 -- The records are those of these objects, put one after the other, each with its name and its length; fences and raises of
--- the limit may stand between them.
+-- the limit may come between them.
 abbrev pub AreOfPuts : List Record → List NewObject → Type 0
 AreOfPuts [] [] = Unit {0}
 AreOfPuts [] (o ∷ puts) = ⊥
@@ -35,7 +35,7 @@ RecordedObjectsHaveTheirDigests =
     → AreRecordsOf shape records datas → get (objects_of records) name ≡ Some p
     → (length (object_in p datas) ≡ p.object.length) × (sha256 (object_in p datas) ≡ p.object.digest)
 
--- Records of objects that were put, with the next record behind them, are those of these objects and of that one.
+-- Records of objects that were put, with the next record after them, are those of these objects and of that one.
 abbrev pub PutsGoOn : Type 0
 PutsGoOn =
     (shape : Shape) (records : List Record) (puts : List NewObject) (l m : Lattice) (payload : BlockId → List ℕ) (o : NewObject) (r : Stored)

@@ -8,14 +8,13 @@ ghost use Rattle.aea_shelf.specs.Places.{cell_size};
 ghost use Rattle.aea_fetch.specs.Objects.{data_in, data_of};
 ghost use Rattle.aea_fetch.specs.Gets.{IsFound};
 
-use aea_archive::read_block;
+use aea_archive::is_block_intact;
 use aea_catalog::Extent;
 use aea_disk::{Disk, DiskFault};
 use aea_lattice::{BlockId, Class};
 use aea_ledger::Ledger;
-use aea_shelf::Cell;
 
-// The first data block of the part that is not intact. What stands in the buffer is of no use.
+// The first data block of the part that is not intact. What is in the buffer is of no use.
 fn check_part<D: Disk>(
     disk: &mut D,
     ledger: &Ledger,
@@ -34,9 +33,9 @@ fn check_part<D: Disk>(
             node: part.first + k,
             class: Class::Datum,
         };
-        match read_block(disk, ledger, b, cell) {
-            Ok(Cell::Intact) => (),
-            Ok(Cell::Bad) => return Ok(Some(b)),
+        match is_block_intact(disk, ledger, b, cell) {
+            Ok(true) => (),
+            Ok(false) => return Ok(Some(b)),
             Err(fault) => return Err(fault),
         }
         k += 1;
@@ -44,7 +43,7 @@ fn check_part<D: Disk>(
     Ok(None)
 }
 
-/// The first data block of the object under the name that is not intact, in the order of its parts. What stands in the
+/// The first data block of the object under the name that is not intact, in the order of its parts. What is in the
 /// buffer, which has the bytes of a cell, is of no use.
 pub(crate) fn check_parts<D: Disk>(
     disk: &mut D,

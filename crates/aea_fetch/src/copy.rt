@@ -11,11 +11,10 @@ ghost use Rattle.aea_fetch.specs.Objects.{data_in, data_of};
 ghost use Rattle.aea_fetch.specs.Gets.{HasCopied, HasBroken, IsCopyFault};
 
 use crate::fault::GetFault;
-use crate::sheet::{Sheet, print_on};
 use aea_archive::read_block;
 use aea_catalog::Extent;
 use aea_disk::Disk;
-use aea_io::Sink;
+use aea_io::{Page, Sink, print};
 use aea_lattice::{BlockId, Class};
 use aea_ledger::Ledger;
 use aea_shelf::Cell;
@@ -39,14 +38,14 @@ fn copy_datum<D: Disk, O: Sink>(
     node: u32,
     most: u64,
     cell: &mut [u8],
-    sheet: &mut Sheet,
+    page: &mut Page,
     out: &mut O,
 ) -> Result<(), GetFault>
     requires first { 1 ≤ node }
     requires last { node ≤ ledger.now.lattice.n }
     requires buffer { length cell.old ≡ cell_size ledger.now.shape }
-    ensures copied { OnOk result (HasCopied D.tells ledger.now.shape ledger.now.digests (D.state disk.old).files (block_of node Datum ∷ []) most (O.state out.old) sheet.old (O.state out.new) sheet.new) }
-    ensures broken { IfErr result (HasBroken D.tells ledger.now.shape ledger.now.digests (D.state disk.old).files (block_of node Datum ∷ []) most (O.state out.old) sheet.old (O.state out.new)) }
+    ensures copied { OnOk result (HasCopied D.tells ledger.now.shape ledger.now.digests (D.state disk.old).files (block_of node Datum ∷ []) most (O.state out.old) page.old (O.state out.new) page.new) }
+    ensures broken { IfErr result (HasBroken D.tells ledger.now.shape ledger.now.digests (D.state disk.old).files (block_of node Datum ∷ []) most (O.state out.old) page.old (O.state out.new)) }
     ensures faults { IfErr result IsCopyFault }
     ensures still { result ≢ Err GetFault.WriteFault → (O.state out.new).faults ≡ (O.state out.old).faults }
     ensures reads { OnlyReads D.tells (result ≡ Err GetFault.DiskFault) (D.state disk.old) (D.state disk.new) }
@@ -60,7 +59,7 @@ fn copy_datum<D: Disk, O: Sink>(
         Ok(Cell::Bad) => return Err(GetFault::Damaged { block: b }),
         Err(_) => return Err(GetFault::DiskFault),
     }
-    match print_on(out, sheet, payload_front(cell, most)) {
+    match print(out, page, payload_front(cell, most)) {
         Ok(()) => Ok(()),
         Err(_) => Err(GetFault::WriteFault),
     }
@@ -73,22 +72,22 @@ fn left_behind(most: u64, size: u32) -> u64
     most.saturating_sub(u64::from(size))
 }
 
-// Prints the payloads of a part's data blocks, of them the first bytes, at most so many. Answers how many of these are left.
+// Prints the payloads of a part's data blocks, of them the first bytes, at most so many. Returns how many of these are left.
 fn copy_part<D: Disk, O: Sink>(
     disk: &mut D,
     ledger: &Ledger,
     part: Extent,
     most: u64,
     cell: &mut [u8],
-    sheet: &mut Sheet,
+    page: &mut Page,
     out: &mut O,
 ) -> Result<u64, GetFault>
     requires first { 1 ≤ part.first }
     requires last { part.first + part.count ≤ ledger.now.lattice.n + 1 }
     requires buffer { length cell.old ≡ cell_size ledger.now.shape }
-    ensures copied { OnOk result (HasCopied D.tells ledger.now.shape ledger.now.digests (D.state disk.old).files (data_in part) most (O.state out.old) sheet.old (O.state out.new) sheet.new) }
+    ensures copied { OnOk result (HasCopied D.tells ledger.now.shape ledger.now.digests (D.state disk.old).files (data_in part) most (O.state out.old) page.old (O.state out.new) page.new) }
     ensures left { IfOk result (λ left. left ≡ most - part.count * ledger.now.shape.block) }
-    ensures broken { IfErr result (HasBroken D.tells ledger.now.shape ledger.now.digests (D.state disk.old).files (data_in part) most (O.state out.old) sheet.old (O.state out.new)) }
+    ensures broken { IfErr result (HasBroken D.tells ledger.now.shape ledger.now.digests (D.state disk.old).files (data_in part) most (O.state out.old) page.old (O.state out.new)) }
     ensures faults { IfErr result IsCopyFault }
     ensures still { result ≢ Err GetFault.WriteFault → (O.state out.new).faults ≡ (O.state out.old).faults }
     ensures reads { OnlyReads D.tells (result ≡ Err GetFault.DiskFault) (D.state disk.old) (D.state disk.new) }
@@ -97,7 +96,7 @@ fn copy_part<D: Disk, O: Sink>(
     let mut left = most;
     let mut k: u32 = 0;
     while k < part.count {
-        match copy_datum(disk, ledger, part.first + k, left, cell, sheet, out) {
+        match copy_datum(disk, ledger, part.first + k, left, cell, page, out) {
             Ok(()) => (),
             Err(fault) => return Err(fault),
         }
@@ -115,12 +114,12 @@ pub(crate) fn copy_parts<D: Disk, O: Sink>(
     name: &[u8],
     most: u64,
     cell: &mut [u8],
-    sheet: &mut Sheet,
+    page: &mut Page,
     out: &mut O,
 ) -> Result<(), GetFault>
     requires buffer { length cell.old ≡ cell_size ledger.now.shape }
-    ensures copied { OnOk result ((p : Placed) → get ledger.now.objects name.now ≡ Some p → HasCopied D.tells ledger.now.shape ledger.now.digests (D.state disk.old).files (data_of p.parts) most (O.state out.old) sheet.old (O.state out.new) sheet.new) }
-    ensures broken { IfErr result (λ fault. (p : Placed) → get ledger.now.objects name.now ≡ Some p → HasBroken D.tells ledger.now.shape ledger.now.digests (D.state disk.old).files (data_of p.parts) most (O.state out.old) sheet.old (O.state out.new) fault) }
+    ensures copied { OnOk result ((p : Placed) → get ledger.now.objects name.now ≡ Some p → HasCopied D.tells ledger.now.shape ledger.now.digests (D.state disk.old).files (data_of p.parts) most (O.state out.old) page.old (O.state out.new) page.new) }
+    ensures broken { IfErr result (λ fault. (p : Placed) → get ledger.now.objects name.now ≡ Some p → HasBroken D.tells ledger.now.shape ledger.now.digests (D.state disk.old).files (data_of p.parts) most (O.state out.old) page.old (O.state out.new) fault) }
     ensures faults { IfErr result IsCopyFault }
     ensures still { result ≢ Err GetFault.WriteFault → (O.state out.new).faults ≡ (O.state out.old).faults }
     ensures reads { OnlyReads D.tells (result ≡ Err GetFault.DiskFault) (D.state disk.old) (D.state disk.new) }
@@ -128,7 +127,7 @@ pub(crate) fn copy_parts<D: Disk, O: Sink>(
     let mut left = most;
     let mut k: usize = 0;
     while let Some(part) = ledger.catalog().part(name, k) {
-        left = match copy_part(disk, ledger, part, left, cell, sheet, out) {
+        left = match copy_part(disk, ledger, part, left, cell, page, out) {
             Ok(left) => left,
             Err(fault) => return Err(fault),
         };

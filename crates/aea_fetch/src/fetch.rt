@@ -24,33 +24,25 @@ ghost use Rattle.aea_fetch.specs.Puts.{AreOfPuts, datas_of};
 use crate::check::check_parts;
 use crate::copy::copy_parts;
 use crate::fault::GetFault;
-use crate::sheet::{Sheet, finish_on};
+use aea_archive::cell_buffer;
 use aea_disk::Disk;
-use aea_io::Sink;
+use aea_io::{Page, Sink, finish};
 use aea_ledger::Ledger;
 use aea_records::objects_are_of_records;
-use std::alloc::{AllocError, Global};
+use std::alloc::Global;
 
-// The buffer of a cell.
-fn cell_buffer(alloc: Global, ledger: &Ledger) -> Result<Vec<u8>, AllocError>
-    ensures { IfOk result (λ cell. length cell.items ≡ cell_size ledger.now.shape) }
-{
-    let size = ledger.shape().block() as usize;
-    vec![in alloc; 0; size + 48]
-}
-
-// Appends the payloads of the object's data blocks, cut to so many bytes, through a sheet without bytes, and flushes all.
+// Appends the payloads of the object's data blocks, cut to so many bytes, through a page without bytes, and flushes all.
 fn send_object<D: Disk, O: Sink>(
     disk: &mut D,
     ledger: &Ledger,
     name: &[u8],
     most: u64,
     cell: &mut [u8],
-    sheet: &mut Sheet,
+    page: &mut Page,
     out: &mut O,
 ) -> Result<(), GetFault>
     requires buffer { length cell.old ≡ cell_size ledger.now.shape }
-    requires empty { sheet.old ≡ [] }
+    requires empty { page.old ≡ [] }
     ensures sent { OnOk result ((p : Placed) → get ledger.now.objects name.now ≡ Some p → HasSent D.tells ledger.now.shape ledger.now.digests (D.state disk.old).files (data_of p.parts) most (O.state out.old) (O.state out.new)) }
     ensures broken { IfErr result (λ fault. (p : Placed) → get ledger.now.objects name.now ≡ Some p → HasBroken D.tells ledger.now.shape ledger.now.digests (D.state disk.old).files (data_of p.parts) most (O.state out.old) [] (O.state out.new) fault) }
     ensures faults { IfErr result IsCopyFault }
@@ -58,21 +50,21 @@ fn send_object<D: Disk, O: Sink>(
     ensures flushed { OnOk result (IsFlushed (O.state out.new)) }
     ensures reads { OnlyReads D.tells (result ≡ Err GetFault.DiskFault) (D.state disk.old) (D.state disk.new) }
 {
-    match copy_parts(disk, ledger, name, most, cell, sheet, out) {
+    match copy_parts(disk, ledger, name, most, cell, page, out) {
         Ok(()) => (),
         Err(fault) => return Err(fault),
     }
-    match finish_on(out, sheet) {
+    match finish(out, page) {
         Ok(()) => Ok(()),
         Err(_) => Err(GetFault::WriteFault),
     }
 }
 
-/// Appends the bytes of the object under the name, without padding, and answers how many. A first pass reads all cells of its
+/// Appends the bytes of the object under the name, without padding, and returns how many. A first pass reads all cells of its
 /// data blocks, in the order of its parts, and writes nothing; a second one reads them again, and appends their payloads in
 /// pieces of 64 KiB, and flushes. It takes memory for a cell, B + 48 bytes, and for one such piece, both before the first read;
-/// none after it. A block that was intact in the first pass and is not in the second, which never comes over a disk that tells
-/// its contents, is damaged too.
+/// none after it. A block that was intact in the first pass and is not in the second, which never happens on a disk whose
+/// contents are known, is damaged too.
 pub fn get<D: Disk, O: Sink>(
     alloc: Global,
     ledger: &Ledger,
@@ -103,7 +95,7 @@ pub fn get<D: Disk, O: Sink>(
     ensures damage_refused { D.tells → (p : Placed) (b : BlockId) → get ledger.now.objects name.now ≡ Some p → IsFirstDamaged ledger.now.shape ledger.now.digests (D.state disk.old).files (data_of p.parts) b
         → (result ≡ Err (GetFault.Damaged b)) ⊎ IsOutside result }
 
-    // Where all data blocks are intact it is got, but for faults and want of memory.
+    // Where all data blocks are intact it is got, but for faults and lack of memory.
     ensures complete { D.tells → (p : Placed) → get ledger.now.objects name.now ≡ Some p → All (IsIntactBy ledger.now.shape ledger.now.digests (D.state disk.old).files) (data_of p.parts)
         → IsOk result ⊎ ((result ≡ Err GetFault.WriteFault) ⊎ IsOutside result) }
 
@@ -127,7 +119,7 @@ pub fn get<D: Disk, O: Sink>(
     let Ok(mut cell) = cell_buffer(alloc, ledger) else {
         return Err(GetFault::NoMemory);
     };
-    let Ok(mut sheet) = Sheet::new(alloc) else {
+    let Ok(mut page) = Page::large(alloc) else {
         return Err(GetFault::NoMemory);
     };
     match check_parts(disk, ledger, name, cell.as_mut_slice()) {
@@ -141,7 +133,7 @@ pub fn get<D: Disk, O: Sink>(
         name,
         object.length,
         cell.as_mut_slice(),
-        &mut sheet,
+        &mut page,
         out,
     ) {
         Ok(()) => Ok(object.length),

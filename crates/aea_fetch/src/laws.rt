@@ -1,4 +1,4 @@
-//! What follows of the definitions, for those who stand on them.
+//! What follows from the definitions, for those who build on them.
 
 ghost use Rattle.aea_fetch.specs.Puts.{RecordedObjectsHaveTheirDigests, PutsGoOn};
 
@@ -11,8 +11,8 @@ pub fn recorded_objects_have_their_digests()
     objects_are_of_records();
 }
 
-/// Records of objects that were put, with the next record behind them, are those of these objects and of that one; and the
-/// data list that they are is the one before with the object's blocks behind it.
+/// Records of objects that were put, with the next record after them, are those of these objects and of that one; and the
+/// data list that they are is the one before with the object's blocks after it.
 pub fn puts_go_on()
     ensures { PutsGoOn }
 {}

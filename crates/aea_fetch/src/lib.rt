@@ -13,10 +13,9 @@
 
 mod check;
 mod copy;
-pub mod fault;
+mod fault;
 mod fetch;
 mod laws;
-mod sheet;
 
 pub use fault::GetFault;
 pub use fetch::get;

@@ -32,7 +32,7 @@ use Rattle.aea_archive.specs.Lasts.{AreLastsHonest}
 use Rattle.aea_archive.specs.Laws.{NoneRecordNone}
 use Rattle.aea_archive.specs.Next.{object_blocks}
 use Rattle.aea_archive.proofs.Values.{last_inside}
-use Rattle.aea_append.specs.declared.store.StoredObject.{StoredObject}
+use Rattle.aea_append.specs.declared.store.Stored.{Stored}
 use Rattle.aea_append.specs.Causes.{MayEnter, HasPutRoom, next_end}
 use Rattle.aea_append.specs.Puts.{HasPut}
 use Rattle.aea_rehearse.specs.Rehearsed.{IsRehearsalShape}
@@ -130,7 +130,7 @@ fewer_nodes shape m n is less =
     let small : (m + 512 - 1) / 512 ≤ (n + 512 - 1) / 512 = omega (arith, less) in
     omega (arith, a, b, small)
 
--- there is room for the put
+-- there is space for the put
 pub put_room : (v : Opened) (bytes : List ℕ) (rest : Option (List ℕ)) (s : State) → IsRehearsalShape v.shape → HasRecords v [] → HasRehearsalRoom (nodes_for v.shape (length bytes)) s
     → HasPutRoom v (codes "rehearsal") (Some bytes) rest s
 put_room v bytes rest s is has room = record {
@@ -185,8 +185,8 @@ all_woven lengths parts v datas c honest intact =
       cells = λ b has. (each b has).here;
     }
 
--- What stands when the object was put.
-pub is_built : CellsHaveLengths → CellsHaveParts → NoneRecordNone → (tells : Type 0) (v w : Opened) (bytes : List ℕ) (rest : Option (List ℕ)) (old new : State) (stored : StoredObject) → tells → IsRehearsalShape v.shape → AreItsRecords v [] (old.files 0)
+-- What is there once the object is put.
+pub is_built : CellsHaveLengths → CellsHaveParts → NoneRecordNone → (tells : Type 0) (v w : Opened) (bytes : List ℕ) (rest : Option (List ℕ)) (old new : State) (stored : Stored) → tells → IsRehearsalShape v.shape → AreItsRecords v [] (old.files 0)
     → HasPut tells v w (codes "rehearsal") (Some bytes) rest old new stored → IsBuilt bytes w new.files
 is_built lengths parts none tells v w bytes rest old new stored told is its put =
     let o = put.0 in

@@ -74,7 +74,7 @@ altered_in law number nodes permille c v a this =
     }
 
 module _ (lengths : CellsHaveLengths) (parts : CellsHaveParts) where
-  -- a report for the unaltered blocks has no more bytes than there is room for
+  -- a report for the unaltered blocks has no more bytes than there is space for
   fits_room : (nodes room : ℕ) (v : Opened) (h : Head) (lines : List Line) (known : BlockId → Bool) → IsRehearsalShape v.shape → IsLatticeOf v.shape nodes [] v.lattice → nodes ≤ 2000 → room ≡ report_room nodes
       → IsReport (report_bytes h lines) h lines → IsPrinted v.lattice known (Some v.seal) h lines → length (report_bytes h lines) ≤ room
   fits_room nodes room v h lines known shape lat few same report printed =

@@ -58,7 +58,7 @@ pub spared_cell : (l : Lattice) (x k permille old new : ℕ) (payload : BlockId 
 spared_cell l x k permille old new payload b number was steps is =
     hit_spared (strikes permille (state_after x (number_of l b + 1))) (keeps_digest b (payload b)) (turned_cell b (payload b)) (cell_of b (payload b)) (judged_by l x k permille old new b false number was steps is)
 
--- one block more was gone through: what was left of it stands at its home, and the other homes stay
+-- one block more was gone through: what was left of it is at its home, and the other homes stay
 pub go_on : CellsHaveLengths → NumbersTellBlocks → (v : Opened) (x permille k : ℕ) (payload : BlockId → List ℕ) (b : BlockId) (old new : Files) → v.lattice.alpha ≡ v.shape.alpha → HasBlock v.lattice b → number_of v.lattice b ≡ k
     → AreRecordedPayloads v payload → KeepsHomes v.shape (λ a. a ≢ b) old new → HasAtHome v.shape b (cell_by v.lattice x permille payload b) new
     → AreGoneThrough v x permille k payload old → AreGoneThrough v x permille (k + 1) payload new

@@ -1,4 +1,4 @@
--- Homes of the blocks of a rehearsal, and the room for them.
+-- Homes of the blocks of a rehearsal, and the space for them.
 use Rattle.std.proofs.Common.{◌≡◌, ℕ, ◌+◌, ◌-◌, ◌*◌, ◌/◌, ◌≤◌, List, length, sym, ◌∙◌, ap, subst, arith}
 use Rattle.aea_lattice.specs.declared.blocks.BlockId.{BlockId}
 use Rattle.aea_lattice.specs.declared.grid.Lattice.{Lattice}
@@ -61,7 +61,7 @@ cells_willing s room = record {
   some = (1, 0, room.sites 1 0 (omega arith) (omega arith) (omega arith));
 }
 
--- a disk that is willing has room for calls that only read
+-- a disk that is willing has space for calls that only read
 pub willing_roomy : (s : State) → IsWilling s → IsRoomy s
 willing_roomy s willing = record { some = willing.some; sync = willing.syncs (s.files 0) }
 
@@ -69,7 +69,7 @@ willing_roomy s willing = record { some = willing.some; sync = willing.syncs (s.
 pub willing_ready : (s : State) → ((f : ℕ) (b : List ℕ) (m : ℕ) → s.free → s.takes f b m) → IsWilling s → IsReady s
 willing_ready s law willing = (0, law 0 (s.files 0) 0 willing.free)
 
--- the rows of so few nodes end within the room of a site
+-- the rows of so few nodes end within the space of a site
 pub rows-short : (shape : Shape) (n : ℕ) → IsRehearsalShape shape → n ≤ 65536 → site_bytes shape n ≤ 14680400
 rows-short shape n is few =
     let rows : ((1 + 3) * n + 10 - 1) / 10 ≤ 26215 = omega (arith, few) in
@@ -79,7 +79,7 @@ rows-short shape n is few =
     ∙ ap (λ (k : ℕ). (((1 + k) * n + 10 - 1) / 10) * 560) is.alpha in
     omega (arith, same, rows)
 
--- and so there is room for each home
+-- and so there is space for each home
 pub home_room : HomesAreInRows → HomesAreOnItsSites → (shape : Shape) (n : ℕ) (b : BlockId) (s : State) → IsRehearsalShape shape → IsBlockOf shape b → b.node ≤ n → n ≤ 65536 → HasCellsRoom s
     → HasRoomTo s (home_file shape b) (home_place shape b + cell_size shape)
 home_room rows sites shape n b s is has within few room =
@@ -88,7 +88,7 @@ home_room rows sites shape n b s is has within few room =
     room.sites (home_file shape b) (home_place shape b + cell_size shape) on.0 (omega (arith, on.1, count))
     (omega (arith, rows shape n b has within, rows-short shape n is few))
 
--- room stays while the count of faults does
+-- space stays while the count of faults does
 pub cells_room_stays : (old new : State) → Passes old new → new.faults ≡ old.faults → HasCellsRoom old → HasCellsRoom new
 cells_room_stays old new time steady room = record {
   sites = λ f n first last small. time.room f n (room.sites f n first last small);

@@ -45,7 +45,7 @@ mended law tells v old new room before after o told seal none ready repairs r =
       fits = λ intact tell. r.fits told ready.plain intact tell;
     }
 
--- the report has no more bytes than there is room for
+-- the report has no more bytes than there is space for
 pub report_fits_room : PrintedAreReports → (tells : Type 0) (v : Opened) (old new : State) (before after : SureSink) (result : Result Outcome RepairFault) → tells → IsBytes 32 v.seal → before.bytes.items ≡ [] → IsReady v old before.room
     → (r : HasReported tells v old.files new.files (sure_sink_state before) (sure_sink_state after) result) → length (report_bytes r.head r.lines) ≤ before.room - vec_len before.bytes
 report_fits_room law tells v old new before after result told seal none ready r =

@@ -59,7 +59,7 @@ number-below l b has =
     let first = has.first in let last = has.last in let used = has.used in
     number-less (b.node - 1) l.n l.alpha (class_number b.class) (omega arith) used
 
--- one line, and the lines behind it
+-- one line, and the lines after it
 more-short : (m d e one rest : ℕ) → 1 + d ≤ e → one ≤ m → rest ≤ m * d → one + rest ≤ m * e
 more-short m d e one rest fits short shorter =
     let more : m * (1 + d) ≤ m * e = mul-le-mul_left m fits in
@@ -125,7 +125,7 @@ head-short l h sa ss sp small is =
       length-append (codes "counts") (numbers_text (h.damaged ∷ h.peeled ∷ h.solved ∷ h.lost ∷ [])),
     )
 
--- a report of such a lattice has no more bytes than its room
+-- a report of such a lattice has no more bytes than the space for it
 pub report-short : (l : Lattice) (h : Head) (lines : List Line) → l.alpha ≡ 3 → l.s < 2 ^ 32 → l.p < 2 ^ 32 → l.n < 10000 → IsHeadOf l h → AreLines l lines
     → length (report_bytes h lines) ≤ report_room l.n
 report-short l h lines alpha ss sp small is valid =

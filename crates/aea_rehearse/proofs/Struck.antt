@@ -26,12 +26,12 @@ use Rattle.aea_rehearse.specs.Altered.{IsAlteredAt}
 use Rattle.aea_rehearse.proofs.States.{state-more}
 use Rattle.aea_rehearse.proofs.Turning.{length-turned_cell}
 
--- a turned cell at a home
+-- a flipped cell at a home
 pub record IsTurned (shape : Shape) (b : BlockId) (payload : List ℕ) (c : Files) : Type 0 where
   pub here : HasAtHome shape b (turned_cell b payload) c
   pub differs : keeps_digest b payload ≡ false
 
--- each home has its cell, or, of an altered block, the turned one
+-- each home has its cell, or, of an altered block, the flipped one
 pub record IsStruck (v : Opened) (known : BlockId → Bool) (payload : BlockId → List ℕ) (c : Files) : Type 0 where
   pub recorded : AreRecordedPayloads v payload
   pub known_at : (b : BlockId) → HasBlock v.lattice b → known b ≡ true → HasAtHome v.shape b (cell_of b (payload b)) c
@@ -69,7 +69,7 @@ is_struck v number permille c at =
           record { here = both.0; differs = both.1 };
     }
 
--- a turned cell is no cell with the digest that is recorded
+-- a flipped cell is no cell with the digest that is recorded
 turned_bad : CellsHaveLengths → (b : BlockId) (payload recorded : List ℕ) → block_digest b payload ≡ recorded → keeps_digest b payload ≡ false → IsRecorded b recorded (turned_cell b payload) → ⊥
 turned_bad lengths b payload recorded digest differs is =
     let same = parts_of_cell b (head_of b) (turned payload) (block_digest b payload) is.payload (lengths b payload).0 (lengths b payload).1 is.cell in
@@ -88,7 +88,7 @@ module _ (lengths : CellsHaveLengths) (parts : CellsHaveParts) (v : Opened) (kno
   known_stands b has is =
       stands lengths parts v.shape b (recorded_in v.shape v.digests b) (payload b) c (struck.recorded.wide b has) (struck.recorded.digests b has) (struck.known_at b has is)
 
-  -- what stands at the home of an altered block
+  -- what is at the home of an altered block
   other_home : (b : BlockId) → HasBlock v.lattice b → known b ≡ false → (home_bytes v.shape b c ≡ turned_cell b (payload b)) × (home_place v.shape b + cell_size v.shape ≤ length (c (home_file v.shape b)))
   other_home b has is =
       let wide = struck.recorded.wide b has in

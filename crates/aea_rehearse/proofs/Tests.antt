@@ -22,11 +22,11 @@ use Rattle.aea_verify.specs.Answers.{IsFree}
 use Rattle.aea_ledger.specs.Values.{Opened}
 use Rattle.aea_archive.specs.Blocks.{recorded_in, IsIntactBy, TellsSurvivors}
 
--- what stands in the place of a block's payload
+-- what is in the place of a block's payload
 abbrev payload_here : Opened → Files → BlockId → List ℕ
 payload_here v c b = payload_in v.shape (home_bytes v.shape b c)
 
--- whether a block is intact, as its home tells
+-- whether a block is intact, as its home shows
 abbrev pub intact_test : Opened → Files → BlockId → Bool
 intact_test v c b =
     ltb (home_place v.shape b + cell_size v.shape) (length (c (home_file v.shape b)) + 1)
@@ -38,7 +38,7 @@ decided v c b =
     Decides-and _ _ (Decides-ltb (home_place v.shape b + cell_size v.shape) (length (c (home_file v.shape b)) + 1))
     (Decides-and _ _ (bytes_eq-Decides (home_bytes v.shape b c) (cell_of b (payload_here v c b))) (bytes_eq-Decides (block_digest b (payload_here v c b)) (recorded_in v.shape v.digests b)))
 
--- the payload of an intact block stands in its place
+-- the payload of an intact block is in its place
 payload_found : CellsHaveLengths → CellsHaveParts → (v : Opened) (c : Files) (b : BlockId) → (intact : IsIntactBy v.shape v.digests c b) → payload_here v c b ≡ intact.here.payload
 payload_found lengths parts v c b intact =
     let p = intact.here.payload in
@@ -48,7 +48,7 @@ payload_found lengths parts v c b intact =
     let wide : length p ≡ v.shape.block = omega (arith, long, whole, same) in
     ap (payload_in v.shape) intact.here.cell ∙ ap (λ (n : ℕ). take n (drop 16 (cell_of b p))) (sym wide) ∙ (parts b p).1
 
--- it tells the intact blocks
+-- it distinguishes the intact blocks
 pub test_tells : CellsHaveLengths → CellsHaveParts → (v : Opened) (c : Files) → TellsSurvivors v.shape v.lattice.n v.digests c (intact_test v c)
 test_tells lengths parts v c b inside = (
   λ is. let all = (decided v c b).0 is in record { within = (let below = all.0 in omega (arith, below)); here = record { payload = payload_here v c b; cell = all.1.0; digest = all.1.1 } },
@@ -57,7 +57,7 @@ test_tells lengths parts v c b inside = (
       (let within = intact.within in (decided v c b).1 (omega (arith, within), (intact.here.cell ∙ ap (cell_of b) (sym found), ap (block_digest b) found ∙ intact.here.digest))),
 )
 
--- answers of a check that has a report
+-- results of a check that has a report
 pub not_bad : (result : Result Verdict VerifyFault) (k : ℕ) → IsOk result ⊎ IsFree result → result ≡ Err (fault.BadLine k) → ⊥
 not_bad result k (inl ok) is = false≢true (subst IsOk is ok)
 not_bad result k (inr (inl read)) is = cc
@@ -73,7 +73,7 @@ not_long result k (inr (inr (inr none))) is = cc
 same_verdict : (f g : Verdict) → (let one : Result Verdict VerifyFault = Ok f in one ≡ Ok g) → f ≡ g
 same_verdict f g e = cc
 
--- a verdict by the answer that has it
+-- a verdict by the result that has it
 pub fits_as : (result : Result Verdict VerifyFault) (verdict : Verdict) (P : Type 0) → result ≡ Ok verdict → (result ≡ Ok verdicts.Accepted) ↔ P → (verdict ≡ verdicts.Accepted) ↔ P
 fits_as result verdict P is fits = (λ same. fits.0 (is ∙ ap Ok same), λ holds. same_verdict verdict verdicts.Accepted (sym is ∙ fits.1 holds))
 

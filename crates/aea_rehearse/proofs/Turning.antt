@@ -1,4 +1,4 @@
--- Cells whose payload is turned in its first byte.
+-- Cells whose payload has a flipped bit in its first byte.
 use Rattle.std.proofs.Common.{◌≡◌, ◌≢◌, ℕ, ◌+◌, ◌-◌, ◌<◌, ◌≤◌, Bool, true, false, cond, List, [], ◌∷◌, ◌++◌, length, take, drop, get_or, refl, sym, ap, subst, ◌∙◌, arith, length-append, append_assoc}
 use Rattle.std.specs.Prelude.{bit_xor, Option, Some, None, IsNone, is_some, ◌↔◌}
 use Rattle.std.proofs.lemmas.Bool.{false≢true}
@@ -19,13 +19,13 @@ pub length-turned : (xs : List ℕ) → length (turned xs) ≡ length xs
 length-turned [] = refl
 length-turned (x ∷ xs) = refl
 
--- a turned cell is as long as the cell
+-- a flipped cell is as long as the cell
 pub length-turned_cell : CellsHaveLengths → (b : BlockId) (payload : List ℕ) → length (turned_cell b payload) ≡ length payload + 48
 length-turned_cell lengths b payload =
     let head = (lengths b payload).0 in let digest = (lengths b payload).1 in
     omega (arith, head, digest, length-append (head_of b ++ turned payload) (block_digest b payload), length-append (head_of b) (turned payload), length-turned payload)
 
--- what is done to a buffer with the cell: its byte 16 is turned
+-- what is done to a buffer with the cell: a bit of its byte 16 is flipped
 pub turn_cell : CellsHaveLengths → (b : BlockId) (payload : List ℕ) → 1 ≤ length payload
     → set (cell_of b payload) 16 (bit_xor (get_or (cell_of b payload) 16 0) 1) ≡ turned_cell b payload
 turn_cell lengths b [] some = absurd (omega arith)
@@ -41,7 +41,7 @@ turn_cell lengths b (x ∷ xs) some =
     ∙ ap (λ (n : ℕ). set (head_of b ++ x ∷ xs) n (bit_xor x 1) ++ digest) (sym head)
     ∙ ap (λ (l : List ℕ). l ++ digest) (set-append_seam (head_of b) x xs (bit_xor x 1))
 
--- the payload in a turned cell
+-- the payload in a flipped cell
 pub turned_payload : CellsHaveLengths → (b : BlockId) (payload : List ℕ) → take (length (turned_cell b payload) - 48) (drop 16 (turned_cell b payload)) ≡ turned payload
 turned_payload lengths b payload =
     let head = (lengths b payload).0 in
@@ -67,7 +67,7 @@ keeps-false b payload recorded found digest is differ =
     not_true (keeps_digest b payload)
     (λ yes. differ (ap (block_digest b) is ∙ (bytes_eq-Decides (block_digest b (turned payload)) (block_digest b payload)).0 yes ∙ digest))
 
--- What stands at a home where a turned cell was written, and where none was.
+-- What is at a home where a flipped cell was written, and where none was.
 pub struck_home : (shape : Shape) (b : BlockId) (payload : List ℕ) (c : Files) → keeps_digest b payload ≡ false → HasAtHome shape b (turned_cell b payload) c
     → HasAtHome shape b (cond (keeps_digest b payload) (cell_of b payload) (turned_cell b payload)) c
 struck_home shape b payload c keeps here = subst (λ (x : Bool). HasAtHome shape b (cond x (cell_of b payload) (turned_cell b payload)) c) (sym keeps) here

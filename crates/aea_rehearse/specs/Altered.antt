@@ -27,7 +27,7 @@ use Rattle.aea_rehearse.specs.declared.rehearsal.Rehearsal.{Rehearsal}
 use Rattle.aea_rehearse.specs.Rehearsed.{IsRehearsalShape, IsRehearsalRecord, object_bytes, rehearsal_data, woven_payload, left_cell}
 
 -- The blocks of an archive with these digests were gone through: each has the digest of its woven payload, and its home has
--- the cell, or the turned one where it is altered.
+-- the cell, or the flipped one where it is altered.
 pub record IsAlteredAt (number permille : ℕ) (shape : Shape) (l : Lattice) (digests : List (List ℕ)) (c : Files) : Type 0 where
   pub wide : (b : BlockId) → HasBlock l b → length (woven_payload shape l number b) ≡ shape.block
   pub recorded : (b : BlockId) → HasBlock l b → block_digest b (woven_payload shape l number b) ≡ recorded_in shape digests b

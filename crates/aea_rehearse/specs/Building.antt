@@ -1,4 +1,4 @@
--- The stages of a rehearsal: what stands when the archive is made, and when its blocks are altered. The payloads of the blocks
+-- The stages of a rehearsal: what is there when the archive is made, and when its blocks are altered. The payloads of the blocks
 -- are given by a function.
 use Rattle.std.specs.Prelude.{◌≡◌, ℕ, ◌+◌, ◌<◌, ◌≤◌, Bool, not, ◌&&◌, cond, List, [], ◌∷◌, length}
 use Rattle.aea_lattice.specs.declared.blocks.BlockId.{BlockId}
@@ -22,7 +22,7 @@ pub record AreRecordedPayloads (v : Opened) (payload : BlockId → List ℕ) : T
   pub wide : (b : BlockId) → HasBlock v.lattice b → length (payload b) ≡ v.shape.block
   pub digests : (b : BlockId) → HasBlock v.lattice b → block_digest b (payload b) ≡ recorded_in v.shape v.digests b
 
--- their cells stand at their homes
+-- their cells are at their homes
 pub record AreWoven (v : Opened) (payload : BlockId → List ℕ) (c : Files) : Type 0 where
   pub recorded : AreRecordedPayloads v payload
   pub cells : (b : BlockId) → HasBlock v.lattice b → HasAtHome v.shape b (cell_of b (payload b)) c
@@ -42,7 +42,7 @@ pub record IsBuilt (bytes : List ℕ) (v : Opened) (c : Files) : Type 0 where
 abbrev pub is_hit : Lattice → ℕ → ℕ → (BlockId → List ℕ) → BlockId → Bool
 is_hit l x permille payload b = strikes permille (state_after x (number_of l b + 1)) && not (keeps_digest b (payload b))
 
--- what stands at its home then
+-- what is at its home then
 abbrev pub cell_by : Lattice → ℕ → ℕ → (BlockId → List ℕ) → BlockId → List ℕ
 cell_by l x permille payload b = cond (is_hit l x permille payload b) (turned_cell b (payload b)) (cell_of b (payload b))
 

@@ -18,8 +18,8 @@ use Rattle.aea_archive.specs.Data.{AreSurvivorsHonest, IsDamagePlain}
 use Rattle.aea_rehearse.specs.Rooms.{IsWilling}
 
 -- The archive may be repaired, and nothing fails: its survivors are honest for a data list that its ledger records, the damage
--- is plain, the disk is willing and the sites have room for its rows, and a report for the survivors has no more bytes than
--- there is room for.
+-- is plain, the disk is willing and the sites have space for its rows, and a report for the survivors has no more bytes than
+-- there is space for.
 pub record IsReady (v : Opened) (s : State) (room : ℕ) : Type 0 where
   pub records : List Record
   pub datas : List (List ℕ)

@@ -1,5 +1,5 @@
--- “Rehearsal”: the archive of a rehearsal, which of its blocks are altered and how, and what stands when it is done. It is
--- told by the shape of the archive, its lattice, and the number from which the generator begins.
+-- “Rehearsal”: the archive of a rehearsal, which of its blocks are altered and how, and what is there when it is done. It is
+-- given by the shape of the archive, its lattice, and the number from which the generator begins.
 use Rattle.std.specs.Prelude.{◌≡◌, ◌↔◌, ◌⊎◌, ℕ, ◌+◌, ◌*◌, Bool, not, ◌&&◌, cond, List, [], ◌∷◌, ◌++◌, length, codes, bit_xor, IsTrue, Some}
 use Rattle.std.specs.Str.{bytes_eq}
 use Rattle.sha2.specs.Sha256.{sha256}
@@ -48,15 +48,15 @@ abbrev pub turned : List ℕ → List ℕ
 turned [] = []
 turned (x ∷ xs) = bit_xor x 1 ∷ xs
 
--- a block's cell in which the first byte of the payload is turned, and the digest is that of the payload before
+-- a block's cell in which a bit of the first byte of the payload is flipped, and the digest is that of the payload before
 abbrev pub turned_cell : BlockId → List ℕ → List ℕ
 turned_cell b payload = head_of b ++ turned payload ++ block_digest b payload
 
--- whether the payload, turned, has the digest that it has otherwise
+-- whether the payload, flipped, has the digest that it has otherwise
 abbrev pub keeps_digest : BlockId → List ℕ → Bool
 keeps_digest b payload = bytes_eq (block_digest b (turned payload)) (block_digest b payload)
 
--- the state by which it is judged whether a block is altered: behind the steps for the bytes there is one for each block, in
+-- the state by which it is judged whether a block is altered: after the steps for the bytes there is one for each block, in
 -- number order
 abbrev pub block_state : Lattice → ℕ → BlockId → ℕ
 block_state l number b = state_after number (l.n * 512 + (number_of l b + 1))
@@ -70,7 +70,7 @@ is_altered shape l number permille b =
 abbrev pub is_unaltered : Shape → Lattice → ℕ → ℕ → BlockId → Bool
 is_unaltered shape l number permille b = not (is_altered shape l number permille b)
 
--- what stands at the home of a block when the altering is done
+-- what is at the home of a block when the altering is done
 abbrev pub left_cell : Shape → Lattice → ℕ → ℕ → BlockId → List ℕ
 left_cell shape l number permille b =
     cond (is_altered shape l number permille b) (turned_cell b (woven_payload shape l number b)) (cell_of b (woven_payload shape l number b))

@@ -65,7 +65,7 @@ fn write_home<D: Disk>(disk: &mut D, ledger: &Ledger, b: BlockId, cell: &[u8])
     }
 }
 
-// Turns the first byte of a block's payload on the disk, unless the payload would keep its digest.
+// Flips a bit of the first byte of a block's payload on the disk, unless the payload would keep its digest.
 fn alter_block<D: Disk>(disk: &mut D, ledger: &Ledger, b: BlockId, cell: &mut [u8])
     requires tells { D.tells }
     requires shape { IsRehearsalShape ledger.now.shape }

@@ -41,7 +41,7 @@ fn is_seal(seal: &[u8; 32])
     are_bytes(seal);
 }
 
-/// Repairs the archive, with the report on a sink that has room for it.
+/// Repairs the archive, with the report on a sink that has space for it.
 pub(crate) fn mend<D: Disk>(
     alloc: Global,
     ledger: &Ledger,

@@ -23,7 +23,7 @@ use aea_records::ledgers_have_one_reading;
 use aea_repair::Outcome;
 use std::alloc::{AllocError, Global};
 
-// Room for the report of an archive with so many nodes.
+// Space for the report of an archive with so many nodes.
 fn report_sink(alloc: Global, nodes: u32) -> Result<SureSink, AllocError>
     requires few { nodes ≤ 2000 }
     ensures empty { IfOk result (λ s. s.bytes.items ≡ []) }
@@ -87,7 +87,7 @@ fn numbers(nodes: u32, outcome: Outcome) -> Rehearsal
     }
 }
 
-// The rehearsal, on any disk that tells its contents and has the room.
+// The rehearsal, on any disk whose contents are known and that has the space.
 fn rehearse_on<D: Disk>(
     alloc: Global,
     disk: &mut D,
@@ -129,13 +129,13 @@ pub fn rehearse(
     requires few { nodes ≤ 2000 }
     requires part { permille ≤ 1000 }
 
-    // The disk has no bytes yet, and room.
+    // The disk has no bytes yet, and space.
     requires empty { (f : ℕ) → files_of disk.old.spaces f ≡ [] }
     requires ledger_room { 83 + 128 * nodes ≤ room_of disk.old.spaces 0 }
     requires site_rooms { (f : ℕ) → 1 ≤ f → f ≤ 10 → 14680400 ≤ room_of disk.old.spaces f }
     requires count { disk.old.faults < 2 ^ 64 - 1 }
 
-    // What stands then, and what the numbers are.
+    // What is there then, and what the numbers are.
     ensures rehearsed { IfOk result (IsRehearsed number nodes permille (files_of disk.new.spaces)) }
 
     // The disk never fails.

@@ -1,4 +1,4 @@
--- What stands when the calls of a repair end.
+-- What holds when the calls of a repair end.
 use Rattle.std.proofs.Common.{◌≡◌, ◌≢◌, inl, inr, ℕ, List, Bool, Ok, Err, refl, sym, ◌∙◌, ap, subst}
 use Rattle.std.specs.Prelude.{IsTrue, ◌↔◌, Result}
 use Rattle.std.proofs.lemmas.Bool.{cases_Bool, false≢true}
@@ -29,7 +29,7 @@ use Rattle.aea_repair.specs.declared.fault.RepairFault.TheVariants.{Clash, DiskF
 use Rattle.aea_restore.specs.Laws.{IsRestorable}
 use Rattle.aea_repair.specs.Repairs.{fault_of, LeavesAt, Leaves, IsWritten, Repairs}
 use Rattle.aea_repair.proofs.Survivors.{AreInside, known_determined}
-use Rattle.aea_repair.proofs.Frames.{blocks_read, read_then_blocks, blocks_as, blocks_less}
+use Rattle.aea_archive.proofs.Writes.{cells_read, read_then_cells, cells_as, cells_less_as}
 
 -- after another fault than the output's not all was written
 pub not_written : {T : Type 0} (f : RepairFault) → f ≢ WriteFault → IsWritten {T = T} (Err f) → ⊥
@@ -38,7 +38,7 @@ not_written {T} f other written = elim written [
   | inr e ↦ other (let h = e in cc)
 ]
 
--- the answer of a call with this fault
+-- the result of a call with this fault
 abbrev Failed : (T : Type 0) → RepairFault → Result T RepairFault
 Failed T f = Err f
 
@@ -80,7 +80,7 @@ repairs_failed {T} tells v known old new f other left alone clash = record {
     honest = λ written. absurd (not_written {T = T} f other written);
     clash = λ b told computed e. clash b told computed (let h = e in cc);
   };
-  alone = blocks_as tells (f ≡ DiskFault) _ v (IsLeft (IsRestorable v.lattice known)) old new (λ e. (let h = e in cc)) (λ e. cc) alone;
+  alone = cells_as tells (f ≡ DiskFault) _ v.shape v.lattice.n (IsLeft (IsRestorable v.lattice known)) old new (λ e. (let h = e in cc)) (λ e. cc) alone;
 }
 
 -- what is determined is marked in the end
@@ -92,7 +92,7 @@ all_ready v known old new given same mends marks b has is = elim (cases_Bool (kn
   | inr no' ↦ marks.1 b ((mends b).1 (record { block = has; damaged = no'; determined = is }))
 ]
 
--- where all is written and sure
+-- where all is written and synced
 pub repairs_done : {T : Type 0} (tells fault : Type 0) (v : Opened) (known given ready : BlockId → Bool) (old new : State) (x : T) → PlainDamageStays → AreInside v → ((b : BlockId) → HasBlock v.lattice b → IsBlockOf v.shape b)
     → TellsSurvivors v.shape v.lattice.n v.digests old.files known
     → ((b : BlockId) → IsTrue (given b) ↔ IsRestorable v.lattice known b)
@@ -118,7 +118,7 @@ repairs_done {T} tells fault v known given ready old new x stays inside fits tel
         honest = λ written records datas has are own b here is. honest records datas has are own b here (marked b here is) (intact b here (marked b here is));
         clash = λ b told computed e. absurd (let h = e in cc);
       };
-      alone = blocks_less tells fault _ v (IsLeft (λ b. IsTrue (given b))) (IsLeft (IsRestorable v.lattice known)) old new (λ a left one. left ((mends a).0 one)) (λ e. absurd (let h = e in cc)) (λ e. absurd (fine e)) writes;
+      alone = cells_less_as tells fault _ v.shape v.lattice.n (IsLeft (λ b. IsTrue (given b))) (IsLeft (IsRestorable v.lattice known)) old new (λ a left one. left ((mends a).0 one)) (λ e. absurd (let h = e in cc)) (λ e. absurd (fine e)) writes;
     }
 
 -- ---- what only read, before and without the writing stage
@@ -131,17 +131,17 @@ repairs_broken {T} sites tells fault v known old new told is reads =
       grown = padded_kept v.shape (IsLeft (IsRestorable v.lattice known)) old.files new.files (reads.contents told);
       restored = λ b one. inr (ap (λ (c : Files). padded_home v.shape b c) (reads.contents told));
     }))
-    (blocks_read sites tells fault (DiskFault ≡ DiskFault) v (IsLeft (IsRestorable v.lattice known)) old new (λ e. is) (λ e. refl) reads)
+    (cells_read sites tells fault (DiskFault ≡ DiskFault) v.shape v.lattice.n (IsLeft (IsRestorable v.lattice known)) old new (λ e. is) (λ e. refl) reads)
     (λ b t k e. absurd (let h = e in cc))
 
--- memory was wanting
+-- memory ran out
 pub repairs_unwritten : {T : Type 0} → HomesAreOnItsSites → (tells fault : Type 0) (v : Opened) (known : BlockId → Bool) (old new : State) → tells → (fault → ⊥) → OnlyReads tells fault old new → Repairs {T = T} tells v known old new (Err NoMemory)
 repairs_unwritten {T} sites tells fault v known old new told fine reads =
     repairs_failed {T = T} tells v known old new NoMemory (λ e. (let h = e in cc)) (reads.contents told)
-    (blocks_read sites tells fault (NoMemory ≡ DiskFault) v (IsLeft (IsRestorable v.lattice known)) old new (λ e. absurd (let h = e in cc)) (λ e. absurd (fine e)) reads)
+    (cells_read sites tells fault (NoMemory ≡ DiskFault) v.shape v.lattice.n (IsLeft (IsRestorable v.lattice known)) old new (λ e. absurd (let h = e in cc)) (λ e. absurd (fine e)) reads)
     (λ b t k e. absurd (let h = e in cc))
 
--- calls that only read, and the writing stage behind them
+-- calls that only read, and the writing stage after them
 pub repairs_later : {T : Type 0} → HomesAreOnItsSites → (tells first : Type 0) (v : Opened) (known : BlockId → Bool) (old mid new : State) (result : Result T RepairFault) → tells → (first → ⊥) → OnlyReads tells first old mid
     → Repairs tells v known mid new result → Repairs tells v known old new result
 repairs_later sites tells first v known old mid new result told fine reads late =
@@ -154,10 +154,10 @@ repairs_later sites tells first v known old mid new result told fine reads late 
         honest = λ written records datas has are own. late.restores.honest written records datas has are (subst (AreSurvivorsHonest v.shape v.lattice v.digests datas) (sym same) own);
         clash = λ b t k e. let one = late.restores.clash b t k e in (one.0, subst (λ (c : Files). IsClash v known c b t k) same one.1);
       };
-      alone = read_then_blocks sites tells first _ v (IsLeft (IsRestorable v.lattice known)) old mid new fine reads late.alone;
+      alone = read_then_cells sites tells first _ v.shape v.lattice.n (IsLeft (IsRestorable v.lattice known)) old mid new fine reads late.alone;
     }
 
--- ---- other answers of what was done
+-- ---- other results of what was done
 
 pub repairs_ok : {T U : Type 0} (tells : Type 0) (v : Opened) (known : BlockId → Bool) (old new : State) (x : T) (y : U) → Repairs tells v known old new (Ok x) → Repairs {T = U} tells v known old new (Ok y)
 repairs_ok {T} {U} tells v known old new x y done = record {
@@ -168,7 +168,7 @@ repairs_ok {T} {U} tells v known old new x y done = record {
     honest = λ written. done.restores.honest (inl refl);
     clash = λ b t k e. absurd (let h = e in cc);
   };
-  alone = blocks_as tells _ _ v (IsLeft (IsRestorable v.lattice known)) old new (λ e. absurd (let h = e in cc)) (λ e. absurd (let h = e in cc)) done.alone;
+  alone = cells_as tells _ _ v.shape v.lattice.n (IsLeft (IsRestorable v.lattice known)) old new (λ e. absurd (let h = e in cc)) (λ e. absurd (let h = e in cc)) done.alone;
 }
 
 pub repairs_unprinted : {T U : Type 0} (tells : Type 0) (v : Opened) (known : BlockId → Bool) (old new : State) (x : T) → Repairs tells v known old new (Ok x) → Repairs {T = U} tells v known old new (Err WriteFault)
@@ -180,7 +180,7 @@ repairs_unprinted {T} {U} tells v known old new x done = record {
     honest = λ written. done.restores.honest (inl refl);
     clash = λ b t k e. absurd (let h = e in cc);
   };
-  alone = blocks_as tells _ _ v (IsLeft (IsRestorable v.lattice known)) old new (λ e. absurd (let h = e in cc)) (λ e. absurd (let h = e in cc)) done.alone;
+  alone = cells_as tells _ _ v.shape v.lattice.n (IsLeft (IsRestorable v.lattice known)) old new (λ e. absurd (let h = e in cc)) (λ e. absurd (let h = e in cc)) done.alone;
 }
 
 pub repairs_err : {T U : Type 0} (tells : Type 0) (v : Opened) (known : BlockId → Bool) (old new : State) (f : RepairFault) → Repairs {T = T} tells v known old new (Err f) → Repairs {T = U} tells v known old new (Err f)
@@ -192,7 +192,7 @@ repairs_err {T} {U} tells v known old new f failed = record {
     honest = λ written. failed.restores.honest (written_as written);
     clash = λ b t k e. failed.restores.clash b t k (ap Err (let h = e in cc));
   };
-  alone = blocks_as tells _ _ v (IsLeft (IsRestorable v.lattice known)) old new (λ e. err_as e) (λ e. err_as e) failed.alone;
+  alone = cells_as tells _ _ v.shape v.lattice.n (IsLeft (IsRestorable v.lattice known)) old new (λ e. err_as e) (λ e. err_as e) failed.alone;
 }
   where
     written_as : IsWritten {T = U} (Err f) → IsWritten {T = T} (Err f)
@@ -203,7 +203,7 @@ repairs_err {T} {U} tells v known old new f failed = record {
 
 -- ---- which fault it is
 
--- a fault that is none of the others is want of memory
+-- a fault that is none of the others is lack of memory
 pub only_memory : (f : RepairFault) → f ≢ WriteFault → f ≢ DiskFault → ((b : BlockId) (told computed : List ℕ) → f ≢ Clash b told computed) → f ≡ NoMemory
 only_memory (Clash b told computed) output disk clash = absurd (clash b told computed refl)
 only_memory DiskFault output disk clash = absurd (disk refl)

@@ -9,7 +9,7 @@ use Rattle.aea_report.specs.Format.{report_bytes}
 use Rattle.aea_report.specs.Printed.{IsPrinted}
 use Rattle.aea_report.specs.Fits.{Fits}
 use Rattle.aea_report.specs.Laws.{PrintedReportsFit}
-use Rattle.aea_plan.specs.Laws.{PrintedAreOne}
+use Rattle.aea_report.specs.Laws.{PrintedAreOne}
 use Rattle.aea_disk.specs.Files.{Files}
 use Rattle.aea_ledger.specs.Values.{Opened}
 use Rattle.aea_archive.specs.Blocks.{TellsSurvivors}

@@ -1,4 +1,4 @@
--- Tests that tell the survivors agree on the blocks of the archive.
+-- Tests that distinguish the survivors agree on the blocks of the archive.
 use Rattle.std.proofs.Common.{◌≡◌, ℕ, Bool, true, false, List, refl, sym, ◌∙◌, ap, subst, arith}
 use Rattle.std.specs.Prelude.{IsTrue}
 use Rattle.std.proofs.lemmas.List.Elements.{All-weaker}
@@ -43,7 +43,7 @@ same_truth false false to from = refl
 abbrev pub AreInside : Opened → Type 0
 AreInside v = (b : BlockId) → HasBlock v.lattice b → IsBlockIn v.shape v.lattice.n b
 
--- two tests that tell the survivors agree
+-- two tests that distinguish the survivors agree
 pub tests_agree : (v : Opened) (c : Files) (known test : BlockId → Bool) → AreInside v → TellsSurvivors v.shape v.lattice.n v.digests c known → TellsSurvivors v.shape v.lattice.n v.digests c test
     → (b : BlockId) → HasBlock v.lattice b → known b ≡ test b
 tests_agree v c known test inside first second b has =
@@ -51,7 +51,7 @@ tests_agree v c known test inside first second b has =
     let two = second b (inside b has) in
     same_truth (known b) (test b) (λ is. two.1 (one.0 is)) (λ is. one.1 (two.0 is))
 
--- marks that tell the survivors are those of each test that does
+-- marks that distinguish the survivors are those of each test that does
 pub marks_agree : (v : Opened) (c : Files) (m : Marked) (test : BlockId → Bool) → m.lattice ≡ v.lattice → AreInside v → TellsSurvivors v.shape v.lattice.n v.digests c (is_marked m) → TellsSurvivors v.shape v.lattice.n v.digests c test
     → AreMarks m test
 marks_agree v c m test same inside marked tells b has = tests_agree v c (is_marked m) test inside marked tells b (subst (λ (l : Lattice). HasBlock l b) same has)

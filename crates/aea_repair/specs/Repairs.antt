@@ -13,7 +13,8 @@ use Rattle.aea_archive.specs.Data.{AreSurvivorsHonest, IsDamagePlain}
 use Rattle.aea_restore.specs.declared.fault.RestoreFault.{RestoreFault}
 use Rattle.aea_restore.specs.declared.fault.RestoreFault.TheVariants as stage
 use Rattle.aea_restore.specs.Laws.{IsRestorable}
-use Rattle.aea_restore.specs.Drawn.{payload_at, IsClash}
+use Rattle.aea_shelf.specs.Intact.{payload_at}
+use Rattle.aea_restore.specs.Drawn.{IsClash}
 use Rattle.aea_restore.specs.Repairs.{IsLeft, WritesBlocks, IsRepaired, IsPartlyRepaired, IsStopped}
 use Rattle.aea_repair.specs.declared.fault.RepairFault.{RepairFault}
 use Rattle.aea_repair.specs.declared.fault.RepairFault.TheVariants.{Clash, DiskFault, WriteFault, NoMemory}
@@ -32,17 +33,17 @@ LeavesAt v mends old new DiskFault = IsStopped v mends old new
 LeavesAt v mends old new WriteFault = IsRepaired v mends old new
 LeavesAt v mends old new NoMemory = new ≡ old
 
--- what each answer says of them
+-- what each result says of them
 abbrev pub Leaves : {T : Type 0} → Opened → (BlockId → Type 0) → Files → Files → Result T RepairFault → Type 0
 Leaves v mends old new result = MatchResult result (λ _. IsRepaired v mends old new) (LeavesAt v mends old new)
 
--- all that can be restored was written and made sure: the answer is Ok, or the output failed behind it
+-- all that can be restored was written and synced: the result is Ok, or the output failed after that
 abbrev pub IsWritten : {T : Type 0} → Result T RepairFault → Type 0
 IsWritten result = IsOk result ⊎ (result ≡ Err WriteFault)
 
 -- What a call that repairs leaves of the files, where the known blocks are exactly those that were intact when it began:
 pub record Restores {T : Type 0} (v : Opened) (known : BlockId → Bool) (old new : Files) (result : Result T RepairFault) : Type 0 where
-  -- what stands of the blocks that are damaged and determined, and of all others
+  -- what holds of the blocks that are damaged and determined, and of all others
   pub left : Leaves v (IsRestorable v.lattice known) old new result
   -- Once all is written, each block that the known ones determine is intact; and where the damage was plain, no other is.
   pub determined : IsWritten result → (b : BlockId) → HasBlock v.lattice b → Determines v.lattice known b → IsIntactBy v.shape v.digests new b

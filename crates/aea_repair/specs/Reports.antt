@@ -15,7 +15,7 @@ use Rattle.aea_archive.specs.Data.{IsDamagePlain}
 use Rattle.aea_repair.specs.declared.outcome.Outcome.{Outcome}
 use Rattle.aea_repair.specs.declared.fault.RepairFault.{RepairFault}
 
--- The printed report for some known blocks of the archive, with the ledger's seal. Where the disk tells its contents, these
+-- The printed report for some known blocks of the archive, with the ledger's seal. Where the disk's contents are known, these
 -- are the blocks that are intact, by whichever test.
 pub record IsReportOf (tells : Type 0) (v : Opened) (c : Files) (h : Head) (lines : List Line) : Type 0 where
   pub known : BlockId → Bool

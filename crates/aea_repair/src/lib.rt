@@ -1,7 +1,7 @@
-//! Repair of an archive: what its intact blocks determine is written back, and a report tells of each damaged block whether
+//! Repair of an archive: what its intact blocks determine is written back, and a report says of each damaged block whether
 //! it was restored or is lost.
 //!
-//! Promises to the command above, over a disk that tells its contents, that `repair` leaves each block that the intact
+//! Promises to the command above, over a disk whose contents are known, that `repair` leaves each block that the intact
 //! ones determine intact, with the recorded data where these are honest, or says why not (`Repairs`, `Restores`); that
 //! all other homes stay in every image; and that the report for the intact blocks is printed (`HasReported`).
 //!
@@ -11,8 +11,8 @@
 //! `aea_restore`.
 #![tactic(auto)]
 
-pub mod fault;
-pub mod outcome;
+mod fault;
+mod outcome;
 mod prepare;
 mod repairing;
 mod restoring;

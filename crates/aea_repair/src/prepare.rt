@@ -11,6 +11,7 @@ ghost use Rattle.aea_plan.specs.Verdicts.{lines_by};
 ghost use Rattle.aea_restore.specs.Given.{IsGiven, CanBeRestored};
 ghost use Rattle.aea_restore.specs.Laws.{IsRestorable};
 
+use aea_archive::cell_buffer;
 use aea_ledger::Ledger;
 use aea_plan::Plan;
 use aea_restore::{given_are_restorable, plans_can_be_restored};
@@ -25,7 +26,7 @@ pub(crate) struct Buffers {
     pub write: Vec<u8>,
 }
 
-/// The plan of a repair, with room for the text of the nodes of one lost block, and its buffers.
+/// The plan of a repair, with space for the text of the nodes of one lost block, and its buffers.
 #[derive(Drop)]
 pub(crate) struct Prepared {
     pub plan: Plan,
@@ -41,8 +42,8 @@ fn take_buffers(alloc: Global, ledger: &Ledger) -> Result<Buffers, AllocError>
 {
     let size = ledger.shape().block() as usize;
     let sum = vec![in alloc; 0; size]?;
-    let read = vec![in alloc; 0; size + 48]?;
-    let write = vec![in alloc; 0; size + 48]?;
+    let read = cell_buffer(alloc, ledger)?;
+    let write = cell_buffer(alloc, ledger)?;
     Ok(Buffers { sum, read, write })
 }
 

@@ -31,8 +31,8 @@ use crate::restoring::{Done, restore_archive};
 use aea_disk::Disk;
 use aea_io::{Page, Sink, WriteFault, finish};
 use aea_ledger::Ledger;
-use aea_plan::{Counts, Plan, print_report, printed_are_one};
-use aea_report::printed_reports_fit;
+use aea_plan::{Counts, Plan, print_report};
+use aea_report::{printed_are_one, printed_reports_fit};
 use std::alloc::Global;
 
 // The numbers of a plan.
@@ -66,7 +66,7 @@ fn print_plan<O: Sink>(
     Ok(())
 }
 
-/// Writes each damaged block that the intact ones determine to its home, makes all sure, and appends the report: which blocks
+/// Writes each damaged block that the intact ones determine to its home, syncs all, and appends the report: which blocks
 /// were damaged, and of each whether it is restored or by which nodes it is lost. The archive is scanned first. A payload is
 /// judged by the digest that the ledger keeps, whether it was read or computed, and a block that is restored is read back
 /// where another one needs it. It takes memory for the marks, the plan, two cells, a payload, and the text of the nodes of one
@@ -77,7 +77,7 @@ pub fn repair<D: Disk, O: Sink>(
     disk: &mut D,
     out: &mut O,
 ) -> Result<Outcome, RepairFault>
-    // What stands after each answer, and what was restored.
+    // What holds after each result, and what was restored.
     ensures repairs { D.tells → (known : BlockId → Bool) → TellsSurvivors ledger.now.shape ledger.now.lattice.n ledger.now.digests (D.state disk.old).files known
         → Repairs D.tells ledger.now known (D.state disk.old) (D.state disk.new) result }
     ensures durable { IsWritten result → D.tells → IsSynced (D.state disk.new) }
@@ -98,13 +98,13 @@ pub fn repair<D: Disk, O: Sink>(
     ensures no_clash { D.tells → (records : List Record) (datas : List (List ℕ)) → HasRecords ledger.now records → AreRecordsOf ledger.now.shape records datas
         → AreSurvivorsHonest ledger.now.shape ledger.now.lattice ledger.now.digests datas (D.state disk.old).files → (b : BlockId) (told computed : List ℕ) → result ≢ Err (RepairFault.Clash b told computed) }
 
-    // Where the intact blocks are honest and no count of faults rises, it is done, but for want of memory.
+    // Where the intact blocks are honest and no count of faults rises, it is done, unless memory runs out.
     ensures complete { D.tells → (records : List Record) (datas : List (List ℕ)) → HasRecords ledger.now records → AreRecordsOf ledger.now.shape records datas
         → AreSurvivorsHonest ledger.now.shape ledger.now.lattice ledger.now.digests datas (D.state disk.old).files
         → (Rose (D.state disk.old).faults (D.state disk.new).faults → ⊥) → (Rose (O.state out.old).faults (O.state out.new).faults → ⊥)
         → IsOk result ⊎ (result ≡ Err RepairFault.NoMemory) }
 
-    // Memory is wanting only before the first write.
+    // Memory runs out only before the first write.
     ensures memory { result ≡ Err RepairFault.NoMemory → OnlyReads D.tells ⊥ (D.state disk.old) (D.state disk.new) }
 
     // Over any disk only cells of the archive are written; when the disk is at fault.

@@ -33,7 +33,7 @@ use aea_shelf::{homes_are_on_its_sites, plain_damage_stays};
 use aea_view::Marks;
 use std::alloc::Global;
 
-/// A plan that was carried out, and room for the text of the nodes of one lost block.
+/// A plan that was carried out, and space for the text of the nodes of one lost block.
 #[derive(Drop)]
 pub(crate) struct Done {
     pub plan: Plan,
@@ -58,7 +58,7 @@ fn repair_fault(fault: RestoreFault) -> RepairFault
     }
 }
 
-// Carries out the plan for the marked blocks, and makes all sure.
+// Carries out the plan for the marked blocks, and syncs all.
 fn restore_planned<D: Disk>(
     ledger: &Ledger,
     disk: &mut D,

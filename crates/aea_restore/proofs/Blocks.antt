@@ -17,7 +17,7 @@ use Rattle.aea_restore.proofs.Loops.{goes_same, goes_both, torn_both}
 pub read_failed : (v : Opened) (ready : BlockId → Bool) (b : BlockId) (old new : Files) → ready b ≡ false → new ≡ old → IsTornAfter v (λ a. a ≡ b) ready ready old new
 read_failed v ready b old new unready same known first way = (b, refl, torn_before v known ready first new b unready (subst (IsUnderWay v known ready first) (sym same) way))
 
--- reads, and what goes on behind them
+-- reads, and what goes on after them
 pub read_then_goes : (v : Opened) (ready after : BlockId → Bool) (old mid new : Files) → mid ≡ old → GoesOn v ready after mid new → GoesOn v ready after old new
 read_then_goes v ready after old mid new same late = goes_both v ready ready after old mid new (goes_same v ready old mid same) late
 

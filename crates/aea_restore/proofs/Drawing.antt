@@ -15,14 +15,14 @@ use Rattle.aea_lattice.proofs.Equations.{same_block-equal}
 use Rattle.aea_lattice.proofs.Sums.{length-value_at}
 use Rattle.aea_disk.specs.Files.{Files}
 use Rattle.aea_shelf.specs.Places.{cell_size, home_bytes}
-use Rattle.aea_shelf.specs.Intact.{IsIntact, payload_in}
+use Rattle.aea_shelf.specs.Intact.{IsIntact, payload_in, payload_at}
 use Rattle.aea_shelf.specs.Writes.{KeepsHomes}
 use Rattle.aea_shelf.proofs.Cells.{length-home, at_home, at_intact, keeps_intact}
 use Rattle.aea_ledger.specs.Values.{Opened}
 use Rattle.aea_ledger.specs.Recorded.{IsLatticeOf}
 use Rattle.aea_archive.specs.Blocks.{IsBlockIn, recorded_in, IsIntactBy}
 use Rattle.aea_restore.specs.Plans.{Give}
-use Rattle.aea_restore.specs.Drawn.{payload_at, ArePicked, IsDrawn, other_blocks, added_up, AreAllIntact}
+use Rattle.aea_restore.specs.Drawn.{ArePicked, IsDrawn, other_blocks, added_up, AreAllIntact}
 use Rattle.aea_restore.specs.UnderWay.{AreDrawn, AddsBlock}
 use Rattle.aea_restore.proofs.Sums.{AreWide, sum_both, sum_one, sum_more, values_wide, map_same}
 use Rattle.aea_restore.proofs.Parts.{others_ready, others_sum}

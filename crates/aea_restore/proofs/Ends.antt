@@ -12,28 +12,24 @@ use Rattle.aea_lattice.proofs.Equations.{number_below}
 use Rattle.aea_lattice.proofs.Numbers.{length-blocks_of, slice_get-blocks_of}
 use Rattle.aea_envelope.specs.Cells.{block_digest}
 use Rattle.aea_disk.specs.Files.{Files}
-use Rattle.aea_disk.specs.State.{State, IsReady, AtEachMoment}
-use Rattle.aea_shelf.specs.Intact.{IsHeldIn}
-use Rattle.aea_shelf.proofs.Runs.{held_by_shelf}
-use Rattle.aea_shelf.proofs.Held.{held_in, held_through}
+use Rattle.aea_disk.specs.State.{State}
+use Rattle.aea_shelf.specs.Intact.{payload_at}
 use Rattle.aea_view.specs.Marked.{Marked, is_marked}
 use Rattle.aea_records.specs.Format.{Record, nodes_of, fences_of, digests_of}
 use Rattle.aea_ledger.specs.Recorded.{AreRecordsOf}
 use Rattle.aea_ledger.specs.Values.{Opened, HasRecords}
 use Rattle.aea_archive.specs.Blocks.{IsBlockIn, recorded_in, IsHeldBy, TellsSurvivors}
-use Rattle.aea_archive.specs.Cells.{IsNoSite, FitsRows}
 use Rattle.aea_archive.specs.Data.{AreSurvivorsHonest, AreSomeHonest}
-use Rattle.aea_archive.proofs.Cells.{changes_shelf}
 use Rattle.aea_archive.proofs.Records.{one_lattice}
 use Rattle.aea_restore.specs.declared.fault.RestoreFault.{RestoreFault}
 use Rattle.aea_restore.specs.declared.fault.RestoreFault.TheVariants.{Clash, DiskFault}
-use Rattle.aea_restore.specs.Drawn.{payload_at, AreAllIntact, IsClash}
-use Rattle.aea_restore.specs.Repairs.{IsLeft, WritesBlocks, Leaves, MarksSome}
+use Rattle.aea_restore.specs.Drawn.{AreAllIntact, IsClash}
+use Rattle.aea_restore.specs.Repairs.{IsLeft, Leaves, MarksSome}
 use Rattle.aea_restore.specs.UnderWay.{IsDone, IsUnderWay, IsTorn, AreDrawn}
 use Rattle.aea_restore.proofs.Drawing.{honest_drawn}
 use Rattle.aea_restore.proofs.Ways.{ends_some, ends_torn}
 
--- the blocks of a test that tells the survivors
+-- the blocks of a test that distinguishes the survivors
 pub all_intact : (v : Opened) (c : Files) (known : BlockId → Bool) → ((b : BlockId) → HasBlock v.lattice b → IsBlockIn v.shape v.lattice.n b) → TellsSurvivors v.shape v.lattice.n v.digests c known → AreAllIntact v known c
 all_intact v c known inside tell b has is = (tell b (inside b has)).0 is
 
@@ -79,7 +75,7 @@ never_clash v known first records datas b told computed has are honest sound cla
     let value = honest_drawn v known first datas b clash.payload (data_of v records datas has are) (λ d d_has known_d. honest d d_has (sound d d_has known_d)) clash.drawn in
     clash.other.differ (clash.computed_is ∙ ap (block_digest b) value ∙ sym (recorded_value v records datas b has are clash.other.block) ∙ sym clash.other.told_is)
 
--- ---- what each answer leaves
+-- ---- what each result leaves
 
 -- where the calls stopped before the last sync
 pub left_fault : (v : Opened) (mends : BlockId → Type 0) (known ready : BlockId → Bool) (first now : Files) → ((a : BlockId) → HasBlock v.lattice a → IsBlockOf v.shape a)
@@ -100,12 +96,3 @@ only_given v mends old new some b done =
 -- a block that was held was known, and so is not restored
 pub held_left : (v : Opened) (mends : BlockId → Type 0) (old : State) (known : BlockId → Bool) (b : BlockId) → ((d : BlockId) → HasBlock v.lattice d → IsBlockIn v.shape v.lattice.n d) → TellsSurvivors v.shape v.lattice.n v.digests old.files known → ((d : BlockId) → mends d → known d ≡ false) → HasBlock v.lattice b → IsHeldBy v.shape v.digests old b → IsLeft mends b
 held_left v mends old known b inside tell fresh has held is = true≢false (sym ((tell b (inside b has)).1 held.intact) ∙ fresh b is)
-
--- It is held at each moment of the calls and after them.
-pub held_on : (tells fault : Type 0) (v : Opened) (mends : BlockId → Type 0) (old new : State) (b : BlockId) → tells → IsBlockOf v.shape b → IsLeft mends b → WritesBlocks tells v (IsLeft mends) fault old new → IsHeldBy v.shape v.digests old b
-    → AtEachMoment old new (IsHeldIn v.shape b (recorded_in v.shape v.digests b)) × IsHeldBy v.shape v.digests new b
-held_on tells fault v mends old new b told fits left writes held =
-    let shelf = changes_shelf tells (IsReady old) (FitsRows v.shape v.lattice.n old) fault v.shape v.lattice.n (IsLeft mends) (IsNoSite v.shape) old new writes in (
-      held_through tells v.shape (IsLeft mends) old new b (recorded_in v.shape v.digests b) fits left shelf (held_in v.shape b (recorded_in v.shape v.digests b) old held),
-      held_by_shelf tells v.shape (IsLeft mends) old new b (recorded_in v.shape v.digests b) told fits left writes.time.later shelf held,
-    )

@@ -1,7 +1,6 @@
 mod Sums
 mod Parts
 mod Drawing
-mod Writing
 mod Ways
 mod Ends
 mod Adding

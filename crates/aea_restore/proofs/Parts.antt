@@ -26,7 +26,7 @@ use Rattle.aea_restore.specs.Plans.{is_left_over, Give}
 use Rattle.aea_restore.specs.Drawn.{IsSumOf, ArePicked, is_other, other_blocks}
 use Rattle.aea_restore.proofs.Sums.{sum_others, values_wide}
 
--- ---- the set of equations that stand in a list an odd number of times
+-- ---- the set of equations that are in a list an odd number of times
 
 abbrev odd_set : List EqId → EqId → Bool
 odd_set [] = λ f. false
@@ -41,7 +41,7 @@ adds_list l (e ∷ es) d each =
     ∙ ap (differ (is_in_equation l e d)) (adds_list l es d each.1)
     ∙ sym (odd-cons (λ f. is_in_equation l f d) e es)
 
--- ---- how often a block stands in the blocks of equations
+-- ---- how often a block occurs in the blocks of equations
 
 and-comm : (a b : Bool) → (a && b) ≡ (b && a)
 and-comm true true = refl
@@ -111,7 +111,7 @@ module _ (l : Lattice) (ready : BlockId → Bool) (b : BlockId) (es : List EqId)
       (all-more (λ d. HasBlock l d × IsTrue (is_other ready b d)) (λ d. HasBlock l d × IsTrue (ready d))
       (λ d both. (both.0, (and_parts (ready d) (not (same_block d b)) both.1).0)) (other_blocks l ready b es) picked)
 
-  -- how often one stands among them
+  -- how often one occurs among them
   other_count : (d : BlockId) → HasBlock l d → is_odd_count (same_block d) (other_blocks l ready b es) ≡ (is_other ready b d && is_left_over l es d)
   other_count d d_has =
       odd-filter (is_other ready b) (same_block d) (flat_map (equation_blocks l) es)

@@ -1,4 +1,4 @@
--- What a call leaves is told alike by two tests of the blocks that it restores, where both name the same blocks.
+-- What a call leaves is described alike by two tests of the blocks that it restores, where both name the same blocks.
 use Rattle.std.proofs.Common.{Ok, Err, inl, inr}
 use Rattle.aea_lattice.specs.declared.blocks.BlockId.{BlockId}
 use Rattle.aea_lattice.specs.declared.grid.Lattice.{Lattice}
@@ -8,7 +8,7 @@ use Rattle.aea_view.specs.Marked.{Marked}
 use Rattle.aea_ledger.specs.Values.{Opened}
 use Rattle.aea_restore.specs.declared.fault.RestoreFault.TheVariants.{Clash, DiskFault}
 use Rattle.aea_restore.specs.Repairs.{Answer, IsLeft, WritesBlocks, IsRepaired, IsPartlyRepaired, IsTornRepair, Leaves, MarksMore}
-use Rattle.aea_restore.proofs.Writing.{blocks_less}
+use Rattle.aea_archive.proofs.Writes.{cells_less_as}
 use Rattle.aea_restore.proofs.Loops.{some_more}
 
 module _ (mends others : BlockId → Type 0) (to : (b : BlockId) → mends b → others b) (from : (b : BlockId) → others b → mends b) where
@@ -32,7 +32,7 @@ module _ (mends others : BlockId → Type 0) (to : (b : BlockId) → mends b →
     elsewhere = λ b one away. is.elsewhere b (from b one) away;
   }
 
-  -- what each answer says of the files
+  -- what each result says of the files
   pub leaves_same : (v : Opened) (old new : Files) (result : Answer) → Leaves v mends old new result → Leaves v others old new result
   leaves_same v old new (Ok done) is = repaired_same v old new is
   leaves_same v old new (Err (Clash b told computed)) is = partly_same v old new is
@@ -41,11 +41,11 @@ module _ (mends others : BlockId → Type 0) (to : (b : BlockId) → mends b →
     | inr torn ↦ inr (torn.0, torn_same v torn.0 old new torn.1)
   ]
 
-  -- the marks after each answer
+  -- the marks after each result
   pub marks_same : (l : Lattice) (old new : Marked) (result : Answer) → MarksMore l mends old new result → MarksMore l others old new result
   marks_same l old new (Ok done) is = (some_more l mends others old new to is.0, λ b one. is.1 b (from b one))
   marks_same l old new (Err fault) is = some_more l mends others old new to is
 
   -- what is written
   pub writes_same : (tells fault : Type 0) (v : Opened) (old new : State) → WritesBlocks tells v (IsLeft mends) fault old new → WritesBlocks tells v (IsLeft others) fault old new
-  writes_same tells fault v old new writes = blocks_less tells fault fault v (IsLeft mends) (IsLeft others) old new (λ a left one. left (to a one)) (λ is. is) (λ is. is) writes
+  writes_same tells fault v old new writes = cells_less_as tells fault fault v.shape v.lattice.n (IsLeft mends) (IsLeft others) old new (λ a left one. left (to a one)) (λ is. is) (λ is. is) writes

@@ -1,4 +1,4 @@
--- One block more is restored, a write fails, and what stands when the calls end.
+-- One block more is restored, a write fails, and what holds when the calls end.
 use Rattle.std.proofs.Common.{◌≡◌, ◌≢◌, inl, inr, ◌<◌, length, get_or, set, Bool, true, false, arith, refl, sym, ◌∙◌, ap, subst}
 use Rattle.std.specs.Prelude.{◌||◌, IsTrue}
 use Rattle.std.proofs.lemmas.Bool.{cases_Bool, or_cases, or_left, or_right, true≢false}
@@ -126,7 +126,7 @@ torn_write v known ready first mid now b fits unready homes elsewhere way = reco
       (λ e. true≢false (sym done.now ∙ ap ready e ∙ unready)) (way.written a done);
 }
 
--- ---- what stands when the calls end, where the blocks that are restored were not known, and only they were restored
+-- ---- what holds when the calls end, where the blocks that are restored were not known, and only they were restored
 
 module _ (v : Opened) (mends : BlockId → Type 0) (known ready : BlockId → Bool) (first now : Files) (fits : (a : BlockId) → HasBlock v.lattice a → IsBlockOf v.shape a)
     (inside : (b : BlockId) → mends b → HasBlock v.lattice b) (fresh : (b : BlockId) → mends b → known b ≡ false) (only : (b : BlockId) → IsDone v known ready b → mends b) where

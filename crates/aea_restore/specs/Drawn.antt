@@ -10,14 +10,9 @@ use Rattle.aea_lattice.specs.Equations.{equation_blocks}
 use Rattle.aea_lattice.specs.Data.{IsDataList, xor_bytes, xor_all, value_of}
 use Rattle.aea_disk.specs.Files.{Files}
 use Rattle.aea_envelope.specs.Cells.{block_digest}
-use Rattle.aea_shelf.specs.Places.{home_bytes}
-use Rattle.aea_shelf.specs.Intact.{payload_in}
+use Rattle.aea_shelf.specs.Intact.{payload_at}
 use Rattle.aea_ledger.specs.Values.{Opened}
 use Rattle.aea_archive.specs.Blocks.{recorded_in, IsIntactBy}
-
--- what stands at a block's home in the place of its payload
-abbrev pub payload_at : Shape → Files → BlockId → List ℕ
-payload_at shape c b = payload_in shape (home_bytes shape b c)
 
 -- In the lattice of every data list the block is the XOR of these blocks.
 abbrev pub IsSumOf : Lattice → BlockId → List BlockId → Type 0
@@ -28,7 +23,7 @@ IsSumOf l b blocks =
 abbrev pub ArePicked : Lattice → (BlockId → Bool) → List BlockId → Type 0
 ArePicked l picks blocks = All (λ d. HasBlock l d × IsTrue (picks d)) blocks
 
--- The payload of the block is drawn from the known blocks: it is the XOR of what stands at the homes of some of them, of
+-- The payload of the block is drawn from the known blocks: it is the XOR of what is at the homes of some of them, of
 -- which the block is the XOR in every lattice.
 pub record IsDrawn (v : Opened) (known : BlockId → Bool) (c : Files) (b : BlockId) (payload : List ℕ) : Type 0 where
   pub blocks : List BlockId
@@ -40,11 +35,11 @@ pub record IsDrawn (v : Opened) (known : BlockId → Bool) (c : Files) (b : Bloc
 abbrev pub is_other : (BlockId → Bool) → BlockId → BlockId → Bool
 is_other picks b d = picks d && not (same_block d b)
 
--- the other blocks of some equations that the test picks, one equation after another, each as often as it stands there
+-- the other blocks of some equations that the test picks, one equation after another, each as often as it occurs there
 abbrev pub other_blocks : Lattice → (BlockId → Bool) → BlockId → List EqId → List BlockId
 other_blocks l picks b equations = filter (is_other picks b) (flat_map (equation_blocks l) equations)
 
--- the bytes, and by XOR what stands in the place of the payloads of these blocks
+-- the bytes, and by XOR what is in the place of the payloads of these blocks
 abbrev pub added_up : Shape → Files → List ℕ → List BlockId → List ℕ
 added_up shape c start blocks = fold xor_bytes start (map (payload_at shape c) blocks)
 

@@ -15,7 +15,7 @@ pub record AreStepsOn (l : Lattice) (known : BlockId → Bool) (steps : List Ste
   pub fresh : (b : BlockId) → IsTrue (is_among (blocks_given steps) b) → HasBlock l b × (known b ≡ false)
   pub forced : (k : ℕ) (s : Step) → slice_get steps k ≡ Some s → IsForcedBy l (is_had known (take k steps)) s.block s.by
 
--- whether the block stands in an odd number of these equations, each counted as often as it stands in the list
+-- whether the block occurs in an odd number of these equations, each counted as often as it is in the list
 abbrev pub is_left_over : Lattice → List EqId → BlockId → Bool
 is_left_over l equations b = is_odd_count (λ e. is_in_equation l e b) equations
 

@@ -5,33 +5,29 @@ use Rattle.aea_lattice.specs.declared.blocks.BlockId.{BlockId}
 use Rattle.aea_lattice.specs.declared.grid.Lattice.{Lattice}
 use Rattle.aea_lattice.specs.Blocks.{HasBlock}
 use Rattle.aea_disk.specs.Files.{Files}
-use Rattle.aea_disk.specs.State.{State, IsReady}
-use Rattle.aea_disk.specs.Frames.{OnlyWrites}
+use Rattle.aea_disk.specs.State.{State}
 use Rattle.aea_shelf.specs.Places.{home_file, padded_home}
 use Rattle.aea_shelf.specs.Writes.{KeepsHomes, KeepsPadded}
 use Rattle.aea_view.specs.Marked.{Marked, is_marked}
 use Rattle.aea_ledger.specs.Values.{Opened}
 use Rattle.aea_archive.specs.Blocks.{IsIntactBy}
-use Rattle.aea_archive.specs.Cells.{IsNoSite, ChangesArchive, FitsRows}
+use Rattle.aea_archive.specs.Cells.{WritesCells}
 use Rattle.aea_restore.specs.declared.fault.RestoreFault.{RestoreFault}
 use Rattle.aea_restore.specs.declared.fault.RestoreFault.TheVariants.{Clash, DiskFault}
 
--- what a call that restores answers
+-- what a call that restores returns
 abbrev pub Answer : Type 0
 Answer = Result (Unit {0}) RestoreFault
 
--- Each block that is not restored is left alone: the known ones, the lost ones, and those behind the lattice.
+-- Each block that is not restored is left alone: the known ones, the lost ones, and those past the lattice.
 abbrev pub IsLeft : (BlockId → Type 0) → BlockId → Type 0
 IsLeft mends b = mends b → ⊥
 
--- Cells of the archive were written: the homes of these blocks have the bytes that stood there, each file but those of the
--- sites is as it was, no site's file has grown past the rows of the archive's nodes; so it is in every image too. Within
--- the room of these rows it does not fail.
+-- cells of the archive's nodes were written, none of these blocks
 abbrev pub WritesBlocks : Type 0 → Opened → (BlockId → Type 0) → Type 0 → State → State → Type 0
-WritesBlocks tells v keep fault old new =
-    OnlyWrites tells (IsReady old) (FitsRows v.shape v.lattice.n old) fault (ChangesArchive v.shape v.lattice.n keep (IsNoSite v.shape)) old new
+WritesBlocks tells v keep fault old new = WritesCells tells v.shape v.lattice.n keep fault old new
 
--- What stands when all is written: each block that is restored is intact, and each that is left alone reads as before,
+-- What holds when all is written: each block that is restored is intact, and each that is left alone reads as before,
 -- with zeros past the end of its file, where the file may have grown.
 pub record IsRepaired (v : Opened) (mends : BlockId → Type 0) (old new : Files) : Type 0 where
   pub grown : KeepsPadded v.shape (IsLeft mends) old new
@@ -41,13 +37,13 @@ pub record IsRepaired (v : Opened) (mends : BlockId → Type 0) (old new : Files
 abbrev pub IsIntactOrAsBefore : Opened → Files → Files → BlockId → Type 0
 IsIntactOrAsBefore v old new b = IsIntactBy v.shape v.digests new b ⊎ (padded_home v.shape b new ≡ padded_home v.shape b old)
 
--- What stands where the writing has stopped before a write: each block that is restored is intact or as before.
+-- What holds where the writing has stopped before a write: each block that is restored is intact or as before.
 pub record IsPartlyRepaired (v : Opened) (mends : BlockId → Type 0) (old new : Files) : Type 0 where
   pub grown : KeepsPadded v.shape (IsLeft mends) old new
   pub restored : (b : BlockId) → mends b → IsIntactOrAsBefore v old new b
 
--- What stands where a write has failed, that of the block `torn`: each other block that is restored is intact or as
--- before; but past the old end of the file of this block any bytes may stand, so that a home there has the bytes that it
+-- What holds where a write has failed, that of the block `torn`: each other block that is restored is intact or as
+-- before; but past the old end of the file of this block there may be any bytes, so that a home there has the bytes that it
 -- had and no more is said of it.
 pub record IsTornRepair (v : Opened) (mends : BlockId → Type 0) (torn : BlockId) (old new : Files) : Type 0 where
   pub one : mends torn
@@ -55,11 +51,11 @@ pub record IsTornRepair (v : Opened) (mends : BlockId → Type 0) (torn : BlockI
   pub restored : (b : BlockId) → mends b → b ≢ torn → IsIntactBy v.shape v.digests new b ⊎ KeepsHomes v.shape (λ a. a ≡ b) old new
   pub elsewhere : (b : BlockId) → mends b → home_file v.shape b ≢ home_file v.shape torn → IsIntactOrAsBefore v old new b
 
--- what stands after a fault of the disk
+-- what holds after a fault of the disk
 abbrev pub IsStopped : Opened → (BlockId → Type 0) → Files → Files → Type 0
 IsStopped v mends old new = IsPartlyRepaired v mends old new ⊎ ((torn : BlockId) × IsTornRepair v mends torn old new)
 
--- what each answer says of the files before and after it
+-- what each result says of the files before and after it
 abbrev pub Leaves : Opened → (BlockId → Type 0) → Files → Files → Answer → Type 0
 Leaves v mends old new (Ok done) = IsRepaired v mends old new
 Leaves v mends old new (Err (Clash b told computed)) = IsPartlyRepaired v mends old new

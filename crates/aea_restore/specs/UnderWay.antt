@@ -1,4 +1,4 @@
--- What stands while blocks are restored, told by the files at first and now, by the blocks that were known at first, and
+-- What holds while blocks are restored, described by the files at first and now, by the blocks that were known at first, and
 -- by those that can be read now: the known ones and those that were restored since.
 use Rattle.std.specs.Prelude.{◌≡◌, ◌≢◌, ◌||◌, Bool, false, IsTrue}
 use Rattle.aea_lattice.specs.declared.blocks.BlockId.{BlockId}
@@ -9,7 +9,8 @@ use Rattle.aea_shelf.specs.Places.{home_file}
 use Rattle.aea_shelf.specs.Writes.{KeepsHomes, KeepsPadded}
 use Rattle.aea_ledger.specs.Values.{Opened}
 use Rattle.aea_archive.specs.Blocks.{IsIntactBy}
-use Rattle.aea_restore.specs.Drawn.{payload_at, IsDrawn, AreAllIntact}
+use Rattle.aea_shelf.specs.Intact.{payload_at}
+use Rattle.aea_restore.specs.Drawn.{IsDrawn, AreAllIntact}
 
 -- the block was restored: it can be read, and was not known
 pub record IsDone (v : Opened) (known ready : BlockId → Bool) (b : BlockId) : Type 0 where
@@ -33,7 +34,7 @@ pub record IsTorn (v : Opened) (known ready : BlockId → Bool) (torn : BlockId)
   pub written : (b : BlockId) → IsDone v known ready b → IsIntactBy v.shape v.digests now b
 
 -- The known blocks were intact at first, and each block that can be read is intact and has a payload that is drawn from
--- what stood there at first.
+-- what was there at first.
 pub record AreDrawn (v : Opened) (known ready : BlockId → Bool) (first now : Files) : Type 0 where
   pub known_intact : AreAllIntact v known first
   pub intact : AreAllIntact v ready now

@@ -9,17 +9,17 @@
 //!
 //! `specs/Plans.antt` says what gives a block from others, `specs/Given.antt` which steps and sums can be carried out,
 //! `specs/Laws.antt` that those of a plan can be, and which blocks they give, `specs/Drawn.antt` which payloads are sums of
-//! survivors, `specs/Repairs.antt` what stands afterwards, and `specs/UnderWay.antt` what stands meanwhile.
+//! survivors, `specs/Repairs.antt` what holds afterwards, and `specs/UnderWay.antt` what holds meanwhile.
 //!
 //! `Rattle.aea_restore.proofs.Same` is for callers that name the restored blocks otherwise than by steps and sums: what is
 //! said of a call holds for each test that names the same blocks.
 #![tactic(auto)]
 
 mod block;
-pub mod fault;
-pub mod laws;
+mod fault;
+mod laws;
 mod payload;
-pub mod stage;
+mod stage;
 mod steps;
 mod sum;
 

@@ -7,10 +7,10 @@ ghost use Rattle.aea_lattice.specs.Shapes.{IsBlockOf};
 ghost use Rattle.aea_disk.specs.Frames.{OnlyReads};
 ghost use Rattle.aea_envelope.specs.Cells.{block_digest};
 ghost use Rattle.aea_shelf.specs.Places.{cell_size, home_file};
-ghost use Rattle.aea_shelf.specs.Intact.{payload_in};
+ghost use Rattle.aea_shelf.specs.Intact.{payload_in, payload_at};
 ghost use Rattle.aea_shelf.specs.Writes.{KeepsPadded};
 ghost use Rattle.aea_archive.specs.Blocks.{recorded_in, IsIntactBy};
-ghost use Rattle.aea_restore.specs.Drawn.{payload_at, IsOtherDigest};
+ghost use Rattle.aea_restore.specs.Drawn.{IsOtherDigest};
 ghost use Rattle.aea_restore.specs.Repairs.{WritesBlocks};
 
 use crate::fault::RestoreFault;
@@ -24,7 +24,7 @@ use aea_shelf::{
 };
 
 /// Reads the cell of a block into the buffer, and judges its payload by the digest that the ledger keeps, whatever else
-/// stands there. An intact cell has this digest, and is hashed once.
+/// is there. An intact cell has this digest, and is hashed once.
 pub(crate) fn read_payload<D: Disk>(
     ledger: &Ledger,
     disk: &mut D,

@@ -101,7 +101,7 @@ fn restore_sums<D: Disk>(
     Ok(())
 }
 
-// Restores the blocks of the steps and then those of the Sums. What was written may not be sure.
+// Restores the blocks of the steps and then those of the Sums. What was written may not be synced.
 fn restore_all<D: Disk>(
     ledger: &Ledger,
     disk: &mut D,
@@ -134,7 +134,7 @@ fn restore_all<D: Disk>(
     restore_sums(ledger, disk, marks, fates, sum, read, write)
 }
 
-/// Restores the blocks of the steps and then those of the Sums, each in the order of its list, and makes all sure. A Word
+/// Restores the blocks of the steps and then those of the Sums, each in the order of its list, and syncs all. A Word
 /// is passed over, and so is a block that is marked already. Each payload that is read is judged by the digest that the
 /// ledger keeps before it is used, and each computed one before its cell is written. The marks are set as the blocks are
 /// restored. `sum` has the bytes of a block, B, and `read` and `write` those of a cell, B + 48; it takes no memory.
@@ -154,7 +154,7 @@ pub fn restore<D: Disk>(
     requires read { length read.old ≡ cell_size ledger.now.shape }
     requires write { length write.old ≡ cell_size ledger.now.shape }
 
-    // What stands after each answer: of the blocks that are given, and of those that are left alone.
+    // What holds after each result: of the blocks that are given, and of those that are left alone.
     ensures left { D.tells → Leaves ledger.now (IsGiven steps.now fates.now) (D.state disk.old).files (D.state disk.new).files result }
     ensures durable { OnOk result (D.tells → IsSynced (D.state disk.new)) }
 

@@ -9,7 +9,8 @@ ghost use Rattle.aea_view.specs.Marked.{is_marked};
 ghost use Rattle.aea_disk.specs.Frames.{OnlyReads};
 ghost use Rattle.aea_shelf.specs.Places.{cell_size};
 ghost use Rattle.aea_archive.specs.Blocks.{IsIntactBy};
-ghost use Rattle.aea_restore.specs.Drawn.{payload_at, is_other, other_blocks, added_up, AreAllIntact, IsOtherDigest};
+ghost use Rattle.aea_shelf.specs.Intact.{payload_at};
+ghost use Rattle.aea_restore.specs.Drawn.{is_other, other_blocks, added_up, AreAllIntact, IsOtherDigest};
 
 use crate::fault::RestoreFault;
 use crate::payload::read_payload;

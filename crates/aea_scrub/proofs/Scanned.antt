@@ -49,7 +49,7 @@ marked_next v c m n a x k lattice same whole has_a at marks here before b has be
 pub marked_all : (v : Opened) (c : Files) (m : Marked) (k : ℕ) → blocks_count v.lattice ≤ k → AreIntactTo v c m k → AreIntact v c m
 marked_all v c m k end to b has = to b has (omega (arith, number_below v.lattice b has, end))
 
--- marks of the intact blocks tell the survivors
+-- marks of the intact blocks distinguish the survivors
 pub marks_tell : (v : Opened) (l : Lattice) (c : Files) (m : Marked) → l ≡ v.lattice → IsLatticeOf v.shape l.n l.fences l
     → AreIntact v c m → TellsSurvivors v.shape v.lattice.n v.digests c (is_marked m)
 marks_tell v l c m same of_shape are b block =

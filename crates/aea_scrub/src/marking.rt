@@ -8,13 +8,11 @@ ghost use Rattle.aea_shelf.specs.Places.{cell_size};
 ghost use Rattle.aea_archive.specs.Blocks.{IsIntactBy, TellsSurvivors};
 ghost use Rattle.aea_scrub.specs.Scans.{AreIntact};
 
-use aea_archive::read_block;
+use aea_archive::{cell_buffer, is_block_intact};
 use aea_disk::{Disk, DiskFault};
-use aea_lattice::BlockId;
 use aea_ledger::Ledger;
-use aea_shelf::Cell;
 use aea_view::Marks;
-use std::alloc::{AllocError, Global};
+use std::alloc::Global;
 
 /// Why an archive was not scanned.
 #[derive(Clone, Copy, Debug, PartialEq, Eq)]
@@ -23,25 +21,6 @@ pub enum ScanFault {
     DiskFault,
     /// There was no memory. Nothing was read.
     NoMemory,
-}
-
-// Whether the block is intact. What stands in the buffer is of no use.
-fn is_intact<D: Disk>(
-    disk: &mut D,
-    ledger: &Ledger,
-    b: BlockId,
-    cell: &mut [u8],
-) -> Result<bool, DiskFault>
-    requires block { HasBlock ledger.now.lattice b }
-    requires buffer { length cell.old ≡ cell_size ledger.now.shape }
-    ensures intact { IfOk result (λ intact. D.tells → IsTrue intact ↔ IsIntactBy ledger.now.shape ledger.now.digests (D.state disk.old).files b) }
-    ensures reads { OnlyReads D.tells (IsErr result) (D.state disk.old) (D.state disk.new) }
-{
-    match read_block(disk, ledger, b, cell) {
-        Ok(Cell::Intact) => Ok(true),
-        Ok(Cell::Bad) => Ok(false),
-        Err(fault) => Err(fault),
-    }
 }
 
 // Gives each block of the archive its mark, in number order.
@@ -64,7 +43,7 @@ fn mark_all<D: Disk>(
     let mut k: u32 = 0;
     while k < count {
         let b = lattice.block(k);
-        let intact = match is_intact(disk, ledger, b, cell) {
+        let intact = match is_block_intact(disk, ledger, b, cell) {
             Ok(intact) => intact,
             Err(fault) => return Err(fault),
         };
@@ -72,14 +51,6 @@ fn mark_all<D: Disk>(
         k += 1;
     }
     Ok(())
-}
-
-// The buffer of a cell.
-fn cell_buffer(alloc: Global, ledger: &Ledger) -> Result<Vec<u8>, AllocError>
-    ensures { IfOk result (λ cell. length cell.items ≡ cell_size ledger.now.shape) }
-{
-    let size = ledger.shape().block() as usize;
-    vec![in alloc; 0; size + 48]
 }
 
 /// Reads the cell of each block of the archive once, in number order, which goes through each site's file forward, and

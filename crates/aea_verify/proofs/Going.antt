@@ -23,7 +23,7 @@ pub going-line : (l : Lattice) (old new : Reading) (line : Line) (t : Tally) →
 going-line l old new line t moved going =
     subst (λ k. IsLine l k line) (sym going.least) (line-same l old.lattice going.blocks old.least line moved.valid)
 
--- the reader and the tally behind it
+-- the reader and the tally after it
 pub moves-on : (judged : Bool) (l : Lattice) (old new : Reading) (line : Line) (t u : Tally) → Advances old new line → (judged ≡ true → IsGoing l old t)
     → (judged ≡ true → IsSmall l u) → (judged ≡ true → u.least ≡ number_of l (block_in line) + 1) → MovesOn judged l old new u
 moves-on judged l old new line t u moved going small least =
@@ -53,7 +53,7 @@ some-more judged l intact input h old new left rest line t u some reading more =
   tally = λ so. more so some.lines (some.tally so);
 }
 
--- a fault of the reader, at the first lines and behind them
+-- a fault of the reader, at the first lines and after them
 pub begun-fault : (input : List ℕ) (left : Option (List ℕ)) (f : ReportFault) → HasBegun input left (Err f) → FaultSays input f
 begun-fault input left (fault.BadLine k) says = says.1
 begun-fault input left (fault.LineTooLong k) says = says.1

@@ -46,7 +46,7 @@ words_open changes l known nodes w b some inside contained misses =
       differ = (change.1 b inside).0 contained;
     }
 
--- a block that is told as lost is open
+-- a block that is reported as lost is open
 pub lost-open : ChangesAreCodewords → LostAreOpen
 lost-open changes l seal intact h lines w some fits b nodes inside has =
     let told : IsTold l intact (Lost b nodes) = All-contains (IsTold l intact) lines (Lost b nodes) fits.told has in

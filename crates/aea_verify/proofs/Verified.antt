@@ -1,4 +1,4 @@
--- What the verdict on a report answers.
+-- What the verdict on a report says.
 use Rattle.std.proofs.Common.{◌≡◌, ℕ, ◌+◌, ◌≤◌, List, [], ◌∷◌, Bool, true, false, Result, Ok, Err, refl, sym, ◌∙◌, ap, subst, arith, inl, inr}
 use Rattle.std.specs.Prelude.{◌↔◌, All, Contains}
 use Rattle.std.proofs.lemmas.Bool.{cases_Bool, false≢true}
@@ -33,7 +33,7 @@ use Rattle.aea_verify.specs.Answers.{IsJudged, IsFree, IsReadAs, IsAnswered, fau
 use Rattle.aea_verify.proofs.Judged.{lattice_of_fit}
 use Rattle.aea_verify.proofs.Agree.{verdict-agree, lines-same, head-same, other-lattice}
 
--- ---- the tests that tell the survivors
+-- ---- the tests that distinguish the survivors
 
 -- the blocks of the lattice are in the archive
 abbrev pub AreInside : Opened → Type 0
@@ -144,7 +144,7 @@ answered-err v c input fault = record {
 
 -- ---- what the input alone decides
 
--- a fault of the source or the disk, and want of memory, name no line
+-- a fault of the source or the disk, and lack of memory, name no line
 free_bad : (fault : VerifyFault) → IsFree (Err fault) → (k : ℕ) → ◌≡◌ {A = Result Verdict VerifyFault} (Err fault) (Err (BadLine k)) → ⊥
 free_bad fault free k e = elim free [
   | inl read ↦ let h : ◌≡◌ {A = Result Verdict VerifyFault} (Err ReadFault) (Err (BadLine k)) = sym read ∙ e in cc

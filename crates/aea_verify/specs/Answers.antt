@@ -1,5 +1,5 @@
--- What checking a report may answer. The blocks that are intact are given by a test.
-use Rattle.std.specs.Prelude.{◌≡◌, ◌↔◌, ◌⊎◌, ℕ, Bool, List, Contains, Result, Ok, Err, IsOk}
+-- What checking a report may return. The blocks that are intact are given by a test.
+use Rattle.std.specs.Prelude.{◌≡◌, ◌↔◌, ◌⊎◌, ℕ, Bool, List, Contains, Result, Ok, Err, IsOk, IfOk}
 use Rattle.aea_lattice.specs.declared.blocks.BlockId.{BlockId}
 use Rattle.aea_lattice.specs.Blocks.{HasBlock}
 use Rattle.aea_disk.specs.Files.{Files}
@@ -27,23 +27,18 @@ fault_of (reading.LineTooLong k) = LineTooLong k
 fault_of reading.ReadFault = ReadFault
 fault_of reading.NoMemory = NoMemory
 
--- The input is a report, and this is the verdict on it where these files stand on the disk.
+-- The input is a report, and this is the verdict on it where these files are on the disk.
 pub record IsJudged (v : Opened) (c : Files) (input : List ℕ) (verdict : Verdict) : Type 0 where
   pub head : Head
   pub lines : List Line
   pub report : IsReport input head lines
   pub verdict_is : (intact : BlockId → Bool) → TellsSurvivors v.shape v.lattice.n v.digests c intact → verdict ≡ verdict_of v.lattice v.seal intact head lines
 
--- Each answer has its cause in the input and the files. Faults of the source and the disk, and want of memory, have none.
+-- A verdict has its cause in the input and the files. (Of a line that is named `IsReadAs` says that it is bad or too long.)
 abbrev pub Answers : Opened → Files → List ℕ → Result Verdict VerifyFault → Type 0
-Answers v c input (Ok verdict) = IsJudged v c input verdict
-Answers v c input (Err (BadLine k)) = IsBadLine input k
-Answers v c input (Err (LineTooLong k)) = IsLongLine input k
-Answers v c input (Err ReadFault) = Unit {0}
-Answers v c input (Err DiskFault) = Unit {0}
-Answers v c input (Err NoMemory) = Unit {0}
+Answers v c input answer = IfOk answer (IsJudged v c input)
 
--- the answer is a fault of the source or the disk, or that memory is wanting
+-- the result is a fault of the source or the disk, or lack of memory
 abbrev pub IsFree : Result Verdict VerifyFault → Type 0
 IsFree result = (result ≡ Err ReadFault) ⊎ ((result ≡ Err DiskFault) ⊎ (result ≡ Err NoMemory))
 
@@ -62,6 +57,6 @@ pub record IsAnswered (v : Opened) (c : Files) (input : List ℕ) (result : Resu
   -- a report is accepted exactly where it fits
   pub fits : (intact : BlockId → Bool) (h : Head) (lines : List Line) → TellsSurvivors v.shape v.lattice.n v.digests c intact → IsReport input h lines
       → IsOk result → (result ≡ Ok Accepted) ↔ Fits v.lattice v.seal intact h lines
-  -- what a yes shows: no lost block can be told from the intact ones
+  -- what a yes shows: no lost block can be determined from the intact ones
   pub shows : (intact : BlockId → Bool) (h : Head) (lines : List Line) (b : BlockId) (nodes : List ℕ) → TellsSurvivors v.shape v.lattice.n v.digests c intact → IsReport input h lines
       → result ≡ Ok Accepted → Contains lines (Lost b nodes) → HasBlock v.lattice b × IsOpenTo v.lattice v.shape.block intact b

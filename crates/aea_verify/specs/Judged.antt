@@ -41,7 +41,7 @@ abbrev pub GoesOn : Bool → Lattice → Reading → Reading → Option Tally �
 GoesOn judged l old new None = Unit {0}
 GoesOn judged l old new (Some t) = MovesOn judged l old new t
 
--- What a fault says of the input. A fault of the source and want of memory say nothing of it.
+-- What a fault says of the input. A fault of the source and lack of memory say nothing of it.
 abbrev pub FaultSays : List ℕ → ReportFault → Type 0
 FaultSays input (BadLine k) = IsBadLine input k
 FaultSays input (LineTooLong k) = IsLongLine input k
@@ -66,7 +66,7 @@ LineSays judged l intact input h v left t (Ok None) = HasAll judged l intact inp
 LineSays judged l intact input h v left t (Ok (Some u)) = HasSome judged l intact input h v left u
 LineSays judged l intact input h v left t (Err fault) = FaultSays input fault
 
--- What the answer says of the lines behind a head.
+-- What the answer says of the lines after a head.
 abbrev pub LinesSay : Bool → Lattice → (BlockId → Bool) → List ℕ → Head → Result Tally ReportFault → Type 0
 LinesSay judged l intact input h (Ok t) = HasAll judged l intact input h t
 LinesSay judged l intact input h (Err fault) = FaultSays input fault

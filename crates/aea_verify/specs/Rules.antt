@@ -34,7 +34,7 @@ kind_rules l intact (Lost b nodes) =
     ∷ option_map WordTouches (touched l intact nodes)
     ∷ []
 
--- The rules at a line whose block may have this number or a greater one: no damaged block stands before its block; and
+-- The rules at a line whose block may have this number or a greater one: no damaged block comes before its block; and
 -- those on the line by itself.
 abbrev pub line_rules : Lattice → (BlockId → Bool) → ℕ → Line → List (Option Why)
 line_rules l intact least line = option_map Missing (missing l intact least (number_of l (block_in line))) ∷ kind_rules l intact line
@@ -43,7 +43,7 @@ line_rules l intact least line = option_map Missing (missing l intact least (num
 abbrev pub at_line : ℕ → List (Option Why) → List (Option (ℕ × Why))
 at_line k rules = map (option_map (λ why. (k, why))) rules
 
--- the rules at lines from line k on, and behind the last: no damaged block has a greater number
+-- the rules at lines from line k on, and after the last: no damaged block has a greater number
 abbrev pub rules_from : Lattice → (BlockId → Bool) → ℕ → ℕ → List Line → List (Option (ℕ × Why))
 rules_from l intact k least [] = at_line k (option_map Missing (missing l intact least (blocks_count l)) ∷ [])
 rules_from l intact k least (line ∷ lines) =

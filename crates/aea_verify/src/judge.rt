@@ -13,15 +13,6 @@ use aea_report::Line;
 use aea_view::Marks;
 use aea_walk::{first_touched, is_in_codeword, least_missing};
 
-// The block of a line.
-pub(crate) fn block_of(line: &Line) -> BlockId
-    ensures { result ≡ block_in line.now }
-{
-    match line {
-        Line::Peeled { block } | Line::Solved { block } | Line::Lost { block, .. } => *block,
-    }
-}
-
 // The first broken rule on a restored block.
 fn judge_restored(marks: &Marks, block: BlockId) -> Option<Why>
     requires { HasBlock marks.now.lattice block }
@@ -70,7 +61,7 @@ pub(crate) fn judge_line(marks: &Marks, least: u32, line: &Line) -> Option<Why>
     requires { IsLine marks.now.lattice least line.now }
     ensures { result ≡ first_broken (line_rules marks.now.lattice (is_marked marks.now) least line.now) }
 {
-    let next = marks.lattice().number(block_of(line));
+    let next = marks.lattice().number(line.block());
     match least_missing(marks, least, next) {
         Some(block) => Some(Why::Missing { block }),
         None => judge_kind(marks, line),

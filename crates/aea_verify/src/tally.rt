@@ -14,7 +14,7 @@ ghost use Rattle.aea_report.specs.Fits.{is_peeled, is_solved, is_lost};
 ghost use Rattle.aea_verify.specs.Rules.{unless, line_rules, first_broken, has_lattice, has_seal, verdict_by, verdict_of};
 ghost use Rattle.aea_verify.specs.Tallies.{IsTally, IsSmall, counts_are, broken_by};
 
-use crate::judge::{block_of, judge_line};
+use crate::judge::judge_line;
 use crate::verdict::{Verdict, Why};
 use aea_report::{Head, Line};
 use aea_view::Marks;
@@ -104,7 +104,7 @@ impl Tally {
         ensures small { IsSmall marks.now.lattice result }
         ensures least { result.least ≡ number_of marks.now.lattice (block_in line.now) + 1 }
     {
-        let block = block_of(line);
+        let block = line.block();
         let number = marks.lattice().number(block);
         let broken = broken_with(marks, self, line);
         let peeled = peeled_in(line);
@@ -141,7 +141,7 @@ impl Tally {
         }
     }
 
-    // The first broken rule behind the lines.
+    // The first broken rule after the lines.
     fn broken_behind(&self, marks: &Marks, head: &Head) -> Option<(u32, Why)>
         ensures { result ≡ option_or (option_map (λ b. (self.now.line, Why.Missing b)) (missing marks.now.lattice (is_marked marks.now) self.now.least (blocks_count marks.now.lattice)))
             (option_map (λ why. (4, why)) (unless (counts_are head.now self.now.peeled self.now.solved self.now.lost) Why.WrongCount)) }

@@ -38,11 +38,11 @@ pub fn verify<D: Disk, S: Source>(
     disk: &mut D,
     source: &mut S,
 ) -> Result<Verdict, VerifyFault>
-    // Each answer has its cause in the report and the files, and these have that answer alone.
+    // A verdict has its cause in the report and the files, and these have that verdict alone.
     ensures answers { D.tells → (input : List ℕ) → (S.state source.old).left ≡ Some input → Answers ledger.now (D.state disk.old).files input result }
     ensures exactly { D.tells → (input : List ℕ) → (S.state source.old).left ≡ Some input → IsAnswered ledger.now (D.state disk.old).files input result }
 
-    // Whether the input is a report, and at which line it is none, is told by the input alone, whatever the disk is.
+    // Whether the input is a report, and at which line it is none, is determined by the input alone, whatever the disk is.
     ensures read { (input : List ℕ) → (S.state source.old).left ≡ Some input → IsReadAs input result }
     ensures end { OnOk result (IsAtEnd (S.state source.new).left) }
 

@@ -14,10 +14,10 @@ use Rattle.aea_ledger.specs.Next.{next_stored, AreItsRecords}
 use Rattle.aea_ledger.specs.Stops.{HasLedger}
 use Rattle.aea_ledger.specs.Taking.{FitsAdding}
 use Rattle.aea_ledger.proofs.Readying.{adding_later}
-use Rattle.aea_ledger.proofs.Records.{nodes_of-push}
+use Rattle.aea_records.proofs.OneMore.{nodes_of-push}
 use Rattle.aea_archive.specs.Blocks.{IsBlockIn}
 use Rattle.aea_archive.proofs.Stretches.{has_ledger, adds_nothing, adds_append, adds_later}
-use Rattle.aea_append.proofs.Entries.{length-entry}
+use Rattle.aea_records.proofs.Sizes.{length-entry}
 use Rattle.aea_append.proofs.commit.commit_object.Goals as goal
 
 -- nothing was written before a sync
@@ -75,7 +75,7 @@ returns-clause-unchanged g c is =
     let old = g.D.Disk.state c.args.disk.now in
     (same.0, subst (λ (s : State). KeepsImages old s × (g.D.Disk.tells → s.files ≡ old.files)) (sym (ap g.D.Disk.state same.1)) (c.sync.ensures.crash, c.sync.ensures.contents))
 
--- the room for the record is room to sync
+-- the space for the record is space to sync
 roomy : (s : State) (end : ℕ) → FitsAdding s 1 end → IsRoomy s
 roomy s end fit = record { some = (0, end + 1, fit.room); sync = fit.now }
 

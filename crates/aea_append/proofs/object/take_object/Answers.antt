@@ -8,12 +8,12 @@ use Rattle.aea_append.specs.declared.fault.PutFault.TheVariants.{DiskFault, Read
 use Rattle.aea_records.specs.Format.{limit_when}
 use Rattle.aea_archive.specs.Blocks.{IsBlockIn}
 use Rattle.aea_append.specs.Taking.{room_left, limit_of, most_of}
-use Rattle.aea_append.proofs.Faults.{fault_as}
+use Rattle.aea_append.proofs.Faults.{fault_as, ok_no_fault}
 use Rattle.aea_append.proofs.Rooms.{room_within, room_few, limit_is, all_writes, all_padded}
 use Rattle.aea_append.proofs.Starts.{same_nodes}
 use Rattle.aea_append.proofs.Takings.{takes_object, counts_none, counts_more, counts_then}
 use Rattle.aea_append.proofs.Wanted.{limit_most, limit_more, limit_all, limit_cut, over_limit, over_all, not_both}
-use Rattle.aea_append.proofs.Writes.{cells_none, ok_no_fault}
+use Rattle.aea_archive.proofs.Writes.{cells_none}
 use Rattle.aea_append.proofs.object.take_object.Goals as goal
 
 pub weave_all-requires-clause-limit : goal.weave_all-requires-clause-limit

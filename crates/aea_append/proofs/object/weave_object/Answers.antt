@@ -6,10 +6,10 @@ use Rattle.aea_archive.specs.Blocks.{IsBlockIn}
 use Rattle.aea_archive.specs.Cells.{IsNoSite, ChangesArchive, FitsRows}
 use Rattle.aea_archive.proofs.Cells.{changes_none, rows_roomy, rows_later}
 use Rattle.aea_append.specs.declared.fault.PutFault.TheVariants.{DiskFault, HeadDamaged, Full, ReadFault}
-use Rattle.aea_append.proofs.Faults.{fault_is, fault_as}
+use Rattle.aea_append.proofs.Faults.{fault_is, fault_as, ok_no_fault, met_fault}
 use Rattle.aea_append.specs.Taking.{most_of, room_left}
 use Rattle.aea_append.proofs.Takings.{counts_none}
-use Rattle.aea_append.proofs.Writes.{cells_none, ok_no_fault, met_fault}
+use Rattle.aea_archive.proofs.Writes.{cells_none}
 use Rattle.aea_append.proofs.object.weave_object.Goals as goal
 
 pub returns-in-Err-clause-writes : goal.returns-in-Err-clause-writes

@@ -5,12 +5,12 @@ use Rattle.aea_shelf.proofs.Runs.{padded_none, padded_both, padded_less}
 use Rattle.aea_records.specs.Format.{nodes_for}
 use Rattle.aea_archive.specs.Blocks.{IsBlockIn}
 use Rattle.aea_append.specs.declared.fault.PutFault.TheVariants.{DiskFault, ReadFault}
-use Rattle.aea_append.specs.Weaving.{WritesCells}
+use Rattle.aea_archive.specs.Cells.{WritesCells}
 use Rattle.aea_append.specs.Taking.{Takes}
 use Rattle.aea_append.proofs.Cuts.{some_bytes, nodes_one, nodes-past}
-use Rattle.aea_append.proofs.Faults.{fault_as}
+use Rattle.aea_append.proofs.Faults.{fault_as, ok_no_fault}
 use Rattle.aea_append.proofs.Takings.{takes_none, takes_both, counts_none, counts_more, counts_then}
-use Rattle.aea_append.proofs.Writes.{cells_none, cells_then, cells_as, ok_no_fault}
+use Rattle.aea_archive.proofs.Writes.{cells_none, cells_then, cells_as}
 use Rattle.aea_append.proofs.piece.weave_all.Given.{Over}
 use Rattle.aea_append.proofs.piece.weave_all.Goals.{In-Err, In-Ok, Then-count-want, Else-count-want}
 use Rattle.aea_append.proofs.piece.weave_all.Goals as goal

@@ -1,10 +1,11 @@
 use Rattle.std.proofs.Common.{◌≡◌, ℕ, ◌+◌, ◌-◌, ◌*◌, ◌<◌, ◌≤◌, length}
+use Rattle.aea_io.specs.Taken.{Counts}
 use Rattle.aea_shelf.specs.Places.{cell_size}
 use Rattle.aea_shelf.specs.Writes.{KeepsPadded}
 use Rattle.aea_records.specs.Format.{nodes_for}
 use Rattle.aea_archive.specs.Blocks.{IsBlockIn}
-use Rattle.aea_append.specs.Weaving.{WritesCells}
-use Rattle.aea_append.specs.Taking.{Takes, Counts}
+use Rattle.aea_archive.specs.Cells.{WritesCells}
+use Rattle.aea_append.specs.Taking.{Takes}
 use Rattle.aea_append.proofs.piece.weave_all.Given as goal
 
 abbrev pub invariant-loop-done : goal.invariant-loop-done

@@ -8,7 +8,7 @@ use Rattle.aea_append.specs.declared.fault.PutFault.TheVariants.{DiskFault}
 use Rattle.aea_append.proofs.Faults.{fault_as}
 use Rattle.aea_append.proofs.Cuts.{nil_of, nodes_none, nodes_one, no_blocks, one_block, filled}
 use Rattle.aea_append.proofs.Takings.{grown_same}
-use Rattle.aea_append.proofs.Writes.{cells_none, cells_as}
+use Rattle.aea_archive.proofs.Writes.{cells_none, cells_as}
 use Rattle.aea_append.proofs.piece.weave_piece.Goals as goal
 
 pub returns-in-Err-clause-writes : goal.returns-in-Err-clause-writes

@@ -1,13 +1,14 @@
-use Rattle.std.proofs.Common.{⊎_elim, inl, inr, ◌+◌, None, refl, sym, ◌∙◌}
+use Rattle.std.proofs.Common.{⊎_elim, inl, inr, ◌+◌, None, Ok, Err, refl, ◌∙◌, ap}
 use Rattle.aea_disk.proofs.Frames.{writes_as}
 use Rattle.aea_records.specs.Format.{limit_when}
 use Rattle.aea_archive.specs.Blocks.{IsBlockIn}
-use Rattle.aea_append.specs.declared.fault.PutFault.TheVariants.{DiskFault, BadName, NameTaken, CatalogFull, HeadDamaged, Full, ReadFault, NoMemory}
+use Rattle.aea_append.specs.declared.fault.PutFault.TheVariants.{DiskFault, BadName, NameTaken, CatalogFull, HeadDamaged, Full, ReadFault}
 use Rattle.aea_append.specs.Taking.{room_left}
 use Rattle.aea_append.proofs.Faults.{fault_is, fault_as}
 use Rattle.aea_append.proofs.Takings.{counts_most}
 use Rattle.aea_append.proofs.Leaving.{cells_wider}
-use Rattle.aea_append.proofs.Writes.{cells_none}
+use Rattle.aea_archive.proofs.Writes.{cells_none}
+use Rattle.aea_append.proofs.Ended.{ended_as, head_refused_by, full_refused_by, complete_by, none_by, kept_all}
 use Rattle.aea_append.proofs.store.put.Goals as goal
 
 pub returns-in-Err-clause-writes : goal.returns-in-Err-clause-writes
@@ -20,13 +21,17 @@ returns-in-Err-clause-writes g c =
     (λ is. let same = fault_is c.in-Err.fault DiskFault is in
     ⊎_elim {C = ⊥} (λ ok. (let e = ok in cc)) (λ early. ⊎_elim {C = ⊥} (λ bad. (let e = fault_is c.in-Err.fault BadName bad in cc)) (λ rest. ⊎_elim {C = ⊥} (λ taken. (let e = fault_is c.in-Err.fault NameTaken taken in cc)) (λ many. (let e = fault_is c.in-Err.fault CatalogFull many in cc)) rest) early) c.in-Err.ensures.early))
 
+-- ---- where it was stored
+
+pub returns-in-Ok-Some-clause-stored : goal.returns-in-Ok-Some-clause-stored
+returns-in-Ok-Some-clause-stored g c = (ended_as (c.in-Ok-Some.is ∙ ap Ok c.in-Ok-Some.field-0-is) c.put_wanted.ensures.stores).kept
+
 pub returns-in-Ok-Some-clause-writes : goal.returns-in-Ok-Some-clause-writes
 returns-in-Ok-Some-clause-writes g c =
     writes_as g.D.Disk.tells _ _ _ _ _ (g.D.Disk.state c.args.disk.now) (g.D.Disk.state c.put_wanted.new.disk) (λ is. absurd (let e = is in cc)) (λ is. absurd (cc)) c.put_wanted.ensures.writes
 
 pub returns-in-Ok-Some-clause-padded : goal.returns-in-Ok-Some-clause-padded
-returns-in-Ok-Some-clause-padded g c fine told =
-    c.put_wanted.ensures.padded (λ bad. (let f = c.in-Ok-Some.is in cc)) told
+returns-in-Ok-Some-clause-padded g c fine told = (ended_as (c.in-Ok-Some.is ∙ ap Ok c.in-Ok-Some.field-0-is) c.put_wanted.ensures.stores).padded told
 
 pub returns-in-Ok-Some-clause-reads : goal.returns-in-Ok-Some-clause-reads
 returns-in-Ok-Some-clause-reads g c =
@@ -34,11 +39,16 @@ returns-in-Ok-Some-clause-reads g c =
 
 pub returns-in-Ok-Some-clause-head_refused : goal.returns-in-Ok-Some-clause-head_refused
 returns-in-Ok-Some-clause-head_refused g c told may a damaged =
-    absurd (⊎_elim {C = ⊥} (λ head. (let e = head.1 in let f = c.in-Ok-Some.is in cc)) (λ out. ⊎_elim {C = ⊥} (λ disk. (let e = disk in let f = c.in-Ok-Some.is in cc)) (λ memory. (let e = memory in let f = c.in-Ok-Some.is in cc)) out) (c.put_wanted.ensures.head_refused told a damaged))
+    absurd (damaged.damaged ((ended_as (c.in-Ok-Some.is ∙ ap Ok c.in-Ok-Some.field-0-is) c.put_wanted.ensures.stores).heads told a damaged.last))
 
 pub returns-in-Ok-Some-clause-full_refused : goal.returns-in-Ok-Some-clause-full_refused
 returns-in-Ok-Some-clause-full_refused g c bytes is may past =
-    absurd (⊎_elim {C = ⊥} (λ full. (let e = full in let f = c.in-Ok-Some.is in cc)) (λ rest. ⊎_elim {C = ⊥} (λ read. (let e = read in let f = c.in-Ok-Some.is in cc)) (λ head. ⊎_elim {C = ⊥} (λ head. (let e = head.1 in let f = c.in-Ok-Some.is in cc)) (λ out. ⊎_elim {C = ⊥} (λ disk. (let e = disk in let f = c.in-Ok-Some.is in cc)) (λ memory. (let e = memory in let f = c.in-Ok-Some.is in cc)) out) head) rest) (c.put_wanted.ensures.full_refused bytes is refl past))
+    absurd (kept_all _ (ended_as (c.in-Ok-Some.is ∙ ap Ok c.in-Ok-Some.field-0-is) c.put_wanted.ensures.stores) bytes is refl past)
+
+pub returns-in-Ok-Some-clause-ledger : goal.returns-in-Ok-Some-clause-ledger
+returns-in-Ok-Some-clause-ledger g c told = (ended_as (c.in-Ok-Some.is ∙ ap Ok c.in-Ok-Some.field-0-is) c.put_wanted.ensures.stores).long told
+
+-- ---- where it was not
 
 pub returns-in-Err-put_wanted-clause-writes : goal.returns-in-Err-put_wanted-clause-writes
 returns-in-Err-put_wanted-clause-writes g c =
@@ -46,7 +56,7 @@ returns-in-Err-put_wanted-clause-writes g c =
 
 pub returns-in-Err-put_wanted-clause-padded : goal.returns-in-Err-put_wanted-clause-padded
 returns-in-Err-put_wanted-clause-padded g c fine told =
-    c.put_wanted.ensures.padded (λ bad. fine (fault_as c.in-Err-put_wanted.fault DiskFault (sym c.in-Err-put_wanted.is ∙ bad))) told
+    (none_by c.in-Err-put_wanted.fault c.in-Err-put_wanted.is c.put_wanted.ensures.stores (λ bad. fine (ap Err bad))).padded told
 
 pub returns-in-Err-put_wanted-clause-reads : goal.returns-in-Err-put_wanted-clause-reads
 returns-in-Err-put_wanted-clause-reads g c =
@@ -58,49 +68,48 @@ returns-in-Err-put_wanted-clause-early g c is =
 
 pub returns-in-Err-put_wanted-clause-head : goal.returns-in-Err-put_wanted-clause-head
 returns-in-Err-put_wanted-clause-head g c b is =
-    c.put_wanted.ensures.head b (c.in-Err-put_wanted.is ∙ fault_as c.in-Err-put_wanted.fault (HeadDamaged b) is)
+    let e = ended_as (c.in-Err-put_wanted.is ∙ fault_as c.in-Err-put_wanted.fault (HeadDamaged b) is) c.put_wanted.ensures.stores in
+    (e.last, e.first)
 
 pub returns-in-Err-put_wanted-clause-head_leaves : goal.returns-in-Err-put_wanted-clause-head_leaves
 returns-in-Err-put_wanted-clause-head_leaves g c b is =
-    c.put_wanted.ensures.head_leaves b (c.in-Err-put_wanted.is ∙ fault_as c.in-Err-put_wanted.fault (HeadDamaged b) is)
+    let e = ended_as (c.in-Err-put_wanted.is ∙ fault_as c.in-Err-put_wanted.fault (HeadDamaged b) is) c.put_wanted.ensures.stores in
+    (e.untaken_is, e.reads)
 
 pub returns-in-Err-put_wanted-clause-full : goal.returns-in-Err-put_wanted-clause-full
 returns-in-Err-put_wanted-clause-full g c nodes is =
-    c.put_wanted.ensures.full nodes (c.in-Err-put_wanted.is ∙ fault_as c.in-Err-put_wanted.fault (Full nodes) is)
+    let e = ended_as (c.in-Err-put_wanted.is ∙ fault_as c.in-Err-put_wanted.fault (Full nodes) is) c.put_wanted.ensures.stores in
+    (e.nodes_is, (e.over, e.heads))
 
 pub returns-in-Err-put_wanted-clause-head_refused : goal.returns-in-Err-put_wanted-clause-head_refused
 returns-in-Err-put_wanted-clause-head_refused g c told may a damaged =
-    ⊎_elim (λ head. inl (head.0, fault_as c.in-Err-put_wanted.fault (HeadDamaged head.0) (sym c.in-Err-put_wanted.is ∙ head.1)))
-    (λ out. inr (⊎_elim (λ disk. inl (fault_as c.in-Err-put_wanted.fault DiskFault (sym c.in-Err-put_wanted.is ∙ disk))) (λ memory. inr (fault_as c.in-Err-put_wanted.fault NoMemory (sym c.in-Err-put_wanted.is ∙ memory))) out))
-    (c.put_wanted.ensures.head_refused told a damaged)
+    head_refused_by c.in-Err-put_wanted.fault c.in-Err-put_wanted.is c.put_wanted.ensures.stores told a damaged
 
 pub returns-in-Err-put_wanted-clause-full_refused : goal.returns-in-Err-put_wanted-clause-full_refused
 returns-in-Err-put_wanted-clause-full_refused g c bytes is may past =
-    ⊎_elim (λ full. inl (fault_as c.in-Err-put_wanted.fault (Full c.args.ledger.now.lattice.n) (sym c.in-Err-put_wanted.is ∙ full)))
-    (λ rest. inr (⊎_elim (λ read. inl (fault_as c.in-Err-put_wanted.fault ReadFault (sym c.in-Err-put_wanted.is ∙ read))) (λ refused. inr (⊎_elim (λ head. inl (head.0, fault_as c.in-Err-put_wanted.fault (HeadDamaged head.0) (sym c.in-Err-put_wanted.is ∙ head.1)))
-    (λ out. inr (⊎_elim (λ disk. inl (fault_as c.in-Err-put_wanted.fault DiskFault (sym c.in-Err-put_wanted.is ∙ disk))) (λ memory. inr (fault_as c.in-Err-put_wanted.fault NoMemory (sym c.in-Err-put_wanted.is ∙ memory))) out)) refused)) rest))
-    (c.put_wanted.ensures.full_refused bytes is refl past)
+    ⊎_elim (λ full. inl (ap Err full)) (λ rest. inr (⊎_elim (λ read. inl (ap Err read)) (λ head. inr head) rest))
+    (full_refused_by c.in-Err-put_wanted.fault c.in-Err-put_wanted.is c.put_wanted.ensures.stores)
 
 pub returns-in-Err-put_wanted-clause-complete : goal.returns-in-Err-put_wanted-clause-complete
 returns-in-Err-put_wanted-clause-complete g c told bytes is may intact fits disk source =
-    ⊎_elim (λ ok. absurd (let e = ok.1 in let f = c.in-Err-put_wanted.is in cc)) (λ memory. inr (fault_as c.in-Err-put_wanted.fault NoMemory (sym c.in-Err-put_wanted.is ∙ memory)))
-    (c.put_wanted.ensures.complete told bytes is tt intact fits disk source)
+    inr (ap Err (complete_by c.in-Err-put_wanted.fault c.in-Err-put_wanted.is c.put_wanted.ensures.stores told bytes is intact fits
+    (λ bad. disk (c.put_wanted.ensures.writes.cause (c.in-Err-put_wanted.is ∙ ap Err bad))) (λ bad. source (c.put_wanted.ensures.read_cause (c.in-Err-put_wanted.is ∙ ap Err bad)))))
 
 pub returns-in-Err-put_wanted-clause-refused : goal.returns-in-Err-put_wanted-clause-refused
 returns-in-Err-put_wanted-clause-refused g c err fine =
-    c.put_wanted.ensures.refused (λ bad. fine (fault_as c.in-Err-put_wanted.fault DiskFault (sym c.in-Err-put_wanted.is ∙ bad))) (λ stored ok. (let f = c.in-Err-put_wanted.is in cc))
+    (none_by c.in-Err-put_wanted.fault c.in-Err-put_wanted.is c.put_wanted.ensures.stores (λ bad. fine (ap Err bad))).same
 
 pub returns-in-Err-put_wanted-clause-refused_leaves : goal.returns-in-Err-put_wanted-clause-refused_leaves
 returns-in-Err-put_wanted-clause-refused_leaves g c err fine told =
-    c.put_wanted.ensures.refused_leaves (λ bad. fine (fault_as c.in-Err-put_wanted.fault DiskFault (sym c.in-Err-put_wanted.is ∙ bad))) (λ stored ok. (let f = c.in-Err-put_wanted.is in cc)) told
+    (none_by c.in-Err-put_wanted.fault c.in-Err-put_wanted.is c.put_wanted.ensures.stores (λ bad. fine (ap Err bad))).leaves told
 
 pub returns-in-Err-put_wanted-clause-dead : goal.returns-in-Err-put_wanted-clause-dead
 returns-in-Err-put_wanted-clause-dead g c is =
-    c.put_wanted.ensures.dead (c.in-Err-put_wanted.is ∙ fault_as c.in-Err-put_wanted.fault DiskFault is)
+    (ended_as (c.in-Err-put_wanted.is ∙ fault_as c.in-Err-put_wanted.fault DiskFault is) c.put_wanted.ensures.stores).dead
 
 pub returns-in-Err-put_wanted-clause-stopped : goal.returns-in-Err-put_wanted-clause-stopped
 returns-in-Err-put_wanted-clause-stopped g c is told =
-    c.put_wanted.ensures.stopped (c.in-Err-put_wanted.is ∙ fault_as c.in-Err-put_wanted.fault DiskFault is) told
+    (ended_as (c.in-Err-put_wanted.is ∙ fault_as c.in-Err-put_wanted.fault DiskFault is) c.put_wanted.ensures.stores).stopped told
 
 pub returns-in-Err-put_wanted-clause-read_cause : goal.returns-in-Err-put_wanted-clause-read_cause
 returns-in-Err-put_wanted-clause-read_cause g c is =

@@ -1,4 +1,4 @@
-use Rattle.std.proofs.Common.{◌≡◌, ⊎_elim, inl, inr, ℕ, ◌+◌, ◌-◌, ◌*◌, ◌≤◌, Err, [], ◌∷◌, List, length, refl, sym, ◌∙◌, ap, subst, arith}
+use Rattle.std.proofs.Common.{◌≡◌, inl, inr, ℕ, ◌+◌, ◌-◌, ◌*◌, ◌≤◌, Err, [], ◌∷◌, List, length, refl, sym, ◌∙◌, ap, subst, arith}
 use Rattle.aea_lattice.specs.declared.grid.Lattice.{Lattice}
 use Rattle.std.specs.List.{sum_by}
 use Rattle.sha2.proofs.Facts256.{length-sha256}
@@ -13,18 +13,18 @@ use Rattle.aea_archive.specs.Cells.{AreAtHome, FitsRows, IsNoSite}
 use Rattle.aea_archive.proofs.Cells.{fixed_kept}
 use Rattle.aea_append.specs.Causes.{next_end}
 use Rattle.aea_ledger.specs.Taking.{FitsAdding}
-use Rattle.aea_append.proofs.Writes.{ok_no_fault, met_fault}
+use Rattle.aea_append.proofs.Faults.{ok_no_fault, met_fault}
 use Rattle.aea_disk.proofs.Moments.{during_then_kept}
 use Rattle.aea_archive.specs.Next.{NewObject}
-use Rattle.aea_append.specs.Taking.{TakesObject}
+use Rattle.aea_append.specs.Taking.{TakesObject, room_left}
 use Rattle.aea_append.specs.Puts.{AreBlocksWide}
 use Rattle.aea_records.specs.TableLaws.{AreBytes}
 use Rattle.aea_ledger.specs.Values.{HasRecords}
 use Rattle.aea_append.specs.declared.fault.PutFault.TheVariants.{DiskFault, HeadDamaged, Full}
-use Rattle.aea_append.proofs.Rooms.{all_long}
-use Rattle.aea_append.proofs.Wanted.{wanted_of, wanted_ledger, over_none, not_both, there_long}
-use Rattle.aea_append.proofs.Starts.{same_head, same_nodes}
-use Rattle.aea_append.proofs.Leaving.{one_of, cells_wider, leaves_ledger, stopped_before, both_write, adds_put, its_later, cells_stay, padded_commit}
+use Rattle.aea_append.proofs.Wanted.{wanted_of, wanted_ledger, not_both}
+use Rattle.aea_append.proofs.Faults.{ok_not_over, read_not_over}
+use Rattle.aea_append.proofs.Rooms.{not_less}
+use Rattle.aea_append.proofs.Leaving.{one_of, cells_wider, stores_none, leaves_ledger, stopped_before, both_write, adds_put, its_later, cells_stay, padded_commit}
 use Rattle.aea_append.proofs.Storing.{next_woven, more_where, added_of, woven_to, next_of, more_of, honest_of}
 use Rattle.aea_append.proofs.store.put_wanted.Goals as goal
 
@@ -46,15 +46,6 @@ returns-in-Err-HeadDamaged-clause-writes g c =
     let rest = (g.S.Source.state c.weave_object.new.source).left in
     writes_as g.D.Disk.tells _ _ (c.weave_object.result ≡ Err DiskFault) _ _ old mid (λ is. absurd (let e = is in cc)) (λ is. absurd (let e = met_fault c.in-Err-HeadDamaged.is c.in-Err-HeadDamaged.field-0-is is in cc)) (cells_wider g.D.Disk.tells (c.weave_object.result ≡ Err DiskFault) v c.args.name.now c.args.want left rest old mid c.weave_object.ensures.writes)
 
-pub returns-in-Err-HeadDamaged-clause-refused_leaves : goal.returns-in-Err-HeadDamaged-clause-refused_leaves
-returns-in-Err-HeadDamaged-clause-refused_leaves g c is fine told =
-    let old = g.D.Disk.state c.args.disk.now in
-    let mid = g.D.Disk.state c.weave_object.new.disk in
-    let v = c.args.ledger.now in
-    let left = (g.S.Source.state c.args.source.now).left in
-    let rest = (g.S.Source.state c.weave_object.new.source).left in
-    leaves_ledger g.D.Disk.tells (c.weave_object.result ≡ Err DiskFault) told v old mid (c.requires.fixed told) c.weave_object.ensures.writes
-
 pub returns-in-Err-Full-clause-writes : goal.returns-in-Err-Full-clause-writes
 returns-in-Err-Full-clause-writes g c =
     let old = g.D.Disk.state c.args.disk.now in
@@ -63,15 +54,6 @@ returns-in-Err-Full-clause-writes g c =
     let left = (g.S.Source.state c.args.source.now).left in
     let rest = (g.S.Source.state c.weave_object.new.source).left in
     writes_as g.D.Disk.tells _ _ (c.weave_object.result ≡ Err DiskFault) _ _ old mid (λ is. absurd (let e = is in cc)) (λ is. absurd (let e = met_fault c.in-Err-Full.is c.in-Err-Full.field-0-is is in cc)) (cells_wider g.D.Disk.tells (c.weave_object.result ≡ Err DiskFault) v c.args.name.now c.args.want left rest old mid c.weave_object.ensures.writes)
-
-pub returns-in-Err-Full-clause-refused_leaves : goal.returns-in-Err-Full-clause-refused_leaves
-returns-in-Err-Full-clause-refused_leaves g c is fine told =
-    let old = g.D.Disk.state c.args.disk.now in
-    let mid = g.D.Disk.state c.weave_object.new.disk in
-    let v = c.args.ledger.now in
-    let left = (g.S.Source.state c.args.source.now).left in
-    let rest = (g.S.Source.state c.weave_object.new.source).left in
-    leaves_ledger g.D.Disk.tells (c.weave_object.result ≡ Err DiskFault) told v old mid (c.requires.fixed told) c.weave_object.ensures.writes
 
 pub returns-in-Err-ReadFault-clause-writes : goal.returns-in-Err-ReadFault-clause-writes
 returns-in-Err-ReadFault-clause-writes g c =
@@ -82,15 +64,6 @@ returns-in-Err-ReadFault-clause-writes g c =
     let rest = (g.S.Source.state c.weave_object.new.source).left in
     writes_as g.D.Disk.tells _ _ (c.weave_object.result ≡ Err DiskFault) _ _ old mid (λ is. absurd (let e = is in cc)) (λ is. absurd (let e = met_fault c.in-Err-ReadFault.is c.in-Err-ReadFault.field-0-is is in cc)) (cells_wider g.D.Disk.tells (c.weave_object.result ≡ Err DiskFault) v c.args.name.now c.args.want left rest old mid c.weave_object.ensures.writes)
 
-pub returns-in-Err-ReadFault-clause-refused_leaves : goal.returns-in-Err-ReadFault-clause-refused_leaves
-returns-in-Err-ReadFault-clause-refused_leaves g c is fine told =
-    let old = g.D.Disk.state c.args.disk.now in
-    let mid = g.D.Disk.state c.weave_object.new.disk in
-    let v = c.args.ledger.now in
-    let left = (g.S.Source.state c.args.source.now).left in
-    let rest = (g.S.Source.state c.weave_object.new.source).left in
-    leaves_ledger g.D.Disk.tells (c.weave_object.result ≡ Err DiskFault) told v old mid (c.requires.fixed told) c.weave_object.ensures.writes
-
 pub returns-in-Err-NoMemory-clause-writes : goal.returns-in-Err-NoMemory-clause-writes
 returns-in-Err-NoMemory-clause-writes g c =
     let old = g.D.Disk.state c.args.disk.now in
@@ -100,41 +73,14 @@ returns-in-Err-NoMemory-clause-writes g c =
     let rest = (g.S.Source.state c.weave_object.new.source).left in
     writes_as g.D.Disk.tells _ _ (c.weave_object.result ≡ Err DiskFault) _ _ old mid (λ is. absurd (let e = is in cc)) (λ is. absurd (let e = met_fault c.in-Err-NoMemory.is c.in-Err-NoMemory.field-0-is is in cc)) (cells_wider g.D.Disk.tells (c.weave_object.result ≡ Err DiskFault) v c.args.name.now c.args.want left rest old mid c.weave_object.ensures.writes)
 
-pub returns-in-Err-NoMemory-clause-refused_leaves : goal.returns-in-Err-NoMemory-clause-refused_leaves
-returns-in-Err-NoMemory-clause-refused_leaves g c is fine told =
+pub returns-then-is_short-clause-writes : goal.returns-then-is_short-clause-writes
+returns-then-is_short-clause-writes g c =
     let old = g.D.Disk.state c.args.disk.now in
     let mid = g.D.Disk.state c.weave_object.new.disk in
     let v = c.args.ledger.now in
     let left = (g.S.Source.state c.args.source.now).left in
     let rest = (g.S.Source.state c.weave_object.new.source).left in
-    leaves_ledger g.D.Disk.tells (c.weave_object.result ≡ Err DiskFault) told v old mid (c.requires.fixed told) c.weave_object.ensures.writes
-
-pub returns-in-Err-DiskFault-clause-stopped : goal.returns-in-Err-DiskFault-clause-stopped
-returns-in-Err-DiskFault-clause-stopped g c is told =
-    let old = g.D.Disk.state c.args.disk.now in
-    let mid = g.D.Disk.state c.weave_object.new.disk in
-    let v = c.args.ledger.now in
-    let left = (g.S.Source.state c.args.source.now).left in
-    let rest = (g.S.Source.state c.weave_object.new.source).left in
-    stopped_before c.ledgers_have_one_reading.ensures g.D.Disk.tells (c.weave_object.result ≡ Err DiskFault) told v _ old mid (c.requires.fixed told) c.weave_object.ensures.writes
-
-pub returns-in-Err-HeadDamaged-clause-head : goal.returns-in-Err-HeadDamaged-clause-head
-returns-in-Err-HeadDamaged-clause-head g c b is =
-    c.in-Err-HeadDamaged.ensures.head b (ap Err (c.in-Err-HeadDamaged.field-0-is ∙ ap HeadDamaged (sym c.in-Err-HeadDamaged.block-is ∙ same_head _ b is)))
-
-pub returns-in-Err-HeadDamaged-clause-complete : goal.returns-in-Err-HeadDamaged-clause-complete
-returns-in-Err-HeadDamaged-clause-complete g c told bytes is there intact fits disk source =
-    let found = c.in-Err-HeadDamaged.ensures.head c.in-Err-HeadDamaged.block (ap Err c.in-Err-HeadDamaged.field-0-is) in
-    absurd ((found.1 told).damaged.damaged (intact c.in-Err-HeadDamaged.block found.0))
-
-pub returns-in-Err-Full-clause-full : goal.returns-in-Err-Full-clause-full
-returns-in-Err-Full-clause-full g c nodes is =
-    c.in-Err-Full.ensures.full nodes (ap Err (c.in-Err-Full.field-0-is ∙ ap Full (sym c.in-Err-Full.nodes-is ∙ same_nodes _ nodes is)))
-
-pub returns-in-Err-Full-clause-complete : goal.returns-in-Err-Full-clause-complete
-returns-in-Err-Full-clause-complete g c told bytes is there intact fits disk source =
-    let over = (c.in-Err-Full.ensures.full c.in-Err-Full.nodes (ap Err c.in-Err-Full.field-0-is)).1.0 in
-    absurd (over_none c.args.ledger.now c.args.want (g.S.Source.state c.args.source.now).left (g.S.Source.state c.weave_object.new.source).left bytes is over fits)
+    writes_as g.D.Disk.tells _ _ (c.weave_object.result ≡ Err DiskFault) _ _ old mid (λ is. absurd (let e = is in cc)) (λ is. absurd (ok_no_fault c.in-Ok.is is)) (cells_wider g.D.Disk.tells (c.weave_object.result ≡ Err DiskFault) v c.args.name.now c.args.want left rest old mid c.weave_object.ensures.writes)
 
 pub returns-in-Ok-commit_object-clause-writes : goal.returns-in-Ok-commit_object-clause-writes
 returns-in-Ok-commit_object-clause-writes g c =
@@ -223,181 +169,101 @@ returns-in-Err-NoMemory-commit_object-clause-writes g c =
     (both_write tells bad _ v name c.args.want left rest (v.end + length (entry (Object stored))) old mid new (ok_no_fault c.in-Ok.is) c.weave_object.ensures.writes c.commit_object.ensures.writes
     (λ has. subst (FitsAdding old 1) size (wanted_ledger v name c.args.want left rest old has t.bytes t.taken (λ n is. (let cut = c.in-Ok.ensures.cut n is in let all = c.is_short.ensures.no c.if-is_short.false n is in omega (arith, cut.0, all, t.long))) fits)))
 
-pub returns-in-Ok-commit_object-clause-padded : goal.returns-in-Ok-commit_object-clause-padded
-returns-in-Ok-commit_object-clause-padded g c fine told =
-    let old = g.D.Disk.state c.args.disk.now in
-    let mid = g.D.Disk.state c.weave_object.new.disk in
-    let new = g.D.Disk.state c.commit_object.new.disk in
-    let v = c.args.ledger.now in
-    let name = c.args.name.now in
-    let tells = g.D.Disk.tells in
-    let left = (g.S.Source.state c.args.source.now).left in
-    let rest = (g.S.Source.state c.weave_object.new.source).left in
-    let k = c.in-Ok.taken.length in
-    let digest = c.in-Ok.taken.digest in
-    let nodes = c.in-Ok.taken.nodes in
-    let digests = c.as_slice.result.now in
-    let counted : c.in-Ok.taken.nodes ≡ nodes_for c.args.ledger.now.shape c.in-Ok.taken.length = c.in-Ok.ensures.nodes in
-    let t : TakesObject g.D.Disk.tells c.args.ledger.now.shape c.args.ledger.now.lattice c.args.ledger.now.digests c.in-Ok.taken.length c.in-Ok.taken.digest (g.S.Source.state c.args.source.now).left (g.S.Source.state c.weave_object.new.source).left c.as_slice.result.now (g.D.Disk.state c.args.disk.now).files (g.D.Disk.state c.weave_object.new.disk).files =
-    subst (λ (d : List (List ℕ)). TakesObject tells v.shape v.lattice v.digests k digest left rest d old.files mid.files) (sym c.as_slice.ensures.value) c.in-Ok.ensures.took in
-    let stored : Stored = next_stored v name k digest nodes digests in
-    let bad = c.weave_object.result ≡ Err DiskFault in
-    let last : t.heads.lattice.n ≡ c.args.ledger.now.lattice.n + c.in-Ok.taken.nodes = (let n = t.nodes in omega (arith, n, counted)) in
-    padded_both v.shape (IsBlockIn v.shape v.lattice.n) old.files mid.files new.files (c.weave_object.ensures.padded (λ e. (let is = c.in-Ok.is in cc)) told) (padded_commit v mid.files new.files (c.commit_object.ensures.writes.contents told))
-
-pub returns-in-Err-NoMemory-commit_object-clause-padded : goal.returns-in-Err-NoMemory-commit_object-clause-padded
-returns-in-Err-NoMemory-commit_object-clause-padded g c fine told =
-    let old = g.D.Disk.state c.args.disk.now in
-    let mid = g.D.Disk.state c.weave_object.new.disk in
-    let new = g.D.Disk.state c.commit_object.new.disk in
-    let v = c.args.ledger.now in
-    let name = c.args.name.now in
-    let tells = g.D.Disk.tells in
-    let left = (g.S.Source.state c.args.source.now).left in
-    let rest = (g.S.Source.state c.weave_object.new.source).left in
-    let k = c.in-Ok.taken.length in
-    let digest = c.in-Ok.taken.digest in
-    let nodes = c.in-Ok.taken.nodes in
-    let digests = c.as_slice.result.now in
-    let counted : c.in-Ok.taken.nodes ≡ nodes_for c.args.ledger.now.shape c.in-Ok.taken.length = c.in-Ok.ensures.nodes in
-    let t : TakesObject g.D.Disk.tells c.args.ledger.now.shape c.args.ledger.now.lattice c.args.ledger.now.digests c.in-Ok.taken.length c.in-Ok.taken.digest (g.S.Source.state c.args.source.now).left (g.S.Source.state c.weave_object.new.source).left c.as_slice.result.now (g.D.Disk.state c.args.disk.now).files (g.D.Disk.state c.weave_object.new.disk).files =
-    subst (λ (d : List (List ℕ)). TakesObject tells v.shape v.lattice v.digests k digest left rest d old.files mid.files) (sym c.as_slice.ensures.value) c.in-Ok.ensures.took in
-    let stored : Stored = next_stored v name k digest nodes digests in
-    let bad = c.weave_object.result ≡ Err DiskFault in
-    let last : t.heads.lattice.n ≡ c.args.ledger.now.lattice.n + c.in-Ok.taken.nodes = (let n = t.nodes in omega (arith, n, counted)) in
-    padded_both v.shape (IsBlockIn v.shape v.lattice.n) old.files mid.files new.files (c.weave_object.ensures.padded (λ e. (let is = c.in-Ok.is in cc)) told) (padded_commit v mid.files new.files (c.commit_object.ensures.writes.contents told))
-
 pub commit_object-requires-clause-fixed : goal.commit_object-requires-clause-fixed
 commit_object-requires-clause-fixed g c told =
     let v = c.args.ledger.now in
     fixed_kept g.D.Disk.tells _ (FitsRows v.shape (limit_when v.raised) (g.D.Disk.state c.args.disk.now)) (c.weave_object.result ≡ Err DiskFault) v.shape (limit_when v.raised) (IsBlockIn v.shape v.lattice.n) (IsNoSite v.shape) (g.D.Disk.state c.args.disk.now) (g.D.Disk.state c.weave_object.new.disk) 0 told (inl refl) c.weave_object.ensures.writes (c.requires.fixed told)
 
-pub returns-in-Ok-commit_object-clause-head_refused : goal.returns-in-Ok-commit_object-clause-head_refused
-returns-in-Ok-commit_object-clause-head_refused g c told a damaged = absurd (damaged.damaged (c.in-Ok.ensures.intact told a damaged.last))
+pub returns-then-is_short-clause-whole : goal.returns-then-is_short-clause-whole
+returns-then-is_short-clause-whole g c all is = (let s = c.is_short.ensures.yes c.if-is_short.true in not_both c.args.want s.0 all s.1)
 
-pub returns-in-Ok-commit_object-clause-full_refused : goal.returns-in-Ok-commit_object-clause-full_refused
-returns-in-Ok-commit_object-clause-full_refused g c bytes is all past =
+-- ---- where no bytes were woven, or not all
+
+pub returns-in-Err-DiskFault-clause-stores : goal.returns-in-Err-DiskFault-clause-stores
+returns-in-Err-DiskFault-clause-stores g c =
     let old = g.D.Disk.state c.args.disk.now in
     let mid = g.D.Disk.state c.weave_object.new.disk in
-    let new = g.D.Disk.state c.commit_object.new.disk in
-    let v = c.args.ledger.now in
-    let name = c.args.name.now in
-    let tells = g.D.Disk.tells in
-    let left = (g.S.Source.state c.args.source.now).left in
-    let rest = (g.S.Source.state c.weave_object.new.source).left in
-    let k = c.in-Ok.taken.length in
-    let digest = c.in-Ok.taken.digest in
-    let nodes = c.in-Ok.taken.nodes in
-    let digests = c.as_slice.result.now in
-    let counted : c.in-Ok.taken.nodes ≡ nodes_for c.args.ledger.now.shape c.in-Ok.taken.length = c.in-Ok.ensures.nodes in
-    let t : TakesObject g.D.Disk.tells c.args.ledger.now.shape c.args.ledger.now.lattice c.args.ledger.now.digests c.in-Ok.taken.length c.in-Ok.taken.digest (g.S.Source.state c.args.source.now).left (g.S.Source.state c.weave_object.new.source).left c.as_slice.result.now (g.D.Disk.state c.args.disk.now).files (g.D.Disk.state c.weave_object.new.disk).files =
-    subst (λ (d : List (List ℕ)). TakesObject tells v.shape v.lattice v.digests k digest left rest d old.files mid.files) (sym c.as_slice.ensures.value) c.in-Ok.ensures.took in
-    let stored : Stored = next_stored v name k digest nodes digests in
-    let bad = c.weave_object.result ≡ Err DiskFault in
-    let last : t.heads.lattice.n ≡ c.args.ledger.now.lattice.n + c.in-Ok.taken.nodes = (let n = t.nodes in omega (arith, n, counted)) in
-    let long = all_long left bytes t.bytes rest is t.taken (c.in-Ok.ensures.end all) in
-    absurd (let f = c.in-Ok.ensures.fits in omega (arith, f, counted, past, ap (nodes_for v.shape) (sym long ∙ t.long)))
-
-pub returns-in-Ok-commit_object-clause-ledger : goal.returns-in-Ok-commit_object-clause-ledger
-returns-in-Ok-commit_object-clause-ledger g c told =
-    let old = g.D.Disk.state c.args.disk.now in
-    let mid = g.D.Disk.state c.weave_object.new.disk in
-    let new = g.D.Disk.state c.commit_object.new.disk in
-    let v = c.args.ledger.now in
-    let name = c.args.name.now in
-    let tells = g.D.Disk.tells in
-    let left = (g.S.Source.state c.args.source.now).left in
-    let rest = (g.S.Source.state c.weave_object.new.source).left in
-    let k = c.in-Ok.taken.length in
-    let digest = c.in-Ok.taken.digest in
-    let nodes = c.in-Ok.taken.nodes in
-    let digests = c.as_slice.result.now in
-    let counted : c.in-Ok.taken.nodes ≡ nodes_for c.args.ledger.now.shape c.in-Ok.taken.length = c.in-Ok.ensures.nodes in
-    let t : TakesObject g.D.Disk.tells c.args.ledger.now.shape c.args.ledger.now.lattice c.args.ledger.now.digests c.in-Ok.taken.length c.in-Ok.taken.digest (g.S.Source.state c.args.source.now).left (g.S.Source.state c.weave_object.new.source).left c.as_slice.result.now (g.D.Disk.state c.args.disk.now).files (g.D.Disk.state c.weave_object.new.disk).files =
-    subst (λ (d : List (List ℕ)). TakesObject tells v.shape v.lattice v.digests k digest left rest d old.files mid.files) (sym c.as_slice.ensures.value) c.in-Ok.ensures.took in
-    let stored : Stored = next_stored v name k digest nodes digests in
-    let bad = c.weave_object.result ≡ Err DiskFault in
-    let last : t.heads.lattice.n ≡ c.args.ledger.now.lattice.n + c.in-Ok.taken.nodes = (let n = t.nodes in omega (arith, n, counted)) in
-    let end : ℕ = v.end + length (entry (Object stored)) + 1 in
-    let long : length c.as_slice.result.now ≡ nodes_for c.args.ledger.now.shape (length t.bytes) * (1 + c.args.ledger.now.shape.alpha) =
-    t.woven.digests_are.long ∙ ap (λ (n : ℕ). n * (1 + v.shape.alpha)) (let e : t.heads.lattice.n - v.lattice.n ≡ nodes_for v.shape (length t.bytes) = (omega (arith, last, counted, ap (nodes_for v.shape) t.long)) in e) in
-    let fits : v.lattice.n + nodes_for v.shape (length t.bytes) ≤ limit_when v.raised = (let f = c.in-Ok.ensures.fits in omega (arith, f, counted, ap (nodes_for v.shape) t.long)) in
-    let size : next_end v.end (length name) (nodes_for v.shape (length t.bytes) * (1 + v.shape.alpha)) ≡ v.end + length (entry (Object stored)) = omega (arith, c.commit_object.ensures.size (ap length t.digest_is ∙ length-sha256 t.bytes), long) in
-    let same = ap length ((c.weave_object.ensures.writes.contents told).stay 0 (inl refl)) in
-    let most = c.commit_object.ensures.long told in
-    let n : c.in-Ok.taken.nodes * (1 + v.shape.alpha) ≡ nodes_for v.shape (length t.bytes) * (1 + v.shape.alpha) = ap (λ (x : ℕ). x * (1 + v.shape.alpha)) (counted ∙ ap (nodes_for v.shape) (sym t.long)) in
-    omega (arith, same, most, size, n)
-
-pub returns-in-Err-NoMemory-commit_object-clause-refused_leaves : goal.returns-in-Err-NoMemory-commit_object-clause-refused_leaves
-returns-in-Err-NoMemory-commit_object-clause-refused_leaves g c is fine told =
-    let old = g.D.Disk.state c.args.disk.now in
-    let mid = g.D.Disk.state c.weave_object.new.disk in
-    let new = g.D.Disk.state c.commit_object.new.disk in
-    let v = c.args.ledger.now in
-    let name = c.args.name.now in
-    let tells = g.D.Disk.tells in
-    let left = (g.S.Source.state c.args.source.now).left in
-    let rest = (g.S.Source.state c.weave_object.new.source).left in
-    let k = c.in-Ok.taken.length in
-    let digest = c.in-Ok.taken.digest in
-    let nodes = c.in-Ok.taken.nodes in
-    let digests = c.as_slice.result.now in
-    let counted : c.in-Ok.taken.nodes ≡ nodes_for c.args.ledger.now.shape c.in-Ok.taken.length = c.in-Ok.ensures.nodes in
-    let t : TakesObject g.D.Disk.tells c.args.ledger.now.shape c.args.ledger.now.lattice c.args.ledger.now.digests c.in-Ok.taken.length c.in-Ok.taken.digest (g.S.Source.state c.args.source.now).left (g.S.Source.state c.weave_object.new.source).left c.as_slice.result.now (g.D.Disk.state c.args.disk.now).files (g.D.Disk.state c.weave_object.new.disk).files =
-    subst (λ (d : List (List ℕ)). TakesObject tells v.shape v.lattice v.digests k digest left rest d old.files mid.files) (sym c.as_slice.ensures.value) c.in-Ok.ensures.took in
-    let stored : Stored = next_stored v name k digest nodes digests in
-    let bad = c.weave_object.result ≡ Err DiskFault in
-    let last : t.heads.lattice.n ≡ c.args.ledger.now.lattice.n + c.in-Ok.taken.nodes = (let n = t.nodes in omega (arith, n, counted)) in
-    let leaves = leaves_ledger tells bad told v old mid (c.requires.fixed told) c.weave_object.ensures.writes in
-    let kept = c.commit_object.ensures.unchanged (inr (c.in-Err-NoMemory-commit_object.is ∙ ap Err c.in-Err-NoMemory-commit_object.field-0-is)) in
     record {
-      images = during_then_kept old mid new (λ d. d 0 ≡ old.files 0) c.weave_object.ensures.writes.time c.commit_object.ensures.writes.time kept.1.0 leaves.images;
-      reads = ap (λ (f : Files). f 0) (kept.1.1 told) ∙ leaves.reads;
+      ended = record {
+        dead = c.retire.ensures;
+        stopped = λ told. stopped_before c.ledgers_have_one_reading.ensures g.D.Disk.tells (c.weave_object.result ≡ Err DiskFault) told c.args.ledger.now _ old mid (c.requires.fixed told) c.weave_object.ensures.writes;
+      };
     }
 
-pub returns-in-Err-DiskFault-commit_object-clause-stopped : goal.returns-in-Err-DiskFault-commit_object-clause-stopped
-returns-in-Err-DiskFault-commit_object-clause-stopped g c is told =
+pub returns-in-Err-HeadDamaged-clause-stores : goal.returns-in-Err-HeadDamaged-clause-stores
+returns-in-Err-HeadDamaged-clause-stores g c =
     let old = g.D.Disk.state c.args.disk.now in
     let mid = g.D.Disk.state c.weave_object.new.disk in
-    let new = g.D.Disk.state c.commit_object.new.disk in
-    let v = c.args.ledger.now in
-    let name = c.args.name.now in
-    let tells = g.D.Disk.tells in
-    let left = (g.S.Source.state c.args.source.now).left in
-    let rest = (g.S.Source.state c.weave_object.new.source).left in
-    let k = c.in-Ok.taken.length in
-    let digest = c.in-Ok.taken.digest in
-    let nodes = c.in-Ok.taken.nodes in
-    let digests = c.as_slice.result.now in
-    let counted : c.in-Ok.taken.nodes ≡ nodes_for c.args.ledger.now.shape c.in-Ok.taken.length = c.in-Ok.ensures.nodes in
-    let t : TakesObject g.D.Disk.tells c.args.ledger.now.shape c.args.ledger.now.lattice c.args.ledger.now.digests c.in-Ok.taken.length c.in-Ok.taken.digest (g.S.Source.state c.args.source.now).left (g.S.Source.state c.weave_object.new.source).left c.as_slice.result.now (g.D.Disk.state c.args.disk.now).files (g.D.Disk.state c.weave_object.new.disk).files =
-    subst (λ (d : List (List ℕ)). TakesObject tells v.shape v.lattice v.digests k digest left rest d old.files mid.files) (sym c.as_slice.ensures.value) c.in-Ok.ensures.took in
-    let stored : Stored = next_stored v name k digest nodes digests in
-    let bad = c.weave_object.result ≡ Err DiskFault in
-    let last : t.heads.lattice.n ≡ c.args.ledger.now.lattice.n + c.in-Ok.taken.nodes = (let n = t.nodes in omega (arith, n, counted)) in
-    let o : NewObject = record { name = name; bytes = t.bytes } in
+    let e = c.in-Err-HeadDamaged.ensures in
+    let met = ap Err (c.in-Err-HeadDamaged.field-0-is ∙ ap HeadDamaged (sym c.in-Err-HeadDamaged.block-is)) in
     record {
-      objects = o ∷ [];
-      most = inr (o, wanted_of c.args.want name t.bytes left rest t.taken c.in-Ok.ensures.end (λ n is. (let cut = c.in-Ok.ensures.cut n is in let all = c.is_short.ensures.no c.if-is_short.false n is in omega (arith, cut.0, all, t.long))), refl);
-      payload = t.woven.payload;
-      homes = λ some. t.woven.homes told;
-      lasts_wide = λ some. t.woven.lasts_wide;
-      bytes = one_of (λ q. AreBytes q.bytes) o t.are;
-      added = Object stored ∷ [];
-      lattice = t.heads.lattice;
-      next = (t.heads.lattice, stored, refl, next_woven tells v name k nodes digest left rest digests old.files mid.files counted t, refl);
-      adds = λ records its.
-          adds_put c.ledgers_have_one_reading.ensures tells bad _ _ _ told v records (Object stored) t.woven.payload old mid new its (c.requires.fixed told) c.weave_object.ensures.writes c.commit_object.ensures.writes
-          (c.commit_object.ensures.adds told records t.woven.payload (its_later tells bad told v records old mid c.weave_object.ensures.writes its)
-          (subst (λ (n : ℕ). AreAtHome v.shape v.lattice.n n t.woven.payload mid.files) last (t.woven.cells told)));
-      records_more = λ records datas has valid recorded honest.
-          more_where tells v name k nodes digest left rest digests old.files mid.files counted t c.next_records_more.ensures c.lasts_are_values.ensures told records datas has valid recorded honest;
-      long = (let same = ap length ((c.weave_object.ensures.writes.contents told).stay 0 (inl refl)) in let most = c.commit_object.ensures.long told in
-          let sum : sum_by (λ (r : Record). length (entry r)) (Object stored ∷ []) ≡ length (entry (Object stored)) = omega arith in omega (arith, same, most, sum));
+      ended = record {
+        last = (e.head _ met).0;
+        first = (e.head _ met).1;
+        untaken_is = (e.head_leaves _ met).0;
+        counts = e.head_counts _ met;
+        reads = (e.head_leaves _ met).1;
+        none = stores_none g.D.Disk.tells (c.weave_object.result ≡ Err DiskFault) c.args.ledger.now old mid c.requires.fixed c.weave_object.ensures.writes (c.weave_object.ensures.padded (λ bad. absurd (let e = met_fault c.in-Err-HeadDamaged.is c.in-Err-HeadDamaged.field-0-is bad in cc)));
+      };
     }
 
-pub returns-in-Ok-commit_object-clause-stored : goal.returns-in-Ok-commit_object-clause-stored
-returns-in-Ok-commit_object-clause-stored g c =
+pub returns-in-Err-Full-clause-stores : goal.returns-in-Err-Full-clause-stores
+returns-in-Err-Full-clause-stores g c =
+    let old = g.D.Disk.state c.args.disk.now in
+    let mid = g.D.Disk.state c.weave_object.new.disk in
+    let e = c.in-Err-Full.ensures in
+    let met = ap Err (c.in-Err-Full.field-0-is ∙ ap Full (sym c.in-Err-Full.nodes-is)) in
+    let full = e.full _ met in
+    record {
+      ended = record {
+        nodes_is = full.0;
+        over = full.1.0;
+        heads = full.1.1;
+        untaken_is = λ n some. e.full_leaves _ n met some;
+        none = stores_none g.D.Disk.tells (c.weave_object.result ≡ Err DiskFault) c.args.ledger.now old mid c.requires.fixed c.weave_object.ensures.writes (c.weave_object.ensures.padded (λ bad. absurd (let e = met_fault c.in-Err-Full.is c.in-Err-Full.field-0-is bad in cc)));
+      };
+    }
+
+pub returns-in-Err-ReadFault-clause-stores : goal.returns-in-Err-ReadFault-clause-stores
+returns-in-Err-ReadFault-clause-stores g c =
+    let old = g.D.Disk.state c.args.disk.now in
+    let mid = g.D.Disk.state c.weave_object.new.disk in
+    let met = c.in-Err-ReadFault.is ∙ ap Err c.in-Err-ReadFault.field-0-is in
+    record {
+      ended = record {
+        short = λ n some. c.weave_object.ensures.short n some met;
+        heads = c.weave_object.ensures.read_intact met;
+        fits = λ n some. not_less (room_left c.args.ledger.now) n (λ past. read_not_over met (c.weave_object.ensures.over n some past));
+        none = stores_none g.D.Disk.tells (c.weave_object.result ≡ Err DiskFault) c.args.ledger.now old mid c.requires.fixed c.weave_object.ensures.writes (c.weave_object.ensures.padded (λ bad. absurd (let e = met_fault c.in-Err-ReadFault.is c.in-Err-ReadFault.field-0-is bad in cc)));
+      };
+    }
+
+pub returns-in-Err-NoMemory-clause-stores : goal.returns-in-Err-NoMemory-clause-stores
+returns-in-Err-NoMemory-clause-stores g c =
+    let old = g.D.Disk.state c.args.disk.now in
+    let mid = g.D.Disk.state c.weave_object.new.disk in
+    record { ended = stores_none g.D.Disk.tells (c.weave_object.result ≡ Err DiskFault) c.args.ledger.now old mid c.requires.fixed c.weave_object.ensures.writes (c.weave_object.ensures.padded (λ bad. absurd (let e = met_fault c.in-Err-NoMemory.is c.in-Err-NoMemory.field-0-is bad in cc))) }
+
+pub returns-then-is_short-clause-stores : goal.returns-then-is_short-clause-stores
+returns-then-is_short-clause-stores g c =
+    let old = g.D.Disk.state c.args.disk.now in
+    let mid = g.D.Disk.state c.weave_object.new.disk in
+    let t = c.in-Ok.ensures.took in
+    let s = c.is_short.ensures.yes c.if-is_short.true in
+    let long = t.long in
+    record {
+      ended = record {
+        ended = (s.0, s.1, (c.in-Ok.ensures.cut s.0 s.1).1 s.2, (t.bytes, t.taken, (let l = s.2 in omega (arith, long, l))));
+        heads = c.in-Ok.ensures.intact;
+        fits = λ n some. not_less (room_left c.args.ledger.now) n (λ past. ok_not_over c.in-Ok.is (c.weave_object.ensures.over n some past));
+        none = stores_none g.D.Disk.tells (c.weave_object.result ≡ Err DiskFault) c.args.ledger.now old mid c.requires.fixed c.weave_object.ensures.writes (c.weave_object.ensures.padded (λ bad. ok_no_fault c.in-Ok.is bad));
+      };
+    }
+
+-- ---- where all were
+
+pub returns-in-Ok-commit_object-clause-stores : goal.returns-in-Ok-commit_object-clause-stores
+returns-in-Ok-commit_object-clause-stores g c =
     let old = g.D.Disk.state c.args.disk.now in
     let mid = g.D.Disk.state c.weave_object.new.disk in
     let new = g.D.Disk.state c.commit_object.new.disk in
@@ -421,135 +287,131 @@ returns-in-Ok-commit_object-clause-stored g c =
     let value = c.in-Ok-commit_object.ensures.value in
     let same = c.in-Ok-commit_object.ensures.shape in
     let woven_is : (records : List Record) → HasRecords v records → t.heads.lattice ≡ w.lattice =
-    λ records has. woven_to tells v w name k nodes digest left rest digests old.files mid.files counted t same records has (value records has) in (
-      o,
-      wanted_of c.args.want name t.bytes left rest t.taken c.in-Ok.ensures.end (λ n is. (let cut = c.in-Ok.ensures.cut n is in let all = c.is_short.ensures.no c.if-is_short.false n is in omega (arith, cut.0, all, t.long))),
-      record {
-        count = counted ∙ ap (nodes_for v.shape) (sym t.long);
-        size = sym t.long;
-        digest = t.digest_is;
-        payload = t.woven.payload;
-        lasts = t.woven.lasts;
-        homes = t.woven.homes;
-        lasts_wide = t.woven.lasts_wide;
-        wide = subst (λ (l : Lattice). AreBlocksWide v.shape v.lattice.n l.n t.woven.payload) (woven_is c.requires.opened.0 c.requires.opened.1) t.woven.wide;
-        bytes = t.are;
-        r = stored;
-        next = next_of tells v w name k nodes digest left rest digests old.files mid.files counted t same c.requires.opened.0 c.requires.opened.1 (value c.requires.opened.0 c.requires.opened.1);
-        value = value;
-        live = c.in-Ok-commit_object.ensures.live_on;
-        same_shape = same;
-        this_one = c.in-Ok-commit_object.ensures.this_one;
-        adds = λ told records its.
-            adds_put c.ledgers_have_one_reading.ensures tells bad _ _ _ told v records (Object stored) t.woven.payload old mid new its (c.requires.fixed told) c.weave_object.ensures.writes c.commit_object.ensures.writes
-            (c.commit_object.ensures.adds told records t.woven.payload (its_later tells bad told v records old mid c.weave_object.ensures.writes its)
-            (subst (λ (n : ℕ). AreAtHome v.shape v.lattice.n n t.woven.payload mid.files) last (t.woven.cells told)));
-        added = λ told records its.
-            added_of tells v name k nodes digest left rest digests old.files mid.files counted t c.cells_have_lengths.ensures c.cells_have_parts.ensures c.digests_are_counted.ensures records its.has new
-            (cells_stay v.shape v.lattice.n t.heads.lattice.n t.woven.payload mid.files new.files (c.commit_object.ensures.writes.contents told) (t.woven.cells told))
-            (c.in-Ok-commit_object.ensures.appended told records (its_later tells bad told v records old mid c.weave_object.ensures.writes its)) (c.in-Ok-commit_object.ensures.durable told);
-        cells = λ told.
-            subst (λ (l : Lattice). AreAtHome v.shape v.lattice.n l.n t.woven.payload new.files) (woven_is c.requires.opened.0 c.requires.opened.1)
-            (cells_stay v.shape v.lattice.n t.heads.lattice.n t.woven.payload mid.files new.files (c.commit_object.ensures.writes.contents told) (t.woven.cells told));
-        records_more = λ told records datas has old_records honest.
-            more_of tells v w name k nodes digest left rest digests old.files mid.files counted t same records has (value records has) c.next_records_more.ensures c.lasts_are_values.ensures told datas old_records honest;
-        honest = λ told records datas has old_records honest plain.
-            honest_of tells v w name k nodes digest left rest digests old.files mid.files counted t same records has (value records has) c.next_records_more.ensures c.lasts_are_values.ensures c.survivors_stay_honest.ensures c.digests_are_counted.ensures told datas old_records new.files
-            (subst (λ (l : Lattice). AreAtHome v.shape v.lattice.n l.n t.woven.payload new.files) (woven_to tells v w name k nodes digest left rest digests old.files mid.files counted t same records has (value records has))
-            (cells_stay v.shape v.lattice.n t.heads.lattice.n t.woven.payload mid.files new.files (c.commit_object.ensures.writes.contents told) (t.woven.cells told)))
-            (padded_both v.shape (IsBlockIn v.shape v.lattice.n) old.files mid.files new.files (c.weave_object.ensures.padded (λ e. (let is = c.in-Ok.is in cc)) told) (padded_commit v mid.files new.files (c.commit_object.ensures.writes.contents told)))
-            (keeps_intact v.shape (IsBlockIn v.shape v.lattice.n) old.files new.files (((returns-in-Ok-commit_object-clause-writes g c).contents told).homes))
-            honest plain;
-      },
-    )
+    λ records has. woven_to tells v w name k nodes digest left rest digests old.files mid.files counted t same records has (value records has) in
+    record {
+      ended = record {
+        kept = (
+          o,
+          wanted_of c.args.want name t.bytes left rest t.taken c.in-Ok.ensures.end (λ n is. (let cut = c.in-Ok.ensures.cut n is in let all = c.is_short.ensures.no c.if-is_short.false n is in omega (arith, cut.0, all, t.long))),
+          record {
+            count = counted ∙ ap (nodes_for v.shape) (sym t.long);
+            size = sym t.long;
+            digest = t.digest_is;
+            payload = t.woven.payload;
+            lasts = t.woven.lasts;
+            homes = t.woven.homes;
+            lasts_wide = t.woven.lasts_wide;
+            wide = subst (λ (l : Lattice). AreBlocksWide v.shape v.lattice.n l.n t.woven.payload) (woven_is c.requires.opened.0 c.requires.opened.1) t.woven.wide;
+            bytes = t.are;
+            r = stored;
+            next = next_of tells v w name k nodes digest left rest digests old.files mid.files counted t same c.requires.opened.0 c.requires.opened.1 (value c.requires.opened.0 c.requires.opened.1);
+            value = value;
+            live = c.in-Ok-commit_object.ensures.live_on;
+            same_shape = same;
+            this_one = c.in-Ok-commit_object.ensures.this_one;
+            adds = λ told records its.
+                adds_put c.ledgers_have_one_reading.ensures tells bad _ _ _ told v records (Object stored) t.woven.payload old mid new its (c.requires.fixed told) c.weave_object.ensures.writes c.commit_object.ensures.writes
+                (c.commit_object.ensures.adds told records t.woven.payload (its_later tells bad told v records old mid c.weave_object.ensures.writes its)
+                (subst (λ (n : ℕ). AreAtHome v.shape v.lattice.n n t.woven.payload mid.files) last (t.woven.cells told)));
+            added = λ told records its.
+                added_of tells v name k nodes digest left rest digests old.files mid.files counted t c.cells_have_lengths.ensures c.cells_have_parts.ensures c.digests_are_counted.ensures records its.has new
+                (cells_stay v.shape v.lattice.n t.heads.lattice.n t.woven.payload mid.files new.files (c.commit_object.ensures.writes.contents told) (t.woven.cells told))
+                (c.in-Ok-commit_object.ensures.appended told records (its_later tells bad told v records old mid c.weave_object.ensures.writes its)) (c.in-Ok-commit_object.ensures.durable told);
+            cells = λ told.
+                subst (λ (l : Lattice). AreAtHome v.shape v.lattice.n l.n t.woven.payload new.files) (woven_is c.requires.opened.0 c.requires.opened.1)
+                (cells_stay v.shape v.lattice.n t.heads.lattice.n t.woven.payload mid.files new.files (c.commit_object.ensures.writes.contents told) (t.woven.cells told));
+            records_more = λ told records datas has old_records honest.
+                more_of tells v w name k nodes digest left rest digests old.files mid.files counted t same records has (value records has) c.next_records_more.ensures c.lasts_are_values.ensures told datas old_records honest;
+            honest = λ told records datas has old_records honest plain.
+                honest_of tells v w name k nodes digest left rest digests old.files mid.files counted t same records has (value records has) c.next_records_more.ensures c.lasts_are_values.ensures c.survivors_stay_honest.ensures c.digests_are_counted.ensures told datas old_records new.files
+                (subst (λ (l : Lattice). AreAtHome v.shape v.lattice.n l.n t.woven.payload new.files) (woven_to tells v w name k nodes digest left rest digests old.files mid.files counted t same records has (value records has))
+                (cells_stay v.shape v.lattice.n t.heads.lattice.n t.woven.payload mid.files new.files (c.commit_object.ensures.writes.contents told) (t.woven.cells told)))
+                (padded_both v.shape (IsBlockIn v.shape v.lattice.n) old.files mid.files new.files (c.weave_object.ensures.padded (λ e. (let is = c.in-Ok.is in cc)) told) (padded_commit v mid.files new.files (c.commit_object.ensures.writes.contents told)))
+                (keeps_intact v.shape (IsBlockIn v.shape v.lattice.n) old.files new.files (((returns-in-Ok-commit_object-clause-writes g c).contents told).homes))
+                honest plain;
+          },
+        );
+        exact = c.in-Ok.ensures.exact;
+        heads = c.in-Ok.ensures.intact;
+        fits = (let f = c.in-Ok.ensures.fits in omega (arith, f, counted));
+        padded = λ told.
+            padded_both v.shape (IsBlockIn v.shape v.lattice.n) old.files mid.files new.files (c.weave_object.ensures.padded (λ e. (let is = c.in-Ok.is in cc)) told) (padded_commit v mid.files new.files (c.commit_object.ensures.writes.contents told));
+        long = λ told.
+            let long : length c.as_slice.result.now ≡ nodes_for c.args.ledger.now.shape (length t.bytes) * (1 + c.args.ledger.now.shape.alpha) =
+            t.woven.digests_are.long ∙ ap (λ (n : ℕ). n * (1 + v.shape.alpha)) (let e : t.heads.lattice.n - v.lattice.n ≡ nodes_for v.shape (length t.bytes) = (omega (arith, last, counted, ap (nodes_for v.shape) t.long)) in e) in
+            let fits : v.lattice.n + nodes_for v.shape (length t.bytes) ≤ limit_when v.raised = (let f = c.in-Ok.ensures.fits in omega (arith, f, counted, ap (nodes_for v.shape) t.long)) in
+            let size : next_end v.end (length name) (nodes_for v.shape (length t.bytes) * (1 + v.shape.alpha)) ≡ v.end + length (entry (Object stored)) = omega (arith, c.commit_object.ensures.size (ap length t.digest_is ∙ length-sha256 t.bytes), long) in
+            let same = ap length ((c.weave_object.ensures.writes.contents told).stay 0 (inl refl)) in
+            let most = c.commit_object.ensures.long told in
+            let n : c.in-Ok.taken.nodes * (1 + v.shape.alpha) ≡ nodes_for v.shape (length t.bytes) * (1 + v.shape.alpha) = ap (λ (x : ℕ). x * (1 + v.shape.alpha)) (counted ∙ ap (nodes_for v.shape) (sym t.long)) in
+            omega (arith, same, most, size, n);
+      };
+    }
 
-pub returns-in-Err-Full-clause-full_leaves : goal.returns-in-Err-Full-clause-full_leaves
-returns-in-Err-Full-clause-full_leaves g c nodes n is some =
-    c.in-Err-Full.ensures.full_leaves nodes n (ap Err (c.in-Err-Full.field-0-is ∙ ap Full (sym c.in-Err-Full.nodes-is ∙ same_nodes _ nodes is))) some
-
-pub returns-in-Err-Full-clause-over_refused : goal.returns-in-Err-Full-clause-over_refused
-returns-in-Err-Full-clause-over_refused g c n is past =
-    inl (ap (λ (k : ℕ). Err (Full k)) (c.in-Err-Full.nodes-is ∙ (c.in-Err-Full.ensures.full c.in-Err-Full.nodes (ap Err c.in-Err-Full.field-0-is)).0))
-
-pub returns-in-Err-ReadFault-clause-over_refused : goal.returns-in-Err-ReadFault-clause-over_refused
-returns-in-Err-ReadFault-clause-over_refused g c n is past =
-    absurd (⊎_elim {C = ⊥} (λ full. (let e = full in let f = (c.in-Err-ReadFault.is ∙ ap Err c.in-Err-ReadFault.field-0-is) in cc))
-    (λ head. ⊎_elim {C = ⊥} (λ damaged. (let e = damaged.1 in let f = (c.in-Err-ReadFault.is ∙ ap Err c.in-Err-ReadFault.field-0-is) in cc)) (λ out. ⊎_elim {C = ⊥} (λ disk. (let e = disk in let f = (c.in-Err-ReadFault.is ∙ ap Err c.in-Err-ReadFault.field-0-is) in cc)) (λ memory. (let e = memory in let f = (c.in-Err-ReadFault.is ∙ ap Err c.in-Err-ReadFault.field-0-is) in cc)) out) head)
-    (c.weave_object.ensures.over n is past))
-
-pub returns-then-is_short-clause-over_refused : goal.returns-then-is_short-clause-over_refused
-returns-then-is_short-clause-over_refused g c n is past =
-    absurd (⊎_elim {C = ⊥} (λ full. (let e = full in let f = c.in-Ok.is in cc))
-    (λ head. ⊎_elim {C = ⊥} (λ damaged. (let e = damaged.1 in let f = c.in-Ok.is in cc)) (λ out. ⊎_elim {C = ⊥} (λ disk. (let e = disk in let f = c.in-Ok.is in cc)) (λ memory. (let e = memory in let f = c.in-Ok.is in cc)) out) head)
-    (c.weave_object.ensures.over n is past))
-
-pub returns-in-Ok-commit_object-clause-over_refused : goal.returns-in-Ok-commit_object-clause-over_refused
-returns-in-Ok-commit_object-clause-over_refused g c n is past =
-    absurd (⊎_elim {C = ⊥} (λ full. (let e = full in let f = c.in-Ok.is in cc))
-    (λ head. ⊎_elim {C = ⊥} (λ damaged. (let e = damaged.1 in let f = c.in-Ok.is in cc)) (λ out. ⊎_elim {C = ⊥} (λ disk. (let e = disk in let f = c.in-Ok.is in cc)) (λ memory. (let e = memory in let f = c.in-Ok.is in cc)) out) head)
-    (c.weave_object.ensures.over n is past))
-
-pub returns-then-is_short-clause-writes : goal.returns-then-is_short-clause-writes
-returns-then-is_short-clause-writes g c =
+pub returns-in-Err-DiskFault-commit_object-clause-stores : goal.returns-in-Err-DiskFault-commit_object-clause-stores
+returns-in-Err-DiskFault-commit_object-clause-stores g c =
     let old = g.D.Disk.state c.args.disk.now in
     let mid = g.D.Disk.state c.weave_object.new.disk in
+    let new = g.D.Disk.state c.commit_object.new.disk in
     let v = c.args.ledger.now in
+    let name = c.args.name.now in
+    let tells = g.D.Disk.tells in
     let left = (g.S.Source.state c.args.source.now).left in
     let rest = (g.S.Source.state c.weave_object.new.source).left in
-    writes_as g.D.Disk.tells _ _ (c.weave_object.result ≡ Err DiskFault) _ _ old mid (λ is. absurd (let e = is in cc)) (λ is. absurd (ok_no_fault c.in-Ok.is is)) (cells_wider g.D.Disk.tells (c.weave_object.result ≡ Err DiskFault) v c.args.name.now c.args.want left rest old mid c.weave_object.ensures.writes)
+    let k = c.in-Ok.taken.length in
+    let digest = c.in-Ok.taken.digest in
+    let nodes = c.in-Ok.taken.nodes in
+    let digests = c.as_slice.result.now in
+    let counted : c.in-Ok.taken.nodes ≡ nodes_for c.args.ledger.now.shape c.in-Ok.taken.length = c.in-Ok.ensures.nodes in
+    let t : TakesObject g.D.Disk.tells c.args.ledger.now.shape c.args.ledger.now.lattice c.args.ledger.now.digests c.in-Ok.taken.length c.in-Ok.taken.digest (g.S.Source.state c.args.source.now).left (g.S.Source.state c.weave_object.new.source).left c.as_slice.result.now (g.D.Disk.state c.args.disk.now).files (g.D.Disk.state c.weave_object.new.disk).files =
+    subst (λ (d : List (List ℕ)). TakesObject tells v.shape v.lattice v.digests k digest left rest d old.files mid.files) (sym c.as_slice.ensures.value) c.in-Ok.ensures.took in
+    let stored : Stored = next_stored v name k digest nodes digests in
+    let bad = c.weave_object.result ≡ Err DiskFault in
+    let last : t.heads.lattice.n ≡ c.args.ledger.now.lattice.n + c.in-Ok.taken.nodes = (let n = t.nodes in omega (arith, n, counted)) in
+    let o : NewObject = record { name = name; bytes = t.bytes } in
+    record {
+      ended = record {
+        dead = c.commit_object.ensures.dead (c.in-Err-DiskFault-commit_object.is ∙ ap Err c.in-Err-DiskFault-commit_object.field-0-is);
+        stopped = λ told.
+            record {
+              objects = o ∷ [];
+              most = inr (o, wanted_of c.args.want name t.bytes left rest t.taken c.in-Ok.ensures.end (λ n is. (let cut = c.in-Ok.ensures.cut n is in let all = c.is_short.ensures.no c.if-is_short.false n is in omega (arith, cut.0, all, t.long))), refl);
+              payload = t.woven.payload;
+              homes = λ some. t.woven.homes told;
+              lasts_wide = λ some. t.woven.lasts_wide;
+              bytes = one_of (λ q. AreBytes q.bytes) o t.are;
+              added = Object stored ∷ [];
+              lattice = t.heads.lattice;
+              next = (t.heads.lattice, stored, refl, next_woven tells v name k nodes digest left rest digests old.files mid.files counted t, refl);
+              adds = λ records its.
+                  adds_put c.ledgers_have_one_reading.ensures tells bad _ _ _ told v records (Object stored) t.woven.payload old mid new its (c.requires.fixed told) c.weave_object.ensures.writes c.commit_object.ensures.writes
+                  (c.commit_object.ensures.adds told records t.woven.payload (its_later tells bad told v records old mid c.weave_object.ensures.writes its)
+                  (subst (λ (n : ℕ). AreAtHome v.shape v.lattice.n n t.woven.payload mid.files) last (t.woven.cells told)));
+              records_more = λ records datas has valid recorded honest.
+                  more_where tells v name k nodes digest left rest digests old.files mid.files counted t c.next_records_more.ensures c.lasts_are_values.ensures told records datas has valid recorded honest;
+              long = (let same = ap length ((c.weave_object.ensures.writes.contents told).stay 0 (inl refl)) in let most = c.commit_object.ensures.long told in
+                  let sum : sum_by (λ (r : Record). length (entry r)) (Object stored ∷ []) ≡ length (entry (Object stored)) = omega arith in omega (arith, same, most, sum));
+            };
+      };
+    }
 
-pub returns-then-is_short-clause-refused_leaves : goal.returns-then-is_short-clause-refused_leaves
-returns-then-is_short-clause-refused_leaves g c fine other told =
+pub returns-in-Err-NoMemory-commit_object-clause-stores : goal.returns-in-Err-NoMemory-commit_object-clause-stores
+returns-in-Err-NoMemory-commit_object-clause-stores g c =
     let old = g.D.Disk.state c.args.disk.now in
     let mid = g.D.Disk.state c.weave_object.new.disk in
+    let new = g.D.Disk.state c.commit_object.new.disk in
     let v = c.args.ledger.now in
-    let left = (g.S.Source.state c.args.source.now).left in
-    let rest = (g.S.Source.state c.weave_object.new.source).left in
-    leaves_ledger g.D.Disk.tells (c.weave_object.result ≡ Err DiskFault) told v old mid (c.requires.fixed told) c.weave_object.ensures.writes
-
-pub returns-then-is_short-clause-padded : goal.returns-then-is_short-clause-padded
-returns-then-is_short-clause-padded g c fine told =
-    c.weave_object.ensures.padded (λ e. (let is = c.in-Ok.is in cc)) told
-
-pub returns-then-is_short-clause-ended : goal.returns-then-is_short-clause-ended
-returns-then-is_short-clause-ended g c is =
-    let t = c.in-Ok.ensures.took in
-    let s = c.is_short.ensures.yes c.if-is_short.true in
-    let long = t.long in (
-      s.0,
-      s.1,
-      (c.in-Ok.ensures.cut s.0 s.1).1 s.2,
-      (t.bytes, t.taken, (let l = s.2 in omega (arith, long, l))),
-    )
-
-pub returns-then-is_short-clause-head_refused : goal.returns-then-is_short-clause-head_refused
-returns-then-is_short-clause-head_refused g c told a damaged =
-    absurd (damaged.damaged (c.in-Ok.ensures.intact told a damaged.last))
-
-pub returns-then-is_short-clause-full_refused : goal.returns-then-is_short-clause-full_refused
-returns-then-is_short-clause-full_refused g c bytes is all past =
-    (let s = c.is_short.ensures.yes c.if-is_short.true in absurd (not_both c.args.want s.0 all s.1))
-
-pub returns-then-is_short-clause-complete : goal.returns-then-is_short-clause-complete
-returns-then-is_short-clause-complete g c told bytes is there intact fits disk source =
-    let t = c.in-Ok.ensures.took in
-    let s = c.is_short.ensures.yes c.if-is_short.true in
-    let less = s.2 in
-    let long = t.long in
-    let all = all_long (g.S.Source.state c.args.source.now).left bytes t.bytes (g.S.Source.state c.weave_object.new.source).left is t.taken ((c.in-Ok.ensures.cut s.0 s.1).1 s.2) in
-    absurd (omega (arith, less, long, all, there_long c.args.want s.0 bytes s.1 there))
-
-pub returns-in-Ok-commit_object-clause-complete : goal.returns-in-Ok-commit_object-clause-complete
-returns-in-Ok-commit_object-clause-complete g c told bytes is there intact fits disk source =
-    inl (_, refl)
-
-pub returns-then-is_short-clause-whole : goal.returns-then-is_short-clause-whole
-returns-then-is_short-clause-whole g c all is = (let s = c.is_short.ensures.yes c.if-is_short.true in not_both c.args.want s.0 all s.1)
-
-pub returns-in-Err-HeadDamaged-clause-head_counts : goal.returns-in-Err-HeadDamaged-clause-head_counts
-returns-in-Err-HeadDamaged-clause-head_counts g c b is =
-    c.in-Err-HeadDamaged.ensures.head_counts b (ap Err (c.in-Err-HeadDamaged.field-0-is ∙ ap HeadDamaged (sym c.in-Err-HeadDamaged.block-is ∙ same_head _ b is)))
-
-pub returns-in-Err-ReadFault-clause-short : goal.returns-in-Err-ReadFault-clause-short
-returns-in-Err-ReadFault-clause-short g c n some is =
-    c.weave_object.ensures.short n some (c.in-Err-ReadFault.is ∙ ap Err c.in-Err-ReadFault.field-0-is)
+    let kept = c.commit_object.ensures.unchanged (inr (c.in-Err-NoMemory-commit_object.is ∙ ap Err c.in-Err-NoMemory-commit_object.field-0-is)) in
+    record {
+      ended = record {
+        same = kept.0;
+        leaves = λ told.
+            let leaves = leaves_ledger g.D.Disk.tells (c.weave_object.result ≡ Err DiskFault) told v old mid (c.requires.fixed told) c.weave_object.ensures.writes in
+            record {
+              images = during_then_kept old mid new (λ d. d 0 ≡ old.files 0) c.weave_object.ensures.writes.time c.commit_object.ensures.writes.time kept.1.0 leaves.images;
+              reads = ap (λ (f : Files). f 0) (kept.1.1 told) ∙ leaves.reads;
+            };
+        padded = λ told.
+            padded_both v.shape (IsBlockIn v.shape v.lattice.n) old.files mid.files new.files (c.weave_object.ensures.padded (λ e. (let is = c.in-Ok.is in cc)) told) (padded_commit v mid.files new.files (c.commit_object.ensures.writes.contents told));
+      };
+    }

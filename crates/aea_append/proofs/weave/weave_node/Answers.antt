@@ -1,8 +1,9 @@
 use Rattle.std.proofs.Common.{◌≡◌, ◌≢◌, ℕ, ◌+◌, Err, List, [], ◌∷◌, ◌++◌, sym, ◌∙◌, subst, arith}
 use Rattle.aea_append.specs.declared.fault.PutFault.TheVariants.{DiskFault}
-use Rattle.aea_append.specs.Weaving.{HasWoven, WritesCells}
+use Rattle.aea_archive.specs.Cells.{WritesCells}
+use Rattle.aea_append.specs.Weaving.{HasWoven}
 use Rattle.aea_append.proofs.Steps.{woven_step}
-use Rattle.aea_append.proofs.Writes.{cells_as}
+use Rattle.aea_archive.proofs.Writes.{cells_as}
 use Rattle.aea_append.proofs.weave.weave_node.Goals as goal
 
 pub returns-in-Err-clause-writes : goal.returns-in-Err-clause-writes

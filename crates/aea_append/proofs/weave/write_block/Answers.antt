@@ -1,7 +1,7 @@
 use Rattle.std.proofs.Common.{refl, sym, subst, rules}
 use Rattle.aea_disk.proofs.Frames.{ok_fine}
 use Rattle.std.specs.Prelude.{IsErr}
-use Rattle.aea_append.proofs.Writes.{cell_written}
+use Rattle.aea_archive.proofs.Writes.{cell_written}
 use Rattle.aea_append.proofs.weave.write_block.Goals as goal
 
 pub returns-in_err-digest-clause-writes : goal.returns-in_err-digest-clause-writes

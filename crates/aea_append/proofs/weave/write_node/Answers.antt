@@ -13,8 +13,9 @@ use Rattle.aea_envelope.specs.Cells.{block_digest, cell_of}
 use Rattle.aea_envelope.specs.Facts.{CellsHaveLengths}
 use Rattle.aea_disk.specs.State.{State}
 use Rattle.aea_shelf.specs.Places.{HasAtHome}
-use Rattle.aea_append.specs.Weaving.{last_payload, last_digest, WritesCells}
-use Rattle.aea_append.proofs.Writes.{cells_then, cells_less, cells_as}
+use Rattle.aea_archive.specs.Cells.{WritesCells}
+use Rattle.aea_append.specs.Weaving.{last_payload, last_digest}
+use Rattle.aea_archive.proofs.Writes.{cells_then, cells_less, cells_as}
 use Rattle.aea_append.proofs.weave.write_node.Goals as goal
 
 apart : (n : ℕ) (c : Class) (a : BlockId) → a.node ≢ n → a ≢ block_of n c
@@ -37,7 +38,7 @@ four f p old d0 d1 d2 d3 e0 e1 e2 e3 =
     ∙ append_assoc (x ++ a) b c ∙ append_assoc x a (b ++ c) ∙ append_assoc old (f Datum ∷ []) (a ++ (b ++ c))
     ∙ ap (λ (l : List (List ℕ)). old ++ f Datum ∷ l) (sym all)
 
--- a write of another block's cell leaves one that stands
+-- a write of another block's cell leaves one that is at its home
 leaves : CellsHaveLengths → (tells fault : Type 0) → tells → (shape : Shape) (n nodes : ℕ) (c other : Class) (payload : List ℕ) (old new : State) → IsBlockOf shape (block_of n c) → class_number c ≢ class_number other → length payload ≡ shape.block
     → WritesCells tells shape nodes (λ a. a ≢ block_of n other) fault old new → HasAtHome shape (block_of n c) (cell_of (block_of n c) payload) old.files → HasAtHome shape (block_of n c) (cell_of (block_of n c) payload) new.files
 leaves lengths tells fault told shape n nodes c other payload old new has differ wide writes here =

@@ -1,8 +1,8 @@
 use Rattle.std.proofs.Common.{◌≡◌, ◌≢◌, ℕ, ◌-◌, Err, ◌∙◌, ap, subst, arith}
 use Rattle.aea_lattice.specs.Blocks.{block_of}
 use Rattle.aea_append.specs.declared.fault.PutFault.TheVariants.{DiskFault}
-use Rattle.aea_append.specs.Weaving.{WritesCells}
-use Rattle.aea_append.proofs.Writes.{cells_none}
+use Rattle.aea_archive.specs.Cells.{WritesCells}
+use Rattle.aea_archive.proofs.Writes.{cells_none}
 use Rattle.aea_append.proofs.weave.write_parity.Goals as goal
 
 pub returns-then-class-alpha-clause-writes : goal.returns-then-class-alpha-clause-writes

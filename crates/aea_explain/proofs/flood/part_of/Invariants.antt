@@ -5,9 +5,10 @@ use Rattle.aea_explain.proofs.flood.part_of.Given as goal
 
 abbrev pub invariant-loop-b : goal.invariant-loop-b
 invariant-loop-b l = record {
-  flood : IsFlood l.known l.part l.waiting.items;
-  has : is_marked l.part l.fn.block ≡ true;
+  known : l.search.known.now ≡ l.known;
+  flood : IsFlood l.known l.search.part l.search.waiting.items;
+  has : is_marked l.search.part l.fn.block ≡ true;
 }
 
 abbrev pub decreases-loop-b : goal.decreases-loop-b
-decreases-loop-b l = length l.waiting.items + unmarked l.part
+decreases-loop-b l = length l.search.waiting.items + unmarked l.search.part

@@ -19,8 +19,8 @@ loop-k-init g c = record {
   reads = reads_none g.D.Disk.tells ⊥ (g.D.Disk.state c.args.disk.now) (λ none. none);
 }
 
-pub returns-in-Ok-Bad-clause-found : goal.returns-in-Ok-Bad-clause-found
-returns-in-Ok-Bad-clause-found g c =
+pub returns-in-Ok-false-clause-found : goal.returns-in-Ok-false-clause-found
+returns-in-Ok-false-clause-found g c =
     let v = c.args.ledger.now in
     let old = g.D.Disk.state c.args.disk.now in
     let first = c.args.part.first in
@@ -29,18 +29,18 @@ returns-in-Ok-Bad-clause-found g c =
       one_at v.shape v.digests old.files first k c.args.part.count below,
       λ told.
           first_at v.shape v.digests old.files first k c.args.part.count below (c.loop-k.invariant.intact told)
-          (subst (λ (f : Files). IsIntactBy v.shape v.digests f (block_of (first + k) Datum) → ⊥) (c.loop-k.invariant.reads.contents told) ((c.in-Ok-Bad.ensures.bad told).0 c.in-Ok-Bad.field-0-is)),
+          (subst (λ (f : Files). IsIntactBy v.shape v.digests f (block_of (first + k) Datum) → ⊥) (c.loop-k.invariant.reads.contents told) (λ is. absurd (let one = (c.in-Ok-false.ensures.intact told).1 is in let other = c.in-Ok-false.field-0-test in cc))),
     )
 
-pub returns-in-Ok-Bad-clause-reads : goal.returns-in-Ok-Bad-clause-reads
-returns-in-Ok-Bad-clause-reads g c =
-    reads_as g.D.Disk.tells (IsErr c.read_block.result) _ (g.D.Disk.state c.args.disk.now) (g.D.Disk.state c.read_block.new.disk) (λ is. let e = is in cc) (λ is. cc)
-    (reads_both g.D.Disk.tells ⊥ (IsErr c.read_block.result) (g.D.Disk.state c.args.disk.now) (g.D.Disk.state c.loop-k.disk) (g.D.Disk.state c.read_block.new.disk) (λ none. none) c.loop-k.invariant.reads c.read_block.ensures.reads)
+pub returns-in-Ok-false-clause-reads : goal.returns-in-Ok-false-clause-reads
+returns-in-Ok-false-clause-reads g c =
+    reads_as g.D.Disk.tells (IsErr c.is_block_intact.result) _ (g.D.Disk.state c.args.disk.now) (g.D.Disk.state c.is_block_intact.new.disk) (λ is. let e = is in cc) (λ is. cc)
+    (reads_both g.D.Disk.tells ⊥ (IsErr c.is_block_intact.result) (g.D.Disk.state c.args.disk.now) (g.D.Disk.state c.loop-k.disk) (g.D.Disk.state c.is_block_intact.new.disk) (λ none. none) c.loop-k.invariant.reads c.is_block_intact.ensures.reads)
 
 pub returns-in-Err-clause-reads : goal.returns-in-Err-clause-reads
 returns-in-Err-clause-reads g c =
-    reads_as g.D.Disk.tells (IsErr c.read_block.result) _ (g.D.Disk.state c.args.disk.now) (g.D.Disk.state c.read_block.new.disk) (λ is. subst IsErr (sym c.in-Err.is) refl) (λ _. refl)
-    (reads_both g.D.Disk.tells ⊥ (IsErr c.read_block.result) (g.D.Disk.state c.args.disk.now) (g.D.Disk.state c.loop-k.disk) (g.D.Disk.state c.read_block.new.disk) (λ none. none) c.loop-k.invariant.reads c.read_block.ensures.reads)
+    reads_as g.D.Disk.tells (IsErr c.is_block_intact.result) _ (g.D.Disk.state c.args.disk.now) (g.D.Disk.state c.is_block_intact.new.disk) (λ is. subst IsErr (sym c.in-Err.is) refl) (λ _. refl)
+    (reads_both g.D.Disk.tells ⊥ (IsErr c.is_block_intact.result) (g.D.Disk.state c.args.disk.now) (g.D.Disk.state c.loop-k.disk) (g.D.Disk.state c.is_block_intact.new.disk) (λ none. none) c.loop-k.invariant.reads c.is_block_intact.ensures.reads)
 
 pub loop-k-preserved : goal.loop-k-preserved
 loop-k-preserved g c =
@@ -52,13 +52,13 @@ loop-k-preserved g c =
     let next : suc k ≡ k + 1 = omega arith in
     record {
       within = omega (arith, below);
-      buffer = c.read_block.auto.cell ∙ c.loop-k.invariant.buffer;
+      buffer = c.is_block_intact.auto.cell ∙ c.loop-k.invariant.buffer;
       intact = λ told.
           subst (λ (n : ℕ). All (IsIntactBy v.shape v.digests old.files) (data_from first n)) next
           (intact_more (IsIntactBy v.shape v.digests old.files) first k (c.loop-k.invariant.intact told)
-          (subst (λ (f : Files). IsIntactBy v.shape v.digests f (block_of (first + k) Datum)) (c.loop-k.invariant.reads.contents told) ((c.in-Ok-Intact.ensures.intact told).0 c.in-Ok-Intact.field-0-is)));
-      reads = reads_as g.D.Disk.tells (IsErr c.read_block.result) ⊥ old (g.D.Disk.state c.read_block.new.disk) (λ none. absurd none) (ok_fine c.in-Ok-Intact.is)
-          (reads_both g.D.Disk.tells ⊥ (IsErr c.read_block.result) old (g.D.Disk.state c.loop-k.disk) (g.D.Disk.state c.read_block.new.disk) (λ none. none) c.loop-k.invariant.reads c.read_block.ensures.reads);
+          (subst (λ (f : Files). IsIntactBy v.shape v.digests f (block_of (first + k) Datum)) (c.loop-k.invariant.reads.contents told) ((c.in-Ok-true.ensures.intact told).0 c.in-Ok-true.field-0-test)));
+      reads = reads_as g.D.Disk.tells (IsErr c.is_block_intact.result) ⊥ old (g.D.Disk.state c.is_block_intact.new.disk) (λ none. absurd none) (ok_fine c.in-Ok-true.is)
+          (reads_both g.D.Disk.tells ⊥ (IsErr c.is_block_intact.result) old (g.D.Disk.state c.loop-k.disk) (g.D.Disk.state c.is_block_intact.new.disk) (λ none. none) c.loop-k.invariant.reads c.is_block_intact.ensures.reads);
     }
 
 pub returns-clause-found : goal.returns-clause-found

@@ -17,7 +17,7 @@ loop-k-init g c = record {
   within = omega arith;
   buffer = c.requires.buffer;
   left = omega arith;
-  copied = copied_none g.D.Disk.tells c.args.ledger.now.shape c.args.ledger.now.digests (g.D.Disk.state c.args.disk.now).files c.args.most (g.O.Sink.state c.args.out.now) c.args.sheet.now;
+  copied = copied_none g.D.Disk.tells c.args.ledger.now.shape c.args.ledger.now.digests (g.D.Disk.state c.args.disk.now).files c.args.most (g.O.Sink.state c.args.out.now) c.args.page.now;
   still = refl;
   reads = reads_none g.D.Disk.tells ⊥ (g.D.Disk.state c.args.disk.now) (λ none. none);
 }
@@ -30,12 +30,12 @@ returns-in-Err-clause-broken g c =
     let k = c.loop-k.k in
     let below : k < c.args.part.count = grind (arith, nat_tests, c.loop-k-test.true) in
     let left : c.loop-k.left ≡ c.args.most - length (data_from first k) * v.shape.block = c.loop-k.invariant.left ∙ ap (λ (n : ℕ). c.args.most - n * v.shape.block) (sym (length-data_from first k)) in
-    let here = broken_at g.D.Disk.tells v.shape v.digests (g.D.Disk.state c.loop-k.disk).files old.files (block_of (first + k) Datum ∷ []) c.loop-k.left (g.O.Sink.state c.loop-k.out) (g.O.Sink.state c.copy_datum.new.out) c.loop-k.sheet c.in-Err.fault (c.loop-k.invariant.reads.contents) c.in-Err.ensures.broken in
-    let so_far = broken_then g.D.Disk.tells v.shape v.digests old.files (data_from first k) (block_of (first + k) Datum ∷ []) c.args.most c.loop-k.left (g.O.Sink.state c.args.out.now) (g.O.Sink.state c.loop-k.out) (g.O.Sink.state c.copy_datum.new.out) c.args.sheet.now c.loop-k.sheet c.in-Err.fault left c.loop-k.invariant.copied here in
+    let here = broken_at g.D.Disk.tells v.shape v.digests (g.D.Disk.state c.loop-k.disk).files old.files (block_of (first + k) Datum ∷ []) c.loop-k.left (g.O.Sink.state c.loop-k.out) (g.O.Sink.state c.copy_datum.new.out) c.loop-k.page c.in-Err.fault (c.loop-k.invariant.reads.contents) c.in-Err.ensures.broken in
+    let so_far = broken_then g.D.Disk.tells v.shape v.digests old.files (data_from first k) (block_of (first + k) Datum ∷ []) c.args.most c.loop-k.left (g.O.Sink.state c.args.out.now) (g.O.Sink.state c.loop-k.out) (g.O.Sink.state c.copy_datum.new.out) c.args.page.now c.loop-k.page c.in-Err.fault left c.loop-k.invariant.copied here in
     let rest = data_from (suc (first + k)) (c.args.part.count - suc k) in
-    subst (λ (bs : List BlockId). HasBroken g.D.Disk.tells v.shape v.digests old.files bs c.args.most (g.O.Sink.state c.args.out.now) c.args.sheet.now (g.O.Sink.state c.copy_datum.new.out) c.in-Err.fault)
+    subst (λ (bs : List BlockId). HasBroken g.D.Disk.tells v.shape v.digests old.files bs c.args.most (g.O.Sink.state c.args.out.now) c.args.page.now (g.O.Sink.state c.copy_datum.new.out) c.in-Err.fault)
     (append_assoc (data_from first k) (block_of (first + k) Datum ∷ []) rest ∙ sym (data_from-split first k c.args.part.count below))
-    (broken_front g.D.Disk.tells v.shape v.digests old.files (data_from first k ++ block_of (first + k) Datum ∷ []) rest c.args.most (g.O.Sink.state c.args.out.now) (g.O.Sink.state c.copy_datum.new.out) c.args.sheet.now c.in-Err.fault so_far)
+    (broken_front g.D.Disk.tells v.shape v.digests old.files (data_from first k ++ block_of (first + k) Datum ∷ []) rest c.args.most (g.O.Sink.state c.args.out.now) (g.O.Sink.state c.copy_datum.new.out) c.args.page.now c.in-Err.fault so_far)
 
 pub returns-in-Err-clause-reads : goal.returns-in-Err-clause-reads
 returns-in-Err-clause-reads g c =
@@ -52,7 +52,7 @@ loop-k-preserved g c =
     let below : k < c.args.part.count = grind (arith, nat_tests, c.loop-k-test.true) in
     let next : suc k ≡ k + 1 = omega arith in
     let left : c.loop-k.left ≡ c.args.most - length (data_from first k) * v.shape.block = c.loop-k.invariant.left ∙ ap (λ (n : ℕ). c.args.most - n * v.shape.block) (sym (length-data_from first k)) in
-    let here = copied_at g.D.Disk.tells v.shape v.digests (g.D.Disk.state c.loop-k.disk).files old.files (block_of (first + k) Datum ∷ []) c.loop-k.left (g.O.Sink.state c.loop-k.out) (g.O.Sink.state c.copy_datum.new.out) c.loop-k.sheet c.copy_datum.new.sheet (c.loop-k.invariant.reads.contents) c.in-Ok.ensures.copied in
+    let here = copied_at g.D.Disk.tells v.shape v.digests (g.D.Disk.state c.loop-k.disk).files old.files (block_of (first + k) Datum ∷ []) c.loop-k.left (g.O.Sink.state c.loop-k.out) (g.O.Sink.state c.copy_datum.new.out) c.loop-k.page c.copy_datum.new.page (c.loop-k.invariant.reads.contents) c.in-Ok.ensures.copied in
     let size : c.block-size.result ≡ v.shape.block = c.block-size.ensures ∙ ap (λ (s : Shape). s.block) c.shape.ensures.value in
     let gone : c.left_behind-left.result ≡ c.loop-k.left - c.block-size.result = c.left_behind-left.ensures in
     let more : (k + 1) * v.shape.block ≡ k * v.shape.block + v.shape.block = omega arith in
@@ -60,9 +60,9 @@ loop-k-preserved g c =
       within = omega (arith, below);
       buffer = c.copy_datum.auto.cell ∙ c.loop-k.invariant.buffer;
       left = omega (arith, gone, size, more, c.loop-k.invariant.left);
-      copied = subst (λ (bs : List BlockId). HasCopied g.D.Disk.tells v.shape v.digests old.files bs c.args.most (g.O.Sink.state c.args.out.now) c.args.sheet.now (g.O.Sink.state c.copy_datum.new.out) c.copy_datum.new.sheet)
+      copied = subst (λ (bs : List BlockId). HasCopied g.D.Disk.tells v.shape v.digests old.files bs c.args.most (g.O.Sink.state c.args.out.now) c.args.page.now (g.O.Sink.state c.copy_datum.new.out) c.copy_datum.new.page)
           (sym (data_from-snoc first k) ∙ ap (data_from first) next)
-          (copied_then g.D.Disk.tells v.shape v.digests old.files (data_from first k) (block_of (first + k) Datum ∷ []) c.args.most c.loop-k.left (g.O.Sink.state c.args.out.now) (g.O.Sink.state c.loop-k.out) (g.O.Sink.state c.copy_datum.new.out) c.args.sheet.now c.loop-k.sheet c.copy_datum.new.sheet left c.loop-k.invariant.copied here);
+          (copied_then g.D.Disk.tells v.shape v.digests old.files (data_from first k) (block_of (first + k) Datum ∷ []) c.args.most c.loop-k.left (g.O.Sink.state c.args.out.now) (g.O.Sink.state c.loop-k.out) (g.O.Sink.state c.copy_datum.new.out) c.args.page.now c.loop-k.page c.copy_datum.new.page left c.loop-k.invariant.copied here);
       still = c.copy_datum.ensures.still (λ failed. let ok = c.in-Ok.is in cc) ∙ c.loop-k.invariant.still;
       reads = reads_as g.D.Disk.tells (c.copy_datum.result ≡ Err DiskFault) ⊥ old (g.D.Disk.state c.copy_datum.new.disk) (λ none. absurd none) (λ is. absurd (cc))
           (reads_both g.D.Disk.tells ⊥ (c.copy_datum.result ≡ Err DiskFault) old (g.D.Disk.state c.loop-k.disk) (g.D.Disk.state c.copy_datum.new.disk) (λ none. none) c.loop-k.invariant.reads c.copy_datum.ensures.reads);

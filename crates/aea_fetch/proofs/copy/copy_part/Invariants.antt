@@ -11,7 +11,7 @@ invariant-loop-k g l = record {
   within : l.k ≤ l.part.count;
   buffer : length l.cell ≡ cell_size l.ledger.shape;
   left : l.left ≡ l.most - l.k * l.ledger.shape.block;
-  copied : HasCopied g.D.Disk.tells l.ledger.shape l.ledger.digests (g.D.Disk.state l.fn.disk).files (data_from l.part.first l.k) l.most (g.O.Sink.state l.fn.out) l.fn.sheet (g.O.Sink.state l.out) l.sheet;
+  copied : HasCopied g.D.Disk.tells l.ledger.shape l.ledger.digests (g.D.Disk.state l.fn.disk).files (data_from l.part.first l.k) l.most (g.O.Sink.state l.fn.out) l.fn.page (g.O.Sink.state l.out) l.page;
   still : (g.O.Sink.state l.out).faults ≡ (g.O.Sink.state l.fn.out).faults;
   reads : OnlyReads g.D.Disk.tells ⊥ (g.D.Disk.state l.fn.disk) (g.D.Disk.state l.disk);
 }

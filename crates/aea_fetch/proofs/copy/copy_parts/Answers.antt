@@ -20,7 +20,7 @@ loop-part-init g c = record {
   within = λ p is. omega arith;
   buffer = c.requires.buffer;
   left = λ p is. omega arith;
-  copied = λ p is. copied_none g.D.Disk.tells c.args.ledger.now.shape c.args.ledger.now.digests (g.D.Disk.state c.args.disk.now).files c.args.most (g.O.Sink.state c.args.out.now) c.args.sheet.now;
+  copied = λ p is. copied_none g.D.Disk.tells c.args.ledger.now.shape c.args.ledger.now.digests (g.D.Disk.state c.args.disk.now).files c.args.most (g.O.Sink.state c.args.out.now) c.args.page.now;
   still = refl;
   reads = reads_none g.D.Disk.tells ⊥ (g.D.Disk.state c.args.disk.now) (λ none. none);
 }
@@ -50,11 +50,11 @@ returns-in-Err-clause-broken g c p is =
     let here : slice_get p.parts k ≡ Some part = subst (λ (q : Placed). slice_get q.parts k ≡ Some part) (same_placed (get v.objects c.args.name.now) there.0 p there.1 is) there.2 in
     let front = data_of (take k p.parts) in
     let rest = data_of (drop (suc k) p.parts) in
-    let fault = broken_at tells v.shape v.digests (g.D.Disk.state c.loop-part.disk).files old.files (data_in part) c.loop-part.left (g.O.Sink.state c.loop-part.out) (g.O.Sink.state c.copy_part.new.out) c.loop-part.sheet c.in-Err.fault (c.loop-part.invariant.reads.contents) c.in-Err.ensures.broken in
-    let so_far = broken_then tells v.shape v.digests old.files front (data_in part) c.args.most c.loop-part.left (g.O.Sink.state c.args.out.now) (g.O.Sink.state c.loop-part.out) (g.O.Sink.state c.copy_part.new.out) c.args.sheet.now c.loop-part.sheet c.in-Err.fault (c.loop-part.invariant.left p is) (c.loop-part.invariant.copied p is) fault in
-    subst (λ (bs : List BlockId). HasBroken tells v.shape v.digests old.files bs c.args.most (g.O.Sink.state c.args.out.now) c.args.sheet.now (g.O.Sink.state c.copy_part.new.out) c.in-Err.fault)
+    let fault = broken_at tells v.shape v.digests (g.D.Disk.state c.loop-part.disk).files old.files (data_in part) c.loop-part.left (g.O.Sink.state c.loop-part.out) (g.O.Sink.state c.copy_part.new.out) c.loop-part.page c.in-Err.fault (c.loop-part.invariant.reads.contents) c.in-Err.ensures.broken in
+    let so_far = broken_then tells v.shape v.digests old.files front (data_in part) c.args.most c.loop-part.left (g.O.Sink.state c.args.out.now) (g.O.Sink.state c.loop-part.out) (g.O.Sink.state c.copy_part.new.out) c.args.page.now c.loop-part.page c.in-Err.fault (c.loop-part.invariant.left p is) (c.loop-part.invariant.copied p is) fault in
+    subst (λ (bs : List BlockId). HasBroken tells v.shape v.digests old.files bs c.args.most (g.O.Sink.state c.args.out.now) c.args.page.now (g.O.Sink.state c.copy_part.new.out) c.in-Err.fault)
     (append_assoc front (data_in part) rest ∙ sym (parts_around v.shape v.digests old.files p.parts part k here))
-    (broken_front tells v.shape v.digests old.files (front ++ data_in part) rest c.args.most (g.O.Sink.state c.args.out.now) (g.O.Sink.state c.copy_part.new.out) c.args.sheet.now c.in-Err.fault so_far)
+    (broken_front tells v.shape v.digests old.files (front ++ data_in part) rest c.args.most (g.O.Sink.state c.args.out.now) (g.O.Sink.state c.copy_part.new.out) c.args.page.now c.in-Err.fault so_far)
 
 pub returns-in-Err-clause-reads : goal.returns-in-Err-clause-reads
 returns-in-Err-clause-reads g c =
@@ -91,7 +91,7 @@ loop-part-preserved g c =
     let next : suc k ≡ k + 1 = omega arith in
     let here : (p : Placed) → get v.objects c.args.name.now ≡ Some p → slice_get p.parts k ≡ Some part =
     λ p is. subst (λ (q : Placed). slice_get q.parts k ≡ Some part) (same_placed (get v.objects c.args.name.now) there.0 p there.1 is) there.2 in
-    let copied = copied_at tells v.shape v.digests (g.D.Disk.state c.loop-part.disk).files old.files (data_in part) c.loop-part.left (g.O.Sink.state c.loop-part.out) (g.O.Sink.state c.copy_part.new.out) c.loop-part.sheet c.copy_part.new.sheet (c.loop-part.invariant.reads.contents) c.in-Ok.ensures.copied in
+    let copied = copied_at tells v.shape v.digests (g.D.Disk.state c.loop-part.disk).files old.files (data_in part) c.loop-part.left (g.O.Sink.state c.loop-part.out) (g.O.Sink.state c.copy_part.new.out) c.loop-part.page c.copy_part.new.page (c.loop-part.invariant.reads.contents) c.in-Ok.ensures.copied in
     record {
       within = λ p is. let below = slice_get_within p.parts k part (here p is) in omega (arith, below);
       buffer = c.copy_part.auto.cell ∙ c.loop-part.invariant.buffer;
@@ -104,9 +104,9 @@ loop-part-preserved g c =
           let whole : length (data_of (take (k + 1) p.parts)) * v.shape.block ≡ (n + part.count) * v.shape.block = ap (λ (m : ℕ). m * v.shape.block) many in
           omega (arith, before, after, more, whole);
       copied = λ p is.
-          subst (λ (bs : List BlockId). HasCopied tells v.shape v.digests old.files bs c.args.most (g.O.Sink.state c.args.out.now) c.args.sheet.now (g.O.Sink.state c.copy_part.new.out) c.copy_part.new.sheet)
+          subst (λ (bs : List BlockId). HasCopied tells v.shape v.digests old.files bs c.args.most (g.O.Sink.state c.args.out.now) c.args.page.now (g.O.Sink.state c.copy_part.new.out) c.copy_part.new.page)
           (sym (parts-snoc p.parts part k (here p is)) ∙ ap (λ (m : ℕ). data_of (take m p.parts)) next)
-          (copied_then tells v.shape v.digests old.files (data_of (take k p.parts)) (data_in part) c.args.most c.loop-part.left (g.O.Sink.state c.args.out.now) (g.O.Sink.state c.loop-part.out) (g.O.Sink.state c.copy_part.new.out) c.args.sheet.now c.loop-part.sheet c.copy_part.new.sheet
+          (copied_then tells v.shape v.digests old.files (data_of (take k p.parts)) (data_in part) c.args.most c.loop-part.left (g.O.Sink.state c.args.out.now) (g.O.Sink.state c.loop-part.out) (g.O.Sink.state c.copy_part.new.out) c.args.page.now c.loop-part.page c.copy_part.new.page
           (c.loop-part.invariant.left p is) (c.loop-part.invariant.copied p is) copied);
       still = c.copy_part.ensures.still (λ failed. let ok = c.in-Ok.is in cc) ∙ c.loop-part.invariant.still;
       reads = reads_as tells (c.copy_part.result ≡ Err DiskFault) ⊥ old (g.D.Disk.state c.copy_part.new.disk) (λ none. absurd none) (λ is. absurd (cc))
@@ -117,6 +117,6 @@ pub returns-clause-copied : goal.returns-clause-copied
 returns-clause-copied g c p is =
     let v = c.args.ledger.now in
     let gone : part_at (get v.objects c.args.name.now) c.loop-part.k ≡ None = sym (ap (λ (m : Objects). part_at (get m c.args.name.now) c.loop-part.k) c.catalog.ensures.objects) ∙ sym c.part.ensures ∙ c.in_default.is in
-    subst (λ (ps : List Extent). HasCopied g.D.Disk.tells v.shape v.digests (g.D.Disk.state c.args.disk.now).files (data_of ps) c.args.most (g.O.Sink.state c.args.out.now) c.args.sheet.now (g.O.Sink.state c.loop-part.out) c.loop-part.sheet)
+    subst (λ (ps : List Extent). HasCopied g.D.Disk.tells v.shape v.digests (g.D.Disk.state c.args.disk.now).files (data_of ps) c.args.most (g.O.Sink.state c.args.out.now) c.args.page.now (g.O.Sink.state c.loop-part.out) c.loop-part.page)
     (take_past p.parts c.loop-part.k (no_part (get v.objects c.args.name.now) c.loop-part.k p gone is))
     (c.loop-part.invariant.copied p is)

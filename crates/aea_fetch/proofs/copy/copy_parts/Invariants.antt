@@ -14,7 +14,7 @@ invariant-loop-part g l = record {
   within : (p : Placed) → get l.ledger.objects l.name ≡ Some p → l.k ≤ length p.parts;
   buffer : length l.cell ≡ cell_size l.ledger.shape;
   left : (p : Placed) → get l.ledger.objects l.name ≡ Some p → l.left ≡ l.most - length (data_of (take l.k p.parts)) * l.ledger.shape.block;
-  copied : (p : Placed) → get l.ledger.objects l.name ≡ Some p → HasCopied g.D.Disk.tells l.ledger.shape l.ledger.digests (g.D.Disk.state l.fn.disk).files (data_of (take l.k p.parts)) l.most (g.O.Sink.state l.fn.out) l.fn.sheet (g.O.Sink.state l.out) l.sheet;
+  copied : (p : Placed) → get l.ledger.objects l.name ≡ Some p → HasCopied g.D.Disk.tells l.ledger.shape l.ledger.digests (g.D.Disk.state l.fn.disk).files (data_of (take l.k p.parts)) l.most (g.O.Sink.state l.fn.out) l.fn.page (g.O.Sink.state l.out) l.page;
   still : (g.O.Sink.state l.out).faults ≡ (g.O.Sink.state l.fn.out).faults;
   reads : OnlyReads g.D.Disk.tells ⊥ (g.D.Disk.state l.fn.disk) (g.D.Disk.state l.disk);
 }

@@ -23,8 +23,8 @@ returns-in_default-clause-reads g c = reads_none g.D.Disk.tells _ (g.D.Disk.stat
 pub returns-in_default-cell_buffer-clause-reads : goal.returns-in_default-cell_buffer-clause-reads
 returns-in_default-cell_buffer-clause-reads g c = reads_none g.D.Disk.tells _ (g.D.Disk.state c.args.disk.now) (λ is. let e = is in cc)
 
-pub returns-in_default-new-clause-reads : goal.returns-in_default-new-clause-reads
-returns-in_default-new-clause-reads g c = reads_none g.D.Disk.tells _ (g.D.Disk.state c.args.disk.now) (λ is. let e = is in cc)
+pub returns-in_default-large-clause-reads : goal.returns-in_default-large-clause-reads
+returns-in_default-large-clause-reads g c = reads_none g.D.Disk.tells _ (g.D.Disk.state c.args.disk.now) (λ is. let e = is in cc)
 
 pub returns-in-Ok-Some-clause-damaged : goal.returns-in-Ok-Some-clause-damaged
 returns-in-Ok-Some-clause-damaged g c b e =

@@ -10,7 +10,7 @@ use Rattle.aea_plan.specs.Verdicts.{lines_by}
 use Rattle.aea_restore.specs.Repairs.{IsLeft}
 use Rattle.aea_repair.specs.declared.fault.RepairFault.TheVariants.{DiskFault}
 use Rattle.aea_repair.proofs.Survivors.{AreInside, block_in_archive}
-use Rattle.aea_repair.proofs.Frames.{blocks_as}
+use Rattle.aea_archive.proofs.Writes.{cells_as}
 use Rattle.aea_repair.proofs.Ends.{not_written, repairs_ok, repairs_unprinted, repairs_err, err_as, only_memory}
 use Rattle.aea_repair.proofs.Reporting.{report_fits, same_bytes}
 use Rattle.aea_repair.proofs.repairing.repair.Goals as goal
@@ -50,7 +50,7 @@ returns-in-Err-clause-memory g c e = c.restore_archive.ensures.memory (c.in-Err.
 
 pub returns-in-Err-clause-writes : goal.returns-in-Err-clause-writes
 returns-in-Err-clause-writes g c =
-    blocks_as g.D.Disk.tells (c.restore_archive.result ≡ Err DiskFault) _ c.args.ledger.now (IsLeft (HasBlock c.args.ledger.now.lattice)) (g.D.Disk.state c.args.disk.now) (g.D.Disk.state c.restore_archive.new.disk)
+    cells_as g.D.Disk.tells (c.restore_archive.result ≡ Err DiskFault) _ c.args.ledger.now.shape c.args.ledger.now.lattice.n (IsLeft (HasBlock c.args.ledger.now.lattice)) (g.D.Disk.state c.args.disk.now) (g.D.Disk.state c.restore_archive.new.disk)
     (λ e. c.in-Err.is ∙ ap Err (let h = e in cc)) (λ e. err_as (sym c.in-Err.is ∙ e)) c.restore_archive.ensures.writes
 
 pub returns-in-Err-clause-out_cause : goal.returns-in-Err-clause-out_cause
@@ -95,7 +95,7 @@ returns-in-Ok-print_plan-clause-reports g c written =
 
 pub returns-in-Ok-print_plan-clause-writes : goal.returns-in-Ok-print_plan-clause-writes
 returns-in-Ok-print_plan-clause-writes g c =
-    blocks_as g.D.Disk.tells (c.restore_archive.result ≡ Err DiskFault) _ c.args.ledger.now (IsLeft (HasBlock c.args.ledger.now.lattice)) (g.D.Disk.state c.args.disk.now) (g.D.Disk.state c.restore_archive.new.disk)
+    cells_as g.D.Disk.tells (c.restore_archive.result ≡ Err DiskFault) _ c.args.ledger.now.shape c.args.ledger.now.lattice.n (IsLeft (HasBlock c.args.ledger.now.lattice)) (g.D.Disk.state c.args.disk.now) (g.D.Disk.state c.restore_archive.new.disk)
     (λ e. absurd (let h = e in cc)) (λ e. absurd (let h = sym c.in-Ok.is ∙ e in cc)) c.restore_archive.ensures.writes
 
 pub returns-in-Ok-print_plan-clause-out_kept : goal.returns-in-Ok-print_plan-clause-out_kept
@@ -147,7 +147,7 @@ returns-clause-complete g c told records datas has are own disk output = absurd 
 
 pub returns-clause-writes : goal.returns-clause-writes
 returns-clause-writes g c =
-    blocks_as g.D.Disk.tells (c.restore_archive.result ≡ Err DiskFault) _ c.args.ledger.now (IsLeft (HasBlock c.args.ledger.now.lattice)) (g.D.Disk.state c.args.disk.now) (g.D.Disk.state c.restore_archive.new.disk)
+    cells_as g.D.Disk.tells (c.restore_archive.result ≡ Err DiskFault) _ c.args.ledger.now.shape c.args.ledger.now.lattice.n (IsLeft (HasBlock c.args.ledger.now.lattice)) (g.D.Disk.state c.args.disk.now) (g.D.Disk.state c.restore_archive.new.disk)
     (λ e. absurd (let h = e in cc)) (λ e. absurd (let h = sym c.in-Ok.is ∙ e in cc)) c.restore_archive.ensures.writes
 
 pub returns-clause-out_kept : goal.returns-clause-out_kept

@@ -16,7 +16,8 @@ use Rattle.aea_restore.specs.Laws.{IsRestorable}
 use Rattle.aea_restore.specs.Repairs.{IsLeft}
 use Rattle.aea_repair.specs.declared.fault.RepairFault.TheVariants.{DiskFault}
 use Rattle.aea_repair.proofs.Survivors.{AreInside, block_of_shape, block_in_archive, marks_agree, held_left}
-use Rattle.aea_repair.proofs.Frames.{blocks_read, read_then_blocks, blocks_as, held_on, held_read}
+use Rattle.aea_archive.proofs.Writes.{cells_read, read_then_cells, cells_as, cells_held}
+use Rattle.aea_repair.proofs.Frames.{held_read}
 use Rattle.aea_repair.proofs.Ends.{repairs_broken, repairs_unwritten, repairs_later, repairs_ok, repairs_err, err_as}
 use Rattle.aea_repair.proofs.restoring.restore_archive.Goals as goal
 
@@ -34,7 +35,7 @@ returns-in-Err-DiskFault-clause-held g c told b has =
 
 pub returns-in-Err-DiskFault-clause-writes : goal.returns-in-Err-DiskFault-clause-writes
 returns-in-Err-DiskFault-clause-writes g c =
-    blocks_read c.homes_are_on_its_sites.ensures g.D.Disk.tells (c.scan.result ≡ Err scanning.DiskFault) _ c.args.ledger.now (IsLeft (HasBlock c.args.ledger.now.lattice)) (g.D.Disk.state c.args.disk.now) (g.D.Disk.state c.scan.new.disk)
+    cells_read c.homes_are_on_its_sites.ensures g.D.Disk.tells (c.scan.result ≡ Err scanning.DiskFault) _ c.args.ledger.now.shape c.args.ledger.now.lattice.n (IsLeft (HasBlock c.args.ledger.now.lattice)) (g.D.Disk.state c.args.disk.now) (g.D.Disk.state c.scan.new.disk)
     (λ e. c.in-Err-DiskFault.is ∙ ap Err c.in-Err-DiskFault.field-0-is) (λ e. cc) c.scan.ensures.reads
 
 pub returns-in-Err-NoMemory-clause-repairs : goal.returns-in-Err-NoMemory-clause-repairs
@@ -52,7 +53,7 @@ returns-in-Err-NoMemory-clause-memory g c e =
 
 pub returns-in-Err-NoMemory-clause-writes : goal.returns-in-Err-NoMemory-clause-writes
 returns-in-Err-NoMemory-clause-writes g c =
-    blocks_read c.homes_are_on_its_sites.ensures g.D.Disk.tells (c.scan.result ≡ Err scanning.DiskFault) _ c.args.ledger.now (IsLeft (HasBlock c.args.ledger.now.lattice)) (g.D.Disk.state c.args.disk.now) (g.D.Disk.state c.scan.new.disk)
+    cells_read c.homes_are_on_its_sites.ensures g.D.Disk.tells (c.scan.result ≡ Err scanning.DiskFault) _ c.args.ledger.now.shape c.args.ledger.now.lattice.n (IsLeft (HasBlock c.args.ledger.now.lattice)) (g.D.Disk.state c.args.disk.now) (g.D.Disk.state c.scan.new.disk)
     (λ e. absurd (let h = e in cc)) (λ is. absurd (let h = sym (c.in-Err-NoMemory.is ∙ ap Err c.in-Err-NoMemory.field-0-is) ∙ is in cc)) c.scan.ensures.reads
 
 -- ---- there was no memory for the plan
@@ -72,7 +73,7 @@ returns-in_default-clause-memory g c e =
 
 pub returns-in_default-clause-writes : goal.returns-in_default-clause-writes
 returns-in_default-clause-writes g c =
-    blocks_read c.homes_are_on_its_sites.ensures g.D.Disk.tells (c.scan.result ≡ Err scanning.DiskFault) _ c.args.ledger.now (IsLeft (HasBlock c.args.ledger.now.lattice)) (g.D.Disk.state c.args.disk.now) (g.D.Disk.state c.scan.new.disk)
+    cells_read c.homes_are_on_its_sites.ensures g.D.Disk.tells (c.scan.result ≡ Err scanning.DiskFault) _ c.args.ledger.now.shape c.args.ledger.now.lattice.n (IsLeft (HasBlock c.args.ledger.now.lattice)) (g.D.Disk.state c.args.disk.now) (g.D.Disk.state c.scan.new.disk)
     (λ e. absurd (let h = e in cc)) (λ is. absurd (let h = sym c.in-Ok.is ∙ is in cc)) c.scan.ensures.reads
 
 -- ---- the plan is carried out
@@ -104,7 +105,7 @@ returns-in-Ok-restore_planned-clause-held g c told b has held =
     let new = g.D.Disk.state c.restore_planned.new.disk in
     let known = is_marked c.in-Ok.marks in
     let inside : AreInside v = λ d d_has. block_in_archive v c.lattice-lattice.result d c.lattice-lattice.ensures.value c.lattice-lattice.ensures.of_shape d_has in
-    held_on g.D.Disk.tells _ v (IsLeft (IsRestorable v.lattice known)) old new b told
+    cells_held g.D.Disk.tells _ v (IsLeft (IsRestorable v.lattice known)) old new b told
     (block_of_shape v c.lattice-lattice.result b c.lattice-lattice.ensures.value c.lattice-lattice.ensures.of_shape has)
     (held_left v known old b inside (c.in-Ok.ensures.survivors told) has held)
     (returns-in-Ok-restore_planned-clause-repairs g c told known (c.in-Ok.ensures.survivors told)).alone held
@@ -115,8 +116,8 @@ returns-in-Ok-restore_planned-clause-writes g c =
     let keep = IsLeft (HasBlock v.lattice) in
     let old = g.D.Disk.state c.args.disk.now in
     let new = g.D.Disk.state c.restore_planned.new.disk in
-    blocks_as g.D.Disk.tells (c.restore_planned.result ≡ Err DiskFault) _ v keep old new (λ e. absurd (let h = e in cc)) (λ e. absurd (let h = sym c.in-Ok-restore_planned.is ∙ e in cc))
-    (read_then_blocks c.homes_are_on_its_sites.ensures g.D.Disk.tells (c.scan.result ≡ Err scanning.DiskFault) (c.restore_planned.result ≡ Err DiskFault) v keep old (g.D.Disk.state c.scan.new.disk) new (λ is. absurd (let h = sym c.in-Ok.is ∙ is in cc)) c.scan.ensures.reads c.restore_planned.ensures.writes)
+    cells_as g.D.Disk.tells (c.restore_planned.result ≡ Err DiskFault) _ v.shape v.lattice.n keep old new (λ e. absurd (let h = e in cc)) (λ e. absurd (let h = sym c.in-Ok-restore_planned.is ∙ e in cc))
+    (read_then_cells c.homes_are_on_its_sites.ensures g.D.Disk.tells (c.scan.result ≡ Err scanning.DiskFault) (c.restore_planned.result ≡ Err DiskFault) v.shape v.lattice.n keep old (g.D.Disk.state c.scan.new.disk) new (λ is. absurd (let h = sym c.in-Ok.is ∙ is in cc)) c.scan.ensures.reads c.restore_planned.ensures.writes)
 
 pub returns-in-Ok-restore_planned-clause-report : goal.returns-in-Ok-restore_planned-clause-report
 returns-in-Ok-restore_planned-clause-report g c =
@@ -154,7 +155,7 @@ returns-clause-held g c told b has held =
     let new = g.D.Disk.state c.restore_planned.new.disk in
     let known = is_marked c.in-Ok.marks in
     let inside : AreInside v = λ d d_has. block_in_archive v c.lattice-lattice.result d c.lattice-lattice.ensures.value c.lattice-lattice.ensures.of_shape d_has in
-    held_on g.D.Disk.tells _ v (IsLeft (IsRestorable v.lattice known)) old new b told
+    cells_held g.D.Disk.tells _ v (IsLeft (IsRestorable v.lattice known)) old new b told
     (block_of_shape v c.lattice-lattice.result b c.lattice-lattice.ensures.value c.lattice-lattice.ensures.of_shape has)
     (held_left v known old b inside (c.in-Ok.ensures.survivors told) has held)
     (returns-clause-repairs g c told known (c.in-Ok.ensures.survivors told)).alone held
@@ -181,5 +182,5 @@ returns-clause-writes g c =
     let keep = IsLeft (HasBlock v.lattice) in
     let old = g.D.Disk.state c.args.disk.now in
     let new = g.D.Disk.state c.restore_planned.new.disk in
-    blocks_as g.D.Disk.tells (c.restore_planned.result ≡ Err DiskFault) _ v keep old new (λ e. c.in-Err.is ∙ ap Err (let h = e in cc)) (λ e. err_as (sym c.in-Err.is ∙ e))
-    (read_then_blocks c.homes_are_on_its_sites.ensures g.D.Disk.tells (c.scan.result ≡ Err scanning.DiskFault) (c.restore_planned.result ≡ Err DiskFault) v keep old (g.D.Disk.state c.scan.new.disk) new (λ is. absurd (let h = sym c.in-Ok.is ∙ is in cc)) c.scan.ensures.reads c.restore_planned.ensures.writes)
+    cells_as g.D.Disk.tells (c.restore_planned.result ≡ Err DiskFault) _ v.shape v.lattice.n keep old new (λ e. c.in-Err.is ∙ ap Err (let h = e in cc)) (λ e. err_as (sym c.in-Err.is ∙ e))
+    (read_then_cells c.homes_are_on_its_sites.ensures g.D.Disk.tells (c.scan.result ≡ Err scanning.DiskFault) (c.restore_planned.result ≡ Err DiskFault) v.shape v.lattice.n keep old (g.D.Disk.state c.scan.new.disk) new (λ is. absurd (let h = sym c.in-Ok.is ∙ is in cc)) c.scan.ensures.reads c.restore_planned.ensures.writes)

@@ -10,7 +10,7 @@ use Rattle.aea_repair.specs.declared.fault.RepairFault.{RepairFault}
 use Rattle.aea_repair.specs.declared.fault.RepairFault.TheVariants.{Clash, DiskFault}
 use Rattle.aea_repair.specs.Repairs.{fault_of, Repairs}
 use Rattle.aea_repair.proofs.Survivors.{AreInside, block_of_shape, block_in_archive, tests_agree, marks_agree, clash_as}
-use Rattle.aea_repair.proofs.Frames.{blocks_less}
+use Rattle.aea_archive.proofs.Writes.{cells_less_as}
 use Rattle.aea_repair.proofs.Ends.{left_as, was_clash, was_disk, is_of_stage, all_ready, repairs_failed, repairs_done}
 use Rattle.aea_repair.proofs.restoring.restore_planned.Goals as goal
 
@@ -34,7 +34,7 @@ pub returns-in-Ok-clause-writes : goal.returns-in-Ok-clause-writes
 returns-in-Ok-clause-writes g c =
     let v = c.args.ledger.now in
     let given = IsGiven c.args.plan.now.steps c.args.plan.now.verdicts.fates in
-    blocks_less g.D.Disk.tells (c.restore.result ≡ Err stage.DiskFault) _ v (IsLeft given) (IsLeft (HasBlock v.lattice)) (g.D.Disk.state c.args.disk.now) (g.D.Disk.state c.restore.new.disk)
+    cells_less_as g.D.Disk.tells (c.restore.result ≡ Err stage.DiskFault) _ v.shape v.lattice.n (IsLeft given) (IsLeft (HasBlock v.lattice)) (g.D.Disk.state c.args.disk.now) (g.D.Disk.state c.restore.new.disk)
     (λ a left one. left ((c.requires.mends (is_marked c.args.marks.now) (λ b has. refl) a).0 one).block)
     (λ e. absurd (let h = e in cc)) (λ e. absurd (let h = sym c.in-Ok.is ∙ e in cc)) c.restore.ensures.writes
 
@@ -51,7 +51,7 @@ returns-in-Err-clause-repairs g c told marked known tell =
     subst (λ (f : RepairFault). Repairs {T = Unit {0}} g.D.Disk.tells v known old new (Err f)) (sym c.repair_fault.ensures)
     (repairs_failed {T = Unit {0}} g.D.Disk.tells v known old new (fault_of fault) (is_of_stage fault).1
     (left_as v (IsRestorable v.lattice known) old.files new.files fault left)
-    (blocks_less g.D.Disk.tells (c.restore.result ≡ Err stage.DiskFault) (fault_of fault ≡ DiskFault) v (IsLeft given) (IsLeft (IsRestorable v.lattice known)) old new
+    (cells_less_as g.D.Disk.tells (c.restore.result ≡ Err stage.DiskFault) (fault_of fault ≡ DiskFault) v.shape v.lattice.n (IsLeft given) (IsLeft (IsRestorable v.lattice known)) old new
     (λ a left one. left ((mends a).0 one)) (λ e. c.in-Err.is ∙ ap Err (was_disk fault e)) (λ e. let is_disk : c.in-Err.fault ≡ stage.DiskFault = (let h = sym c.in-Err.is ∙ e in cc) in ap fault_of is_disk) c.restore.ensures.writes)
     (λ b t k e.
     let one = c.restore.ensures.computed told marked b t k (c.in-Err.is ∙ ap Err (was_clash fault b t k e)) in
@@ -71,6 +71,6 @@ pub returns-in-Err-clause-writes : goal.returns-in-Err-clause-writes
 returns-in-Err-clause-writes g c =
     let v = c.args.ledger.now in
     let given = IsGiven c.args.plan.now.steps c.args.plan.now.verdicts.fates in
-    blocks_less g.D.Disk.tells (c.restore.result ≡ Err stage.DiskFault) _ v (IsLeft given) (IsLeft (HasBlock v.lattice)) (g.D.Disk.state c.args.disk.now) (g.D.Disk.state c.restore.new.disk)
+    cells_less_as g.D.Disk.tells (c.restore.result ≡ Err stage.DiskFault) _ v.shape v.lattice.n (IsLeft given) (IsLeft (HasBlock v.lattice)) (g.D.Disk.state c.args.disk.now) (g.D.Disk.state c.restore.new.disk)
     (λ a left one. left ((c.requires.mends (is_marked c.args.marks.now) (λ b has. refl) a).0 one).block)
     (λ e. let is : c.repair_fault.result ≡ DiskFault = (let h = e in cc) in c.in-Err.is ∙ ap Err (was_disk c.in-Err.fault (sym c.repair_fault.ensures ∙ is))) (λ e. let is_disk : c.in-Err.fault ≡ stage.DiskFault = (let h = sym c.in-Err.is ∙ e in cc) in ap Err (c.repair_fault.ensures ∙ ap fault_of is_disk)) c.restore.ensures.writes

@@ -1,12 +1,12 @@
 use Rattle.std.proofs.Common.{◌≡◌, ◌≢◌, replicate, Err, sym, ◌∙◌, ap}
 use Rattle.aea_view.specs.Marked.{is_marked}
 use Rattle.aea_restore.specs.declared.fault.RestoreFault.TheVariants.{DiskFault}
-use Rattle.aea_restore.proofs.Writing.{blocks_none, blocks_read, read_then_blocks}
+use Rattle.aea_archive.proofs.Writes.{cells_none, cells_read, read_then_cells}
 use Rattle.aea_restore.proofs.Blocks.{read_failed, read_then_goes, read_then_torn, added_stays, added_clash}
 use Rattle.aea_restore.proofs.block.restore_sum.Goals as goal
 
 pub returns-then-get-clause-writes : goal.returns-then-get-clause-writes
-returns-then-get-clause-writes g c = blocks_none g.D.Disk.tells _ c.args.ledger.now (λ a. a ≢ c.args.b) (g.D.Disk.state c.args.disk.now) (λ is. absurd (let e = is in cc))
+returns-then-get-clause-writes g c = cells_none g.D.Disk.tells _ c.args.ledger.now.shape c.args.ledger.now.lattice.n (λ a. a ≢ c.args.b) (g.D.Disk.state c.args.disk.now) (λ is. absurd (let e = is in cc))
 
 pub returns-in-Err-clause-torn : goal.returns-in-Err-clause-torn
 returns-in-Err-clause-torn g c is told =
@@ -17,7 +17,7 @@ returns-in-Err-clause-clash g c d told computed is tells known first all = absur
 
 pub returns-in-Err-clause-writes : goal.returns-in-Err-clause-writes
 returns-in-Err-clause-writes g c =
-    blocks_read c.homes_are_on_its_sites.ensures g.D.Disk.tells (c.add_equations.result ≡ Err DiskFault) _ c.args.ledger.now (λ a. a ≢ c.args.b) (g.D.Disk.state c.args.disk.now) (g.D.Disk.state c.add_equations.new.disk) (λ is. c.in-Err.is ∙ is) (λ is. sym c.in-Err.is ∙ is) c.add_equations.ensures.reads
+    cells_read c.homes_are_on_its_sites.ensures g.D.Disk.tells (c.add_equations.result ≡ Err DiskFault) _ c.args.ledger.now.shape c.args.ledger.now.lattice.n (λ a. a ≢ c.args.b) (g.D.Disk.state c.args.disk.now) (g.D.Disk.state c.add_equations.new.disk) (λ is. c.in-Err.is ∙ is) (λ is. sym c.in-Err.is ∙ is) c.add_equations.ensures.reads
 
 pub returns-clause-way : goal.returns-clause-way
 returns-clause-way g c fine told =
@@ -47,5 +47,5 @@ returns-clause-clash g c d told computed is tells known first all =
 
 pub returns-clause-writes : goal.returns-clause-writes
 returns-clause-writes g c =
-    read_then_blocks c.homes_are_on_its_sites.ensures g.D.Disk.tells (c.add_equations.result ≡ Err DiskFault) (c.write_block.result ≡ Err DiskFault) c.args.ledger.now (λ a. a ≢ c.args.b) (g.D.Disk.state c.args.disk.now) (g.D.Disk.state c.add_equations.new.disk) (g.D.Disk.state c.write_block.new.disk)
+    read_then_cells c.homes_are_on_its_sites.ensures g.D.Disk.tells (c.add_equations.result ≡ Err DiskFault) (c.write_block.result ≡ Err DiskFault) c.args.ledger.now.shape c.args.ledger.now.lattice.n (λ a. a ≢ c.args.b) (g.D.Disk.state c.args.disk.now) (g.D.Disk.state c.add_equations.new.disk) (g.D.Disk.state c.write_block.new.disk)
     (λ is. absurd (let e = sym c.in-Ok.is ∙ is in cc)) c.add_equations.ensures.reads c.write_block.ensures.writes

@@ -9,11 +9,11 @@ use Rattle.aea_shelf.specs.Places.{cell_size, home_file, home_place, HasAtHome}
 use Rattle.aea_shelf.specs.Writes.{ChangesHome, KeepsPadded}
 use Rattle.aea_archive.proofs.Honest.{stands}
 use Rattle.aea_restore.proofs.Drawing.{block_of_shape}
-use Rattle.aea_restore.proofs.Writing.{block_written, blocks_none}
+use Rattle.aea_archive.proofs.Writes.{cell_written, cells_none}
 use Rattle.aea_restore.proofs.payload.write_payload.Goals as goal
 
 pub returns-in-Some-clause-writes : goal.returns-in-Some-clause-writes
-returns-in-Some-clause-writes g c = blocks_none g.D.Disk.tells _ c.args.ledger.now (λ a. a ≢ c.args.b) (g.D.Disk.state c.args.disk.now) (λ is. absurd (let e = is in cc))
+returns-in-Some-clause-writes g c = cells_none g.D.Disk.tells _ c.args.ledger.now.shape c.args.ledger.now.lattice.n (λ a. a ≢ c.args.b) (g.D.Disk.state c.args.disk.now) (λ is. absurd (let e = is in cc))
 
 pub returns-in-Err-clause-elsewhere : goal.returns-in-Err-clause-elsewhere
 returns-in-Err-clause-elsewhere g c told =
@@ -25,8 +25,8 @@ returns-in-Err-clause-writes g c =
     let b = c.args.b in
     let old = g.D.Disk.state c.args.disk.now in
     let new = g.D.Disk.state c.write_cell.new.disk in
-    block_written c.cells_are_apart.ensures c.homes_are_in_rows.ensures c.homes_are_on_its_sites.ensures g.D.Disk.tells (IsErr c.write_cell.result) _ v b old new
-    (block_of_shape v c.lattice-lattice.result b c.lattice-lattice.ensures.value c.lattice-lattice.ensures.of_shape c.requires.block) c.requires.block
+    cell_written c.cells_are_apart.ensures c.homes_are_in_rows.ensures c.homes_are_on_its_sites.ensures g.D.Disk.tells (IsErr c.write_cell.result) _ v.shape v.lattice.n b old new
+    (block_of_shape v c.lattice-lattice.result b c.lattice-lattice.ensures.value c.lattice-lattice.ensures.of_shape c.requires.block) c.requires.block.last
     (λ f m n le room. g.met.D.Disk.smaller_fits c.args.disk.now f m n le room) (λ is. subst IsErr (sym c.in-Err.is) refl) (λ is. cc)
     (subst (λ (s : Shape). OnlyWrites g.D.Disk.tells (IsReady old) (HasRoomTo old (home_file s b) (home_place s b + cell_size s)) (IsErr c.write_cell.result) (ChangesHome s b) old new) c.shape-shape.ensures.value c.write_cell.ensures.writes)
 
@@ -52,7 +52,7 @@ returns-in-Ok-clause-writes g c =
     let b = c.args.b in
     let old = g.D.Disk.state c.args.disk.now in
     let new = g.D.Disk.state c.write_cell.new.disk in
-    block_written c.cells_are_apart.ensures c.homes_are_in_rows.ensures c.homes_are_on_its_sites.ensures g.D.Disk.tells (IsErr c.write_cell.result) _ v b old new
-    (block_of_shape v c.lattice-lattice.result b c.lattice-lattice.ensures.value c.lattice-lattice.ensures.of_shape c.requires.block) c.requires.block
+    cell_written c.cells_are_apart.ensures c.homes_are_in_rows.ensures c.homes_are_on_its_sites.ensures g.D.Disk.tells (IsErr c.write_cell.result) _ v.shape v.lattice.n b old new
+    (block_of_shape v c.lattice-lattice.result b c.lattice-lattice.ensures.value c.lattice-lattice.ensures.of_shape c.requires.block) c.requires.block.last
     (λ f m n le room. g.met.D.Disk.smaller_fits c.args.disk.now f m n le room) (λ is. absurd (let e = is in cc)) (λ is. absurd (ok_fine c.in-Ok.is is))
     (subst (λ (s : Shape). OnlyWrites g.D.Disk.tells (IsReady old) (HasRoomTo old (home_file s b) (home_place s b + cell_size s)) (IsErr c.write_cell.result) (ChangesHome s b) old new) c.shape-shape.ensures.value c.write_cell.ensures.writes)

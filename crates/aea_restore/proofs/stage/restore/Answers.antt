@@ -10,9 +10,9 @@ use Rattle.aea_restore.specs.declared.fault.RestoreFault.TheVariants.{DiskFault}
 use Rattle.aea_restore.specs.Given.{is_given, IsGiven}
 use Rattle.aea_restore.specs.Repairs.{IsLeft}
 use Rattle.aea_restore.proofs.Drawing.{block_of_shape, block_in_archive, drawn_first, drawn_same}
-use Rattle.aea_restore.proofs.Writing.{blocks_less, blocks_then_read}
+use Rattle.aea_archive.proofs.Writes.{cells_less_as, cells_then_read, cells_held}
 use Rattle.aea_restore.proofs.Ways.{way_first, way_same, ends_all, ends_some}
-use Rattle.aea_restore.proofs.Ends.{all_intact, honest_of, never_clash, left_fault, only_given, held_left, held_on}
+use Rattle.aea_restore.proofs.Ends.{all_intact, honest_of, never_clash, left_fault, only_given, held_left}
 use Rattle.aea_restore.proofs.Planned.{given_inside}
 use Rattle.aea_restore.proofs.stage.restore.Goals as goal
 
@@ -26,7 +26,7 @@ returns-in-Err-clause-left g c told =
 
 pub returns-in-Err-clause-writes : goal.returns-in-Err-clause-writes
 returns-in-Err-clause-writes g c =
-    blocks_less g.D.Disk.tells (c.restore_all.result ≡ Err DiskFault) _ c.args.ledger.now (IsLeft (IsGiven c.args.steps.now c.args.fates.now)) (IsLeft (IsGiven c.args.steps.now c.args.fates.now)) (g.D.Disk.state c.args.disk.now) (g.D.Disk.state c.restore_all.new.disk) (λ d left. left) (λ is. c.in-Err.is ∙ is) (λ is. sym c.in-Err.is ∙ is) c.restore_all.ensures.writes
+    cells_less_as g.D.Disk.tells (c.restore_all.result ≡ Err DiskFault) _ c.args.ledger.now.shape c.args.ledger.now.lattice.n (IsLeft (IsGiven c.args.steps.now c.args.fates.now)) (IsLeft (IsGiven c.args.steps.now c.args.fates.now)) (g.D.Disk.state c.args.disk.now) (g.D.Disk.state c.restore_all.new.disk) (λ d left. left) (λ is. c.in-Err.is ∙ is) (λ is. sym c.in-Err.is ∙ is) c.restore_all.ensures.writes
 
 pub returns-in-Err-clause-ledger : goal.returns-in-Err-clause-ledger
 returns-in-Err-clause-ledger g c fixed =
@@ -50,7 +50,7 @@ returns-in-Err-clause-marked g c tells are b has is =
 
 pub returns-in-Err-clause-held : goal.returns-in-Err-clause-held
 returns-in-Err-clause-held g c tells are b has held =
-    held_on g.D.Disk.tells _ c.args.ledger.now (IsGiven c.args.steps.now c.args.fates.now) (g.D.Disk.state c.args.disk.now) (g.D.Disk.state c.restore_all.new.disk) b tells (block_of_shape c.args.ledger.now c.lattice-lattice.result b c.lattice-lattice.ensures.value c.lattice-lattice.ensures.of_shape has)
+    cells_held g.D.Disk.tells _ c.args.ledger.now (IsLeft (IsGiven c.args.steps.now c.args.fates.now)) (g.D.Disk.state c.args.disk.now) (g.D.Disk.state c.restore_all.new.disk) b tells (block_of_shape c.args.ledger.now c.lattice-lattice.result b c.lattice-lattice.ensures.value c.lattice-lattice.ensures.of_shape has)
     (held_left c.args.ledger.now (IsGiven c.args.steps.now c.args.fates.now) (g.D.Disk.state c.args.disk.now) (is_marked c.args.marks.now) b (λ b has. block_in_archive c.args.ledger.now c.lattice-lattice.result b c.lattice-lattice.ensures.value c.lattice-lattice.ensures.of_shape has) are (λ b is. (given_inside c.args.ledger.now.lattice (is_marked c.args.marks.now) c.args.steps.now c.args.fates.now c.requires.plan b is).1) has held)
     (returns-in-Err-clause-writes g c) held
 
@@ -73,8 +73,8 @@ returns-in-Ok-sync-clause-left g c told =
 
 pub returns-in-Ok-sync-clause-writes : goal.returns-in-Ok-sync-clause-writes
 returns-in-Ok-sync-clause-writes g c =
-    blocks_less g.D.Disk.tells (IsErr c.sync.result) _ c.args.ledger.now (IsLeft (IsGiven c.args.steps.now c.args.fates.now)) (IsLeft (IsGiven c.args.steps.now c.args.fates.now)) (g.D.Disk.state c.args.disk.now) (g.D.Disk.state c.sync.new.self) (λ d left. left) (λ is. absurd (let e = is in cc)) (λ is. absurd (ok_fine c.in-Ok-sync.is is))
-    (blocks_then_read c.homes_are_on_its_sites.ensures g.D.Disk.tells (c.restore_all.result ≡ Err DiskFault) (IsErr c.sync.result) c.args.ledger.now (IsLeft (IsGiven c.args.steps.now c.args.fates.now)) (g.D.Disk.state c.args.disk.now) (g.D.Disk.state c.restore_all.new.disk) (g.D.Disk.state c.sync.new.self) (λ is. absurd (let e = sym c.in-Ok.is ∙ is in cc)) c.restore_all.ensures.writes
+    cells_less_as g.D.Disk.tells (IsErr c.sync.result) _ c.args.ledger.now.shape c.args.ledger.now.lattice.n (IsLeft (IsGiven c.args.steps.now c.args.fates.now)) (IsLeft (IsGiven c.args.steps.now c.args.fates.now)) (g.D.Disk.state c.args.disk.now) (g.D.Disk.state c.sync.new.self) (λ d left. left) (λ is. absurd (let e = is in cc)) (λ is. absurd (ok_fine c.in-Ok-sync.is is))
+    (cells_then_read c.homes_are_on_its_sites.ensures g.D.Disk.tells (c.restore_all.result ≡ Err DiskFault) (IsErr c.sync.result) c.args.ledger.now.shape c.args.ledger.now.lattice.n (IsLeft (IsGiven c.args.steps.now c.args.fates.now)) (g.D.Disk.state c.args.disk.now) (g.D.Disk.state c.restore_all.new.disk) (g.D.Disk.state c.sync.new.self) (λ is. absurd (let e = sym c.in-Ok.is ∙ is in cc)) c.restore_all.ensures.writes
     (reads_one g.D.Disk.tells (g.D.Disk.state c.restore_all.new.disk) (g.D.Disk.state c.sync.new.self) c.sync.result c.sync.ensures.contents c.sync.ensures.crash c.sync.ensures.settled c.sync.ensures.time c.sync.ensures.cause c.sync.ensures.sure))
 
 pub returns-in-Ok-sync-clause-ledger : goal.returns-in-Ok-sync-clause-ledger
@@ -91,7 +91,7 @@ returns-in-Ok-sync-clause-marked g c tells are b has is =
 
 pub returns-in-Ok-sync-clause-held : goal.returns-in-Ok-sync-clause-held
 returns-in-Ok-sync-clause-held g c tells are b has held =
-    held_on g.D.Disk.tells _ c.args.ledger.now (IsGiven c.args.steps.now c.args.fates.now) (g.D.Disk.state c.args.disk.now) (g.D.Disk.state c.sync.new.self) b tells (block_of_shape c.args.ledger.now c.lattice-lattice.result b c.lattice-lattice.ensures.value c.lattice-lattice.ensures.of_shape has)
+    cells_held g.D.Disk.tells _ c.args.ledger.now (IsLeft (IsGiven c.args.steps.now c.args.fates.now)) (g.D.Disk.state c.args.disk.now) (g.D.Disk.state c.sync.new.self) b tells (block_of_shape c.args.ledger.now c.lattice-lattice.result b c.lattice-lattice.ensures.value c.lattice-lattice.ensures.of_shape has)
     (held_left c.args.ledger.now (IsGiven c.args.steps.now c.args.fates.now) (g.D.Disk.state c.args.disk.now) (is_marked c.args.marks.now) b (λ b has. block_in_archive c.args.ledger.now c.lattice-lattice.result b c.lattice-lattice.ensures.value c.lattice-lattice.ensures.of_shape has) are (λ b is. (given_inside c.args.ledger.now.lattice (is_marked c.args.marks.now) c.args.steps.now c.args.fates.now c.requires.plan b is).1) has held)
     (returns-in-Ok-sync-clause-writes g c) held
 
@@ -108,8 +108,8 @@ returns-in-Err-sync-clause-left g c told =
 
 pub returns-in-Err-sync-clause-writes : goal.returns-in-Err-sync-clause-writes
 returns-in-Err-sync-clause-writes g c =
-    blocks_less g.D.Disk.tells (IsErr c.sync.result) _ c.args.ledger.now (IsLeft (IsGiven c.args.steps.now c.args.fates.now)) (IsLeft (IsGiven c.args.steps.now c.args.fates.now)) (g.D.Disk.state c.args.disk.now) (g.D.Disk.state c.sync.new.self) (λ d left. left) (λ is. subst IsErr (sym c.in-Err-sync.is) refl) (λ is. cc)
-    (blocks_then_read c.homes_are_on_its_sites.ensures g.D.Disk.tells (c.restore_all.result ≡ Err DiskFault) (IsErr c.sync.result) c.args.ledger.now (IsLeft (IsGiven c.args.steps.now c.args.fates.now)) (g.D.Disk.state c.args.disk.now) (g.D.Disk.state c.restore_all.new.disk) (g.D.Disk.state c.sync.new.self) (λ is. absurd (let e = sym c.in-Ok.is ∙ is in cc)) c.restore_all.ensures.writes
+    cells_less_as g.D.Disk.tells (IsErr c.sync.result) _ c.args.ledger.now.shape c.args.ledger.now.lattice.n (IsLeft (IsGiven c.args.steps.now c.args.fates.now)) (IsLeft (IsGiven c.args.steps.now c.args.fates.now)) (g.D.Disk.state c.args.disk.now) (g.D.Disk.state c.sync.new.self) (λ d left. left) (λ is. subst IsErr (sym c.in-Err-sync.is) refl) (λ is. cc)
+    (cells_then_read c.homes_are_on_its_sites.ensures g.D.Disk.tells (c.restore_all.result ≡ Err DiskFault) (IsErr c.sync.result) c.args.ledger.now.shape c.args.ledger.now.lattice.n (IsLeft (IsGiven c.args.steps.now c.args.fates.now)) (g.D.Disk.state c.args.disk.now) (g.D.Disk.state c.restore_all.new.disk) (g.D.Disk.state c.sync.new.self) (λ is. absurd (let e = sym c.in-Ok.is ∙ is in cc)) c.restore_all.ensures.writes
     (reads_one g.D.Disk.tells (g.D.Disk.state c.restore_all.new.disk) (g.D.Disk.state c.sync.new.self) c.sync.result c.sync.ensures.contents c.sync.ensures.crash c.sync.ensures.settled c.sync.ensures.time c.sync.ensures.cause c.sync.ensures.sure))
 
 pub returns-in-Err-sync-clause-ledger : goal.returns-in-Err-sync-clause-ledger
@@ -126,7 +126,7 @@ returns-in-Err-sync-clause-marked g c tells are b has is =
 
 pub returns-in-Err-sync-clause-held : goal.returns-in-Err-sync-clause-held
 returns-in-Err-sync-clause-held g c tells are b has held =
-    held_on g.D.Disk.tells _ c.args.ledger.now (IsGiven c.args.steps.now c.args.fates.now) (g.D.Disk.state c.args.disk.now) (g.D.Disk.state c.sync.new.self) b tells (block_of_shape c.args.ledger.now c.lattice-lattice.result b c.lattice-lattice.ensures.value c.lattice-lattice.ensures.of_shape has)
+    cells_held g.D.Disk.tells _ c.args.ledger.now (IsLeft (IsGiven c.args.steps.now c.args.fates.now)) (g.D.Disk.state c.args.disk.now) (g.D.Disk.state c.sync.new.self) b tells (block_of_shape c.args.ledger.now c.lattice-lattice.result b c.lattice-lattice.ensures.value c.lattice-lattice.ensures.of_shape has)
     (held_left c.args.ledger.now (IsGiven c.args.steps.now c.args.fates.now) (g.D.Disk.state c.args.disk.now) (is_marked c.args.marks.now) b (λ b has. block_in_archive c.args.ledger.now c.lattice-lattice.result b c.lattice-lattice.ensures.value c.lattice-lattice.ensures.of_shape has) are (λ b is. (given_inside c.args.ledger.now.lattice (is_marked c.args.marks.now) c.args.steps.now c.args.fates.now c.requires.plan b is).1) has held)
     (returns-in-Err-sync-clause-writes g c) held
 

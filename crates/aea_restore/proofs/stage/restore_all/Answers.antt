@@ -9,7 +9,7 @@ use Rattle.aea_restore.specs.declared.fault.RestoreFault.TheVariants.{DiskFault}
 use Rattle.aea_restore.specs.Given.{blocks_summed, IsGiven}
 use Rattle.aea_restore.specs.Repairs.{IsLeft}
 use Rattle.aea_restore.proofs.Planned.{fates_sum}
-use Rattle.aea_restore.proofs.Writing.{blocks_then, blocks_less}
+use Rattle.aea_archive.proofs.Writes.{cells_both, cells_less_as}
 use Rattle.aea_restore.proofs.Loops.{or_assoc, some_more, some_both, goes_both, torn_both, torn_more, stays_both}
 use Rattle.aea_restore.proofs.stage.restore_all.Goals as goal
 
@@ -33,7 +33,7 @@ returns-in-Err-clause-clash g c d told computed is tells known first all =
 
 pub returns-in-Err-clause-writes : goal.returns-in-Err-clause-writes
 returns-in-Err-clause-writes g c =
-    blocks_less g.D.Disk.tells (c.restore_steps.result ≡ Err DiskFault) _ c.args.ledger.now (IsLeft (λ d. IsTrue (is_among (blocks_given c.args.steps.now) d))) (IsLeft (IsGiven c.args.steps.now c.args.fates.now)) (g.D.Disk.state c.args.disk.now) (g.D.Disk.state c.restore_steps.new.disk)
+    cells_less_as g.D.Disk.tells (c.restore_steps.result ≡ Err DiskFault) _ c.args.ledger.now.shape c.args.ledger.now.lattice.n (IsLeft (λ d. IsTrue (is_among (blocks_given c.args.steps.now) d))) (IsLeft (IsGiven c.args.steps.now c.args.fates.now)) (g.D.Disk.state c.args.disk.now) (g.D.Disk.state c.restore_steps.new.disk)
     (λ d left is. left (or_left (is_among (blocks_given c.args.steps.now) d) (is_among (blocks_summed c.args.fates.now) d) is)) (λ is. c.in-Err.is ∙ is) (λ is. sym c.in-Err.is ∙ is) c.restore_steps.ensures.writes
 
 pub restore_sums-requires-clause-can : goal.restore_sums-requires-clause-can
@@ -77,7 +77,7 @@ returns-clause-clash g c d told computed is tells known first all =
 
 pub returns-clause-writes : goal.returns-clause-writes
 returns-clause-writes g c =
-    blocks_then g.D.Disk.tells (c.restore_steps.result ≡ Err DiskFault) (c.restore_sums.result ≡ Err DiskFault) c.args.ledger.now (IsLeft (IsGiven c.args.steps.now c.args.fates.now)) (IsLeft (λ d. IsTrue (is_among (blocks_given c.args.steps.now) d))) (IsLeft (λ d. IsTrue (is_among (blocks_summed c.args.fates.now) d))) (g.D.Disk.state c.args.disk.now) (g.D.Disk.state c.restore_steps.new.disk) (g.D.Disk.state c.restore_sums.new.disk)
+    cells_both g.D.Disk.tells (c.restore_steps.result ≡ Err DiskFault) (c.restore_sums.result ≡ Err DiskFault) c.args.ledger.now.shape c.args.ledger.now.lattice.n (IsLeft (IsGiven c.args.steps.now c.args.fates.now)) (IsLeft (λ d. IsTrue (is_among (blocks_given c.args.steps.now) d))) (IsLeft (λ d. IsTrue (is_among (blocks_summed c.args.fates.now) d))) (g.D.Disk.state c.args.disk.now) (g.D.Disk.state c.restore_steps.new.disk) (g.D.Disk.state c.restore_sums.new.disk)
     (λ is. absurd (let e = sym c.in-Ok.is ∙ is in cc))
     (λ d left is. left (or_left (is_among (blocks_given c.args.steps.now) d) (is_among (blocks_summed c.args.fates.now) d) is))
     (λ d left is. left (or_right (is_among (blocks_given c.args.steps.now) d) (is_among (blocks_summed c.args.fates.now) d) is))

@@ -7,7 +7,7 @@ use Rattle.aea_restore.specs.declared.fault.RestoreFault.TheVariants.{DiskFault}
 use Rattle.aea_restore.specs.Given.{block_summed, CanSum}
 use Rattle.aea_restore.specs.Repairs.{IsLeft}
 use Rattle.aea_restore.proofs.Planned.{summed_one, summed_adds, summed_none}
-use Rattle.aea_restore.proofs.Writing.{blocks_none, blocks_less}
+use Rattle.aea_archive.proofs.Writes.{cells_none, cells_less_as}
 use Rattle.aea_restore.proofs.Loops.{torn_more}
 use Rattle.aea_restore.proofs.stage.restore_fate.Goals as goal
 
@@ -35,11 +35,11 @@ returns-in-Sum-clause-clash g c d told computed is tells known first all =
 
 pub returns-in-Sum-clause-writes : goal.returns-in-Sum-clause-writes
 returns-in-Sum-clause-writes g c =
-    blocks_less g.D.Disk.tells (c.restore_sum.result ≡ Err DiskFault) _ c.args.ledger.now (λ a. a ≢ c.in-Sum.block) (IsLeft (λ d. IsTrue (is_among (block_summed c.args.fate.now) d))) (g.D.Disk.state c.args.disk.now) (g.D.Disk.state c.restore_sum.new.disk)
+    cells_less_as g.D.Disk.tells (c.restore_sum.result ≡ Err DiskFault) _ c.args.ledger.now.shape c.args.ledger.now.lattice.n (λ a. a ≢ c.in-Sum.block) (IsLeft (λ d. IsTrue (is_among (block_summed c.args.fate.now) d))) (g.D.Disk.state c.args.disk.now) (g.D.Disk.state c.restore_sum.new.disk)
     (λ d left one. left (summed_one c.args.fate.now c.in-Sum.block c.in-Sum.eqs c.in-Sum.is d one)) (λ is. is) (λ is. is) c.restore_sum.ensures.writes
 
 pub returns-in-Word-clause-done : goal.returns-in-Word-clause-done
 returns-in-Word-clause-done g c d has = summed_none c.args.fate.now _ _ c.in-Word.is (is_marked c.args.marks.now d) d
 
 pub returns-in-Word-clause-writes : goal.returns-in-Word-clause-writes
-returns-in-Word-clause-writes g c = blocks_none g.D.Disk.tells _ c.args.ledger.now (IsLeft (λ d. IsTrue (is_among (block_summed c.args.fate.now) d))) (g.D.Disk.state c.args.disk.now) (λ is. absurd (let e = is in cc))
+returns-in-Word-clause-writes g c = cells_none g.D.Disk.tells _ c.args.ledger.now.shape c.args.ledger.now.lattice.n (IsLeft (λ d. IsTrue (is_among (block_summed c.args.fate.now) d))) (g.D.Disk.state c.args.disk.now) (λ is. absurd (let e = is in cc))

@@ -10,7 +10,7 @@ use Rattle.aea_restore.proofs.Loops.{steps_first, steps_next, step_given, steps_
 use Rattle.aea_restore.specs.declared.fault.RestoreFault.TheVariants.{DiskFault}
 use Rattle.aea_restore.specs.Repairs.{IsLeft}
 use Rattle.aea_restore.proofs.Adding.{got_some, take_whole}
-use Rattle.aea_restore.proofs.Writing.{blocks_none, blocks_then, blocks_less}
+use Rattle.aea_archive.proofs.Writes.{cells_none, cells_both, cells_less_as}
 use Rattle.aea_restore.proofs.steps.restore_steps.Goals as goal
 
 pub loop-k-init : goal.loop-k-init
@@ -22,7 +22,7 @@ loop-k-init g c = record {
   done = λ d has. steps_first (is_marked c.args.marks.now) c.args.steps.now d;
   way = λ told known first way. way;
   drawn = λ told known first all. all;
-  writes = blocks_none g.D.Disk.tells ⊥ c.args.ledger.now (IsLeft (λ d. IsTrue (is_among (blocks_given c.args.steps.now) d))) (g.D.Disk.state c.args.disk.now) (λ none. none);
+  writes = cells_none g.D.Disk.tells ⊥ c.args.ledger.now.shape c.args.ledger.now.lattice.n (IsLeft (λ d. IsTrue (is_among (blocks_given c.args.steps.now) d))) (g.D.Disk.state c.args.disk.now) (λ none. none);
 }
 
 pub unreachable-requires : goal.unreachable-requires
@@ -67,8 +67,8 @@ returns-in-Err-clause-clash g c d told computed is tells known first all =
 
 pub returns-in-Err-clause-writes : goal.returns-in-Err-clause-writes
 returns-in-Err-clause-writes g c =
-    blocks_less g.D.Disk.tells (c.restore_step.result ≡ Err DiskFault) _ c.args.ledger.now (IsLeft (λ d. IsTrue (is_among (blocks_given c.args.steps.now) d))) (IsLeft (λ d. IsTrue (is_among (blocks_given c.args.steps.now) d))) (g.D.Disk.state c.args.disk.now) (g.D.Disk.state c.restore_step.new.disk) (λ d left. left) (λ is. c.in-Err.is ∙ is) (λ is. sym c.in-Err.is ∙ is)
-    (blocks_then g.D.Disk.tells ⊥ (c.restore_step.result ≡ Err DiskFault) c.args.ledger.now (IsLeft (λ d. IsTrue (is_among (blocks_given c.args.steps.now) d))) (IsLeft (λ d. IsTrue (is_among (blocks_given c.args.steps.now) d))) (λ d. d ≡ c.in-Some.step.block → ⊥) (g.D.Disk.state c.args.disk.now) (g.D.Disk.state c.loop-k.disk) (g.D.Disk.state c.restore_step.new.disk)
+    cells_less_as g.D.Disk.tells (c.restore_step.result ≡ Err DiskFault) _ c.args.ledger.now.shape c.args.ledger.now.lattice.n (IsLeft (λ d. IsTrue (is_among (blocks_given c.args.steps.now) d))) (IsLeft (λ d. IsTrue (is_among (blocks_given c.args.steps.now) d))) (g.D.Disk.state c.args.disk.now) (g.D.Disk.state c.restore_step.new.disk) (λ d left. left) (λ is. c.in-Err.is ∙ is) (λ is. sym c.in-Err.is ∙ is)
+    (cells_both g.D.Disk.tells ⊥ (c.restore_step.result ≡ Err DiskFault) c.args.ledger.now.shape c.args.ledger.now.lattice.n (IsLeft (λ d. IsTrue (is_among (blocks_given c.args.steps.now) d))) (IsLeft (λ d. IsTrue (is_among (blocks_given c.args.steps.now) d))) (λ d. d ≡ c.in-Some.step.block → ⊥) (g.D.Disk.state c.args.disk.now) (g.D.Disk.state c.loop-k.disk) (g.D.Disk.state c.restore_step.new.disk)
     (λ none. none) (λ d left. left) (λ d left one. left (subst (λ (e : BlockId). IsTrue (is_among (blocks_given c.args.steps.now) e)) (sym one) (step_given c.args.steps.now c.in-Some.step c.loop-k.k (sym c.get.ensures ∙ c.in-Some.is)))) c.loop-k.invariant.writes c.restore_step.ensures.writes)
 
 pub loop-k-preserved : goal.loop-k-preserved
@@ -82,8 +82,8 @@ loop-k-preserved g c = record {
       (c.loop-k.invariant.way told) (c.restore_step.ensures.way (λ bad. absurd (let is = c.in-Ok.is in cc)) told);
   drawn = λ told. stays_both c.args.ledger.now (is_marked c.args.marks.now) (is_marked c.loop-k.marks) (is_marked c.restore_step.new.marks) (g.D.Disk.state c.args.disk.now).files (g.D.Disk.state c.loop-k.disk).files (g.D.Disk.state c.restore_step.new.disk).files
       (c.loop-k.invariant.drawn told) (c.restore_step.ensures.drawn told);
-  writes = blocks_less g.D.Disk.tells (c.restore_step.result ≡ Err DiskFault) ⊥ c.args.ledger.now (IsLeft (λ d. IsTrue (is_among (blocks_given c.args.steps.now) d))) (IsLeft (λ d. IsTrue (is_among (blocks_given c.args.steps.now) d))) (g.D.Disk.state c.args.disk.now) (g.D.Disk.state c.restore_step.new.disk) (λ d left. left) (λ none. absurd none) (λ is. absurd (let e = sym c.in-Ok.is ∙ is in cc))
-      (blocks_then g.D.Disk.tells ⊥ (c.restore_step.result ≡ Err DiskFault) c.args.ledger.now (IsLeft (λ d. IsTrue (is_among (blocks_given c.args.steps.now) d))) (IsLeft (λ d. IsTrue (is_among (blocks_given c.args.steps.now) d))) (λ d. d ≡ c.in-Some.step.block → ⊥) (g.D.Disk.state c.args.disk.now) (g.D.Disk.state c.loop-k.disk) (g.D.Disk.state c.restore_step.new.disk)
+  writes = cells_less_as g.D.Disk.tells (c.restore_step.result ≡ Err DiskFault) ⊥ c.args.ledger.now.shape c.args.ledger.now.lattice.n (IsLeft (λ d. IsTrue (is_among (blocks_given c.args.steps.now) d))) (IsLeft (λ d. IsTrue (is_among (blocks_given c.args.steps.now) d))) (g.D.Disk.state c.args.disk.now) (g.D.Disk.state c.restore_step.new.disk) (λ d left. left) (λ none. absurd none) (λ is. absurd (let e = sym c.in-Ok.is ∙ is in cc))
+      (cells_both g.D.Disk.tells ⊥ (c.restore_step.result ≡ Err DiskFault) c.args.ledger.now.shape c.args.ledger.now.lattice.n (IsLeft (λ d. IsTrue (is_among (blocks_given c.args.steps.now) d))) (IsLeft (λ d. IsTrue (is_among (blocks_given c.args.steps.now) d))) (λ d. d ≡ c.in-Some.step.block → ⊥) (g.D.Disk.state c.args.disk.now) (g.D.Disk.state c.loop-k.disk) (g.D.Disk.state c.restore_step.new.disk)
       (λ none. none) (λ d left. left) (λ d left one. left (subst (λ (e : BlockId). IsTrue (is_among (blocks_given c.args.steps.now) e)) (sym one) (step_given c.args.steps.now c.in-Some.step c.loop-k.k (sym c.get.ensures ∙ c.in-Some.is)))) c.loop-k.invariant.writes c.restore_step.ensures.writes);
 }
 
@@ -95,4 +95,4 @@ returns-clause-some g c = steps_some c.args.ledger.now.lattice c.args.steps.now 
 
 pub returns-clause-writes : goal.returns-clause-writes
 returns-clause-writes g c =
-    blocks_less g.D.Disk.tells ⊥ _ c.args.ledger.now (IsLeft (λ d. IsTrue (is_among (blocks_given c.args.steps.now) d))) (IsLeft (λ d. IsTrue (is_among (blocks_given c.args.steps.now) d))) (g.D.Disk.state c.args.disk.now) (g.D.Disk.state c.loop-k.disk) (λ d left. left) (λ is. absurd (let e = is in cc)) (λ none. absurd none) c.loop-k.invariant.writes
+    cells_less_as g.D.Disk.tells ⊥ _ c.args.ledger.now.shape c.args.ledger.now.lattice.n (IsLeft (λ d. IsTrue (is_among (blocks_given c.args.steps.now) d))) (IsLeft (λ d. IsTrue (is_among (blocks_given c.args.steps.now) d))) (g.D.Disk.state c.args.disk.now) (g.D.Disk.state c.loop-k.disk) (λ d left. left) (λ is. absurd (let e = is in cc)) (λ none. absurd none) c.loop-k.invariant.writes

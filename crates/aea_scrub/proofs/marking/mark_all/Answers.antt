@@ -21,15 +21,15 @@ loop-k-init g c = record {
 
 pub returns-in-Err-clause-reads : goal.returns-in-Err-clause-reads
 returns-in-Err-clause-reads g c =
-    reads_as g.D.Disk.tells (IsErr c.is_intact.result) _ (g.D.Disk.state c.args.disk.now) (g.D.Disk.state c.is_intact.new.disk) (λ is. subst IsErr (sym c.in-Err.is) refl) (λ _. refl)
-    (reads_both g.D.Disk.tells ⊥ (IsErr c.is_intact.result) (g.D.Disk.state c.args.disk.now) (g.D.Disk.state c.loop-k.disk) (g.D.Disk.state c.is_intact.new.disk) (λ none. none) c.loop-k.invariant.reads c.is_intact.ensures.reads)
+    reads_as g.D.Disk.tells (IsErr c.is_block_intact.result) _ (g.D.Disk.state c.args.disk.now) (g.D.Disk.state c.is_block_intact.new.disk) (λ is. subst IsErr (sym c.in-Err.is) refl) (λ _. refl)
+    (reads_both g.D.Disk.tells ⊥ (IsErr c.is_block_intact.result) (g.D.Disk.state c.args.disk.now) (g.D.Disk.state c.loop-k.disk) (g.D.Disk.state c.is_block_intact.new.disk) (λ none. none) c.loop-k.invariant.reads c.is_block_intact.ensures.reads)
 
 pub loop-k-preserved : goal.loop-k-preserved
 loop-k-preserved g c =
     let v = c.args.ledger.now in
     let old = g.D.Disk.state c.args.disk.now in
     let mid = g.D.Disk.state c.loop-k.disk in
-    let new = g.D.Disk.state c.is_intact.new.disk in
+    let new = g.D.Disk.state c.is_block_intact.new.disk in
     let tells = g.D.Disk.tells in
     let b = c.block-b.result in
     let same = c.lattice-lattice.ensures.value in
@@ -40,12 +40,12 @@ loop-k-preserved g c =
       within = omega (arith, lt);
       lattice = c.set.ensures.lattice ∙ c.loop-k.invariant.lattice;
       whole = c.set.ensures.whole;
-      buffer = c.is_intact.auto.cell ∙ c.loop-k.invariant.buffer;
+      buffer = c.is_block_intact.auto.cell ∙ c.loop-k.invariant.buffer;
       intact = λ told. marked_next v old.files c.loop-k.marks c.set.new.self b c.in-Ok.intact c.loop-k.k
           c.loop-k.invariant.lattice c.set.ensures.lattice c.loop-k.invariant.whole inside number c.set.ensures.marks
           (subst (λ (f : Files). IsTrue c.in-Ok.intact ↔ IsIntactBy v.shape v.digests f b) (c.loop-k.invariant.reads.contents told) (c.in-Ok.ensures.intact told))
           (c.loop-k.invariant.intact told);
-      reads = reads_as tells (IsErr c.is_intact.result) ⊥ old new (λ none. absurd none) (ok_fine c.in-Ok.is) (reads_both tells ⊥ (IsErr c.is_intact.result) old mid new (λ none. none) c.loop-k.invariant.reads c.is_intact.ensures.reads);
+      reads = reads_as tells (IsErr c.is_block_intact.result) ⊥ old new (λ none. absurd none) (ok_fine c.in-Ok.is) (reads_both tells ⊥ (IsErr c.is_block_intact.result) old mid new (λ none. none) c.loop-k.invariant.reads c.is_block_intact.ensures.reads);
     }
 
 pub returns-clause-intact : goal.returns-clause-intact

@@ -12,7 +12,7 @@ returns-clause-tally c lines is =
     let l = c.args.marks.now.lattice in
     let t = c.args.self.now in
     let number : c.number-number.result ≡ number_of l (block_in c.args.line.now) =
-    c.number-number.ensures.value ∙ ap (λ (m : Lattice). number_of m c.block_of-block.result) c.lattice.ensures.lattice ∙ ap (λ (b : BlockId). number_of l b) c.block_of-block.ensures in
+    c.number-number.ensures.value ∙ ap (λ (m : Lattice). number_of m c.block-block.result) c.lattice.ensures.lattice ∙ ap (λ (b : BlockId). number_of l b) c.block-block.ensures in
     tally-more l (is_marked c.args.marks.now) lines c.args.line.now t _ is refl (ap (λ n. n + 1) number) c.broken_with-broken.ensures
     (ap (λ n. t.peeled + n) c.peeled_in-peeled.ensures.value) (ap (λ n. t.solved + n) c.solved_in-solved.ensures.value) (ap (λ n. t.lost + n) c.lost_in-lost.ensures.value)
 
@@ -20,7 +20,7 @@ pub returns-clause-small : goal.returns-clause-small
 returns-clause-small c =
     let l = c.args.marks.now.lattice in
     let number : c.number-number.result ≡ number_of l (block_in c.args.line.now) =
-    c.number-number.ensures.value ∙ ap (λ (m : Lattice). number_of m c.block_of-block.result) c.lattice.ensures.lattice ∙ ap (λ (b : BlockId). number_of l b) c.block_of-block.ensures in
+    c.number-number.ensures.value ∙ ap (λ (m : Lattice). number_of m c.block-block.result) c.lattice.ensures.lattice ∙ ap (λ (b : BlockId). number_of l b) c.block-block.ensures in
     let count = ap blocks_count c.lattice.ensures.lattice in
     let below : c.number-number.result < blocks_count l = omega (arith, c.number-number.ensures.below) in
     let later = c.requires.line.later in

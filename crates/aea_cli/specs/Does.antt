@@ -93,7 +93,7 @@ MayChange (Rehearse number nodes permille) file = ⊥
 abbrev pub Keeps : Command → ℕ → Type 0
 Keeps command file = MayChange command file → ⊥
 
--- the bytes of the input, where it tells them
+-- the bytes of the input, where they are known
 abbrev pub input_of : World → List ℕ
 input_of w = unwrap_or w.input.left []
 
@@ -118,7 +118,7 @@ Causes (Explain word) w = ExplainCauses word (w.disk.files 0)
 Causes Verify w = VerifyCauses (w.disk.files 0) (input_of w)
 Causes (Rehearse number nodes permille) w = NeverRefused
 
--- the disk has room for all that a run of the command writes, and to sync
+-- the disk has space for all that a run of the command writes, and to sync
 abbrev pub FitsDisk : Command → World → Type 0
 FitsDisk (Drill l) w = Unit {0}
 FitsDisk (Create shape) w = FitsMaking w.disk shape
@@ -135,7 +135,7 @@ FitsDisk (Explain word) w = IsRoomy w.disk
 FitsDisk Verify w = IsRoomy w.disk
 FitsDisk (Rehearse number nodes permille) w = Unit {0}
 
--- the output has room for all that a run of the command prints
+-- the output has space for all that a run of the command prints
 abbrev pub FitsOutput : Command → World → Type 0
 FitsOutput (Drill l) w = (text : List ℕ) (status : Status) → IsOutcome l (input_of w) text status → FitsText w.out text
 FitsOutput (Create shape) w = FitsText w.out (created_line shape)
@@ -175,12 +175,12 @@ abbrev pub IsHonest : Command → World → Type 0
 IsHonest Repair w = HasHonestSurvivors w.disk.files
 IsHonest command w = Unit {0}
 
--- a run of the command prints before it has met all that may stand against it: where the output fails first, it ends by that
+-- a run of the command prints before it has met all reasons for refusal: where the output fails first, it ends by that
 abbrev pub PrintsEarly : Command → Type 0
 PrintsEarly Ingest = Unit {0}
 PrintsEarly command = ⊥
 
--- what the command uses of the disk and of the input tells its contents
+-- the contents of what the command uses of the disk and of the input are known
 pub record IsTold (command : Command) (w : World) : Type 0 where
   pub disk : UsesDisk command → w.tells
   pub input : ReadsInput command → IsSome w.input.left
@@ -191,7 +191,7 @@ pub record Runs (command : Command) (old new : World) (answer : Answer) : Type 0
   pub does : Does command old new answer
   -- when it is refused
   pub refuses : (PrintsEarly command → answer ≢ Err failure.Output) → Refuses (IsTold command old) (Causes command old) answer
-  -- it does not fail where there is room, on a disk that is ready and tells its contents
+  -- it does not fail where there is space, on a disk that is ready and whose contents are known
   pub disk_fits : old.tells → IsReady old.disk → FitsDisk command old → answer ≢ Err failure.Disk
   pub output_fits : IsTold command old → FitsOutput command old → answer ≢ Err failure.Output
   -- no digests clash where the intact blocks are honest

@@ -1,11 +1,11 @@
 //! The commands of the program, over any disk, input and output: their words, their table, and the top call `run`.
 //!
-//! Promises to the program `run`: `Ends`: there is an answer that has the status, what was done is told by the command that the
-//! words mean, and the line of a failure stands on `err`; when a fault is answered, what is flushed and what is not touched;
+//! Promises to the program `run`: `Ends`: there is an answer that has the status, what was done is determined by the command
+//! that the words mean, and the line of a failure is on `err`; when a fault is returned, what is flushed and what is not touched;
 //! `run_surely`: completeness; and `stops_keep_puts`, of many runs.
 //!
 //! Read first in `specs/`: `Ends`, then `Does` (the table: a line a command, and `Runs`) and `Words` (`Means`). What a command
-//! does stands in its room: `aea_command_store`, `aea_command_read` or `aea_command_loss`, over `aea_command`.
+//! does is in its room: `aea_command_store`, `aea_command_read` or `aea_command_loss`, over `aea_command`.
 #![tactic(auto)]
 
 mod command;

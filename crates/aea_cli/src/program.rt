@@ -104,9 +104,9 @@ fn execute<D: Disk, S: Source, O: Sink>(
     carry_out(alloc, &command, disk, input, out)
 }
 
-/// Does all that the program does: takes the words of the command line, the disk and the three streams, and answers
-/// the status. What is printed stands on `out`, and a line that says why a command did not end well on `err`. Want of
-/// memory may be answered at any time before the first byte is printed.
+/// Does all that the program does: takes the words of the command line, the disk and the three streams, and returns
+/// the status. What is printed is on `out`, and a line that says why a command did not end well on `err`. That memory
+/// ran out may be returned at any time before the first byte is printed.
 pub fn run<D: Disk, S: Source, O: Sink, E: Sink>(
     alloc: Global,
     words: &[String],
@@ -133,8 +133,8 @@ pub fn run<D: Disk, S: Source, O: Sink, E: Sink>(
     ensures flushed { IsWell result → IsFlushed (O.state out.new) }
     ensures err_unused { IsWell result → err.new ≡ err.old }
 
-    // Where nothing stands against it and no count rises, of a ready disk not the one beneath, all work is done, but for want
-    // of memory; of a repair where the intact blocks are honest.
+    // Where no reason for refusal holds and no count rises, of a ready disk not the one beneath, all work is done, unless memory
+    // runs out; of a repair where the intact blocks are honest.
     ensures complete { (command : Command) → Means (map string_bytes words.now) command
         → IsTold command (world D.tells (D.state disk.old) (S.state input.old) (O.state out.old))
         → ((why : Refusal) → IsFirst (Causes command (world D.tells (D.state disk.old) (S.state input.old) (O.state out.old))) why → ⊥)
@@ -144,7 +144,7 @@ pub fn run<D: Disk, S: Source, O: Sink, E: Sink>(
         → (Rose (O.state out.old).faults (O.state out.new).faults → ⊥)
         → IsWell result ⊎ (result ≡ Status.Memory) }
 
-    // Where something failed: what did not, has the count that it had; so has each where memory was wanting.
+    // Where something failed: what did not, has the count that it had; so has each where memory ran out.
     ensures disk_cause { result ≡ Status.Disk → Rose (D.state disk.old).faults (D.state disk.new).faults }
     ensures disk_beneath { result ≡ Status.Disk → D.tells → IsReady (D.state disk.old) → Rose (D.state disk.old).beneath (D.state disk.new).beneath }
     ensures disk_still { result ≢ Status.Disk → (D.state disk.new).faults ≡ (D.state disk.old).faults }

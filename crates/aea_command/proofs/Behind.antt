@@ -1,4 +1,4 @@
--- Commands that open the archive and have causes of their own behind that.
+-- Commands that open the archive and have causes of their own after that.
 use Rattle.std.proofs.Common.{◌≡◌, ◌⊎◌, inl, inr, ℕ, ◌≤◌, List, length, refl, arith, Ok, Err}
 use Rattle.std.proofs.lemmas.Bool.{false≢true}
 use Rattle.aea_lattice.specs.declared.shape.Shape.{Shape}
@@ -16,7 +16,7 @@ use Rattle.aea_command.specs.Openings.{OpeningCauses, Opens}
 use Rattle.aea_command.proofs.OpeningCases.{opening_first, opening_early}
 use Rattle.aea_command.proofs.Refusing.{refuses_as}
 
--- the causes are those of the opening, and others at what is a ledger, which come behind them
+-- the causes are those of the opening, and others at what is a ledger, which come after them
 pub record AreBehindOpening (bytes : List ℕ) (causes : Refusal → Type 0) : Type 0 where
   pub from : (why : Refusal) → OpeningCauses bytes why → causes why
   pub back : (why : Refusal) → causes why → OpeningCauses bytes why ⊎ (IsSomeLedger bytes × (place_of Occupied ≤ place_of why))
@@ -25,7 +25,7 @@ pub record AreBehindOpening (bytes : List ℕ) (causes : Refusal → Type 0) : T
 pub some_ledger : (bytes : List ℕ) (shape : Shape) (records : List Record) → HasLedger shape records bytes → IsSomeLedger bytes
 some_ledger bytes shape records ledger = record { shape = shape; records = records; end = length (spelled shape records); ledger = ledger }
 
--- an archive that was not opened tells why
+-- an archive that was not opened says why
 pub unopened_refuses : {T : Type 0} (tells : Type 0) (old new : State) (f : Failure) (causes : Refusal → Type 0) → AreBehindOpening (old.files 0) causes → Opens tells old new (Err f) → Refuses {T = T} tells causes (Err f)
 unopened_refuses {T} tells old new f causes behind opens = refuses_as {T = Opened} {U = T} tells causes f (Err f) refl (record {
   only = λ why is told.

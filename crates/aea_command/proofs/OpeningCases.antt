@@ -1,4 +1,4 @@
--- What a call that opens the archive answers, by the fault of the opening.
+-- What a call that opens the archive returns, by the fault of the opening.
 use Rattle.std.proofs.Common.{◌≡◌, ℕ, ◌⊎◌, inl, inr, List, ◌<◌, arith, refl, sym, ◌∙◌, ap, subst, Ok, Err}
 use Rattle.std.specs.Prelude.{Result, IsErrAnd}
 use Rattle.std.proofs.lemmas.Bool.{cases_lt}
@@ -70,7 +70,7 @@ err_with (Err e) f is = ap Err is
 with_fault : {T : Type 0} (r : Result T Failure) (fault other : OpenFault) → r ≡ Err (opening_failure fault) → fault ≡ other → r ≡ Err (opening_failure other)
 with_fault r fault other is same = is ∙ ap (λ (x : OpenFault). Err (opening_failure x)) same
 
--- a fault where a reason was to be answered
+-- a fault where a reason was to be returned
 opening_refusal : {T : Type 0} (bytes : List ℕ) (fault : OpenFault) (r : Result T Failure) → r ≡ Err (opening_failure fault) → IsAnswered bytes (Err fault) → (why : Refusal) → OpeningCauses bytes why
     → (r ≡ Err (failure.Refused why)) ⊎ IsStopped r
 opening_refusal bytes fault r is answered NoArchive refusal = elim (answered.none refusal) [
@@ -111,7 +111,7 @@ none_before_bad bytes at bad NoArchive before cause = header_or_none bytes bad.h
 none_before_bad bytes at bad (LedgerBad place) before cause = omega arith
 none_before_bad bytes at bad other before cause = cause
 
--- the reason that an opening gives is the first that stands
+-- the reason that an opening gives is the first that holds
 first_reason : (bytes : List ℕ) (fault : OpenFault) (why : Refusal) → Answers bytes (Err fault) → opening_failure fault ≡ failure.Refused why → IsFirst (OpeningCauses bytes) why
 first_reason bytes opening.NoArchive why answers is =
     let h : failure.Refused NoArchive ≡ failure.Refused why = is in
@@ -124,7 +124,7 @@ first_reason bytes (opening.LedgerBad at) why answers is =
 first_reason bytes opening.DiskFault why answers is = let h : failure.Disk ≡ failure.Refused why = is in cc
 first_reason bytes opening.NoMemory why answers is = let h : failure.Memory ≡ failure.Refused why = is in cc
 
--- how an opening that failed tells why
+-- how an opening that failed says why
 pub opening_refuses : {T : Type 0} (tells : Type 0) (bytes : List ℕ) (fault : OpenFault) (r : Result T Failure) → r ≡ Err (opening_failure fault) → (tells → Answers bytes (Err fault)) → (tells → IsAnswered bytes (Err fault))
     → Refuses tells (OpeningCauses bytes) r
 opening_refuses {T} tells bytes fault r is answers answered = record {

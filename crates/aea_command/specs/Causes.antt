@@ -5,7 +5,7 @@ use Rattle.aea_command.specs.declared.refusal.Refusal.TheVariants.{InputTooLong,
 use Rattle.aea_command.specs.declared.refusal.Failure.{Failure}
 use Rattle.aea_command.specs.declared.refusal.Failure.TheVariants as failure
 
--- The place of a refusal in the order of refusals. Two have one place where only one of them can stand: both copies of the
+-- The place of a refusal in the order of refusals. Two have one place where only one of them can hold: both copies of the
 -- ledger are bad, or both are good and differ; the first frame that is not stored is too long for the nodes that are left, or
 -- the input ends inside it; the first message that is not handled is none, or cut, or one too many; the first damaged data
 -- block of an object is what `get` is refused for, and the first undetermined one what a reading without repair is; a report
@@ -38,17 +38,17 @@ place_of NoSuchBlock = 18
 place_of (BadLine k) = 19
 place_of (LineTooLong k) = 19
 
--- the cause stands, and none that comes before it
+-- the cause holds, and none that comes before it
 pub record IsFirst (causes : Refusal → Type 0) (why : Refusal) : Type 0 where
   pub stands : causes why
   pub none : (other : Refusal) → place_of other < place_of why → causes other → ⊥
 
--- the disk or the input failed, or memory was wanting
+-- the disk or the input failed, or memory ran out
 abbrev pub IsStopped : {T : Type 0} → Result T Failure → Type 0
 IsStopped answer = (answer ≡ Err failure.Disk) ⊎ ((answer ≡ Err failure.Input) ⊎ (answer ≡ Err failure.Memory))
 
--- How an answer tells why it is a refusal, where the contents that decide it are told: it is one only for the first
--- cause that stands, and where there is such a cause it is that refusal, but for faults and want of memory.
+-- How an answer says why it is a refusal, where the contents that decide it are known: it is one only for the first
+-- cause that holds, and where there is such a cause it is that refusal, but for faults and lack of memory.
 pub record Refuses {T : Type 0} (told : Type 0) (causes : Refusal → Type 0) (answer : Result T Failure) : Type 0 where
   pub only : (why : Refusal) → answer ≡ Err (failure.Refused why) → told → IsFirst causes why
   pub always : (why : Refusal) → told → IsFirst causes why → (answer ≡ Err (failure.Refused why)) ⊎ IsStopped answer

@@ -53,7 +53,7 @@ input_line = codes "fault: input" ++ newline
 abbrev pub output_line : List ℕ
 output_line = codes "fault: output" ++ newline
 
--- of want of memory
+-- of lack of memory
 abbrev pub memory_line : List ℕ
 memory_line = codes "fault: memory" ++ newline
 

@@ -4,7 +4,7 @@
 //! `refusal_line`); which failure each fault of a call below is (`opening_failure` and its kin, by `From`); an opened archive,
 //! or the reason (`open`: `Opens`); and the line of a failure on `err` with its status (`report`: `PutsLine`).
 //!
-//! Read first in `specs/`: `Causes` (`Refuses`: what it means that a command tells its refusals), `Failures` (`Answer`),
+//! Read first in `specs/`: `Causes` (`Refuses`: what it means that a command reports its refusals), `Failures` (`Answer`),
 //! `Openings` (`Opens`, `OpensThen`) and `Printed` (`PrintsText`). It has one enum of refusals for all commands, with those of
 //! commands that are to come, and rests on each call of the archive whose faults it names.
 #![tactic(auto)]

@@ -1,7 +1,7 @@
 //! The line on `err` where a command did not end well.
 
 ghost use Rattle.std.specs.Prelude.{◌≡◌, ◌≤◌, [], ◌++◌, decimal, OnOk};
-ghost use Rattle.aea_lattice.specs.Texts.{letter_of, text_of};
+ghost use Rattle.aea_lattice.specs.Texts.{text_of};
 ghost use Rattle.aea_report.specs.Format.{numbers_text};
 ghost use Rattle.aea_command.specs.Lines.{newline};
 ghost use Rattle.hex.specs.Hex.{encode_lower};
@@ -15,21 +15,9 @@ use crate::digits::digits_of;
 use crate::refusal::{Failure, Refusal};
 use crate::status::Status;
 use aea_io::{Page, Sink, WriteFault, finish, print, print_number};
-use aea_lattice::{BlockId, Class, NodeList};
+use aea_lattice::{BlockId, NodeList};
 
-// The letter of a class.
-fn class_letter(class: Class) -> u8
-    ensures { result ≡ letter_of class }
-{
-    match class {
-        Class::Datum => b'd',
-        Class::Horiz => b'h',
-        Class::Right => b'r',
-        Class::Left => b'l',
-    }
-}
-
-/// Prints words and the text of a block behind them.
+/// Prints words and the text of a block after them.
 pub fn print_block<E: Sink>(
     err: &mut E,
     page: &mut Page,
@@ -39,7 +27,7 @@ pub fn print_block<E: Sink>(
     ensures { Prints (E.state err.old) page.old (E.state err.new) page.new result (front.now ++ text_of block) }
 {
     print(err, page, front)?;
-    print(err, page, &[class_letter(block.class)])?;
+    print(err, page, &[block.class.letter()])?;
     print_number(err, page, b"", u64::from(block.node))
 }
 
@@ -56,7 +44,7 @@ pub fn print_with_block<E: Sink>(
     print(err, page, b"\n")
 }
 
-/// Prints nodes, each behind a space.
+/// Prints nodes, each after a space.
 pub fn print_nodes<E: Sink>(
     err: &mut E,
     page: &mut Page,
@@ -73,7 +61,7 @@ pub fn print_nodes<E: Sink>(
     Ok(())
 }
 
-// Prints words and the digits of a digest behind them.
+// Prints words and the digits of a digest after them.
 fn print_digest<E: Sink>(
     err: &mut E,
     page: &mut Page,
@@ -117,7 +105,7 @@ fn print_undetermined<E: Sink>(
     print(err, page, b"\n")
 }
 
-// Prints words, a number behind them, and the end of the line.
+// Prints words, a number after them, and the end of the line.
 fn print_counted<E: Sink>(
     err: &mut E,
     page: &mut Page,
@@ -144,6 +132,9 @@ fn print_copies_bad<E: Sink>(
 }
 
 // Prints the line of a refusal.
+//
+// One arm for each refusal, in the order of `Refusal`: words alone; words and a number after them (`print_counted`); words
+// and a block (`print_with_block`); or a line of its own form. `refusal_line` has a line for each in the same order.
 fn print_refusal<E: Sink>(err: &mut E, page: &mut Page, why: &Refusal) -> Result<(), WriteFault>
     ensures { Prints (E.state err.old) page.old (E.state err.new) page.new result (refusal_line why.now) }
 {
@@ -214,8 +205,8 @@ fn print_failure<E: Sink>(err: &mut E, page: &mut Page, failure: &Failure) -> Re
     }
 }
 
-// Puts the line of a failure, and flushes it.
-fn put_failure<E: Sink>(err: &mut E, failure: &Failure) -> Result<(), WriteFault>
+// Writes the line of a failure, and flushes it.
+fn write_failure<E: Sink>(err: &mut E, failure: &Failure) -> Result<(), WriteFault>
     ensures flushed { OnOk result (IsFlushed (E.state err.new)) }
     ensures prints { Prints (E.state err.old) [] (E.state err.new) [] result (failure_line failure.now) }
 {
@@ -225,13 +216,13 @@ fn put_failure<E: Sink>(err: &mut E, failure: &Failure) -> Result<(), WriteFault
     Ok(())
 }
 
-/// Puts the line of a failure, as far as `err` takes it, and answers the status. Takes no memory.
+/// Writes the line of a failure, as far as `err` takes it, and returns the status. Takes no memory.
 pub fn report<E: Sink>(err: &mut E, failure: Failure) -> Status
     ensures status { result ≡ failure_status failure }
     ensures line { PutsLine (E.state err.old) (E.state err.new) (failure_line failure) }
     ensures kept { (E.state err.old).faults ≤ (E.state err.new).faults }
 {
-    let _ = put_failure(err, &failure);
+    let _ = write_failure(err, &failure);
     match failure {
         Failure::Words => Status::Words,
         Failure::Refused { .. } => Status::Refused,

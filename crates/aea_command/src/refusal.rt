@@ -38,7 +38,7 @@ pub enum Refusal {
     Full { nodes: u32 },
     /// The input ends inside a frame, after so many bytes.
     BadStream { at: u64 },
-    /// There is no node behind the last fence of the archive. The number of nodes.
+    /// There is no node after the last fence of the archive. The number of nodes.
     AlreadyFenced { nodes: u32 },
     /// The archive has 16 fences, the most that there may be.
     TooManyFences,
@@ -55,19 +55,19 @@ pub enum Refusal {
     /// This line of the report, counted from 1, has more than 16,777,216 bytes.
     LineTooLong { line: u32 },
     /// A data block of the object is not determined by the intact blocks: the first one, with the nodes of a codeword that
-    /// contains it and touches no intact block. No command answers it yet.
+    /// contains it and touches no intact block. No command returns it yet.
     Undetermined { block: BlockId, nodes: NodeList },
-    /// The limit on nodes was not raised. No command answers it yet.
+    /// The limit on nodes was not raised. No command returns it yet.
     NotUpgraded,
-    /// At this byte of the input, counted from 0, there is no message. No command answers it yet.
+    /// At this byte of the input, counted from 0, there is no message. No command returns it yet.
     BadMessage { at: u64 },
-    /// There is a message more than a session takes, which are 16,777,216. No command answers it yet.
+    /// There is a message more than a session takes, which are 16,777,216. No command returns it yet.
     TooManyMessages,
-    /// The archive has copies of its ledger. No command answers it yet.
+    /// The archive has copies of its ledger. No command returns it yet.
     CopiesAreOn,
-    /// Neither copy of the ledger is good: the byte, counted from 0, at which each of them is bad. No command answers it yet.
+    /// Neither copy of the ledger is good: the byte, counted from 0, at which each of them is bad. No command returns it yet.
     CopiesBad { first: u64, second: u64 },
-    /// Both copies of the ledger are good, and they differ at this byte, counted from 0. No command answers it yet.
+    /// Both copies of the ledger are good, and they differ at this byte, counted from 0. No command returns it yet.
     CopiesDiffer { at: u64 },
 }
 
@@ -86,7 +86,7 @@ pub enum Failure {
     Input,
     /// The output failed.
     Output,
-    /// Memory was wanting.
+    /// Memory ran out.
     Memory,
     /// A block was not restored: what was computed, or read again, has another digest than the ledger keeps of the block.
     Clash {
@@ -165,28 +165,11 @@ impl From<IngestFault> for Failure {
     ghost from_gives = { λ fault failure. failure ≡ ingest_failure fault };
 
     fn from(fault: IngestFault) -> Failure {
-        match fault {
-            IngestFault::BadName => Failure::Refused {
-                why: Refusal::BadName,
-            },
-            IngestFault::NameTaken => Failure::Refused {
-                why: Refusal::NameTaken,
-            },
-            IngestFault::CatalogFull => Failure::Refused {
-                why: Refusal::CatalogFull,
-            },
-            IngestFault::HeadDamaged { block } => Failure::Refused {
-                why: Refusal::HeadDamaged { block },
-            },
-            IngestFault::Full { nodes } => Failure::Refused {
-                why: Refusal::Full { nodes },
-            },
-            IngestFault::BadStream { at } => Failure::Refused {
+        match fault.as_put() {
+            Ok(fault) => Failure::from(fault),
+            Err(at) => Failure::Refused {
                 why: Refusal::BadStream { at },
             },
-            IngestFault::ReadFault => Failure::Input,
-            IngestFault::DiskFault => Failure::Disk,
-            IngestFault::NoMemory => Failure::Memory,
         }
     }
 }

@@ -47,7 +47,7 @@ explains_unopened word tells old new out f opens = record {
 
 -- ---- it was opened
 
--- calls behind the opening that only read, and what is said of the answer
+-- calls after the opening that only read, and what is said of the answer
 behind : (word : List ℕ) (tells fault : Type 0) (v : Opened) (old mid new : State) (before after : SinkState) (answer : Answer) → Opens tells old mid (Ok v) → OnlyReads tells fault mid new
     → (answer ≡ Err failure.Disk → fault) → (fault → answer ≡ Err failure.Disk) → ExplainsOpened word tells v old.files before after answer → ExplainsBlock word tells old new before after answer
 behind word tells fault v old mid new before after answer opens late of_disk is_disk does = record {
@@ -134,7 +134,7 @@ ends_never (Sum b equations) answer f (inl e) differs is = let h : Ok Done ≡ E
 ends_never (Word b nodes) answer f (inl e) differs is = let h : Ok Damage ≡ Err f = sym e ∙ is in cc
 ends_never fate answer f (inr e) differs is = let h : Err failure.Output ≡ Err f = sym e ∙ is in differs cc
 
--- the explanation that was printed behind the opening
+-- the explanation that was printed after the opening
 pub record HasExplanation (word : List ℕ) (tells : Type 0) (v : Opened) (old mid new : State) (before after : SinkState) (answer : Answer) : Type 1 where
   pub opens : Opens tells old mid (Ok v)
   pub reads : OnlyReads tells ⊥ mid new
@@ -150,7 +150,7 @@ module _ (one : ExplanationsAreOne) (word : List ℕ) (tells : Type 0) (v : Open
   there : tells → (known : BlockId → Bool) → TellsSurvivors v.shape v.lattice.n v.digests old.files known → TellsSurvivors v.shape v.lattice.n v.digests mid.files known
   there told known tests = subst (λ (c : Files). TellsSurvivors v.shape v.lattice.n v.digests c known) (sym (gave.opens.reads.contents told)) tests
 
-  -- whatever test tells the survivors, what is printed is the explanation by it
+  -- whatever test distinguishes the survivors, what is printed is the explanation by it
   each_one : tells → (known : BlockId → Bool) (block : BlockId) (e : Explanation) → TellsSurvivors v.shape v.lattice.n v.digests old.files known → ExplainsNamed word v.lattice known block e
       → PrintsExplanation block e before after answer
   each_one told known block e tests is =

@@ -22,7 +22,7 @@ use Rattle.aea_command.proofs.Opened.{opens_reading, opens_alone}
 use Rattle.aea_command.proofs.OpeningCases.{opened_never}
 use Rattle.aea_command_loss.proofs.VerifyLemmas.Answering.{IsAnswerTo, from_disk, answer_is}
 
--- what the check of the report gave behind the opening
+-- what the check of the report gave after the opening
 pub record HasChecked (tells : Type 0) (v : Opened) (old mid new : State) (input rest : SourceState) (r : Result Verdict VerifyFault) : Type 1 where
   pub opens : Opens tells old mid (Ok v)
   pub read : (report : List ℕ) → input.left ≡ Some report → IsReadAs report r

@@ -34,7 +34,7 @@ use Rattle.aea_command.specs.Openings.{IsUnbegun, HasOpened}
 use Rattle.aea_command.specs.Lines.{newline}
 use Rattle.aea_command.specs.Printed.{PrintsText}
 
--- an equation, by the text of the parity that it gives, behind a space
+-- an equation, by the text of the parity that it gives, after a space
 abbrev pub equation_text : EqId → List ℕ
 equation_text e = codes " " ++ text_of (block_of e.node e.class)
 
@@ -84,7 +84,7 @@ pub record PrintsExplanation (block : BlockId) (e : Explanation) (before after :
   pub status : IfOk answer (λ status. status ≡ fate_status e.fate)
 
 -- What is printed is the explanation of the block with this text, by some test for the intact blocks of the opened archive.
--- Of a disk that tells its files, the test tells the intact ones.
+-- Of a disk whose files are known, the test shows the intact ones.
 pub record HasExplained (word : List ℕ) (tells : Type 0) (v : Opened) (c : Files) (before after : SinkState) (answer : Answer) : Type 0 where
   pub known : BlockId → Bool
   pub survivors : tells → TellsSurvivors v.shape v.lattice.n v.digests c known
@@ -93,7 +93,7 @@ pub record HasExplained (word : List ℕ) (tells : Type 0) (v : Opened) (c : Fil
   pub explains : ExplainsNamed word v.lattice known block explanation
   pub printed : PrintsExplanation block explanation before after answer
 
--- the block was explained, or the word is the text of none; or the disk or the output failed, or memory was wanting
+-- the block was explained, or the word is the text of none; or the disk or the output failed, or memory ran out
 abbrev pub IsExplaining : Answer → Type 0
 IsExplaining answer =
     ((answer ≡ Ok Done) ⊎ (answer ≡ Ok Damage)) ⊎ ((answer ≡ Err (failure.Refused NoSuchBlock))
@@ -104,14 +104,14 @@ pub record ExplainsOpened (word : List ℕ) (tells : Type 0) (v : Opened) (c : F
   pub kinds : IsExplaining answer
   -- it is refused exactly where the word is not the text of a block of the archive
   pub unknown : (answer ≡ Err (failure.Refused NoSuchBlock)) ↔ (NamesBlock v.lattice word → ⊥)
-  -- what is printed over any disk; and over one that tells its files: the one explanation of the block
+  -- what is printed over any disk; and over one whose files are known: the one explanation of the block
   pub some : IsOk answer ⊎ (answer ≡ Err failure.Output) → HasExplained word tells v c before after answer
   pub each : IsOk answer ⊎ (answer ≡ Err failure.Output) → tells → (known : BlockId → Bool) (block : BlockId) (e : Explanation)
       → TellsSurvivors v.shape v.lattice.n v.digests c known → ExplainsNamed word v.lattice known block e → PrintsExplanation block e before after answer
   -- where something else than the output failed, nothing is printed
   pub unused : IfErr answer (λ f. f ≢ failure.Output → after ≡ before)
 
--- Of a run behind the words that explains the block with this text, with the disk and `out` before and after it, and its
+-- Of a run that, once it has its words, explains the block with this text, with the disk and `out` before and after it, and its
 -- answer:
 pub record ExplainsBlock (word : List ℕ) (tells : Type 0) (old new : State) (before after : SinkState) (answer : Answer) : Type 0 where
   -- the archive is opened, and from the first call to the last the disk is only read
@@ -127,7 +127,7 @@ pub record ExplainsBlock (word : List ℕ) (tells : Type 0) (old new : State) (b
 abbrev pub ExplainsOrNot : List ℕ → Type 0 → State → State → SinkState → SinkState → Answer → Type 0
 ExplainsOrNot word tells old new before after answer = IsUnbegun old new before after answer ⊎ ExplainsBlock word tells old new before after answer
 
--- the text is that of the block with this text, where the archive stands in these files
+-- the text is that of the block with this text, where the archive is in these files
 pub record IsExplanationText (files : Files) (word text : List ℕ) : Type 0 where
   pub shape : Shape
   pub records : List Record

@@ -36,17 +36,17 @@ use Rattle.aea_command.specs.declared.status.Status.TheVariants.{Done, Damage}
 use Rattle.aea_command.specs.Openings.{IsUntouched, OpensThen, greatest_sites}
 use Rattle.aea_command.specs.Failures.{Answer, opening_failure, repair_failure}
 
--- what the command answers where the archive was opened: damage where a block is lost
+-- what the command returns where the archive was opened: damage where a block is lost
 abbrev pub repair_answer : Result Outcome RepairFault → Answer
 repair_answer (Ok o) = Ok (cond (o.lost == 0) Done Damage)
 repair_answer (Err fault) = Err (repair_failure fault)
 
--- Of a run that repairs the opened archive, with the disk and `out` before and after it, and what the repair answers. The
--- blocks that are intact when it begins are given by a test, whichever tells them.
+-- Of a run that repairs the opened archive, with the disk and `out` before and after it, and what the repair returns. The
+-- blocks that are intact when it begins are given by a test, whichever distinguishes them.
 pub record RepairsOpened (tells : Type 0) (v : Opened) (old new : State) (before after : SinkState) (result : Result Outcome RepairFault) : Type 0 where
-  -- what is restored, and what stands of each block after each answer
+  -- what is restored, and what is there of each block after each answer
   pub restores : tells → (known : BlockId → Bool) → TellsSurvivors v.shape v.lattice.n v.digests old.files known → Restores v known old.files new.files result
-  -- behind the opening every image has the homes of all blocks but those that can be restored, and each file but those of the
+  -- after the opening every image has the homes of all blocks but those that can be restored, and each file but those of the
   -- sites, as they were
   pub alone : tells → (known : BlockId → Bool) → TellsSurvivors v.shape v.lattice.n v.digests old.files known
       → OpensThen old new (λ opened end. During opened end (ChangesArchive v.shape v.lattice.n (IsLeft (IsRestorable v.lattice known)) (IsNoSite v.shape) old.files))
@@ -65,9 +65,9 @@ pub record RepairsOpened (tells : Type 0) (v : Opened) (old new : State) (before
   pub clash : (b : BlockId) (told computed : List ℕ) → result ≡ Err (repair.Clash b told computed) → IsOtherDigest v b told computed
   pub no_clash : tells → (records : List Record) (datas : List (List ℕ)) → HasRecords v records → AreRecordsOf v.shape records datas
       → AreSurvivorsHonest v.shape v.lattice v.digests datas old.files → (b : BlockId) (told computed : List ℕ) → result ≢ Err (repair.Clash b told computed)
-  -- want of memory leaves the disk as it was
+  -- lack of memory leaves the disk as it was
   pub wanting : result ≡ Err repair.NoMemory → IsUntouched tells old new
-  -- within the room of `out` for the report nothing fails
+  -- where `out` has space for the report nothing fails
   pub in_room : tells → (room : ℕ) (known : BlockId → Bool) (h : Head) (lines : List Line) → before.room ≡ Some room
       → TellsSurvivors v.shape v.lattice.n v.digests old.files known → IsPrinted v.lattice known (Some v.seal) h lines → length (report_bytes h lines) ≤ room
       → (result ≢ Err repair.WriteFault) × (after.faults ≡ before.faults)
@@ -83,8 +83,8 @@ pub record HasNodeCount (shape : Shape) (nodes : ℕ) (bytes : List ℕ) : Type 
   pub ledger : HasLedger shape records bytes
   pub is : nodes ≡ nodes_of records
 
--- The disk has some room, and to sync; and where it has an archive, room for the rows of its nodes, of a disk that does not tell the
--- ledger whatever archive that is.
+-- The disk has some space, and to sync; and where it has an archive, space for the rows of its nodes, of a disk on which the
+-- ledger is not known whatever archive that is.
 pub record FitsRepair (tells : Type 0) (s : State) : Type 0 where
   pub some : IsRoomy s
   pub sites : (shape : Shape) (nodes : ℕ) → (tells → HasNodeCount shape nodes (s.files 0)) → HaveSitesRoom shape nodes s
@@ -127,7 +127,7 @@ pub record IsUnopened (tells : Type 0) (f : Failure) (old new : State) (before a
 
 -- Of a run that repairs the archive, with the disk and `out` before and after it, and its answer:
 pub record RepairsArchive (tells : Type 0) (old new : State) (before after : SinkState) (answer : Answer) : Type 0 where
-  -- over any disk a ledger of some records is opened; where the disk tells its files, that of the archive
+  -- over any disk a ledger of some records is opened; where the disk's files are known, that of the archive
   pub opening : Result Opened Failure
   pub records : IfOk opening HasSomeRecords
   pub this_one : IfOk opening (λ v. tells → IsThisOne v (old.files 0))
@@ -135,5 +135,5 @@ pub record RepairsArchive (tells : Type 0) (old new : State) (before after : Sin
   pub unopened : IfErr opening (λ f. IsUnopened tells f old new before after answer)
   -- where one is, it is repaired
   pub opened : IfOk opening (λ v. RepairsThen tells v old new before after answer)
-  -- where the disk is ready and has the room nothing fails
+  -- where the disk is ready and has the space nothing fails
   pub in_room : tells → IsReady old → NeverFails (FitsRepair tells old) (answer ≢ Err failure.Disk) old new

@@ -22,7 +22,7 @@ use Rattle.aea_command.proofs.OpeningCases.{opening_more, opening_not_output}
 use Rattle.aea_command.proofs.Refusing.{refuses_told}
 use Rattle.aea_command_read.proofs.StatLemmas.{IsTelling}
 
--- how the answers come where the archive was opened
+-- which answers there are where the archive was opened
 abbrev pub IsListing : Answer → Type 0
 IsListing answer = (answer ≡ Ok Done) ⊎ (answer ≡ Err failure.Output)
 

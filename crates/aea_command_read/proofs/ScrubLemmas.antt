@@ -125,7 +125,7 @@ scrubs_marked reading tells old mid new before after v m l answer of_v marked sc
       unused = (prints (λ b. not (is_marked m b)) (marks_themselves v.lattice m marked.lattice)).prints.unused;
     }
 
--- a fault of the disk, or want of memory, is no refusal
+-- a fault of the disk, or lack of memory, is no refusal
 pub unread_never : (f : Failure) → (f ≡ failure.Disk) ⊎ (f ≡ failure.Memory) → (why : Refusal) → (let answer : Answer = Err f in answer ≡ Err (failure.Refused why)) → ⊥
 unread_never f (inl disk) why e = let h : Err failure.Disk ≡ Err (failure.Refused why) = sym (ap Err disk) ∙ e in cc
 unread_never f (inr memory) why e = let h : Err failure.Memory ≡ Err (failure.Refused why) = sym (ap Err memory) ∙ e in cc

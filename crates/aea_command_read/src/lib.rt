@@ -1,4 +1,4 @@
-//! The commands that read the archive and print what stands in it: `stat`, `list`, `get`, `scrub`.
+//! The commands that read the archive and print what is in it: `stat`, `list`, `get`, `scrub`.
 //!
 //! Promises to the table above, command by command, what is printed and that the disk is only read: `Stats`, `ListsObjects`,
 //! `GetsNamed`, `Scrubs`, each with its refusals.

@@ -47,7 +47,7 @@ untouched tells old new opening opens differs = record {
   sure = opens.opened differs;
 }
 
--- how an answer tells what was done, and not what was printed
+-- how an answer shows what was done, and not what was printed
 pub record Agrees {T U : Type 0} (gave : Result T Failure) (answer : Result U Failure) : Type 0 where
   pub well : IsOk answer ⊎ (answer ≡ Err failure.Output) → IsOk gave ⊎ (gave ≡ Err failure.Output)
   pub done : IsOk gave ⊎ (gave ≡ Err failure.Output) → IsOk answer ⊎ (answer ≡ Err failure.Output)
@@ -124,7 +124,7 @@ its_records tells old mid v opens told one = record {
   ledger = subst (λ (c : Files). IsLedger (c 0) v.shape one.records v.end) (sym (opens.reads.contents told)) one.ledger;
 }
 
--- what is left of files in which the old ledger stood, or the new one
+-- what is left of files in which the old ledger was, or the new one
 may_add : HasOneReading → (adds : List Record → Record) (v : Opened) (r : Record) (old c : Files) (one : IsThisOne v (old 0)) → adds one.records ≡ r → HasOldOrNew v.shape one.records r (c 0) → ChangesOnly 0 old c → MayHaveAdded adds old c
 may_add reading adds v r old c one is either others = record {
   ledger = λ shape records has.
@@ -167,7 +167,7 @@ adds_long reading adds tells v r fault old mid new does told shape records has =
     let end : v.end ≡ length (spelled shape records) = same.1.1 in
     rw (← before, e, ← end) long
 
--- the record fits the disk behind the opening
+-- the record fits the disk after the opening
 fits_commit : (adds : List Record → Record) (tells : Type 0) (v : Opened) (r : Record) (fault : Type 0) (old mid new : State) → IsCommitting adds tells v r fault old mid new → FitsRecord adds tells old → FitsAdding old 1 (v.end + length (entry r))
 fits_commit adds tells v r fault old mid new does fits =
     let opens = does.opens in
@@ -182,14 +182,14 @@ fits_commit adds tells v r fault old mid new does fits =
       place = ap (λ (n : ℕ). n + length (entry r)) one.has.end ∙ ap (λ (q : Record). length (spelled v.shape one.records) + length (entry q)) (sym is);
     })
 
--- calls behind the opening that change the ledger file alone, as a part of the whole run
+-- calls after the opening that change the ledger file alone, as a part of the whole run
 frame_behind : (tells fits late_fits fault : Type 0) (v : Opened) (old mid new : State) → Opens tells old mid (Ok v) → (fits → IsRoomy old) → (tells → fits → mid.files ≡ old.files → Passes old mid → late_fits)
     → OnlyWrites tells (IsReady mid) late_fits fault (ChangesOnly 0) mid new → OnlyWrites tells (IsReady old) fits fault (ChangesOnly 0) old new
 frame_behind tells fits late_fits fault v old mid new opens room late writes =
     reads_then_writes tells (IsReady old) (IsReady mid) fits late_fits (let opening : Result Opened Failure = Ok v in opening ≡ Err failure.Disk) fault (ChangesOnly 0) old mid new
     (opened_not v failure.Disk) (λ c f apart. refl) (λ ready. ready) (λ told ready same goes. ready_later old mid same goes ready) room late opens.reads writes
 
--- the opening and the commit: within the room neither fails
+-- the opening and the commit: with enough space neither fails
 commit_frame : (adds : List Record → Record) (tells : Type 0) (v : Opened) (r : Record) (fault : Type 0) (old mid new : State) → IsCommitting adds tells v r fault old mid new → OnlyWrites tells (IsReady old) (FitsRecord adds tells old) fault (ChangesOnly 0) old new
 commit_frame adds tells v r fault old mid new does =
     frame_behind tells (FitsRecord adds tells old) (FitsAdding mid 1 (v.end + length (entry r))) fault v old mid new does.opens (λ fits. fits.some)
@@ -209,7 +209,7 @@ adds_failed {T} reading adds tells v r fault old mid new does failed = record {
   in_room = λ told ready fits. absurd (((commit_frame adds tells v r fault old mid new does).sure told ready fits).0 failed);
 }
 
--- what the ledger records, it records with the record behind it
+-- what the ledger records, it records with the record after it
 abbrev pub KeepsRecorded : (List Record → Record) → Type 0
 KeepsRecorded adds =
     (shape : Shape) (records : List Record) (datas : List (List ℕ)) → AreRecords shape (records ++ adds records ∷ []) → AreRecordsOf shape records datas → AreRecordsOf shape (records ++ adds records ∷ []) datas
@@ -244,7 +244,7 @@ adds_done {T} reading adds keeps tells v w r fault old mid new value does done =
   in_room = λ told ready fits. (λ is. let h : Ok value ≡ Err failure.Disk = is in cc, ((commit_frame adds tells v r fault old mid new does).sure told ready fits).1);
 }
 
--- where calls behind the opening changed the ledger file alone, each other file stays, and a fault of the answer, which
+-- where calls after the opening changed the ledger file alone, each other file stays, and a fault of the answer, which
 -- is one where these failed, has its cause
 pub rest_behind : (tells late_fits fault other : Type 0) (v : Opened) (old mid new : State) → Opens tells old mid (Ok v) → OnlyWrites tells (IsReady mid) late_fits fault (ChangesOnly 0) mid new
     → (other → fault) → (fault → other) → KeepsTheRest tells other old new

@@ -30,7 +30,7 @@ use Rattle.aea_command_store.specs.Fence.{next_fence, IsFencedAtEnd, HasAllFence
 use Rattle.aea_command.specs.Openings.{OpeningCauses, Opens}
 use Rattle.aea_command_store.proofs.Adding.{IsCommitting, adds_read, adds_failed, adds_done, rest_behind, rest_committed}
 use Rattle.aea_command.proofs.Behind.{AreBehindOpening, some_ledger, opened_no_opening}
-use Rattle.aea_command_store.proofs.Recording.{fence_records}
+use Rattle.aea_ledger.proofs.Recording.{fence_records}
 use Rattle.aea_command.proofs.Refusing.{refuses_none, refuses_one, refuses_stopped}
 
 from_opening : (bytes : List ℕ) (why : Refusal) → OpeningCauses bytes why → FenceCauses bytes why
@@ -45,11 +45,11 @@ back_to_opening bytes (AlreadyFenced nodes) cause = inr (some_ledger bytes cause
 back_to_opening bytes TooManyFences cause = inr (some_ledger bytes cause.shape cause.records cause.ledger, omega arith)
 back_to_opening bytes why cause = absurd cause
 
--- the causes of `fence` come behind the opening
+-- the causes of `fence` come after the opening
 pub fence_behind : (bytes : List ℕ) → AreBehindOpening bytes (FenceCauses bytes)
 fence_behind bytes = record { from = from_opening bytes; back = back_to_opening bytes }
 
--- a fence stands behind the last node of the opened ledger, or it has no node
+-- a fence is after the last node of the opened ledger, or it has no node
 abbrev pub StandsFenced : Opened → Type 0
 StandsFenced v = last_fence v.lattice.fences ≡ v.lattice.n
 
@@ -89,7 +89,7 @@ has_all_fences bytes v one many = record {
   many = ap length (sym one.has.lattice.fences_are) ∙ many;
 }
 
--- how the answers behind the opening tell why
+-- how the answers after the opening show why
 before_fenced : (tells : Type 0) (old mid : State) (v : Opened) → Opens tells old mid (Ok v) → tells → (nodes : ℕ) (other : Refusal) → place_of other < place_of (AlreadyFenced nodes) → FenceCauses (old.files 0) other → ⊥
 before_fenced tells old mid v opens told nodes NoArchive before cause = opened_no_opening tells old mid v opens told NoArchive cause
 before_fenced tells old mid v opens told nodes (LedgerBad at) before cause = opened_no_opening tells old mid v opens told (LedgerBad at) cause
@@ -127,7 +127,7 @@ none_against reading tells old mid v opens free few told (AlreadyFenced k) cause
 none_against reading tells old mid v opens free few told TooManyFences cause = few (all_fences_as reading (old.files 0) v (opens.this_one told) cause)
 none_against reading tells old mid v opens free few told why cause = cause
 
--- The fence may follow the records of an opened ledger where none stands there, and it has not the most.
+-- The fence may follow the records of an opened ledger where none is there, and it has not the most.
 fence_next : FencesMayFollow → (v : Opened) → (StandsFenced v → ⊥) → length v.lattice.fences ≢ greatest_fences → (records : List Record) → HasRecords v records → IsNext v.shape records (Fence v.lattice.n)
 fence_next follow v free few records has =
     let n = has.lattice.n in
@@ -144,7 +144,7 @@ fence_next follow v free few records has =
 fence_is : (v : Opened) (records : List Record) → HasRecords v records → next_fence records ≡ Fence v.lattice.n
 fence_is v records has = ap Fence (sym has.lattice.n)
 
--- what the call that adds a fence gave, behind the opening, where it failed
+-- what the call that adds a fence gave, after the opening, where it failed
 pub record IsUnfenced (tells : Type 0) (v : Opened) (fault : FenceFault) (old mid new : State) : Type 1 where
   pub opens : Opens tells old mid (Ok v)
   pub already : (n : ℕ) → (fault ≡ fencing.AlreadyFenced n) ↔ ((n ≡ v.lattice.n) × StandsFenced v)
@@ -204,7 +204,7 @@ unfenced_adds {T} reading follow tells v fencing.TooManyFences old mid new gave 
 unfenced_adds {T} reading follow tells v fencing.DiskFault old mid new gave =
     adds_failed reading next_fence tells v (Fence v.lattice.n) _ old mid new (unfenced_committing follow tells v old mid new gave) refl
 
--- where the call that adds a fence to the opened ledger failed, the failure tells each refusal
+-- where the call that adds a fence to the opened ledger failed, the failure shows each refusal
 pub unfenced_refuses : {T : Type 0} → HasOneReading → (tells : Type 0) (v : Opened) (fault : FenceFault) (old mid new : State) → IsUnfenced tells v fault old mid new → Refuses {T = T} tells (FenceCauses (old.files 0)) (Err (fence_failure fault))
 unfenced_refuses {T} reading tells v (fencing.AlreadyFenced n) old mid new gave =
     let is = (gave.already n).0 refl in
@@ -226,7 +226,7 @@ failure_disk fencing.DiskFault e = refl
 err_same : {T : Type 0} (f g : Failure) → (let one : Result T Failure = Err f in one ≡ Err g) → f ≡ g
 err_same f g e = cc
 
--- where the call that adds a fence failed, each other file stays, and an answered fault of the disk has its cause
+-- where the call that adds a fence failed, each other file stays, and a returned fault of the disk has its cause
 pub unfenced_rest : {T : Type 0} (tells : Type 0) (v : Opened) (fault : FenceFault) (old mid new : State) → IsUnfenced tells v fault old mid new → KeepsTheRest tells (let answer : Result T Failure = Err (fence_failure fault) in answer ≡ Err failure.Disk) old new
 unfenced_rest {T} tells v fault old mid new gave =
     rest_behind tells _ (fault ≡ fencing.DiskFault) (let answer : Result T Failure = Err (fence_failure fault) in answer ≡ Err failure.Disk) v old mid new gave.opens gave.writes
@@ -256,7 +256,7 @@ pub fenced_adds : {T : Type 0} → HasOneReading → FencesMayFollow → BlocksA
 fenced_adds reading follow inside few tells v w nodes old mid new value gave =
     adds_done reading next_fence (fence_records inside few) tells v w (Fence v.lattice.n) ⊥ old mid new value (fenced_committing follow tells v w nodes old mid new gave) gave.committed
 
--- where a fence was added, no cause of a refusal stands if the disk tells, and an answer with a value is no
+-- where a fence was added, no cause of a refusal holds if the disk's contents are known, and an answer with a value is no
 -- refusal
 pub fenced_refuses : {T : Type 0} → HasOneReading → (tells : Type 0) (v w : Opened) (nodes : ℕ) (old mid new : State) (value : T) → IsFencedNow tells v w nodes old mid new → Refuses tells (FenceCauses (old.files 0)) (Ok value)
 fenced_refuses reading tells v w nodes old mid new value gave =
@@ -268,7 +268,7 @@ pub fenced_rest : {T : Type 0} → FencesMayFollow → (tells : Type 0) (v w : O
 fenced_rest {T} follow tells v w nodes old mid new value gave =
     rest_committed next_fence tells v (Fence v.lattice.n) ⊥ _ old mid new (fenced_committing follow tells v w nodes old mid new gave) (λ is. let h : (let answer : Result T Failure = Ok value in answer ≡ Err failure.Disk) = is in cc) (λ none. absurd none)
 
--- where a fence was added and the disk tells, the number that was given is that of the ledger's nodes
+-- where a fence was added and the disk's contents are known, the number that was given is that of the ledger's nodes
 pub fenced_nodes : HasOneReading → (tells : Type 0) (v w : Opened) (nodes : ℕ) (old mid new : State) → IsFencedNow tells v w nodes old mid new → tells → (shape : Shape) (records : List Record) → HasLedger shape records (old.files 0) → nodes ≡ nodes_of records
 fenced_nodes reading tells v w nodes old mid new gave told shape records has =
     let one = gave.opens.this_one told in

@@ -61,7 +61,7 @@ module _ (reading : HasOneReading) (D tells : Type 0) (state : D → State) (tol
   ]
 
   module _ (p : PutRun) (is : r.put ≡ Some p) (stores : Stores p.name tells (state r.old) (state r.new) p.left p.rest p.answer) where
-    -- where the record does not stand, the put was not acknowledged
+    -- where the record is not there, the put was not acknowledged
     unacknowledged : HasLedger shape records (r.files 0) → IsAcknowledged r.put r.moment (state r.new).moment → ⊥
     unacknowledged before said =
         let ended : IsAcknowledged (Some p) r.moment (state r.new).moment = subst (λ (q : Option PutRun). IsAcknowledged q r.moment (state r.new).moment) is said in

@@ -2,7 +2,6 @@ pub mod CreateLemmas
 pub mod Adding
 pub mod FenceLemmas
 pub mod UpgradeLemmas
-pub mod Recording
 pub mod Growing
 pub mod PutLemmas
 pub mod GoingOn

@@ -24,7 +24,7 @@ use Rattle.aea_command.specs.Openings.{OpeningCauses, Opens}
 use Rattle.aea_command_store.specs.Upgrade.{next_raise, IsRaised, UpgradeCauses}
 use Rattle.aea_command_store.proofs.Adding.{IsCommitting, adds_read, adds_failed, adds_done, rest_behind, rest_committed}
 use Rattle.aea_command.proofs.Behind.{AreBehindOpening, some_ledger, opened_no_opening}
-use Rattle.aea_command_store.proofs.Recording.{raise_records}
+use Rattle.aea_ledger.proofs.Recording.{raise_records}
 use Rattle.aea_command.proofs.Refusing.{refuses_none, refuses_one, refuses_stopped}
 
 from_opening : (bytes : List ℕ) (why : Refusal) → OpeningCauses bytes why → UpgradeCauses bytes why
@@ -38,7 +38,7 @@ back_to_opening bytes (LedgerBad at) cause = inl cause
 back_to_opening bytes AlreadyUpgraded cause = inr (some_ledger bytes cause.shape cause.records cause.ledger, omega arith)
 back_to_opening bytes why cause = absurd cause
 
--- the causes of `upgrade` come behind the opening
+-- the causes of `upgrade` come after the opening
 pub upgrade_behind : (bytes : List ℕ) → AreBehindOpening bytes (UpgradeCauses bytes)
 upgrade_behind bytes = record { from = from_opening bytes; back = back_to_opening bytes }
 
@@ -56,7 +56,7 @@ is_raised bytes v one raised = record {
   raised = sym one.has.raised ∙ raised;
 }
 
--- how the answers behind the opening tell why
+-- how the answers after the opening show why
 before_raised : (tells : Type 0) (old mid : State) (v : Opened) → Opens tells old mid (Ok v) → tells → (other : Refusal) → place_of other < place_of AlreadyUpgraded → UpgradeCauses (old.files 0) other → ⊥
 before_raised tells old mid v opens told NoArchive before cause = opened_no_opening tells old mid v opens told NoArchive cause
 before_raised tells old mid v opens told (LedgerBad at) before cause = opened_no_opening tells old mid v opens told (LedgerBad at) cause
@@ -89,7 +89,7 @@ raise_is v records has = refl
 opened_not_disk : (v : Opened) → Ok v ≡ Err failure.Disk → ⊥
 opened_not_disk v e = cc
 
--- what the call that raises the limit gave, behind the opening, where it failed
+-- what the call that raises the limit gave, after the opening, where it failed
 pub record IsUnraised (tells : Type 0) (v : Opened) (fault : UpgradeFault) (old mid new : State) : Type 1 where
   pub opens : Opens tells old mid (Ok v)
   pub already : (fault ≡ raising.AlreadyUpgraded) ↔ (v.raised ≡ true)
@@ -115,7 +115,7 @@ unraised_adds {T} reading tells v raising.AlreadyUpgraded old mid new gave =
 unraised_adds {T} reading tells v raising.DiskFault old mid new gave =
     adds_failed reading next_raise tells v Raise _ old mid new (unraised_committing tells v old mid new gave) refl
 
--- where the call that raises the limit of the opened ledger failed, the failure tells each refusal
+-- where the call that raises the limit of the opened ledger failed, the failure shows each refusal
 pub unraised_refuses : {T : Type 0} → HasOneReading → (tells : Type 0) (v : Opened) (fault : UpgradeFault) (old mid new : State) → IsUnraised tells v fault old mid new → Refuses {T = T} tells (UpgradeCauses (old.files 0)) (Err (upgrade_failure fault))
 unraised_refuses {T} reading tells v raising.AlreadyUpgraded old mid new gave =
     refuses_one tells (UpgradeCauses (old.files 0)) (Err (failure.Refused AlreadyUpgraded)) AlreadyUpgraded refl
@@ -130,7 +130,7 @@ failure_disk raising.DiskFault e = refl
 err_same : {T : Type 0} (f g : Failure) → (let one : Result T Failure = Err f in one ≡ Err g) → f ≡ g
 err_same f g e = cc
 
--- where the call that raises the limit failed, each other file stays, and an answered fault of the disk has its
+-- where the call that raises the limit failed, each other file stays, and a returned fault of the disk has its
 -- cause
 pub unraised_rest : {T : Type 0} (tells : Type 0) (v : Opened) (fault : UpgradeFault) (old mid new : State) → IsUnraised tells v fault old mid new → KeepsTheRest tells (let answer : Result T Failure = Err (upgrade_failure fault) in answer ≡ Err failure.Disk) old new
 unraised_rest {T} tells v fault old mid new gave =
@@ -159,7 +159,7 @@ pub raised_adds : {T : Type 0} → HasOneReading → (tells : Type 0) (v w : Ope
 raised_adds reading tells v w old mid new value gave =
     adds_done reading next_raise raise_records tells v w Raise ⊥ old mid new value (raised_committing tells v w old mid new gave) gave.committed
 
--- where the limit was raised, no cause of a refusal stands if the disk tells, and an answer with a value is no
+-- where the limit was raised, no cause of a refusal holds if the disk's contents are known, and an answer with a value is no
 -- refusal
 pub raised_refuses : {T : Type 0} → HasOneReading → (tells : Type 0) (v w : Opened) (old mid new : State) (value : T) → IsRaisedNow tells v w old mid new → Refuses tells (UpgradeCauses (old.files 0)) (Ok value)
 raised_refuses reading tells v w old mid new value gave =

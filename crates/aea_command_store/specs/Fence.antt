@@ -19,11 +19,11 @@ use Rattle.aea_command.specs.Printed.{PrintsText}
 abbrev pub fence_line : ℕ → List ℕ
 fence_line nodes = codes "fence " ++ decimal nodes ++ newline
 
--- the fence behind the last node of these records
+-- the fence after the last node of these records
 abbrev pub next_fence : List Record → Record
 next_fence records = Fence (nodes_of records)
 
--- the bytes are a ledger with so many nodes: there is none, or the last fence stands at the last one
+-- the bytes are a ledger with so many nodes: there is none, or the last fence is at the last one
 pub record IsFencedAtEnd (bytes : List ℕ) (nodes : ℕ) : Type 0 where
   pub shape : Shape
   pub records : List Record
@@ -52,7 +52,7 @@ pub record Fences (tells : Type 0) (old new : State) (before after : SinkState) 
   pub done : IfOk answer (λ status. status ≡ Done)
   -- what is added to the ledger
   pub adds : AddsRecord next_fence tells old new answer
-  -- what is printed: the number of the ledger's nodes; over a disk that does not tell the file, some number of nodes
+  -- what is printed: the number of the ledger's nodes; over a disk on which the file is not known, some number of nodes
   pub prints : tells → (shape : Shape) (records : List Record) → HasLedger shape records (old.files 0)
       → PrintsText before after answer (fence_line (nodes_of records))
   pub some : (nodes : ℕ) × ((nodes ≤ raised_limit) × PrintsText before after answer (fence_line nodes))

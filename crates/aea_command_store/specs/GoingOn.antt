@@ -71,7 +71,7 @@ AreRecordsFor (o ∷ objects) [] = ⊥
 AreRecordsFor (o ∷ objects) (r ∷ records) = IsRecordOf o r × AreRecordsFor objects records
 
 -- However many runs there are, and wherever each was stopped: the ledger that the last stop left has the records that were
--- there before the first, and behind them those of the puts, in order, of each that was acknowledged.
+-- there before the first, and after them those of the puts, in order, of each that was acknowledged.
 abbrev pub StopsKeepPuts : {D : Type 0} → Type 0 → (D → State) → Type 0
 StopsKeepPuts {D} tells state =
     tells → (shape : Shape) (records : List Record) (runs : List (StoppedRun D tells state)) (first last : Files) → HasLedger shape records (first 0) → GoOn D tells state first runs last

@@ -84,7 +84,7 @@ pub record MayBeTaken (shape : Shape) (f : Filled) (o : NewObject) : Type 0 wher
   pub fits : f.nodes + nodes_for shape (length o.bytes) ≤ f.limit
   pub size : length o.bytes < 2 ^ 64
 
--- each of the objects may be stored behind those before it
+-- each of the objects may be stored after those before it
 abbrev pub MayAllBeTaken : Shape → Filled → List NewObject → Type 0
 MayAllBeTaken shape f [] = Unit {0}
 MayAllBeTaken shape f (o ∷ objects) = MayBeTaken shape f o × MayAllBeTaken shape (filled_more shape f o) objects
@@ -98,7 +98,7 @@ pub record HasPlace (f : Filled) (stream : List ℕ) : Type 0 where
 abbrev pub FitsLimit : Shape → Filled → List ℕ → Type 0
 FitsLimit shape f stream = f.nodes + nodes_for shape (object_length stream) ≤ f.limit
 
--- Why what the stream begins with is not stored into an archive that is so full, behind these objects of the run; the
+-- Why what the stream begins with is not stored into an archive that is so full, after these objects of the run; the
 -- files are those at its beginning, and the input of all had so many bytes.
 abbrev pub FrameCauses : Shape → Filled → Files → ℕ → List NewObject → List ℕ → Refusal → Type 0
 FrameCauses shape f files long before stream BadName = HasBadName stream
@@ -125,11 +125,11 @@ pub record IsRefusedBehind (files : Files) (input : List ℕ) (before : List New
   pub intact : before ≢ [] → (block : BlockId) → HasDamagedHead files block → ⊥
   pub cause : FrameCauses shape (filled_all shape (filled_by records) before) files (length input) before rest why
 
--- it would do so behind some first frames
+-- it would do so after some first frames
 abbrev pub IsRefusedAt : Files → List ℕ → Refusal → Type 0
 IsRefusedAt files input why = (before : List NewObject) × IsRefusedBehind files input before why
 
--- why a run is refused behind its opening
+-- why a run is refused after its opening
 abbrev pub OpenedCauses : Files → List ℕ → Refusal → Type 0
 OpenedCauses files input NoArchive = ⊥
 OpenedCauses files input (LedgerBad at) = ⊥
@@ -143,13 +143,13 @@ IngestCauses files input why = IsRefusedAt files input why
 
 -- ---- where a run ends before all of its input is stored
 
--- why a run is refused that stored these objects: at its opening, or for the frame behind theirs
+-- why a run is refused that stored these objects: at its opening, or for the frame after theirs
 abbrev pub EndCauses : Files → List ℕ → List NewObject → Refusal → Type 0
 EndCauses files input objects NoArchive = IsNoArchive (files 0)
 EndCauses files input objects (LedgerBad at) = IsBadAt (files 0) at
 EndCauses files input objects why = IsRefusedBehind files input objects why
 
--- Behind the frames of these objects a part of the input was taken that is not the whole of the next frame.
+-- After the frames of these objects a part of the input was taken that is not the whole of the next frame.
 pub record IsReadInPart (input : List ℕ) (rest : Option (List ℕ)) (objects : List NewObject) : Type 0 where
   pub stream : List ℕ
   pub framed : input ≡ frames_of objects ++ stream
@@ -157,7 +157,7 @@ pub record IsReadInPart (input : List ℕ) (rest : Option (List ℕ)) (objects :
   pub taken : Consumes (Some stream) rest part
   pub short : HasHead stream → length part < frame_length stream
 
--- Of a run whose lines are those of these objects: where it is refused, the frame behind theirs is the one that is not
+-- Of a run whose lines are those of these objects: where it is refused, the frame after theirs is the one that is not
 -- stored, and where a read failed, the one that was not read whole. So no object before that frame is left out.
 pub record EndsEarly {T : Type 0} (tells : Type 0) (files : Files) (left rest : Option (List ℕ)) (objects : List NewObject) (answer : Result T Failure) : Type 0 where
   pub refused : tells → (input : List ℕ) → left ≡ Some input → (why : Refusal) → answer ≡ Err (failure.Refused why) → EndCauses files input objects why
@@ -165,7 +165,7 @@ pub record EndsEarly {T : Type 0} (tells : Type 0) (files : Files) (left rest : 
   -- and where it is refused at its opening, nothing of the input was taken
   pub closed : (why : Refusal) → place_of why < place_of Occupied → answer ≡ Err (failure.Refused why) → rest ≡ left
 
--- ---- the room
+-- ---- the space
 
 -- the record is that of the object: its name, how many bytes it has, and its nodes
 abbrev pub IsOfObject : Shape → NewObject → Record → Type 0
@@ -179,7 +179,7 @@ AreOfObjects shape (o ∷ objects) [] = ⊥
 AreOfObjects shape (o ∷ objects) (r ∷ records) = IsOfObject shape o r × AreOfObjects shape objects records
 
 -- the bytes are a ledger; and with the records of objects that the source can begin with, and that of one more, whose head
--- it can have behind them and whose nodes fit, it has so many records more and its ending gate at this place
+-- it can have after them and whose nodes fit, it has so many records more and its ending gate at this place
 pub record WouldReach (left : Option (List ℕ)) (bytes : List ℕ) (more end : ℕ) : Type 0 where
   pub shape : Shape
   pub records : List Record
@@ -195,14 +195,14 @@ pub record WouldReach (left : Option (List ℕ)) (bytes : List ℕ) (more end : 
   pub count : more ≡ length added + 1
   pub place : end ≡ next_end (length (spelled shape (records ++ added))) (length name) (nodes_for shape size * (1 + shape.alpha))
 
--- The disk has some room, and to sync; and where it has an archive, room for the rows that its sites may have, and for the
--- records up to each place at which its ledger may end in such a run, of a disk that does not tell the file wherever that is.
+-- The disk has some space, and to sync; and where it has an archive, space for the rows that its sites may have, and for the
+-- records up to each place at which its ledger may end in such a run, of a disk on which the file is not known wherever that is.
 pub record FitsIngest (tells : Type 0) (left : Option (List ℕ)) (s : State) : Type 0 where
   pub some : IsRoomy s
   pub sites : (shape : Shape) (limit : ℕ) → (tells → HasLimit shape limit (s.files 0)) → HaveSitesRoom shape limit s
   pub behind : (more end : ℕ) → (tells → WouldReach left (s.files 0) more end) → FitsAdding s more end
 
--- the disk has room for all that a run may write that stores the frames of the source into an opened archive
+-- the disk has space for all that a run may write that stores the frames of the source into an opened archive
 pub record FitsFrames (v : Opened) (left : Option (List ℕ)) (s : State) : Type 0 where
   pub sites : FitsRows v.shape (limit_when v.raised) s
   pub ledger : (records : List Record) → HasRecords v records → (objects : List NewObject) (added : List Record) (name : List ℕ) (size : ℕ) (rest : Option (List ℕ))
@@ -223,12 +223,12 @@ pub record GrowsSurely (shape : Shape) (records : List Record) (objects : List N
 abbrev pub MayBeMore : {T : Type 0} → Result T Failure → List NewObject → Type 0
 MayBeMore answer more = (more ≡ []) ⊎ ((answer ≡ Err failure.Output) × ((o : NewObject) × (more ≡ o ∷ [])))
 
--- No object behind these; or, where the disk failed, the one of the next frame, whose commit was under way.
+-- No object after these; or, where the disk failed, the one of the next frame, whose commit was under way.
 abbrev pub MayBeLast : {T : Type 0} → Option (List ℕ) → List NewObject → Result T Failure → List NewObject → Type 0
 MayBeLast left objects answer last =
     (last ≡ []) ⊎ ((answer ≡ Err failure.Disk) × ((o : NewObject) × (last ≡ o ∷ []) × ((taken : Option (List ℕ)) × Consumes left taken (frames_of (objects ++ o ∷ [])))))
 
--- The archive was not opened, since the disk failed or memory was wanting: none of these objects was stored.
+-- The archive was not opened, since the disk failed or memory ran out: none of these objects was stored.
 pub record IsNotOpened {T : Type 0} (old new : State) (objects : List NewObject) (answer : Result T Failure) : Type 0 where
   pub by : (answer ≡ Err failure.Disk) ⊎ (answer ≡ Err failure.Memory)
   pub none : objects ≡ []
@@ -236,28 +236,28 @@ pub record IsNotOpened {T : Type 0} (old new : State) (objects : List NewObject)
   pub reads : new.files ≡ old.files
 
 -- Of a run that stores the frames of the input, with the disk and the rest of the input before and after it, and what it
--- answers: the objects whose lines were printed, and the one whose line was begun.
+-- returns: the objects whose lines were printed, and the one whose line was begun.
 pub record StoresFrames {T : Type 0} (tells : Type 0) (old new : State) (left rest : Option (List ℕ)) (printed more : List NewObject) (answer : Result T Failure) : Type 0 where
   -- they are those of the first frames, in order; and where it is done, those of all that the input had
   pub framed : (taken : Option (List ℕ)) × Consumes left taken (frames_of (printed ++ more))
   pub most : MayBeMore answer more
   pub whole : IsOk answer → Consumes left rest (frames_of printed) × IsAtEnd rest
-  -- where it is done, and where the output failed, there was an archive, and all of them stand in every image, and their
+  -- where it is done, and where the output failed, there was an archive, and all of them are in every image, and their
   -- blocks are held
   pub archive : EndsStored answer → tells → IsSomeLedger (old.files 0)
   pub stands : EndsStored answer → tells → (shape : Shape) (records : List Record) → HasLedger shape records (old.files 0)
       → OpensThen old new (HasGrown shape records (printed ++ more))
   -- what a stop at any moment leaves: from the first sync on the archive with the first of them, and of one more where the
-  -- disk failed; and at the end, after any answer, those whose lines were printed stand in every image
+  -- disk failed; and at the end, after any answer, those whose lines were printed are in every image
   pub stops : tells → (shape : Shape) (records : List Record) → HasLedger shape records (old.files 0)
       → (last : List NewObject) × MayBeLast left printed answer last
       × (IsNotOpened old new (printed ++ more) answer ⊎ OpensThen old new (GrowsSurely shape records ((printed ++ more) ++ last) (length (printed ++ more))))
   -- where there is no ledger, nothing is stored
   pub none : tells → (IsSomeLedger (old.files 0) → ⊥) → KeepsImages old new × (new.files ≡ old.files)
-  -- where the disk is ready and has the room nothing fails
+  -- where the disk is ready and has the space nothing fails
   pub in_room : tells → IsReady old → NeverFails (FitsIngest tells left old) (answer ≢ Err failure.Disk) old new
 
--- The same of a run behind its opening, from where the files have the opened ledger.
+-- The same of a run after its opening, from where the files have the opened ledger.
 pub record StoresOpened {T : Type 0} (tells : Type 0) (v : Opened) (old new : State) (left rest : Option (List ℕ)) (printed more : List NewObject) (answer : Result T Failure) : Type 0 where
   pub framed : (taken : Option (List ℕ)) × Consumes left taken (frames_of (printed ++ more))
   pub most : MayBeMore answer more
@@ -266,8 +266,8 @@ pub record StoresOpened {T : Type 0} (tells : Type 0) (v : Opened) (old new : St
   pub stops : tells → (records : List Record) → AreItsRecords v records (old.files 0)
       → (last : List NewObject) × MayBeLast left printed answer last × GrowsSurely v.shape records ((printed ++ more) ++ last) (length (printed ++ more)) old new
 
--- What stands on `out`: the lines of the objects that were printed; behind them the last line where all was done, a first
--- part of the line that follows where the output failed, and nothing else where something else did. Within the room of the
+-- What is on `out`: the lines of the objects that were printed; after them the last line where all was done, a first
+-- part of the line that follows where the output failed, and nothing else where something else did. Within the capacity of the
 -- sink nothing fails.
 pub record PrintsLines (shape : Shape) (printed more : List NewObject) (before after : SinkState) (answer : Answer) : Type 0 where
   pub part : List ℕ
@@ -295,7 +295,7 @@ pub record PrintsNothing (printed more : List NewObject) (before after : SinkSta
   pub no_more : more ≡ []
   pub unused : after ≡ before
 
--- it printed lines, in an archive of some shape, which is that of the ledger where the disk tells it
+-- it printed lines, in an archive of some shape, which is that of the ledger where the disk's contents are known
 abbrev pub PrintsSome : Type 0 → List ℕ → List NewObject → List NewObject → SinkState → SinkState → Answer → Type 0
 PrintsSome tells bytes printed more before after answer =
     (shape : Shape) × (tells → (other : Shape) (records : List Record) → HasLedger other records bytes → shape ≡ other)
@@ -309,7 +309,7 @@ pub record Ingests (tells : Type 0) (old new : State) (left rest : Option (List 
   -- the objects whose lines were printed, and one more that may have been stored
   pub printed : List NewObject
   pub more : List NewObject
-  -- what becomes of the archive
+  -- the effect on the archive
   pub stores : StoresFrames tells old new left rest printed more answer
   -- which frame was not stored, where it is refused, and where a read failed
   pub early : EndsEarly tells old.files left rest printed answer

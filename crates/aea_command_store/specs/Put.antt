@@ -1,4 +1,4 @@
--- What `put` does: the line that it prints, why it is refused, and what becomes of the archive.
+-- What `put` does: the line that it prints, why it is refused, and the effect on the archive.
 use Rattle.std.specs.Prelude.{◌≡◌, ◌≢◌, ◌⊎◌, ◌≤◌, ◌<◌, ℕ, ◌+◌, ◌-◌, ◌*◌, List, [], ◌∷◌, ◌++◌, length, codes, decimal, All, Option, Result, Err, IsOk, IfOk}
 use Rattle.std.specs.Io.KnownBytes.{Consumes}
 use Rattle.hex.specs.Hex.{encode_lower}
@@ -109,8 +109,8 @@ pub record WouldEndAt (name : List ℕ) (left : Option (List ℕ)) (bytes : List
   pub fits : nodes_of records + nodes_for shape (length taken) ≤ limit_of records
   pub place : end ≡ next_end (length (spelled shape records)) (length name) (nodes_for shape (length taken) * (1 + shape.alpha))
 
--- The disk has some room, and to sync; and where it has an archive, room for the rows that its sites may have, and for the
--- record up to the place at which the new ledger is to end, of a disk that does not tell the file whatever and wherever that
+-- The disk has some space, and to sync; and where it has an archive, space for the rows that its sites may have, and for the
+-- record up to the place at which the new ledger is to end, of a disk on which the file is not known whatever and wherever that
 -- is.
 pub record FitsPut (name : List ℕ) (tells : Type 0) (left : Option (List ℕ)) (s : State) : Type 0 where
   pub some : IsRoomy s
@@ -132,9 +132,9 @@ MayHavePut name left rest answer objects =
     (objects ≡ []) ⊎ ((EndsStored answer ⊎ (answer ≡ Err failure.Disk)) × ((o : NewObject) × IsWhole name left rest o × (objects ≡ o ∷ [])))
 
 -- Of a run that stores what the input has under a name, with the disk and the rest of the input before and after it, and
--- what it answers:
+-- what it returns:
 pub record Stores {T : Type 0} (name : List ℕ) (tells : Type 0) (old new : State) (left rest : Option (List ℕ)) (answer : Result T Failure) : Type 0 where
-  -- where it is done, and where the output failed, there was an archive, and the object with all that the input had stands
+  -- where it is done, and where the output failed, there was an archive, and the object with all that the input had is
   -- in every image, and its blocks are held
   pub archive : EndsStored answer → tells → IsSomeLedger (old.files 0)
   pub stands : EndsStored answer → tells → (shape : Shape) (records : List Record) → HasLedger shape records (old.files 0)
@@ -144,7 +144,7 @@ pub record Stores {T : Type 0} (name : List ℕ) (tells : Type 0) (old new : Sta
       → (objects : List NewObject) × MayHavePut name left rest answer objects × OpensOr old new (Grows shape records objects)
   -- a refusal before the input is read leaves the disk and the input as they were
   pub untouched : (why : Refusal) → IsEarly why → answer ≡ Err (failure.Refused why) → IsUntouched tells old new × (rest ≡ left)
-  -- any other, a fault of the input and want of memory leave the ledger as it was, and so does any answer where there is
+  -- any other, a fault of the input and lack of memory leave the ledger as it was, and so does any answer where there is
   -- no ledger
   pub leaves : (f : Failure) → f ≢ failure.Disk → f ≢ failure.Output → answer ≡ Err f → tells
       → HasOpening old new (λ c. c 0 ≡ old.files 0) × (new.files 0 ≡ old.files 0)
@@ -155,11 +155,11 @@ pub record Stores {T : Type 0} (name : List ℕ) (tells : Type 0) (old new : Sta
   -- no more of the input is taken than the nodes that are left hold, and one byte
   pub takes : tells → (shape : Shape) (records : List Record) → HasLedger shape records (old.files 0)
       → TakesAtMost left rest ((limit_of records - nodes_of records) * shape.block + 1)
-  -- where the disk is ready and has the room nothing fails
+  -- where the disk is ready and has the space nothing fails
   pub in_room : tells → IsReady old → NeverFails (FitsPut name tells left old) (answer ≢ Err failure.Disk) old new
 
 -- The text is the line of the object with all that the input had, under the name, in an archive of some shape, which is
--- that of the ledger where the disk tells it.
+-- that of the ledger where the disk's contents are known.
 pub record IsStoredLine (name : List ℕ) (tells : Type 0) (bytes : List ℕ) (left rest : Option (List ℕ)) (text : List ℕ) : Type 0 where
   pub shape : Shape
   pub o : NewObject
@@ -176,7 +176,7 @@ KeepsOtherFiles tells fault old new = KeepsAllBut (λ file. file ≤ greatest_si
 pub record Puts (name : List ℕ) (tells : Type 0) (old new : State) (left rest : Option (List ℕ)) (before after : SinkState) (answer : Answer) : Type 0 where
   -- no block is lost
   pub done : IfOk answer (λ status. status ≡ Done)
-  -- what becomes of the archive
+  -- the effect on the archive
   pub stores : Stores name tells old new left rest answer
   -- what is printed: the line of the object
   pub text : List ℕ

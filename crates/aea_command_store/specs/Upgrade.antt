@@ -19,7 +19,7 @@ use Rattle.aea_command.specs.Printed.{PrintsText}
 abbrev pub upgraded_line : List ℕ
 upgraded_line = codes "upgraded 1048576" ++ newline
 
--- the raise of the limit, whatever stands before it
+-- the raise of the limit, whatever comes before it
 abbrev pub next_raise : List Record → Record
 next_raise records = Raise
 

@@ -1,10 +1,10 @@
 //! The commands that write the ledger: `create`, `put`, `ingest`, `fence`, `upgrade`.
 //!
-//! Promises to the table above, command by command, what a run leaves, whatever it answers: `Creates`, `Puts`, `Ingests`,
-//! `Fences`, `Upgrades`, each with its refusals (`CreateCauses` and its kin) and the room that it needs; and by the law
-//! `stops_keep_puts` what stands after any number of runs that are stopped and gone on with.
+//! Promises to the table above, command by command, what a run leaves, whatever it returns: `Creates`, `Puts`, `Ingests`,
+//! `Fences`, `Upgrades`, each with its refusals (`CreateCauses` and its kin) and the space that it needs; and by the law
+//! `stops_keep_puts` what is there after any number of runs that are stopped and gone on with.
 //!
-//! Read first in `specs/`: `Adding` (`AddsRecord`: what becomes of the disk where a record is added), `Growing` (`Grows`: where
+//! Read first in `specs/`: `Adding` (`AddsRecord`: the effect on the disk where a record is added), `Growing` (`Grows`: where
 //! objects are) and `Put`. It rests on `aea_command`, on `create_ledger` and the appends of `aea_ledger`, and on `put` and
 //! `ingest_one` of `aea_append`.
 #![tactic(auto)]

@@ -16,7 +16,7 @@ use Rattle.aea_command.proofs.OpeningCases.{images_same}
 use Rattle.aea_command.proofs.Refusing.{refuses_told}
 use Rattle.aea_command_loss.proofs.DrillLemmas.Refused.{told_is}
 
--- what `drill` did, when it is refused, and that no fault of the disk is answered give what holds of its run
+-- what `drill` did, when it is refused, and that no fault of the disk is returned give what holds of its run
 pub drill_runs : (l : Lattice) (tells : Type 0) (disk : State) (old new : SourceState) (before after : SinkState) (answer : Answer)
     → Drills l old new before after answer → Refuses (IsSome old.left) (DamageCauses l (unwrap_or old.left [])) answer → answer ≢ Err failure.Disk
     → NeverClashes answer

@@ -23,7 +23,7 @@ use Rattle.aea_command.proofs.OpeningCases.{opening_more, images_same, opening_n
 use Rattle.aea_command.proofs.Reading.{has_ledger_of}
 use Rattle.aea_command.proofs.Refusing.{refuses_told, refuses_stopped}
 
--- where the output has room for the explanation, it does not fail
+-- where the output has space for the explanation, it does not fail
 explain_fits : HasOneReading → (word : List ℕ) (tells : Type 0) (files : Files) (before after : SinkState) (answer : Answer) (gave : Result Opened Failure) → tells
     → IfOk gave (λ v. tells → IsThisOne v (files 0)) → IfErr gave (λ f. (fault : OpenFault) × (f ≡ opening_failure fault)) → IfErr gave (λ f. (answer ≡ Err f) × (after ≡ before))
     → IfOk gave (λ v. ExplainsOpened word tells v files before after answer)
@@ -68,7 +68,7 @@ explain_runs reading word tells old new input before after answer explains refus
       opens = λ told. opening_more old new _ _ (λ c stays f keep. stays f) (opens.stops told);
     }
 
--- memory was wanting for the text of the block
+-- memory ran out for the text of the block
 pub unworded_runs : (word : List ℕ) (tells : Type 0) (s : State) (input : SourceState) (out : SinkState) → Runs (Explain word) (world tells s input out) (world tells s input out) (Err failure.Memory)
 unworded_runs word tells s input out = record {
   does = inl (record { is = refl; images = images_same s; files = refl; disk = refl; out = refl });

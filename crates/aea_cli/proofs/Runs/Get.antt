@@ -25,12 +25,12 @@ use Rattle.aea_command_read.proofs.GetLemmas.Causing.{object_here}
 use Rattle.aea_command.proofs.OpeningCases.{opening_more, images_same, opening_not_output}
 use Rattle.aea_command.proofs.Refusing.{refuses_told, refuses_stopped}
 
--- something stands there, or nothing
+-- something is there, or nothing
 some_or_none : (o : Option Placed) → ((p : Placed) × (o ≡ Some p)) ⊎ (o ≡ None)
 some_or_none None = inr refl
 some_or_none (Some p) = inl (p, refl)
 
--- where the output has room for the object, it does not fail
+-- where the output has space for the object, it does not fail
 fetched_fits : (name : List ℕ) (tells : Type 0) (v : Opened) (c : Files) (before after : SinkState) (answer : Answer) → HasOneReading → IsThisOne v (c 0) → Fetches name tells v c before after answer
     → ((shape : Shape) (records : List Record) (p : Placed) → HasObject c name shape records p → FitsBytes before p.object.length) → answer ≢ Err failure.Output
 fetched_fits name tells v c before after answer reading one does fits e = elim (some_or_none (get v.objects name)) [
@@ -69,7 +69,7 @@ get_runs reading name tells old new input before after answer gets refuses hones
       opens = λ told. opening_more old new _ _ (λ c stays f keep. stays f) (opens.stops told);
     }
 
--- memory was wanting for the name
+-- memory ran out for the name
 pub unnamed_runs : (name : List ℕ) (tells : Type 0) (s : State) (input : SourceState) (out : SinkState) → Runs (Get name) (world tells s input out) (world tells s input out) (Err failure.Memory)
 unnamed_runs name tells s input out = record {
   does = inl (record { is = refl; images = images_same s; files = refl; disk = refl; out = refl });

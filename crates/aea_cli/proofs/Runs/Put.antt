@@ -43,7 +43,7 @@ put_runs name tells old new input input_after before after answer puts refuses r
   opens = rest.opens;
 }
 
--- ---- memory was wanting for the words
+-- ---- memory ran out for the words
 
 pub unparsed_runs : (name : List ℕ) (tells : Type 0) (s : State) (input : SourceState) (out : SinkState) → Runs (Put name) (world tells s input out) (world tells s input out) (Err failure.Memory)
 unparsed_runs name tells s input out =

@@ -14,7 +14,7 @@ use Rattle.aea_ledger.specs.Recorded.{IsLatticeOf, AreRecordsOf}
 use Rattle.aea_ledger.specs.Values.{Opened, IsThisOne}
 use Rattle.aea_archive.specs.Blocks.{TellsSurvivors}
 use Rattle.aea_archive.specs.Data.{AreSurvivorsHonest}
-use Rattle.aea_archive.proofs.Records.{lattice_equal}
+use Rattle.aea_lattice.proofs.OneLattice.{lattice_equal}
 use Rattle.aea_cli.specs.declared.command.Command.TheVariants.{Repair}
 use Rattle.aea_command.specs.declared.refusal.Failure.{Failure}
 use Rattle.aea_command.specs.declared.refusal.Failure.TheVariants as failure
@@ -37,7 +37,7 @@ opening_not_clash (opening.LedgerBad at) b told computed e = cc
 opening_not_clash opening.DiskFault b told computed e = cc
 opening_not_clash opening.NoMemory b told computed e = cc
 
--- where the output has room for the report, it does not fail
+-- where the output has space for the report, it does not fail
 repair_fits : HasOneReading → (tells : Type 0) (old new : State) (before after : SinkState) (answer : Answer) (gave : Result Opened Failure) → tells
     → IfOk gave (λ v. tells → IsThisOne v (old.files 0)) → IfErr gave (λ f. IsUnopened tells f old new before after answer) → IfOk gave (λ v. RepairsThen tells v old new before after answer)
     → ((text : List ℕ) → IsRepairText old.files text → FitsText before text) → answer ≢ Err failure.Output

@@ -48,7 +48,7 @@ text_there reading v files input verdict here judged = record {
   is = refl;
 }
 
--- where the output has room for the verdict, it does not fail
+-- where the output has space for the verdict, it does not fail
 judged_fits : HasOneReading → (tells : Type 0) (v : Opened) (files : Files) (input rest : SourceState) (before after : SinkState) (r : Result Verdict VerifyFault) (answer : Answer)
     → tells → IsSome input.left → IsThisOne v (files 0) → Judges tells v files input rest before after r answer
     → ((text : List ℕ) → IsVerdictText files (unwrap_or input.left []) text → FitsText before text) → answer ≢ Err failure.Output

@@ -11,7 +11,7 @@ use Rattle.aea_command.specs.Lines.{lines_of}
 use Rattle.aea_command.specs.Causes.{place_of, IsFirst}
 use Rattle.aea_command_loss.specs.Drill.{greatest_input, DamageCauses, IsAccepted, IsFirstBad, NamesBlock}
 
--- what is told
+-- what is known
 pub told_is : (o : Option (List ℕ)) → IsSome o → o ≡ Some (unwrap_or o [])
 told_is None some = absurd (false≢true some)
 told_is (Some bytes) some = refl

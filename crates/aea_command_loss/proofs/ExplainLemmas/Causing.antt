@@ -16,7 +16,7 @@ use Rattle.aea_command_loss.specs.Explain.{ExplainCauses, HasNoSuchBlock}
 use Rattle.aea_command.specs.Failures.{Answer}
 use Rattle.aea_command.specs.Openings.{OpeningCauses, Opens}
 use Rattle.aea_command.proofs.Behind.{AreBehindOpening, some_ledger, unopened_refuses, opened_no_opening}
-use Rattle.aea_archive.proofs.Records.{lattice_equal}
+use Rattle.aea_lattice.proofs.OneLattice.{lattice_equal}
 use Rattle.aea_command.proofs.Reading.{has_ledger_of, from_reading}
 use Rattle.aea_command.proofs.Refusing.{refuses_one, refuses_none}
 
@@ -35,7 +35,7 @@ explain_behind word bytes = record { from = λ why cause. from_opening why cause
     back_to NoSuchBlock cause = inr (some_ledger bytes cause.shape cause.records cause.ledger, omega arith)
     back_to why cause = absurd cause
 
--- an archive that was not opened tells why
+-- an archive that was not opened shows why
 pub unopened_explain : {T : Type 0} (word : List ℕ) (tells : Type 0) (old new : State) (f : Failure) → Opens tells old new (Err f) → Refuses {T = T} tells (ExplainCauses word (old.files 0)) (Err f)
 unopened_explain word tells old new f opens = unopened_refuses tells old new f (ExplainCauses word (old.files 0)) (explain_behind word (old.files 0)) opens
 
@@ -58,10 +58,10 @@ none_there reading v bytes word one has =
     (lattice_equal l has.lattice (is_l.alpha ∙ sym has.is_lattice.alpha) (is_l.s ∙ sym has.is_lattice.s) (is_l.p ∙ sym has.is_lattice.p) (is_l.n ∙ sym has.is_lattice.n) (is_l.fences_are ∙ sym has.is_lattice.fences_are)) names))
     v.lattice one.has.lattice
 
--- ---- behind the opening
+-- ---- after the opening
 
 module _ (reading : HasOneReading) (word : List ℕ) (tells : Type 0) (v : Opened) (old mid : State) (opens : Opens tells old mid (Ok v)) where
-  -- no cause of the opening stands
+  -- no cause of the opening holds
   none_before : tells → (other : Refusal) → place_of other < place_of NoSuchBlock → ExplainCauses word (old.files 0) other → ⊥
   none_before told NoArchive earlier cause = opened_no_opening tells old mid v opens told NoArchive cause
   none_before told (LedgerBad at) earlier cause = opened_no_opening tells old mid v opens told (LedgerBad at) cause

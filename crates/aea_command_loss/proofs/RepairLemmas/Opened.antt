@@ -1,4 +1,4 @@
--- A repair behind the opening, as a part of the whole run.
+-- A repair after the opening, as a part of the whole run.
 use Rattle.std.proofs.Common.{◌≡◌, ◌≢◌, inl, inr, ℕ, zero, suc, ◌≤◌, List, length, refl, sym, ap, subst, arith, Bool, Some, Result, Ok, Err}
 use Rattle.std.specs.Prelude.{IsErr}
 use Rattle.std.proofs.lemmas.Bool.{cases_lt}
@@ -73,7 +73,7 @@ no_site shape (suc f) past = elim (cases_lt shape.sites (suc f)) [
 ]
 
 module _ (tells : Type 0) (v : Opened) (old mid new : State) (opens : Opens tells old mid (Ok v)) where
-  -- the images behind the opening are of changes of the files as they read before
+  -- the images after the opening are of changes of the files as they read before
   changed : (keep : BlockId → Type 0) (fault : Type 0) → WritesBlocks tells v keep fault mid new → tells → During mid new (ChangesArchive v.shape v.lattice.n keep (IsNoSite v.shape) old.files)
   changed keep fault writes told t c from to here =
       let was = writes.crash t c from to here in
@@ -141,7 +141,7 @@ module _ (reading : HasOneReading) (tells : Type 0) (v : Opened) (old mid new : 
     in_room = λ told room known h lines fits is. gave.in_room told room known h lines fits (survivors told known is);
   }
 
-  -- the room that the run asks for is that of the rows of the opened archive
+  -- the space that the run asks for is that of the rows of the opened archive
   rows : FitsRepair tells old → FitsRows v.shape v.lattice.n old
   rows fits = record {
     sites = fits.sites v.shape v.lattice.n (λ told.

@@ -1,4 +1,4 @@
--- How the answer of `verify` tells what the check of the report gave, and when it is refused.
+-- How the answer of `verify` shows what the check of the report gave, and when it is refused.
 use Rattle.std.proofs.Common.{◌≡◌, ◌≢◌, ◌⊎◌, inl, inr, ℕ, ◌<◌, ◌≤◌, List, [], refl, sym, ◌∙◌, ap, subst, arith, Some, Result, Ok, Err}
 use Rattle.std.specs.Prelude.{IfOk, IfErr, IsSome, unwrap_or}
 use Rattle.aea_io.specs.Streams.{SourceState, SinkState}
@@ -34,7 +34,7 @@ status_never : (verdict : Verdict) (f : Failure) → Ok (verdict_status verdict)
 status_never Accepted f e = let h : Ok Done ≡ Err f = e in cc
 status_never (Rejected k why) f e = let h : Ok Damage ≡ Err f = e in cc
 
--- where a verdict is printed no other failure than that of the output is answered
+-- where a verdict is printed no other failure than that of the output is returned
 printed_never : (verdict : Verdict) (before after : SinkState) (answer : Answer) (f : Failure) → PrintsVerdict verdict before after answer → f ≢ failure.Output → answer ≡ Err f → ⊥
 printed_never verdict before after answer f printed differs e = elim printed.is [
   | inl ok ↦ status_never verdict f (sym ok ∙ e)
@@ -91,7 +91,7 @@ pub answer_is : (r : Result Verdict VerifyFault) (f : VerifyFault) (before after
 answer_is (Ok verdict) f before after answer to e = let h : Ok verdict ≡ Err f = e in cc
 answer_is (Err g) f before after answer to e = let h : Err g ≡ Err f = e in let same : g ≡ f = cc in to.unjudged.0 ∙ ap (λ (x : VerifyFault). Err (verify_failure x)) same
 
--- a fault of the source or of the disk, and want of memory, stop the run
+-- a fault of the source or of the disk, and lack of memory, stop the run
 stopped_by : (r : Result Verdict VerifyFault) (before after : SinkState) (answer : Answer) → IsAnswerTo r before after answer → IsFree r → IsStopped answer
 stopped_by r before after answer to (inl e) = inr (inl (answer_is r fault.ReadFault before after answer to e))
 stopped_by r before after answer to (inr (inl e)) = inl (answer_is r fault.DiskFault before after answer to e)
@@ -113,20 +113,20 @@ verify_behind bytes input = record { from = λ why cause. from_opening why cause
     back_to (LineTooLong k) cause = inr (cause.0, omega arith)
     back_to why cause = absurd cause
 
--- an archive that was not opened tells why
+-- an archive that was not opened shows why
 pub unopened_verify : {T : Type 0} (tells some : Type 0) (old new : State) (f : Failure) (input : List ℕ) → Opens tells old new (Err f)
     → Refuses {T = T} (tells × some) (VerifyCauses (old.files 0) input) (Err f)
 unopened_verify {T} tells some old new f input opens =
     refuses_told {T = T} tells (tells × some) (VerifyCauses (old.files 0) input) (Err f) (λ both. both.0)
     (unopened_refuses tells old new f (VerifyCauses (old.files 0) input) (verify_behind (old.files 0) input) opens)
 
--- behind the opening
+-- after the opening
 module _ (reading : HasOneReading) (tells : Type 0) (v : Opened) (old mid : State) (source : SourceState) (before after : SinkState) (r : Result Verdict VerifyFault) (answer : Answer)
     (opens : Opens tells old mid (Ok v))
     (read : (report : List ℕ) → source.left ≡ Some report → IsReadAs report r)
     (to : IsAnswerTo r before after answer) where
   module _ (told : tells) (some : IsSome source.left) where
-    -- the input that is told
+    -- the input that is known
     abbrev input : List ℕ
     input = unwrap_or source.left []
 
@@ -136,7 +136,7 @@ module _ (reading : HasOneReading) (tells : Type 0) (v : Opened) (old mid : Stat
     ledger : IsSomeLedger (old.files 0)
     ledger = let one = opens.this_one told in some_ledger (old.files 0) v.shape one.records (has_ledger_of reading v (old.files 0) one)
 
-    -- no cause of the opening stands, and the two of the report have one place
+    -- no cause of the opening holds, and the two of the report have one place
     none_before : (other : Refusal) → place_of other < place_of (BadLine 0) → VerifyCauses (old.files 0) input other → ⊥
     none_before NoArchive earlier cause = opened_no_opening tells old mid v opens told NoArchive cause
     none_before (LedgerBad at) earlier cause = opened_no_opening tells old mid v opens told (LedgerBad at) cause

@@ -19,7 +19,7 @@ mod plan;
 use aea_command::{Failure, Refusal, Status};
 use aea_io::{Sink, Source, WholeFault, read_whole};
 use aea_lattice::Lattice;
-use aea_plan::printed_are_one;
+use aea_report::printed_are_one;
 use damage::listed_marks;
 pub(crate) use damage::named_block;
 use plan::{Planned, plan_without, print_outcome};

@@ -14,7 +14,7 @@ use aea_gauss::Fate;
 use aea_io::{Page, Sink, WriteFault, finish, print};
 use aea_lattice::{BlockId, EqId, EqList, NodeList};
 
-// Prints an equation behind a space.
+// Prints an equation after a space.
 fn print_equation<O: Sink>(out: &mut O, page: &mut Page, e: EqId) -> Result<(), WriteFault>
     ensures { Prints (O.state out.old) page.old (O.state out.new) page.new result (equation_text e) }
 {
@@ -25,7 +25,7 @@ fn print_equation<O: Sink>(out: &mut O, page: &mut Page, e: EqId) -> Result<(), 
     print_block(out, page, b" ", output)
 }
 
-// Prints equations, each behind a space.
+// Prints equations, each after a space.
 fn print_equations<O: Sink>(
     out: &mut O,
     page: &mut Page,

@@ -15,8 +15,8 @@ use aea_records::ledgers_have_one_reading;
 use aea_repair::repair;
 use std::alloc::Global;
 
-/// Opens the archive, writes each damaged block that the others determine to its home, makes all sure, and prints the loss
-/// report. The status tells whether a block is lost. Beside the opened ledger it takes what `aea_repair` says, none of it
+/// Opens the archive, writes each damaged block that the others determine to its home, syncs all of it, and prints the loss
+/// report. The status says whether a block is lost. Beside the opened ledger it takes what `aea_repair` says, none of it
 /// from the first cell that is written on.
 pub fn repair_archive<D: Disk, O: Sink>(
     alloc: Global,

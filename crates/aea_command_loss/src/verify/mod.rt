@@ -20,7 +20,7 @@ use std::alloc::Global;
 
 /// Opens the archive, reads the cell of each block once, and then the input to its end, which it judges as a loss report:
 /// `accepted` where it fits the archive as it is, and otherwise `rejected LINE WHY`, the first rule that it breaks. The
-/// status tells which. The disk is only read. Beside the opened ledger it takes what `aea_verify` says.
+/// status says which. The disk is only read. Beside the opened ledger it takes what `aea_verify` says.
 pub fn verify_report<D: Disk, S: Source, O: Sink>(
     alloc: Global,
     disk: &mut D,

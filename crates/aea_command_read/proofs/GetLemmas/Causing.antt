@@ -41,7 +41,7 @@ get_behind name files = record { from = λ why cause. from_opening why cause; ba
     back_to (Damaged block) cause = inr (some_ledger (files 0) cause.shape cause.records cause.object.ledger, omega arith)
     back_to why cause = absurd cause
 
--- an archive that was not opened tells why
+-- an archive that was not opened says why
 pub unopened_get : {T : Type 0} (name : List ℕ) (tells : Type 0) (old new : State) (f : Failure) → Opens tells old new (Err f) → Refuses {T = T} tells (GetCauses name old.files) (Err f)
 unopened_get name tells old new f opens = unopened_refuses tells old new f (GetCauses name old.files) (get_behind name old.files) opens
 
@@ -82,11 +82,11 @@ module _ (reading : HasOneReading) (v : Opened) (files : Files) (one : IsThisOne
     first = subst (λ (ds : List (List ℕ)). IsFirstDamaged v.shape ds files (data_of p.parts) b) one.has.digests first;
   }
 
--- something stands under the name, or nothing does
+-- something is under the name, or nothing is
 none_and_some : (o : Option Placed) (p : Placed) → o ≡ None → o ≡ Some p → ⊥
 none_and_some o p none is = let h : None ≡ Some p = sym none ∙ is in cc
 
--- ---- behind the opening
+-- ---- after the opening
 
 module _ (reading : HasOneReading) (free : NewNamesAreFree) (name : List ℕ) (tells : Type 0) (v : Opened) (old mid new : State) (before after : SinkState) (r : Result ℕ GetFault)
     (gave : HasFetching name tells v old mid new before after r) where
@@ -94,7 +94,7 @@ module _ (reading : HasOneReading) (free : NewNamesAreFree) (name : List ℕ) (t
     one : IsThisOne v (old.files 0)
     one = gave.opens.this_one told
 
-    -- no cause of the opening stands, nor, where an object has the name, that none has
+    -- no cause of the opening holds, nor, where an object has the name, that none has
     before_unknown : (other : Refusal) → place_of other < place_of UnknownName → GetCauses name old.files other → ⊥
     before_unknown NoArchive earlier cause = opened_no_opening tells old mid v gave.opens told NoArchive cause
     before_unknown (LedgerBad at) earlier cause = opened_no_opening tells old mid v gave.opens told (LedgerBad at) cause

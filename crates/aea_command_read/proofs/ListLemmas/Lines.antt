@@ -25,7 +25,7 @@ lines-suc (x ∷ xs) (suc k) e is =
 pub lines_next : (xs : List (List ℕ × Placed)) (k : ℕ) (e : List ℕ × ObjectRef) → Some e ≡ option_map named_object (slice_get xs k) → lines_for (take (k + 1) xs) ≡ lines_for (take k xs) ++ object_line e
 lines_next xs k e is = ap (λ (n : ℕ). lines_for (take n xs)) (let next : k + 1 ≡ suc k = omega arith in next) ∙ lines-suc xs k e is
 
--- those before an entry, its own, and those behind it
+-- those before an entry, its own, and those after it
 pub lines_around : (xs : List (List ℕ × Placed)) (k : ℕ) (e : List ℕ × ObjectRef) → Some e ≡ option_map named_object (slice_get xs k) → lines_for xs ≡ (lines_for (take k xs) ++ object_line e) ++ lines_for (drop (k + 1) xs)
 lines_around xs k e is =
     ap lines_for (sym (take-append-drop (k + 1) xs)) ∙ flat_map-append (λ (x : List ℕ × Placed). object_line (named_object x)) (take (k + 1) xs) (drop (k + 1) xs)

@@ -14,7 +14,7 @@ use Rattle.aea_command_read.specs.Scrub.{damaged_line}
 use Rattle.aea_command_read.proofs.ScrubLemmas.BlockLines.{filter-more, take-more}
 use Rattle.aea_command_read.proofs.ScrubLemmas.Skipping.{is_next, up_to}
 
--- The block of number k is the next marked one: what it is, and where it stands.
+-- The block of number k is the next marked one: what it is, and where it is.
 pub record IsNextBlock (l : Lattice) (m : Marked) (from k : ℕ) (b : BlockId) : Type 0 where
   pub same : m.lattice ≡ l
   pub next : IsNextMarked m from k
@@ -44,7 +44,7 @@ pub count_next : (l : Lattice) (m : Marked) (test : BlockId → Bool) (from k : 
 count_next l m test from k b are is =
     ap length (damaged_next l m test from k b are is) ∙ length-append (filter test (take from (blocks_of l))) (b ∷ [])
 
--- all lines: those up to the next block, its own, and those behind it
+-- all lines: those up to the next block, its own, and those after it
 pub lines_around : (l : Lattice) (m : Marked) (test : BlockId → Bool) (from k : ℕ) (b : BlockId) → AreMarks l m.marks test → IsNextBlock l m from k b
     → flat_map damaged_line (filter test (blocks_of l))
     ≡ (flat_map damaged_line (filter test (take from (blocks_of l))) ++ damaged_line b) ++ flat_map damaged_line (filter test (drop (k + 1) (blocks_of l)))

@@ -43,7 +43,7 @@ fn damaged_marks<D: Disk>(alloc: Global, ledger: &Ledger, disk: &mut D) -> Resul
 }
 
 /// Opens the archive, reads the cell of each block once, and prints the damaged blocks: `damaged B` for each in number
-/// order, and at the end `total BLOCKS damaged K`. The status tells whether there are any. The disk is only read.
+/// order, and at the end `total BLOCKS damaged K`. The status says whether there are any. The disk is only read.
 pub fn scrub<D: Disk, O: Sink>(alloc: Global, disk: &mut D, out: &mut O) -> Result<Status, Failure>
     ensures scrubs { Scrubs D.tells (D.state disk.old) (D.state disk.new) (O.state out.old) (O.state out.new) result }
     ensures refuses { Refuses D.tells (OpeningCauses ((D.state disk.old).files 0)) result }

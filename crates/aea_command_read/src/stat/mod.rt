@@ -1,4 +1,4 @@
-//! `stat`: what stands in the archive.
+//! `stat`: what is in the archive.
 
 ghost use Rattle.std.specs.Prelude.{◌≡◌, ◌≢◌, ◌≤◌, codes, string_bytes, IfOk, OnOk};
 ghost use Rattle.std.specs.FinMap as map;

@@ -1,4 +1,4 @@
--- What is printed behind an added record, and what holds of a run of a command that adds one.
+-- What is printed after a record is added, and what holds of a run of a command that adds one.
 use Rattle.std.proofs.Common.{◌≡◌, inl, inr, List, refl, sym, ◌∙◌, Ok, Err, subst}
 use Rattle.std.specs.Prelude.{Result, IsOk}
 use Rattle.aea_disk.specs.Files.{KeepsFiles}
@@ -18,7 +18,7 @@ use Rattle.aea_command.proofs.OpeningCases.{opening_more}
 use Rattle.aea_command.proofs.Refusing.{refuses_done}
 use Rattle.aea_command.specs.declared.refusal.Failure.TheVariants as failure
 
--- the line was printed, or the output failed: the disk does not tell which
+-- the line was printed, or the output failed: the disk does not show which
 pub agrees_printed : {T : Type 0} (v : T) (answer : Answer) → IsPrinting answer → Agrees (Ok v) answer
 agrees_printed v answer (inl e) = record {
   well = λ _. inl refl;
@@ -37,7 +37,7 @@ agrees_printed v answer (inr e) = record {
 pub rest_stays : (tells fault : Type 0) (old new : State) → KeepsTheRest tells fault old new → KeepsWhere tells (λ file. file ≡ 0 → ⊥) old new
 rest_stays tells fault old new rest = where_others tells _ 0 old new (λ k keep. keep) rest.others
 
--- a run that adds a record, over a disk that tells, begins with a sync: once that has succeeded every image has
+-- a run that adds a record, over a disk whose contents are known, begins with a sync: once that has succeeded every image has
 -- each file but the ledger's as it read
 pub adds_opens : {T : Type 0} (adds : List Record → Record) (tells : Type 0) (old new : State) (answer : Result T Failure) → AddsRecord adds tells old new answer → tells → HasOpening old new (KeepsFiles (λ file. file ≡ 0 → ⊥) old.files)
 adds_opens adds tells old new answer does told = opening_more old new _ _ (λ c may k keep. may.others k keep) (does.stops told)

@@ -1,4 +1,4 @@
--- How a run that stores the frames of a stream tells why it is refused, by what the call ensures that takes a frame.
+-- How a run that stores the frames of a stream shows why it is refused, by what the call ensures that takes a frame.
 use Rattle.std.proofs.Common.{◌≡◌, ◌⊎◌, ℕ, ◌+◌, ◌<◌, ◌≤◌, List, [], ◌++◌, length, refl, sym, ◌∙◌, ap, subst, arith, Option, Some, Result, Ok, Err, length-append}
 use Rattle.std.specs.Prelude.{IsSome, unwrap_or}
 use Rattle.std.specs.FinMap.{len}
@@ -18,7 +18,8 @@ use Rattle.aea_archive.specs.Lasts.{IsLastParity, IsDamagedLast, IsFirstDamagedL
 use Rattle.aea_archive.specs.Next.{NewObject}
 use Rattle.aea_append.specs.Causes.{IsTaken}
 use Rattle.aea_append.specs.Frames.{HasHead, HasBadName, HasEntry, IsTooLong, EndsInside, IsReadOrHeadFault, frame_name, frame_length}
-use Rattle.aea_append.specs.Taking.{Counts, room_left}
+use Rattle.aea_append.specs.Taking.{room_left}
+use Rattle.aea_io.specs.Taken.{Counts}
 use Rattle.aea_append.specs.declared.ingest.Ingest.{Ingest}
 use Rattle.aea_append.specs.declared.ingest.Ingest.TheVariants.{End}
 use Rattle.aea_append.specs.declared.ingest.IngestFault.{IngestFault}
@@ -43,8 +44,8 @@ use Rattle.aea_command.proofs.Refusing.{refuses_none}
 pub name_lengths : (name : List ℕ) → IsName name → (1 ≤ length name) × (length name ≤ 255)
 name_lengths name named = grind (arith, nat_tests)
 
--- The clauses of the call that takes a frame that say why it took none, as they stand in its contract: the opened ledger and
--- the files of the disk at its entry, what the source had and has left, how many bytes were taken of it before and behind the
+-- The clauses of the call that takes a frame that say why it took none, as they are in its contract: the opened ledger and
+-- the files of the disk at its entry, what the source had and has left, how many bytes were taken of it before and after the
 -- call, and the answer.
 pub record HasTried (tells : Type 0) (w : Opened) (now : Files) (rest after : Option (List ℕ)) (at next : ℕ) (r : Result Ingest IngestFault) : Type 0 where
   pub taken : Counts rest after at next (265 + room_left w)
@@ -68,7 +69,7 @@ pub record HasTried (tells : Type 0) (w : Opened) (now : Files) (rest after : Op
   pub bad_stream_told : (n : ℕ) (stream : List ℕ) → rest ≡ Some stream → r ≡ Err (ingest.BadStream n) → EndsInside w stream
   pub bad_stream_refused : (stream : List ℕ) → rest ≡ Some stream → EndsInside w stream → (r ≡ Err (ingest.BadStream next)) ⊎ IsReadOrHeadFault r
 
--- the same of a source that tells the stream, and a disk that tells its files
+-- the same of a source whose stream is known, and a disk whose files are known
 answered : (tells : Type 0) → tells → (w : Opened) (now : Files) (rest after : Option (List ℕ)) (at next : ℕ) (r : Result Ingest IngestFault) → HasTried tells w now rest after at next r
     → (stream : List ℕ) → rest ≡ Some stream → HasAnswered w now stream next r
 answered tells told w now rest after at next r gave stream is = record {
@@ -168,7 +169,7 @@ module _ (reading : HasOneReading) (count : ObjectsAreCounted) (free : NewNamesA
       never : (why : Refusal) → (let a : Answer = Ok Done in a ≡ Err (failure.Refused why)) → ⊥
       never why e = let h : (let a : Answer = Ok Done in a ≡ Err (failure.Refused why)) = e in cc
 
-  -- Where the call that takes a frame answered a fault: before it as many bytes were taken of the input as the frames have.
+  -- Where the call that takes a frame returned a fault: before it as many bytes were taken of the input as the frames have.
   pub fault_refuses : (after : Option (List ℕ)) (at next : ℕ) → at ≡ length (frames_of objects) → (r : Result Ingest IngestFault) → HasTried tells w now.files rest after at next r
       → (fault : IngestFault) → r ≡ Err fault → Refuses {T = Status} (tells × IsSome left) (OpenedCauses old.files (unwrap_or left [])) (Err (ingest_failure fault))
   fault_refuses after at next exact r gave fault is =

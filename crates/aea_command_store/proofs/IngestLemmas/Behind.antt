@@ -23,7 +23,7 @@ use Rattle.aea_archive.specs.Data.{AreSurvivorsHonest, IsDamagePlain}
 use Rattle.aea_archive.specs.Lasts.{AreLastsAtHome, AreLastsHonest}
 use Rattle.aea_archive.specs.Next.{NewObject}
 use Rattle.aea_archive.proofs.Cells.{changes_none}
-use Rattle.aea_archive.proofs.Stretches.{nodes_of-append}
+use Rattle.aea_records.proofs.OneMore.{nodes_of-append}
 use Rattle.aea_append.specs.Causes.{next_end}
 use Rattle.aea_command.specs.declared.refusal.Refusal.{Refusal}
 use Rattle.aea_command.specs.declared.refusal.Refusal.TheVariants.{NoArchive, LedgerBad, BadName, NameTaken, CatalogFull, HeadDamaged, Full, BadStream, Occupied}
@@ -86,7 +86,7 @@ surely_at shape records objects k old mid new same surely = record { grows = gro
 
 -- ---- two lists of records that an opened ledger has
 
--- they have as many nodes, and are as long, with others behind them
+-- they have as many nodes, and are as long, with others after them
 same_nodes : (v : Opened) (one two added : List Record) → HasRecords v one → HasRecords v two → (size : ℕ) → nodes_of (two ++ added) + nodes_for v.shape size ≤ limit_of two → nodes_of (one ++ added) + nodes_for v.shape size ≤ limit_of one
 same_nodes v one two added has other size few =
     omega (arith, few, nodes_of-append one added, nodes_of-append two added, has.lattice.n, other.lattice.n, ap limit_when (sym has.raised ∙ other.raised))
@@ -94,11 +94,11 @@ same_nodes v one two added has other size few =
 same_length : (v : Opened) (one two added : List Record) → HasRecords v one → HasRecords v two → length (spelled v.shape (two ++ added)) ≡ length (spelled v.shape (one ++ added))
 same_length v one two added has other = omega (arith, has.end, other.end, spelled_long v.shape one added, spelled_long v.shape two added)
 
--- ---- behind the opening
+-- ---- after the opening
 
 module _ (reading : HasOneReading) (tells : Type 0) (v : Opened) (left rest : Option (List ℕ)) (old mid new : State) (before after : SinkState) (answer : Answer)
     (opens : Opens tells old mid (Ok v)) (writes : OnlyWrites tells (IsReady mid) (FitsFrames v left mid) (answer ≡ Err failure.Disk) (changes v) mid new) where
-  -- the room of the disk is the room that the frames need
+  -- the space of the disk is the space that the frames need
   fits_frames : tells → FitsIngest tells left old → FitsFrames v left mid
   fits_frames told fits =
       let same : mid.files 0 ≡ old.files 0 = ap (λ (c : Files). c 0) (opens.reads.contents told) in
@@ -129,7 +129,7 @@ module _ (reading : HasOneReading) (tells : Type 0) (v : Opened) (left rest : Op
             }));
       }
 
-  -- all the calls of the run, as those behind its opening
+  -- all the calls of the run, as those after its opening
   frame : OnlyWrites tells (IsReady old) (FitsIngest tells left old) (answer ≡ Err failure.Disk) (changes v) old new
   frame =
       reads_then_writes tells (IsReady old) (IsReady mid) (FitsIngest tells left old) (FitsFrames v left mid) (let r : Result Opened Failure = Ok v in r ≡ Err failure.Disk) (answer ≡ Err failure.Disk) (changes v) old mid new
@@ -138,7 +138,7 @@ module _ (reading : HasOneReading) (tells : Type 0) (v : Opened) (left rest : Op
       (λ fits. fits.some) (λ told fits same time. fits_frames told fits)
       opens.reads writes
 
-  -- what the run leaves, from what it left behind its opening
+  -- what the run leaves, from what it left after its opening
   pub ingests_behind : IngestsOpened tells v mid new left rest before after answer → Ingests tells old new left rest before after answer
   ingests_behind does = record {
     done = does.done;
@@ -195,7 +195,7 @@ module _ (reading : HasOneReading) (tells : Type 0) (v : Opened) (left rest : Op
     beneath = frame.beneath;
   }
 
-  -- the causes of its refusals are those behind the opening
+  -- the causes of its refusals are those after the opening
   pub ingests_refuse : Refuses (tells × IsSome left) (OpenedCauses mid.files (unwrap_or left [])) answer → Refuses (tells × IsSome left) (IngestCauses old.files (unwrap_or left [])) answer
   ingests_refuse refuses = record {
     only = λ why is told.
@@ -255,7 +255,7 @@ ingests_unopened tells old new left out f opens = record {
     fault_is : (g : Failure) → (let one : Result Opened Failure = Err f in one ≡ Err g) → f ≡ g
     fault_is g e = cc
 
-    -- a ledger is not opened only by a fault of the disk and for want of memory
+    -- only a fault of the disk or lack of memory keeps a ledger from being opened
     not_opened : tells → (shape : Shape) (records : List Record) → HasLedger shape records (old.files 0) → (let one : Answer = Err f in (one ≡ Err failure.Disk) ⊎ (one ≡ Err failure.Memory))
     not_opened told shape records ledger = elim (opens.complete told (some_ledger (old.files 0) shape records ledger)) [
       | inl ok ↦ absurd (false≢true ok)

@@ -92,7 +92,7 @@ module _ (shape : Shape) (f : Filled) (files : Files) (long : ℕ) (before : Lis
   abbrev cause : Refusal → Type 0
   cause = FrameCauses shape f files long before stream
 
-  -- before each of them stands none that comes earlier, but for a damaged last parity
+  -- before each of them there is none that comes earlier, but for a damaged last parity
   pub none_before_bad : (other : Refusal) → place_of other < place_of BadName → cause other → ⊥
   none_before_bad NoArchive earlier is = is
   none_before_bad (LedgerBad at) earlier is = is
@@ -160,7 +160,7 @@ module _ (shape : Shape) (f : Filled) (files : Files) (long : ℕ) (before : Lis
   none_before_cut ends (BadStream n) earlier is = omega arith
   none_before_cut ends other earlier is = is
 
-  -- where a frame begins whose object may be stored, nothing stands against it, but for a damaged last parity
+  -- where a frame begins whose object may be stored, no reason for refusal holds, but for a damaged last parity
   pub no_cause : (name_long : (name : List ℕ) → IsName name → (1 ≤ length name) × (length name ≤ 255)) (why : Refusal) → ((b : BlockId) → why ≢ HeadDamaged b) → cause why → HasNoFrame shape f stream
   no_cause name_long why apart is o rest begins may =
       let lengths = name_long o.name may.name.named in

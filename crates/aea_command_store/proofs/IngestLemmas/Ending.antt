@@ -29,12 +29,13 @@ use Rattle.aea_archive.specs.Data.{AreSurvivorsHonest, IsDamagePlain}
 use Rattle.aea_archive.specs.Laws.{LastsAreValues, ObjectsRecordMore}
 use Rattle.aea_archive.specs.Next.{NewObject}
 use Rattle.aea_archive.proofs.Cells.{changes_none}
-use Rattle.aea_archive.proofs.Stretches.{nodes_of-append, at_all, has_ledger}
+use Rattle.aea_records.proofs.OneMore.{nodes_of-append}
+use Rattle.aea_archive.proofs.Stretches.{at_all, has_ledger}
 use Rattle.aea_append.specs.Frames.{frame_of, IsFramed, HasFrameRoom}
 use Rattle.aea_append.specs.Puts.{HasStored, MayHaveStored, LeavesLedger}
 use Rattle.aea_append.specs.declared.ingest.IngestFault.{IngestFault}
 use Rattle.aea_append.specs.declared.ingest.IngestFault.TheVariants as ingest
-use Rattle.aea_append.specs.declared.store.StoredObject.{StoredObject}
+use Rattle.aea_append.specs.declared.store.Stored.{Stored}
 use Rattle.aea_command.specs.declared.refusal.Failure.{Failure}
 use Rattle.aea_command.specs.declared.refusal.Failure.TheVariants as failure
 use Rattle.aea_command.specs.declared.refusal.Refusal.{Refusal}
@@ -96,7 +97,7 @@ grown_none tells told v list s reading its synced =
           (subst (λ (l : List Record). AreSurvivorsHonest v.shape v.lattice (digests_of l) datas s.files × IsDamagePlain v.shape v.lattice (digests_of l) s.files) nil (honest, plain));
     }
 
--- all that grew stands surely
+-- all that grew is in every image
 surely_all : (shape : Shape) (list : List Record) (objects : List NewObject) (old new : State) → (g : HasGrown shape list objects old new) → length g.grows.added ≡ length objects → GrowsSurely shape list objects (length objects) old new
 surely_all shape list objects old new g long = record {
   grows = g.grows;
@@ -135,7 +136,7 @@ module _ (shape : Shape) (objects : List NewObject) (before after : SinkState) (
     in_room = λ room told enough. (λ e. output (same_failure {T = Status} f failure.Output e), lines.steady room told (let w = lines_within shape objects [] (length (objects ++ [])) in omega (arith, w, enough)));
   }
 
-  -- a first part of what was printed behind the lines
+  -- a first part of what was printed after the lines
   part_of : (last : SinkState) (line : List ℕ) → AppendsPart after.written last.written line → (part : List ℕ) × Appends before.written last.written (stored_lines shape objects ++ part) × ((k : ℕ) × (k ≤ length line) × (part ≡ take k line))
   part_of last line begun = (
     take begun.0 line,
@@ -210,7 +211,7 @@ module _ (reading : HasOneReading) (lengths : CellsHaveLengths) (parts : CellsHa
   framed_none : Consumes left rest (frames_of (objects ++ []))
   framed_none = subst (λ (xs : List NewObject). Consumes left rest (frames_of xs)) (sym (append-nil objects)) gone.framed
 
-  -- behind the objects that stand, with none whose line was begun
+  -- after the objects that are there, with none whose line was begun
   surely_none : (next : State) (list : List Record) (ys : List NewObject) → GrowsSurely v.shape list (objects ++ ys) (length objects) old next → GrowsSurely v.shape list ((objects ++ []) ++ ys) (length (objects ++ [])) old next
   surely_none next list ys has = subst (λ (xs : List NewObject). GrowsSurely v.shape list (xs ++ ys) (length xs) old next) (sym (append-nil objects)) has
 
@@ -266,7 +267,7 @@ module _ (reading : HasOneReading) (lengths : CellsHaveLengths) (parts : CellsHa
   }
 
   -- the output failed in the line of an object that was stored
-  pub unprinted_opened : (w2 : Opened) (o : NewObject) (next : State) (stored : StoredObject) (has : HasStored tells w w2 o now next stored) (bad : Type 0) (rest2 : Option (List ℕ)) (last : SinkState) (fault : WriteFault)
+  pub unprinted_opened : (w2 : Opened) (o : NewObject) (next : State) (stored : Stored) (has : HasStored tells w w2 o now next stored) (bad : Type 0) (rest2 : Option (List ℕ)) (last : SinkState) (fault : WriteFault)
       → OnlyWrites tells (IsReady now) (HasFrameRoom w rest now) bad (changes w) now next → IsFramed rest rest2 o
       → Prints {T = Unit {0}} {E = WriteFault} after [] last [] (Err fault) (stored_line v.shape o)
       → IngestsOpened tells v old next left rest2 before last (Err failure.Output)
@@ -295,7 +296,7 @@ module _ (reading : HasOneReading) (lengths : CellsHaveLengths) (parts : CellsHa
         prints = prints_cut v.shape objects before after gone.printed last o fault line;
       }
 
-  -- all that was stored stands
+  -- all that was stored is there
   pub stands_now : (told : tells) (list : List Record) → AreItsRecords v list (old.files 0) → HasGrown v.shape list objects old now
   stands_now told list its = ⊎_elim
       (λ none.

@@ -1,4 +1,4 @@
--- How full an archive is behind objects of a run, and that a stream has one way to be cut into frames that are stored and
+-- How full an archive is after objects of a run, and that a stream has one way to be cut into frames that are stored and
 -- one that is not.
 use Rattle.std.proofs.Common.{◌≡◌, ◌≢◌, ℕ, ◌+◌, ◌≤◌, List, [], ◌∷◌, ◌++◌, length, map, take, drop, All, refl, sym, ◌∙◌, ap, subst, arith, append_assoc}
 use Rattle.std.specs.List.{sum_by}
@@ -9,7 +9,7 @@ use Rattle.aea_lattice.specs.declared.shape.Shape.{Shape}
 use Rattle.aea_catalog.specs.Names.{IsName}
 use Rattle.aea_records.specs.Format.{Record, Stored, stored_in, stored_of, nodes_of, nodes_for, limit_when, is_raise}
 use Rattle.aea_records.specs.Grammar.{MayFollow, IsNext}
-use Rattle.aea_ledger.proofs.Records.{nodes_of-push, raised_stays}
+use Rattle.aea_records.proofs.OneMore.{nodes_of-push, raised_stays}
 use Rattle.aea_archive.specs.Next.{NewObject}
 use Rattle.aea_append.specs.Frames.{frame_head, frame_of}
 use Rattle.aea_command_store.specs.Ingest.{Filled, filled_by, filled_more, filled_all, MayBeTaken, MayAllBeTaken, IsOfObject, AreOfObjects, frames_of}
@@ -74,7 +74,7 @@ taken_one shape records o r is next =
       size = (let size = may.size in omega (arith, size, is.3));
     }
 
--- each of the objects, if their records may stand behind the others
+-- each of the objects, if their records may come after the others
 pub taken_all : (shape : Shape) (records : List Record) (objects : List NewObject) (added : List Record) → AreOfObjects shape objects added → MayFollow shape records added → MayAllBeTaken shape (filled_by records) objects
 taken_all shape records [] added are follow = tt
 taken_all shape records (x ∷ objects) [] none follow = absurd none

@@ -25,17 +25,16 @@ use Rattle.aea_ledger.specs.Stops.{HasLedger}
 use Rattle.aea_ledger.specs.Values.{Opened, HasRecords, HasSomeRecords, IsThisOne}
 use Rattle.aea_ledger.specs.Taking.{FitsAdding}
 use Rattle.aea_ledger.proofs.Readying.{ready_after}
-use Rattle.aea_ledger.proofs.Records.{raised_stays}
+use Rattle.aea_records.proofs.OneMore.{raised_stays, nodes_of-append}
 use Rattle.aea_archive.specs.Blocks.{IsBlockIn}
 use Rattle.aea_archive.specs.Cells.{IsBesides, ChangesArchive, FitsRows}
 use Rattle.aea_archive.specs.Laws.{LastsAreValues, ObjectsRecordMore}
 use Rattle.aea_archive.specs.Next.{NewObject}
 use Rattle.aea_archive.proofs.Cells.{changes_none, changes_both, changes_less, changes_shelf, room_later}
-use Rattle.aea_archive.proofs.Stretches.{nodes_of-append}
 use Rattle.aea_append.specs.Causes.{next_end}
 use Rattle.aea_append.specs.Frames.{frame_head, frame_of, IsFramed, HasFrameRoom}
 use Rattle.aea_append.specs.Puts.{HasStored}
-use Rattle.aea_append.specs.declared.store.StoredObject.{StoredObject}
+use Rattle.aea_append.specs.declared.store.Stored.{Stored}
 use Rattle.aea_command_store.specs.Growing.{Grows, HasGrown}
 use Rattle.aea_command_store.specs.Ingest.{GrowsSurely, frames_of, stored_lines, IsOfObject, AreOfObjects, FitsFrames}
 use Rattle.aea_command_store.specs.Put.{stored_line, stored_text}
@@ -76,7 +75,7 @@ no_raise shape records (x ∷ objects) [] none = absurd none
 no_raise shape records (x ∷ objects) (q ∷ added) are =
     sym (ap (list_any is_raise) (append_assoc records (q ∷ []) added)) ∙ no_raise shape (records ++ q ∷ []) objects added are.1 ∙ raised_stays records q (ap is_raise are.0.1)
 
--- ---- what stands
+-- ---- what is there
 
 -- the archive grew by the objects, by these records; or there is none, and the disk is the same
 abbrev pub IsGone : Type 0 → Shape → List Record → State → State → List NewObject → List Record → Type 0
@@ -95,7 +94,7 @@ pub record HasGone (tells same : Type 0) (v w : Opened) (left rest : Option (Lis
   pub its : tells → (records : List Record) → AreItsRecords v records (old.files 0) → AreItsRecords w (records ++ added) (now.files 0)
   pub synced : tells → IsSynced now
   pub writes : OnlyWrites tells (IsReady old) (FitsFrames v left old) ⊥ (changes v) old now
-  -- with the room for all there is room to sync the ledger that stands now
+  -- with the space for all there is space to sync the ledger that is there now
   pub kept : tells → FitsFrames v left old → now.keeps (now.files 0)
   pub grew : tells → (records : List Record) → AreItsRecords v records (old.files 0) → IsGone same v.shape records old now objects added
   pub printed : Prints {T = Unit {0}} {E = WriteFault} before [] after [] (Ok tt) (stored_lines v.shape objects)
@@ -143,14 +142,14 @@ module _ (tells same : Type 0) (v w : Opened) (some : HasSomeRecords v) (left re
       changes_less v.shape (limit_when v.raised) (IsBlockIn v.shape w.lattice.n) (IsBlockIn v.shape v.lattice.n) (IsBesides v.shape) (IsBesides v.shape) c d
       (λ a on. record { after = on.after; most = (let m = on.most in let n = no_fewer in omega (arith, m, n)); used = on.used }) (λ f past. past) as_limit
 
-  -- the records of the disk's ledger, and those of the objects behind them
+  -- the records of the disk's ledger, and those of the objects after them
   its_start : (told : tells) → AreItsRecords v (is_this told).records (old.files 0)
   its_start told = let one = is_this told in record { has = one.has; ledger = one.ledger }
 
   its_now : (told : tells) → AreItsRecords w ((is_this told).records ++ gone.added) (now.files 0)
   its_now told = gone.its told (is_this told).records (its_start told)
 
-  -- the room of a frame is within that of all
+  -- the space of a frame is within that of all
   room_of_frame : tells → FitsFrames v left old → HasFrameRoom w rest now
   room_of_frame told fits =
       let time = gone.writes.time in
@@ -186,7 +185,7 @@ module _ (tells same : Type 0) (v w : Opened) (some : HasSomeRecords v) (left re
       (λ told fits. fits) (λ told fits step time. room_of_frame told fits) gone.writes writes
 
   -- the line of what was stored
-  pub line_of_stored : (w2 : Opened) (o : NewObject) (next : State) (stored : StoredObject) (name : List ℕ) → o.name ≡ name → HasStored tells w w2 o now next stored → stored_text stored.nodes stored.length stored.digest name ≡ stored_line v.shape o
+  pub line_of_stored : (w2 : Opened) (o : NewObject) (next : State) (stored : Stored) (name : List ℕ) → o.name ≡ name → HasStored tells w w2 o now next stored → stored_text stored.nodes stored.length stored.digest name ≡ stored_line v.shape o
   line_of_stored w2 o next stored name named has =
       ap (λ (n : ℕ). stored_text n stored.length stored.digest name) has.count
       ∙ ap (λ (n : ℕ). stored_text (nodes_for w.shape (length o.bytes)) n stored.digest name) has.size
@@ -194,11 +193,11 @@ module _ (tells same : Type 0) (v w : Opened) (some : HasSomeRecords v) (left re
       ∙ ap (λ (n : List ℕ). stored_text (nodes_for w.shape (length o.bytes)) (length o.bytes) (sha256 o.bytes) n) (sym named)
       ∙ ap (λ (s : Shape). stored_text (nodes_for s (length o.bytes)) (length o.bytes) (sha256 o.bytes) o.name) gone.same_shape
 
-  -- ---- a stretch behind what was stored
+  -- ---- a stretch after what was stored
 
   module _ (reading : HasOneReading) (lengths : CellsHaveLengths) (parts : CellsHaveParts) (values : LastsAreValues) (record_more : ObjectsRecordMore) (counts : DigestsAreCounted)
       (next : State) (fault : Type 0) (writes : OnlyWrites tells (IsReady now) (HasFrameRoom w rest now) fault (changes w) now next) where
-    -- a stretch that grows by some objects behind those that stand: these stand in every image, whatever becomes of the others
+    -- a stretch that grows by some objects after those that are there: these are in every image, whatever happens to the others
     pub surely : tells → (list : List Record) → AreItsRecords v list (old.files 0) → (ys : List NewObject) → Grows w.shape (list ++ gone.added) ys now next → GrowsSurely v.shape list (objects ++ ys) (length objects) old next
     surely told list its ys second = ⊎_elim
         (λ none.
@@ -235,7 +234,7 @@ module _ (tells same : Type 0) (v w : Opened) (some : HasSomeRecords v) (left re
   -- ---- one more object
 
   module _ (reading : HasOneReading) (lengths : CellsHaveLengths) (parts : CellsHaveParts) (values : LastsAreValues) (record_more : ObjectsRecordMore) (counts : DigestsAreCounted)
-      (w2 : Opened) (o : NewObject) (next : State) (stored : StoredObject) (has : HasStored tells w w2 o now next stored) (fault : Type 0) (writes : OnlyWrites tells (IsReady now) (HasFrameRoom w rest now) fault (changes w) now next) where
+      (w2 : Opened) (o : NewObject) (next : State) (stored : Stored) (has : HasStored tells w w2 o now next stored) (fault : Type 0) (writes : OnlyWrites tells (IsReady now) (HasFrameRoom w rest now) fault (changes w) now next) where
     -- the stretch of this frame
     second : (told : tells) (list : List Record) → AreItsRecords v list (old.files 0) → (g : HasGrown v.shape (list ++ gone.added) (o ∷ []) now next) × (g.grows.added ≡ Object has.r ∷ [])
     second told list its =
@@ -272,7 +271,7 @@ module _ (tells same : Type 0) (v w : Opened) (some : HasSomeRecords v) (left re
     some_more [] e = let h : o ∷ [] ≡ [] = e in cc
     some_more (x ∷ xs) e = let h : x ∷ (xs ++ o ∷ []) ≡ [] = e in cc
 
-    -- there is room to sync the ledger with its record
+    -- there is space to sync the ledger with its record
     kept_more : (rest2 : Option (List ℕ)) → IsFramed rest rest2 o → tells → FitsFrames v left old → next.keeps (next.files 0)
     kept_more rest2 framed told fits =
         let its = its_now told in

@@ -19,12 +19,13 @@ use Rattle.aea_archive.specs.Laws.{LastsAreValues, ObjectsRecordMore}
 use Rattle.aea_archive.specs.Next.{NewObject}
 use Rattle.aea_append.specs.Frames.{frame_head, frame_of, IsFramed, HasFrameRoom}
 use Rattle.aea_append.specs.Puts.{HasStored, MayHaveStored, LeavesLedger}
-use Rattle.aea_append.specs.Taking.{Counts, room_left}
+use Rattle.aea_append.specs.Taking.{room_left}
+use Rattle.aea_io.specs.Taken.{Counts}
 use Rattle.aea_append.specs.declared.ingest.Ingest.{Ingest}
 use Rattle.aea_append.specs.declared.ingest.Ingest.TheVariants as frame
 use Rattle.aea_append.specs.declared.ingest.IngestFault.{IngestFault}
 use Rattle.aea_append.specs.declared.ingest.IngestFault.TheVariants as ingest
-use Rattle.aea_append.specs.declared.store.StoredObject.{StoredObject}
+use Rattle.aea_append.specs.declared.store.Stored.{Stored}
 use Rattle.aea_command.specs.declared.refusal.Failure.{Failure}
 use Rattle.aea_command.specs.declared.refusal.Failure.TheVariants as failure
 use Rattle.aea_command.specs.declared.refusal.Refusal.{Refusal}
@@ -175,7 +176,7 @@ module _ (reading : HasOneReading) (lengths : CellsHaveLengths) (parts : CellsHa
 
   -- ---- a frame that was stored
 
-  module _ (w2 : Opened) (rest2 : Option (List ℕ)) (next : State) (name : List ℕ) (stored : StoredObject) (fault : Type 0)
+  module _ (w2 : Opened) (rest2 : Option (List ℕ)) (next : State) (name : List ℕ) (stored : Stored) (fault : Type 0)
       (has : (o : NewObject) × (o.name ≡ name) × IsFramed rest rest2 o × HasStored tells w w2 o now next stored) (writes : OnlyWrites tells (IsReady now) (HasFrameRoom w rest now) fault (changes w) now next) where
     -- its line is that of the object
     line_is : stored_text stored.nodes stored.length stored.digest name ≡ stored_line v.shape has.0
@@ -223,7 +224,7 @@ module _ (reading : HasOneReading) (lengths : CellsHaveLengths) (parts : CellsHa
   -- ---- a frame that was not stored
 
   pub fails_by : (fault : IngestFault) (next : State) (rest2 : Option (List ℕ)) (bad : Type 0) → OnlyWrites tells (IsReady now) (HasFrameRoom w rest now) bad (changes w) now next
-      → ((let r : Result Ingest IngestFault = Err fault in r ≢ Err ingest.DiskFault) → ((name : List ℕ) (stored : StoredObject) → (let r : Result Ingest IngestFault = Err fault in r ≢ Ok (frame.Stored name stored))) → tells → LeavesLedger now next)
+      → ((let r : Result Ingest IngestFault = Err fault in r ≢ Err ingest.DiskFault) → ((name : List ℕ) (stored : Stored) → (let r : Result Ingest IngestFault = Err fault in r ≢ Ok (frame.Stored name stored))) → tells → LeavesLedger now next)
       → ((let r : Result Ingest IngestFault = Err fault in r ≡ Err ingest.DiskFault) → tells → MayHaveStored w (IsFramed rest rest2) now next)
       → EndsEarly {T = Status} tells old.files left rest2 objects (Err (ingest_failure fault))
       → IngestsOpened tells v old next left rest2 before after (Err (ingest_failure fault))

@@ -1,4 +1,4 @@
--- One frame behind others: what the call that takes it leaves of the archive, from where nothing is pending.
+-- One frame after others: what the call that takes it leaves of the archive, from where nothing is pending.
 use Rattle.std.proofs.Common.{◌≡◌, ℕ, List, [], ◌∷◌, ◌++◌, sym, subst, arith, refl}
 use Rattle.std.proofs.lemmas.List.{append-nil}
 use Rattle.std.proofs.lemmas.List.Elements.{All-cons}
@@ -18,7 +18,7 @@ use Rattle.aea_archive.specs.Lasts.{AreLastsRecorded, AreLastsHonest}
 use Rattle.aea_archive.specs.Next.{NewObject, object_blocks}
 use Rattle.aea_archive.proofs.Stretches.{has_ledger, adds_nothing}
 use Rattle.aea_append.specs.Puts.{HasStored, MayHaveStored, LeavesLedger}
-use Rattle.aea_append.specs.declared.store.StoredObject.{StoredObject}
+use Rattle.aea_append.specs.declared.store.Stored.{Stored}
 use Rattle.aea_command_store.specs.Growing.{LeavesArchive, Grows, HasGrown}
 use Rattle.aea_command_store.proofs.PutLemmas.Opening.{changes, leaves_is, none_more}
 
@@ -78,7 +78,7 @@ module _ (tells : Type 0) (told : tells) (w : Opened) (rs : List Record) (now ne
   }
 
   -- it was
-  pub grown_by_one : (w2 : Opened) (o : NewObject) (stored : StoredObject) (has : HasStored tells w w2 o now next stored) → (g : HasGrown w.shape rs (o ∷ []) now next) × (g.grows.added ≡ Object has.r ∷ [])
+  pub grown_by_one : (w2 : Opened) (o : NewObject) (stored : Stored) (has : HasStored tells w w2 o now next stored) → (g : HasGrown w.shape rs (o ∷ []) now next) × (g.grows.added ≡ Object has.r ∷ [])
   grown_by_one w2 o stored has =
       let blocks = object_blocks w.shape o.bytes in
       let alone : blocks ≡ blocks ++ [] = sym (append-nil blocks) in

@@ -1,4 +1,4 @@
--- How a run tells why it is refused, that stores the frames of a stream.
+-- How a run that stores the frames of a stream shows why it is refused.
 use Rattle.std.proofs.Common.{◌≡◌, ◌≢◌, ◌⊎◌, inl, inr, ⊎_elim, ℕ, ◌+◌, ◌<◌, ◌≤◌, List, [], ◌∷◌, ◌++◌, length, All, refl, sym, ◌∙◌, ap, subst, arith, Option, None, Some, Result, Ok, Err, length-append}
 use Rattle.std.specs.Int.{w16, w64, to_be_bytes}
 use Rattle.std.specs.FinMap.{get, len}
@@ -30,7 +30,7 @@ use Rattle.aea_command_store.proofs.IngestLemmas.Causing.{place_of_entry, entry_
 use Rattle.aea_command_store.proofs.IngestLemmas.Filling.{filled_is, taken_all, one_cut, HasNoFrame}
 use Rattle.aea_command.proofs.Reading.{has_ledger_of, from_reading}
 
--- The clauses of the call that takes a frame, of a source that tells the stream and a disk that tells its files: `at` is the
+-- The clauses of the call that takes a frame, of a source whose stream is known and a disk whose files are known: `at` is the
 -- number of bytes that were taken.
 pub record HasAnswered (w : Opened) (now : Files) (stream : List ℕ) (at : ℕ) (r : Result Ingest IngestFault) : Type 0 where
   pub ends : stream ≡ [] → (r ≡ Ok End) ⊎ (r ≡ Err ingest.ReadFault)
@@ -48,7 +48,7 @@ pub record HasAnswered (w : Opened) (now : Files) (stream : List ℕ) (at : ℕ)
   pub bad_stream : (n : ℕ) → r ≡ Err (ingest.BadStream n) → (n ≡ at) × EndsInside w stream
   pub bad_stream_refused : EndsInside w stream → (r ≡ Err (ingest.BadStream at)) ⊎ IsReadOrHeadFault r
 
--- what the run answers by it, where it is no object that was stored and no fault of the output
+-- what the run returns by it, where it is no object that was stored and no fault of the output
 abbrev pub answer_by : IngestFault → Answer
 answer_by fault = Err (ingest_failure fault)
 
@@ -74,7 +74,7 @@ module _ (reading : HasOneReading) (count : ObjectsAreCounted) (free : NewNamesA
   full_here : filled_all v.shape (filled_by one.records) objects ≡ filled_by (one.records ++ added)
   full_here = filled_is v.shape one.records objects added are
 
-  -- a cause here is one of the run, behind the frames that were stored
+  -- a cause here is one of the run, after the frames that were stored
   refused_behind : (why : Refusal) → here why → IsRefusedBehind files input objects why
   refused_behind why is = record {
     shape = v.shape;
@@ -104,7 +104,7 @@ module _ (reading : HasOneReading) (count : ObjectsAreCounted) (free : NewNamesA
       (subst (λ (s : List ℕ). FrameCauses v.shape (filled_all v.shape (filled_by one.records) objects) files (length input) objects s why) (sym cut.1)
       (subst (λ (os : List NewObject). FrameCauses v.shape (filled_all v.shape (filled_by one.records) os) files (length input) os cause.1.rest why) (sym cut.0) there.1))
 
-  -- one that is, is one of the archive as it was, and the run stands before its first frame
+  -- one that is, is one of the archive as it was, and the run is before its first frame
   head_at_here : (b : BlockId) → IsRefusedAt files input (HeadDamaged b) → here (HeadDamaged b)
   head_at_here b cause =
       let first = head_there b cause.1.cause.2 in
@@ -161,7 +161,7 @@ module _ (reading : HasOneReading) (count : ObjectsAreCounted) (free : NewNamesA
       is.1
   none_at_nothing nil why is = is
 
-  -- nothing stands against a stream of which all frames were stored
+  -- no reason for refusal holds at a stream of which all frames were stored
   pub none_at_end : stream ≡ [] → (why : Refusal) → OpenedCauses files input why → ⊥
   none_at_end nil why cause = none_at_nothing nil why (none_here (no_frame_at_end nil) why cause)
 
@@ -171,7 +171,7 @@ module _ (reading : HasOneReading) (count : ObjectsAreCounted) (free : NewNamesA
     intact_here : HasEntry w stream → ((e : IsReadOrHeadFault (let r : Result Ingest IngestFault = Err fault in r)) → ⊥) → (b : BlockId) → here (HeadDamaged b) → ⊥
     intact_here entry apart b is = apart (gave.head_refused entry b (head_there b is.2).1.damaged)
 
-    -- ---- what was answered is a cause here
+    -- ---- what was returned is a cause here
 
     new_name : (IsTaken w (frame_name stream) → ⊥) → All (λ n. n ≢ frame_name stream) (filled_by (one.records ++ added)).names
     new_name fresh = free_are_new count free w (one.records ++ added) has (frame_name stream) (none_of (get w.objects (frame_name stream)) fresh)
@@ -251,7 +251,7 @@ module _ (reading : HasOneReading) (count : ObjectsAreCounted) (free : NewNamesA
         (intact_here bytes.0 (apart_from (λ b e. (let h : ingest.BadStream n ≡ ingest.HeadDamaged b = sym is ∙ e in cc)) (λ e. (let h : ingest.BadStream n ≡ ingest.ReadFault = sym is ∙ e in cc)) (λ e. (let h : ingest.BadStream n ≡ ingest.DiskFault = sym is ∙ e in cc)) (λ e. (let h : ingest.BadStream n ≡ ingest.NoMemory = sym is ∙ e in cc)))))
         (gave.bad_stream n (ap Err is)).1)
 
-    -- where a last parity is damaged, the run stands before the first frame, and so does each cause
+    -- where a last parity is damaged, the run is before the first frame, and so is each cause
     start_at : (b : BlockId) → HasDamagedHead files b → (why : Refusal) → ((a : BlockId) → why ≢ HeadDamaged a) → IsRefusedAt files input why → here why
     start_at b damaged why apart cause =
         let first = (head_there b damaged).0 in
@@ -289,7 +289,7 @@ module _ (reading : HasOneReading) (count : ObjectsAreCounted) (free : NewNamesA
           none = λ other before here_is. none_before_place v.shape f files (length input) objects stream cause.1 other before (start_here b cause.2 other here_is);
         }
 
-    -- ---- and the first cause is what was answered, but for faults and want of memory
+    -- ---- and the first cause is what was returned, but for faults and lack of memory
 
     by_fault : (why : Refusal) (other : IngestFault) → ingest_failure other ≡ failure.Refused why → (let r : Result Ingest IngestFault = Err fault in r ≡ Err other) → answer_by fault ≡ Err (failure.Refused why)
     by_fault why other is e = ap answer_by (no_fault fault other e) ∙ ap Err is
@@ -305,7 +305,7 @@ module _ (reading : HasOneReading) (count : ObjectsAreCounted) (free : NewNamesA
     by_head why damaged (inr (inr (inl e))) = inr (inl (ap answer_by (no_fault fault ingest.DiskFault e)))
     by_head why damaged (inr (inr (inr e))) = inr (inr (inr (ap answer_by (no_fault fault ingest.NoMemory e))))
 
-    -- a damaged last parity that was answered stands before a cause that comes later
+    -- a damaged last parity that was returned comes before a cause that comes later
     head_stands : (b : BlockId) → (let r : Result Ingest IngestFault = Err fault in r ≡ Err (ingest.HeadDamaged b)) → OpenedCauses files input (HeadDamaged b)
     head_stands b e =
         let told = gave.head b e in
@@ -339,9 +339,9 @@ module _ (reading : HasOneReading) (count : ObjectsAreCounted) (free : NewNamesA
         (gave.bad_stream_refused ends)
     always_here why is first = absurd is
 
-    -- ---- how the run tells why it is refused
+    -- ---- how the run shows why it is refused
 
-    -- one of a refusal: what was answered is the first cause
+    -- one of a refusal: what was returned is the first cause
     first_as : (one_why why : Refusal) → IsFirst (OpenedCauses files input) one_why → (let a : Answer = Err (failure.Refused one_why) in a ≡ Err (failure.Refused why)) → IsFirst (OpenedCauses files input) why
     first_as one_why why first e = let same : one_why ≡ why = cc in subst (λ (x : Refusal). IsFirst (OpenedCauses files input) x) same first
 
@@ -395,6 +395,6 @@ module _ (reading : HasOneReading) (count : ObjectsAreCounted) (free : NewNamesA
     ends_for (LedgerBad n) is = absurd is
     ends_for why is = refused_behind why is
 
-    -- a refusal is for the frame behind those that were stored
+    -- a refusal is for the frame after those that were stored
     pub ends_behind : (why : Refusal) → answer_by fault ≡ Err (failure.Refused why) → EndCauses files input objects why
     ends_behind why e = ends_for why (cause_of fault refl why e)

@@ -1,5 +1,5 @@
--- The room for one more frame, once some were stored: where the ledger that then stands ends, what is counted there, and
--- that the disk has room to sync it.
+-- The space for one more frame, once some were stored: where the ledger that is then there ends, what is counted there, and
+-- that the disk has space to sync it.
 use Rattle.std.proofs.Common.{◌≡◌, ◌≢◌, ℕ, zero, suc, ◌+◌, ◌*◌, List, [], ◌∷◌, ◌++◌, length, get_or, All, refl, sym, ◌∙◌, ap, arith, Option, None, Some, length-append, append_assoc}
 use Rattle.std.specs.Int.{w16, w32, w64, to_be_bytes}
 use Rattle.std.specs.Io.KnownBytes.{Consumes}
@@ -18,7 +18,7 @@ use Rattle.aea_append.specs.Causes.{next_end}
 
 -- ---- the records of one file
 
--- from one gate on, as many whole records stand before each gate that is not open
+-- from one gate on, as many whole records lie before each gate that is not open
 alike : (bytes : List ℕ) (before m n : ℕ) (from a b : ℕ) → Reaches bytes before m from a → Reaches bytes before n from b → get_or bytes a 0 ≢ 1 → get_or bytes b 0 ≢ 1 → m ≡ n
 alike bytes before zero zero from a b one two shut_a shut_b = refl
 alike bytes before zero (suc n) from a b one two shut_a shut_b = absurd (shut_a (ap (λ (i : ℕ). get_or bytes i 0) (sym one) ∙ two.0.opened))
@@ -28,10 +28,10 @@ alike bytes before (suc m) (suc n) from a b one two shut_a shut_b = ap suc (alik
 ends_alike : (bytes : List ℕ) (m n : ℕ) (one : EndsAt bytes m) (two : EndsAt bytes n) → one.records ≡ two.records
 ends_alike bytes m n one two = alike bytes 0 one.records two.records 17 m n one.reaches two.reaches one.shut two.shut
 
--- ---- the room for records
+-- ---- the space for records
 
 module _ (old now : State) (shape other : Shape) (records : List Record) (end last : ℕ) (before : IsLedger (old.files 0) shape records end) (time : Passes old now) where
-  -- what is room for some records and one more is room for the one, where the others stand
+  -- what is space for some records and one more is space for the one, where the others are there
   pub adding_after : (added : List Record) → IsLedger (now.files 0) other (records ++ added) last → now.keeps (now.files 0) → (next : ℕ) → FitsAdding old (length added + 1) next → FitsAdding now 1 next
   adding_after added after kept next fit =
       let first = ledger_ends (old.files 0) shape records end before in
@@ -44,7 +44,7 @@ module _ (old now : State) (shape other : Shape) (records : List Record) (end la
             time.syncs bytes (fit.then bytes end first.ends two (omega (arith, count, many, first.count)));
       }
 
-  -- where the one stands too, there is room to sync
+  -- where the one is there too, there is space to sync
   pub kept_after : (r : Record) → IsLedger (now.files 0) other (records ++ r ∷ []) last → FitsAdding old 1 last → now.keeps (now.files 0)
   kept_after r after fit =
       let first = ledger_ends (old.files 0) shape records end before in
@@ -52,7 +52,7 @@ module _ (old now : State) (shape other : Shape) (records : List Record) (end la
       let many : length (records ++ r ∷ []) ≡ length records + 1 = length-append records (r ∷ []) ∙ omega arith in
       time.syncs (now.files 0) (fit.then (now.files 0) end first.ends here.ends (omega (arith, here.count, first.count, many)))
 
--- ---- where a ledger ends behind one more object
+-- ---- where a ledger ends after one more object
 
 digests_long : (ds : List (List ℕ)) → All (IsBytes 32) ds → length (flat_map (λ d. d) ds) ≡ 32 * length ds
 digests_long [] each = let e : 0 ≡ 32 * 0 = omega arith in e
@@ -74,7 +74,7 @@ entry_long shape earlier o may =
     let size : length (entry (Object o)) ≡ 6 + length (rest_of (Object o)) = omega (arith, length-append (to_be_bytes w32 (length (rest_of (Object o)))) (rest_of (Object o))) in
     omega (arith, size, rest)
 
--- records with others behind them
+-- records with others after them
 pub spelled_long : (shape : Shape) (records added : List Record) → length (spelled shape (records ++ added)) ≡ length (spelled shape records) + length (flat_map entry added)
 spelled_long shape records added =
     ap (λ (l : List ℕ). length (header shape ++ l)) (flat_map-append entry records added)

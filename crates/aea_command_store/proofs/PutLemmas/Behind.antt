@@ -35,7 +35,7 @@ put_behind name files input = record {
     back_to (Full nodes) cause = inr (some_ledger (files 0) cause.shape cause.records cause.ledger, omega arith)
     back_to why cause = absurd cause
 
--- an archive that was not opened tells why
+-- an archive that was not opened shows why
 pub unopened_put : {T : Type 0} (name : List ℕ) (tells : Type 0) (old new : State) (left : Option (List ℕ)) (f : Failure) → Opens tells old new (Err f)
     → Refuses {T = T} (tells × IsSome left) (PutCauses name old.files (unwrap_or left [])) (Err f)
 unopened_put {T} name tells old new left f opens =

@@ -1,4 +1,4 @@
--- What the call that puts gave behind the opening, and how it tells why it is refused.
+-- What the call that puts gave after the opening, and how it shows why it is refused.
 use Rattle.std.proofs.Common.{◌≡◌, ◌≢◌, ◌⊎◌, inl, inr, ◌↔◌, ℕ, suc, ◌+◌, ◌<◌, Bool, true, false, List, [], length, refl, sym, ◌∙◌, ap, subst, arith, Option, None, Some, Result, Ok, Err}
 use Rattle.std.specs.Prelude.{IsErr, IfOk, IsSome, unwrap_or}
 use Rattle.std.specs.FinMap.{get, len}
@@ -16,7 +16,7 @@ use Rattle.aea_ledger.specs.Values.{Opened, IsThisOne}
 use Rattle.aea_archive.specs.Blocks.{IsBlockIn}
 use Rattle.aea_archive.specs.Lasts.{IsLastParity, IsDamagedLast, IsFirstDamagedLast}
 use Rattle.aea_append.specs.declared.fault.PutFault.{PutFault}
-use Rattle.aea_append.specs.declared.store.StoredObject.{StoredObject}
+use Rattle.aea_append.specs.declared.store.Stored.{Stored}
 use Rattle.aea_append.specs.Causes.{IsTaken, MayEnter, IsHeadRefused, HasPutRoom}
 use Rattle.aea_append.specs.Puts.{IsWhole, HasPut, MayHaveStored, LeavesLedger}
 use Rattle.aea_append.specs.Taking.{HasPassedRoom, room_left}
@@ -35,9 +35,9 @@ use Rattle.aea_append.specs.declared.fault.PutFault.TheVariants as put
 use Rattle.aea_append.specs.Causes as causes
 use Rattle.aea_command.specs.declared.refusal.Failure.TheVariants as failure
 
--- The clauses of the call that puts, behind the opening: the opened ledger before and after it, the name, what the source had
--- and has left, the disk at the entry, behind the opening, and at the end, and the answer.
-pub record HasPutting (tells : Type 0) (v w : Opened) (name : List ℕ) (left rest : Option (List ℕ)) (old mid new : State) (r : Result StoredObject PutFault) : Type 1 where
+-- The clauses of the call that puts, after the opening: the opened ledger before and after it, the name, what the source had
+-- and has left, the disk at the entry, after the opening, and at the end, and the answer.
+pub record HasPutting (tells : Type 0) (v w : Opened) (name : List ℕ) (left rest : Option (List ℕ)) (old mid new : State) (r : Result Stored PutFault) : Type 1 where
   pub opens : Opens tells old mid (Ok v)
   pub stored : IfOk r (HasPut tells v w name left rest mid new)
   pub bad_name : (r ≡ Err put.BadName) ↔ (IsName name → ⊥)
@@ -57,7 +57,7 @@ pub record HasPutting (tells : Type 0) (v w : Opened) (name : List ℕ) (left re
   pub padded : r ≢ Err put.DiskFault → tells → KeepsPadded v.shape (IsBlockIn v.shape v.lattice.n) mid.files new.files
   pub reads : TakesAtMost left rest (room_left v + 1)
 
--- what the run answers by it
+-- what the run returns by it
 abbrev pub answer_of : {T : Type 0} → Result T PutFault → Result T Failure
 answer_of (Ok v) = Ok v
 answer_of (Err fault) = Err (put_failure fault)
@@ -71,16 +71,16 @@ none_or_some : {A : Type 0} → (o : Option A) → (o ≡ None) ⊎ (o ≢ None)
 none_or_some None = inl refl
 none_or_some (Some x) = inr (λ e. let h : Some x ≡ None = e in cc)
 
-err_inside : (f g : PutFault) → (let one : Result StoredObject PutFault = Err f in one ≡ Err g) → f ≡ g
+err_inside : (f g : PutFault) → (let one : Result Stored PutFault = Err f in one ≡ Err g) → f ≡ g
 err_inside f g e = cc
 
 module _ (reading : HasOneReading) (count : ObjectsAreCounted) (free : NewNamesAreFree) (tell : NumbersTellBlocks)
-    (tells : Type 0) (v w : Opened) (name : List ℕ) (left rest : Option (List ℕ)) (old mid new : State) (r : Result StoredObject PutFault)
+    (tells : Type 0) (v w : Opened) (name : List ℕ) (left rest : Option (List ℕ)) (old mid new : State) (r : Result Stored PutFault)
     (gave : HasPutting tells v w name left rest old mid new r) where
   abbrev told_causes : Refusal → Type 0
   told_causes = PutCauses name old.files (unwrap_or left [])
 
-  -- the name and the number of objects do not stand against it
+  -- the name and the number of objects are no reason for refusal
   enters : r ≢ Err put.BadName → r ≢ Err put.NameTaken → r ≢ Err put.CatalogFull → MayEnter v name
   enters good fresh few =
       let named : IsName name = elim (name_or_not (is_name name)) [ inl is ↦ is | inr never ↦ absurd (good (gave.bad_name.1 never)) ] in
@@ -94,7 +94,7 @@ module _ (reading : HasOneReading) (count : ObjectsAreCounted) (free : NewNamesA
     same_files : mid.files ≡ old.files
     same_files = gave.opens.reads.contents told
 
-    -- no cause of the opening stands
+    -- no cause of the opening holds
     none_of_opening : (why : Refusal) → place_of why < place_of Occupied → told_causes why → ⊥
     none_of_opening NoArchive before cause = opened_no_opening tells old mid v gave.opens told NoArchive cause
     none_of_opening (LedgerBad at) before cause = opened_no_opening tells old mid v gave.opens told (LedgerBad at) cause
@@ -137,7 +137,7 @@ module _ (reading : HasOneReading) (count : ObjectsAreCounted) (free : NewNamesA
     none_of_entry may BadName before cause = cause.1 may.named
     none_of_entry may why before cause = cause
 
-    -- the damaged last parity of the files at the entry is that behind the opening
+    -- the damaged last parity of the files at the entry is that after the opening
     first_there : (b : BlockId) → HasDamagedHead old.files b → IsFirstDamagedLast v.shape v.lattice v.digests mid.files b
     first_there b cause = subst (λ (c : Files). IsFirstDamagedLast v.shape v.lattice v.digests c b) (sym same_files) (head_there reading v old.files one b cause)
 
@@ -180,7 +180,7 @@ module _ (reading : HasOneReading) (count : ObjectsAreCounted) (free : NewNamesA
     outside (inl e) = inl (ap answer_of e)
     outside (inr e) = inr (inr (ap answer_of e))
 
-    -- where a cause is the first that stands it is the answer, but for faults and want of memory
+    -- where a cause is the first that holds it is the answer, but for faults and lack of memory
     always_is : (xs : List ℕ) → left ≡ Some xs → (why : Refusal) → IsFirst told_causes why → (answer_of r ≡ Err (failure.Refused why)) ⊎ IsStopped (answer_of r)
     always_is xs is NoArchive first = absurd (none_of_opening NoArchive (omega arith) first.stands)
     always_is xs is (LedgerBad at) first = absurd (none_of_opening (LedgerBad at) (omega arith) first.stands)
@@ -210,13 +210,13 @@ module _ (reading : HasOneReading) (count : ObjectsAreCounted) (free : NewNamesA
     always_is xs is why first = absurd first.stands
 
     -- the causes of the refusals
-    first_as : (one_why why : Refusal) → (let a : Result StoredObject Failure = Err (failure.Refused one_why) in a ≡ Err (failure.Refused why)) → IsFirst told_causes one_why → IsFirst told_causes why
+    first_as : (one_why why : Refusal) → (let a : Result Stored Failure = Err (failure.Refused one_why) in a ≡ Err (failure.Refused why)) → IsFirst told_causes one_why → IsFirst told_causes why
     first_as one_why why e first = let same : one_why ≡ why = cc in subst (λ (x : Refusal). IsFirst told_causes x) same first
 
     not_fault : (f g : PutFault) → r ≡ Err f → (f ≡ g → ⊥) → r ≢ Err g
     not_fault f g is differs e = differs (err_inside f g (sym is ∙ e))
 
-    only_is : (xs : List ℕ) → left ≡ Some xs → (q : Result StoredObject PutFault) → r ≡ q → (why : Refusal) → answer_of q ≡ Err (failure.Refused why) → IsFirst told_causes why
+    only_is : (xs : List ℕ) → left ≡ Some xs → (q : Result Stored PutFault) → r ≡ q → (why : Refusal) → answer_of q ≡ Err (failure.Refused why) → IsFirst told_causes why
     only_is xs is (Ok s) same why e = let h : Ok s ≡ Err (failure.Refused why) = e in cc
     only_is xs is (Err put.BadName) same why e =
         first_as BadName why e (record {
@@ -259,7 +259,7 @@ module _ (reading : HasOneReading) (count : ObjectsAreCounted) (free : NewNamesA
   told_input None some = let h : false ≡ true = some in cc
   told_input (Some xs) some = (xs, refl)
 
-  -- how the run tells why it is refused
+  -- how the run shows why it is refused
   pub putting_refuses : Refuses (tells × IsSome left) (PutCauses name old.files (unwrap_or left [])) (answer_of r)
   putting_refuses = record {
     only = λ why is told. let input = told_input left told.1 in only_is told.0 input.0 input.1 r refl why is;

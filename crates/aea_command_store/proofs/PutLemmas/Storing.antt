@@ -31,7 +31,7 @@ use Rattle.aea_append.specs.declared.fault.PutFault.{PutFault}
 use Rattle.aea_records.specs.Format.{Record, limit_of, limit_when, nodes_for, nodes_of}
 use Rattle.aea_command.specs.declared.refusal.Refusal.{Refusal}
 use Rattle.aea_lattice.specs.declared.shape.Shape.{Shape}
-use Rattle.aea_append.specs.declared.store.StoredObject.{StoredObject}
+use Rattle.aea_append.specs.declared.store.Stored.{Stored}
 use Rattle.aea_io.specs.Taken.{TakesAtMost}
 use Rattle.std.proofs.lemmas.Bool.{cases_lt, false≢true}
 use Rattle.aea_command.proofs.Reading.{has_ledger_of, by_reading}
@@ -96,7 +96,7 @@ answer_stored (Ok s) e = refl
 answer_stored (Err fault) (inl ok) = absurd (false≢true ok)
 answer_stored {T} (Err fault) (inr e) = absurd (put_not_output fault (same_fault {T = T} (put_failure fault) failure.Output e))
 
-fault_inside : (f g : PutFault) → (let one : Result StoredObject PutFault = Err f in one ≡ Err g) → f ≡ g
+fault_inside : (f g : PutFault) → (let one : Result Stored PutFault = Err f in one ≡ Err g) → f ≡ g
 fault_inside f g e = cc
 
 -- an archive has not more than the most sites
@@ -106,18 +106,18 @@ sites_most shape = let h = shape.in_profile in grind (arith, nat_tests)
 not_early : (n : ℕ) → IsEarly (Full n) → ⊥
 not_early n early = omega (arith, early)
 
-module _ (reading : HasOneReading) (tells : Type 0) (v w : Opened) (name : List ℕ) (left rest : Option (List ℕ)) (old mid new : State) (r : Result StoredObject PutFault)
+module _ (reading : HasOneReading) (tells : Type 0) (v w : Opened) (name : List ℕ) (left rest : Option (List ℕ)) (old mid new : State) (r : Result Stored PutFault)
     (gave : HasPutting tells v w name left rest old mid new r) where
   late : Passes mid new
   late = gave.writes.time
 
   -- where the object was stored
-  stored_one : (q : Result StoredObject PutFault) → r ≡ q → IsOk q → (s : StoredObject) × (r ≡ Ok s)
+  stored_one : (q : Result Stored PutFault) → r ≡ q → IsOk q → (s : Stored) × (r ≡ Ok s)
   stored_one (Ok s) is ok = (s, is)
   stored_one (Err fault) is ok = absurd (false≢true ok)
 
-  put_of : (s : StoredObject) → r ≡ Ok s → HasPut tells v w name left rest mid new s
-  put_of s is = subst (λ (q : Result StoredObject PutFault). IfOk q (HasPut tells v w name left rest mid new)) is gave.stored
+  put_of : (s : Stored) → r ≡ Ok s → HasPut tells v w name left rest mid new s
+  put_of s is = subst (λ (q : Result Stored PutFault). IfOk q (HasPut tells v w name left rest mid new)) is gave.stored
 
   has_stands : EndsStored (answer_of r) → tells → (shape : Shape) (records : List Record) → HasLedger shape records (old.files 0)
       → (o : NewObject) × IsWhole name left rest o × OpensThen old new (HasGrown shape records (o ∷ []))
@@ -133,7 +133,7 @@ module _ (reading : HasOneReading) (tells : Type 0) (v w : Opened) (name : List 
       )
 
   -- what a stop leaves, by the answer
-  stops_by : (told : tells) (q : Result StoredObject PutFault) → r ≡ q → (objects : List NewObject) × MayHavePut name left rest (answer_of q) objects × OpensOr old new (Grows v.shape (gave.opens.this_one told).records objects)
+  stops_by : (told : tells) (q : Result Stored PutFault) → r ≡ q → (objects : List NewObject) × MayHavePut name left rest (answer_of q) objects × OpensOr old new (Grows v.shape (gave.opens.this_one told).records objects)
   stops_by told (Ok s) is =
       let has = put_of s is in
       let one = gave.opens.this_one told in (
@@ -145,7 +145,7 @@ module _ (reading : HasOneReading) (tells : Type 0) (v w : Opened) (name : List 
   stops_by told (Err put.DiskFault) is =
       let may = gave.stopped is told in
       let one = gave.opens.this_one told in
-      let most : MayHavePut name left rest (let a : Result StoredObject Failure = Err failure.Disk in a) may.objects = elim may.most [
+      let most : MayHavePut name left rest (let a : Result Stored Failure = Err failure.Disk in a) may.objects = elim may.most [
         | inl none ↦ inl none
         | inr some ↦ inr (inr refl, some)
       ] in (
@@ -171,7 +171,7 @@ module _ (reading : HasOneReading) (tells : Type 0) (v w : Opened) (name : List 
         same.1,
       )
 
-  untouched_is : (q : Result StoredObject PutFault) → r ≡ q → (why : Refusal) → IsEarly why → answer_of q ≡ Err (failure.Refused why) → IsUntouched tells old new × (rest ≡ left)
+  untouched_is : (q : Result Stored PutFault) → r ≡ q → (why : Refusal) → IsEarly why → answer_of q ≡ Err (failure.Refused why) → IsUntouched tells old new × (rest ≡ left)
   untouched_is (Ok s) is why early e = let h : Ok s ≡ Err (failure.Refused why) = e in cc
   untouched_is (Err put.BadName) is why early e = untouched_early (inl is)
   untouched_is (Err put.NameTaken) is why early e = untouched_early (inr (inl is))
@@ -187,16 +187,16 @@ module _ (reading : HasOneReading) (tells : Type 0) (v w : Opened) (name : List 
   untouched_is (Err put.NoMemory) is why early e = let h : Err failure.Memory ≡ Err (failure.Refused why) = e in cc
 
   -- other failures than of the disk leave the ledger
-  leaves_is_kept : (q : Result StoredObject PutFault) → r ≡ q → (f : Failure) → f ≢ failure.Disk → answer_of q ≡ Err f → tells → HasOpening old new (λ c. c 0 ≡ old.files 0) × (new.files 0 ≡ old.files 0)
+  leaves_is_kept : (q : Result Stored PutFault) → r ≡ q → (f : Failure) → f ≢ failure.Disk → answer_of q ≡ Err f → tells → HasOpening old new (λ c. c 0 ≡ old.files 0) × (new.files 0 ≡ old.files 0)
   leaves_is_kept (Ok s) is f differs e told = let h : Ok s ≡ Err f = e in cc
   leaves_is_kept (Err fault) is f differs e told =
       let apart : r ≢ Err put.DiskFault = λ d. (
       let same : fault ≡ put.DiskFault = fault_inside fault put.DiskFault (sym is ∙ d) in
-      differs (sym (same_fault {T = StoredObject} (put_failure fault) f e) ∙ ap put_failure same)
+      differs (sym (same_fault {T = Stored} (put_failure fault) f e) ∙ ap put_failure same)
       ) in
       ledger_left tells v old mid new gave.opens told late (gave.leaves (subst IsErr (sym is) refl) apart told)
 
-  -- the room of the disk is the room that the put needs
+  -- the space of the disk is the space that the put needs
   fits_rest : mid.files ≡ old.files → Passes old mid → FitsPut name tells left old → HasPutRoom v name left rest mid
   fits_rest same time fits =
       let ledger_same : mid.files 0 ≡ old.files 0 = ap (λ (c : Files). c 0) same in
@@ -231,7 +231,7 @@ module _ (reading : HasOneReading) (tells : Type 0) (v w : Opened) (name : List 
       (λ fits. fits.some) (λ told fits same time. fits_rest same time fits)
       gave.opens.reads gave.writes
 
-  -- what becomes of the archive
+  -- the effect on the archive
   pub putting_stores : Stores name tells old new left rest (answer_of r)
   putting_stores = record {
     archive = λ stored told. let one = gave.opens.this_one told in record { shape = v.shape; records = one.records; end = v.end; ledger = one.ledger };
@@ -276,7 +276,7 @@ module _ (reading : HasOneReading) (tells : Type 0) (v w : Opened) (name : List 
   }
 
   -- the line of the object that was stored
-  pub putting_line : (s : StoredObject) → r ≡ Ok s → IsStoredLine name tells (old.files 0) left rest (stored_text s.nodes s.length s.digest name)
+  pub putting_line : (s : Stored) → r ≡ Ok s → IsStoredLine name tells (old.files 0) left rest (stored_text s.nodes s.length s.digest name)
   putting_line s is =
       let has = put_of s is in
       let o = has.0 in

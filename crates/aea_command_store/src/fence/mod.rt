@@ -1,4 +1,4 @@
-//! `fence`: a fence behind the last node of the archive.
+//! `fence`: a fence after the last node of the archive.
 
 ghost use Rattle.std.specs.Prelude.{◌≡◌, ◌≢◌, ◌≤◌, [], List, IfOk, OnOk};
 ghost use Rattle.aea_faults.specs.Faults.{Rose};
@@ -22,7 +22,7 @@ use aea_records::{
 };
 use std::alloc::Global;
 
-// Opens the archive, and adds a fence behind its last node, which is the answer.
+// Opens the archive, and adds a fence after its last node, which is the answer.
 fn add_fence<D: Disk>(alloc: Global, disk: &mut D) -> Result<u32, Failure>
     ensures adds { AddsRecord next_fence D.tells (D.state disk.old) (D.state disk.new) result }
     ensures refuses { Refuses D.tells (FenceCauses ((D.state disk.old).files 0)) result }
@@ -52,8 +52,8 @@ fn print_line<O: Sink>(out: &mut O, page: &mut Page, nodes: u32) -> Result<(), W
     print(out, page, b"\n")
 }
 
-// Puts that line, and flushes it.
-fn put_line<O: Sink>(out: &mut O, nodes: u32) -> Result<(), WriteFault>
+// Writes that line, and flushes it.
+fn write_line<O: Sink>(out: &mut O, nodes: u32) -> Result<(), WriteFault>
     ensures flushed { OnOk result (IsFlushed (O.state out.new)) }
     ensures prints { Prints (O.state out.old) [] (O.state out.new) [] result (fence_line nodes) }
 {
@@ -63,7 +63,7 @@ fn put_line<O: Sink>(out: &mut O, nodes: u32) -> Result<(), WriteFault>
     Ok(())
 }
 
-/// Adds a fence behind the last node of the archive, and then prints `fence N` with N the number of nodes. It takes no
+/// Adds a fence after the last node of the archive, and then prints `fence N` with N the number of nodes. It takes no
 /// memory once the archive is opened.
 pub fn fence<D: Disk, O: Sink>(alloc: Global, disk: &mut D, out: &mut O) -> Result<Status, Failure>
     ensures fences { Fences D.tells (D.state disk.old) (D.state disk.new) (O.state out.old) (O.state out.new) result }
@@ -80,6 +80,6 @@ pub fn fence<D: Disk, O: Sink>(alloc: Global, disk: &mut D, out: &mut O) -> Resu
     ensures out_still { result ≢ Err Failure.Output → (O.state out.new).faults ≡ (O.state out.old).faults }
 {
     let nodes = add_fence(alloc, disk)?;
-    put_line(out, nodes)?;
+    write_line(out, nodes)?;
     Ok(Status::Done)
 }

@@ -15,7 +15,7 @@ ghost use Rattle.aea_command.specs.Failures.{NeverClashes};
 ghost use Rattle.aea_command_store.specs.Ingest.{OpenedCauses, IngestCauses, FitsFrames, IngestsOpened, Ingests, end_line};
 ghost use Rattle.aea_command_store.specs.Put.{KeepsOtherFiles};
 
-use crate::put::put_line;
+use crate::put::write_line;
 use aea_append::{Ingest, ingest_one};
 use aea_archive::{lasts_are_values, objects_record_more};
 use aea_command::{Failure, Status, open};
@@ -37,8 +37,8 @@ fn print_end<O: Sink>(out: &mut O, page: &mut Page, count: u32) -> Result<(), Wr
     print(out, page, b"\n")
 }
 
-// Puts that line, and flushes it.
-fn put_end<O: Sink>(out: &mut O, count: u32) -> Result<(), WriteFault>
+// Writes that line, and flushes it.
+fn write_end<O: Sink>(out: &mut O, count: u32) -> Result<(), WriteFault>
     ensures flushed { OnOk result (IsFlushed (O.state out.new)) }
     ensures prints { Prints (O.state out.old) [] (O.state out.new) [] result (end_line count) }
 {
@@ -48,9 +48,9 @@ fn put_end<O: Sink>(out: &mut O, count: u32) -> Result<(), WriteFault>
     Ok(())
 }
 
-// Stores the frames of the input into the opened archive, and puts the line of each object behind its commit, and the last
+// Puts the object of each frame of the input into the opened archive, and writes its line after its commit, and the last
 // line.
-fn store_frames<D: Disk, S: Source, O: Sink>(
+fn put_frames<D: Disk, S: Source, O: Sink>(
     alloc: Global,
     ledger: &mut Ledger,
     disk: &mut D,
@@ -88,10 +88,10 @@ fn store_frames<D: Disk, S: Source, O: Sink>(
     let mut at: u64 = 0;
     let mut count: u32 = 0;
     while let Ingest::Stored { name, stored } = ingest_one(alloc, ledger, disk, input, &mut at)? {
-        put_line(out, &stored, name.bytes())?;
+        write_line(out, &stored, name.bytes())?;
         count += 1;
     }
-    put_end(out, count)?;
+    write_end(out, count)?;
     Ok(Status::Done)
 }
 
@@ -121,5 +121,5 @@ pub fn ingest<D: Disk, S: Source, O: Sink>(
 {
     ledgers_have_one_reading();
     let mut ledger = open(alloc, disk)?;
-    store_frames(alloc, &mut ledger, disk, input, out)
+    put_frames(alloc, &mut ledger, disk, input, out)
 }

@@ -9,22 +9,22 @@ ghost use Rattle.aea_command_store.specs.Put.{stored_text, PutCauses, IsStoredLi
 
 mod line;
 
-use aea_append::{StoredObject, put};
+use aea_append::{Stored, put};
 use aea_command::{Failure, Status, open};
 use aea_disk::Disk;
 use aea_io::{Sink, Source};
 use aea_lattice::numbers_tell_blocks;
 use aea_records::{ledgers_have_one_reading, new_names_are_free, objects_are_counted};
-pub(crate) use line::put_line;
+pub(crate) use line::write_line;
 use std::alloc::Global;
 
 // Opens the archive, and stores all that the input has under the name.
-fn store<D: Disk, S: Source>(
+fn add_object<D: Disk, S: Source>(
     alloc: Global,
     name: &[u8],
     disk: &mut D,
     input: &mut S,
-) -> Result<StoredObject, Failure>
+) -> Result<Stored, Failure>
     ensures stores { Stores name.now D.tells (D.state disk.old) (D.state disk.new) (S.state input.old).left (S.state input.new).left result }
     ensures line { IfOk result (λ stored. IsStoredLine name.now D.tells ((D.state disk.old).files 0) (S.state input.old).left (S.state input.new).left (stored_text stored.nodes stored.length stored.digest name.now)) }
     ensures refuses { Refuses (D.tells × IsSome (S.state input.old).left) (PutCauses name.now (D.state disk.old).files (unwrap_or (S.state input.old).left [])) result }
@@ -69,7 +69,7 @@ pub fn put_input<D: Disk, S: Source, O: Sink>(
     ensures out_cause { result ≡ Err Failure.Output → Rose (O.state out.old).faults (O.state out.new).faults }
     ensures out_still { result ≢ Err Failure.Output → (O.state out.new).faults ≡ (O.state out.old).faults }
 {
-    let stored = store(alloc, name, disk, input)?;
-    put_line(out, &stored, name)?;
+    let stored = add_object(alloc, name, disk, input)?;
+    write_line(out, &stored, name)?;
     Ok(Status::Done)
 }

@@ -5,7 +5,7 @@ use Rattle.aea_io.proofs.Printing.{prints_then, prints_stopped, prints_as}
 use Rattle.aea_command.proofs.Listed.{texts-more, texts-around}
 use Rattle.aea_command.proofs.lines.print_nodes.Goals as goal
 
--- a number behind a space
+-- a number after a space
 abbrev behind_space : ℕ → List ℕ
 behind_space number = codes " " ++ decimal number
 

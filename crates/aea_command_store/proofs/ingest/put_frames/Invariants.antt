@@ -4,7 +4,7 @@ use Rattle.aea_archive.specs.Next.{NewObject}
 use Rattle.aea_command_store.specs.Ingest.{frames_of}
 use Rattle.aea_command_store.proofs.IngestLemmas.Counting.{most_of_frame}
 use Rattle.aea_command_store.proofs.IngestLemmas.Going.{HasGone}
-use Rattle.aea_command_store.proofs.ingest.store_frames.Given as goal
+use Rattle.aea_command_store.proofs.ingest.put_frames.Given as goal
 
 -- the objects of the first frames were stored, and their lines printed
 abbrev pub invariant-loop-name : goal.invariant-loop-name

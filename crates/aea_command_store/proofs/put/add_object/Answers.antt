@@ -1,13 +1,13 @@
 use Rattle.std.proofs.Common.{◌∙◌, Result, Ok, Err, ap, refl}
 use Rattle.aea_append.specs.declared.fault.PutFault.{PutFault}
-use Rattle.aea_append.specs.declared.store.StoredObject.{StoredObject}
+use Rattle.aea_append.specs.declared.store.Stored.{Stored}
 use Rattle.aea_command.specs.Failures.{put_failure}
 use Rattle.aea_command.proofs.OpeningCases.{err_with}
 use Rattle.aea_command_store.proofs.PutLemmas.Behind.{unopened_put}
 use Rattle.aea_command_store.proofs.PutLemmas.Causing.{HasPutting, answer_of, putting_refuses}
 use Rattle.aea_command_store.proofs.PutLemmas.Running.{unopened_stores, unopened_rest}
 use Rattle.aea_command_store.proofs.PutLemmas.Storing.{putting_stores, putting_rest, putting_line}
-use Rattle.aea_command_store.proofs.put.store.Goals as goal
+use Rattle.aea_command_store.proofs.put.add_object.Goals as goal
 
 pub returns-in_err-ledger-clause-stores : goal.returns-in_err-ledger-clause-stores
 returns-in_err-ledger-clause-stores g c =
@@ -129,7 +129,7 @@ returns-in_err-put-clause-rest g c =
 pub returns-in_err-put-clause-input_still : goal.returns-in_err-put-clause-input_still
 returns-in_err-put-clause-input_still g c =
     let fault = c.in_err-put.field-0.0 in
-    let gave : Result StoredObject PutFault = Err fault in
+    let gave : Result Stored PutFault = Err fault in
     λ differs. c.in_err-put.ensures.source_still (λ e. differs (err_with c.from_residual-in_err-put.result (put_failure fault) c.from_residual-in_err-put.ensures.1 ∙ ap answer_of {x = gave} e))
 
 pub returns-clause-stores : goal.returns-clause-stores

@@ -13,9 +13,9 @@ use Rattle.aea_command_store.proofs.IngestLemmas.Answering.{HasTried, done_refus
 use Rattle.aea_command_store.proofs.IngestLemmas.Going.{gone_none}
 use Rattle.aea_command_store.proofs.IngestLemmas.Looping.{this_now, goes_on, breaks_off, count_more, few_more, exact_more, at_most_more, writes_by, fails_by, ends_by, cut_by, writes_then, ingest_not_words, ingest_no_clash, ingest_no_output, ingest_disk, disk_ingest, ingest_input, input_ingest, not_read}
 use Rattle.aea_command_store.proofs.IngestLemmas.Telling.{counted_none}
-use Rattle.aea_command_store.proofs.ingest.store_frames.Given.{Over}
-use Rattle.aea_command_store.proofs.ingest.store_frames.Goals.{After-from_residual}
-use Rattle.aea_command_store.proofs.ingest.store_frames.Goals as goal
+use Rattle.aea_command_store.proofs.ingest.put_frames.Given.{Over}
+use Rattle.aea_command_store.proofs.ingest.put_frames.Goals.{After-from_residual}
+use Rattle.aea_command_store.proofs.ingest.put_frames.Goals as goal
 
 -- ---- the loop
 
@@ -87,7 +87,7 @@ loop-name-preserved g c =
     let gave = c.in_ok-name.ensures in
     let has = gave.stored c.in-Stored.name c.in-Stored.stored (ap Ok c.in-Stored.is) in
     let source = gave.source_kept in
-    let sink = c.in_ok-put_line.ensures.prints.cause.kept in
+    let sink = c.in_ok-write_line.ensures.prints.cause.kept in
     let few = few_more c.ledgers_have_one_reading.ensures c.cells_have_lengths.ensures c.cells_have_parts.ensures c.lasts_are_values.ensures c.objects_record_more.ensures c.digests_are_counted.ensures
     tells (c.loop-name.disk ≡ c.args.disk.now) v w c.requires.opened left rest old now before after inv.objects inv.gone (λ e. ap g.D.Disk.state e) c.requires.this
     w2 rest2 next c.in-Stored.name c.in-Stored.stored (let r : Result Ingest IngestFault = Ok c.in_ok-name.field-0 in r ≡ Err ingest.DiskFault) has gave.writes c.loop-name.count inv.counted in
@@ -95,8 +95,8 @@ loop-name-preserved g c =
       objects = inv.objects ++ has.0 ∷ [];
       gone = goes_on c.ledgers_have_one_reading.ensures c.cells_have_lengths.ensures c.cells_have_parts.ensures c.lasts_are_values.ensures c.objects_record_more.ensures c.digests_are_counted.ensures
           tells (c.loop-name.disk ≡ c.args.disk.now) v w c.requires.opened left rest old now before after inv.objects inv.gone (λ e. ap g.D.Disk.state e) c.requires.this
-          w2 rest2 next c.in-Stored.name c.in-Stored.stored (let r : Result Ingest IngestFault = Ok c.in_ok-name.field-0 in r ≡ Err ingest.DiskFault) has gave.writes (g.met.D.Disk.ended_taken c.loop-name.disk) (c.ingest_one.new.disk ≡ c.args.disk.now) (g.O.Sink.state c.put_line.new.out) (λ e. let h : (let r : Result Ingest IngestFault = Ok c.in_ok-name.field-0 in r ≡ Err ingest.DiskFault) = e in cc)
-          (prints_as tt (rw c.bytes.ensures at c.in_ok-put_line.ensures.prints));
+          w2 rest2 next c.in-Stored.name c.in-Stored.stored (let r : Result Ingest IngestFault = Ok c.in_ok-name.field-0 in r ≡ Err ingest.DiskFault) has gave.writes (g.met.D.Disk.ended_taken c.loop-name.disk) (c.ingest_one.new.disk ≡ c.args.disk.now) (g.O.Sink.state c.write_line.new.out) (λ e. let h : (let r : Result Ingest IngestFault = Ok c.in_ok-name.field-0 in r ≡ Err ingest.DiskFault) = e in cc)
+          (prints_as tt (rw c.bytes.ensures at c.in_ok-write_line.ensures.prints));
       counted = count_more c.ledgers_have_one_reading.ensures c.cells_have_lengths.ensures c.cells_have_parts.ensures c.lasts_are_values.ensures c.objects_record_more.ensures c.digests_are_counted.ensures
           tells (c.loop-name.disk ≡ c.args.disk.now) v w c.requires.opened left rest old now before after inv.objects inv.gone (λ e. ap g.D.Disk.state e) c.requires.this
           w2 rest2 next c.in-Stored.name c.in-Stored.stored (let r : Result Ingest IngestFault = Ok c.in_ok-name.field-0 in r ≡ Err ingest.DiskFault) has gave.writes c.loop-name.count inv.counted;
@@ -220,8 +220,8 @@ returns-in_err-name-clause-out_cause g c e =
 
 -- ---- the output failed in the line of an object that was stored
 
-pub returns-in_err-put_line-clause-ingests : goal.returns-in_err-put_line-clause-ingests
-returns-in_err-put_line-clause-ingests g c =
+pub returns-in_err-write_line-clause-ingests : goal.returns-in_err-write_line-clause-ingests
+returns-in_err-write_line-clause-ingests g c =
     let tells = g.D.Disk.tells in
     let v = c.args.ledger.now in
     let w = c.loop-name.ledger in
@@ -237,17 +237,17 @@ returns-in_err-put_line-clause-ingests g c =
     let next = g.D.Disk.state c.ingest_one.new.disk in
     let gave = c.in_ok-name.ensures in
     let has = gave.stored c.in-Stored.name c.in-Stored.stored (ap Ok c.in-Stored.is) in
-    rw (err_with c.from_residual-in_err-put_line.result failure.Output c.from_residual-in_err-put_line.ensures.1)
+    rw (err_with c.from_residual-in_err-write_line.result failure.Output c.from_residual-in_err-write_line.ensures.1)
     (breaks_off c.ledgers_have_one_reading.ensures c.cells_have_lengths.ensures c.cells_have_parts.ensures c.lasts_are_values.ensures c.objects_record_more.ensures c.digests_are_counted.ensures
     tells (c.loop-name.disk ≡ c.args.disk.now) v w c.requires.opened left rest old now before after inv.objects inv.gone (λ e. ap g.D.Disk.state e) c.requires.this
-    w2 rest2 next c.in-Stored.name c.in-Stored.stored (let r : Result Ingest IngestFault = Ok c.in_ok-name.field-0 in r ≡ Err ingest.DiskFault) has gave.writes (g.O.Sink.state c.put_line.new.out) c.in_err-put_line.field-0.0 (rw c.bytes.ensures at c.in_err-put_line.ensures.prints))
+    w2 rest2 next c.in-Stored.name c.in-Stored.stored (let r : Result Ingest IngestFault = Ok c.in_ok-name.field-0 in r ≡ Err ingest.DiskFault) has gave.writes (g.O.Sink.state c.write_line.new.out) c.in_err-write_line.field-0.0 (rw c.bytes.ensures at c.in_err-write_line.ensures.prints))
 
-pub returns-in_err-put_line-clause-refuses : goal.returns-in_err-put_line-clause-refuses
-returns-in_err-put_line-clause-refuses g c output =
-    absurd (output (err_with c.from_residual-in_err-put_line.result failure.Output c.from_residual-in_err-put_line.ensures.1))
+pub returns-in_err-write_line-clause-refuses : goal.returns-in_err-write_line-clause-refuses
+returns-in_err-write_line-clause-refuses g c output =
+    absurd (output (err_with c.from_residual-in_err-write_line.result failure.Output c.from_residual-in_err-write_line.ensures.1))
 
-pub returns-in_err-put_line-clause-writes : goal.returns-in_err-put_line-clause-writes
-returns-in_err-put_line-clause-writes g c =
+pub returns-in_err-write_line-clause-writes : goal.returns-in_err-write_line-clause-writes
+returns-in_err-write_line-clause-writes g c =
     let tells = g.D.Disk.tells in
     let v = c.args.ledger.now in
     let w = c.loop-name.ledger in
@@ -258,26 +258,26 @@ returns-in_err-put_line-clause-writes g c =
     let before = g.O.Sink.state c.args.out.now in
     let after = g.O.Sink.state c.loop-name.out in
     let inv = c.loop-name.invariant in
-    rw (err_with c.from_residual-in_err-put_line.result failure.Output c.from_residual-in_err-put_line.ensures.1)
+    rw (err_with c.from_residual-in_err-write_line.result failure.Output c.from_residual-in_err-write_line.ensures.1)
     (writes_by c.ledgers_have_one_reading.ensures c.cells_have_lengths.ensures c.cells_have_parts.ensures c.lasts_are_values.ensures c.objects_record_more.ensures c.digests_are_counted.ensures
     tells (c.loop-name.disk ≡ c.args.disk.now) v w c.requires.opened left rest old now before after inv.objects inv.gone (λ e. ap g.D.Disk.state e) c.requires.this
     (g.met.D.Disk.ended_taken c.loop-name.disk) (g.D.Disk.state c.ingest_one.new.disk) (let r : Result Ingest IngestFault = Ok c.in_ok-name.field-0 in r ≡ Err ingest.DiskFault) (let a : Answer = Err failure.Output in a ≡ Err failure.Disk)
     (λ e. let h : (let a : Answer = Err failure.Output in a ≡ Err failure.Disk) = e in absurd (cc))
     (λ e. let h : (let r : Result Ingest IngestFault = Ok c.in_ok-name.field-0 in r ≡ Err ingest.DiskFault) = e in absurd (cc)) c.in_ok-name.ensures.writes)
 
-pub returns-in_err-put_line-clause-input_still : goal.returns-in_err-put_line-clause-input_still
-returns-in_err-put_line-clause-input_still g c fine = c.in_ok-name.ensures.source_still (not_read c.in_ok-name.field-0) ∙ c.loop-name.invariant.input_still
+pub returns-in_err-write_line-clause-input_still : goal.returns-in_err-write_line-clause-input_still
+returns-in_err-write_line-clause-input_still g c fine = c.in_ok-name.ensures.source_still (not_read c.in_ok-name.field-0) ∙ c.loop-name.invariant.input_still
 
 -- ---- the end of the stream
 
-pub returns-in_err-put_end-clause-input_still : goal.returns-in_err-put_end-clause-input_still
-returns-in_err-put_end-clause-input_still g c fine = c.in_ok-name.ensures.source_still (not_read c.in_ok-name.field-0) ∙ c.loop-name.invariant.input_still
+pub returns-in_err-write_end-clause-input_still : goal.returns-in_err-write_end-clause-input_still
+returns-in_err-write_end-clause-input_still g c fine = c.in_ok-name.ensures.source_still (not_read c.in_ok-name.field-0) ∙ c.loop-name.invariant.input_still
 
 pub returns-clause-input_still : goal.returns-clause-input_still
 returns-clause-input_still g c fine = c.in_ok-name.ensures.source_still (not_read c.in_ok-name.field-0) ∙ c.loop-name.invariant.input_still
 
-pub returns-in_err-put_end-clause-ingests : goal.returns-in_err-put_end-clause-ingests
-returns-in_err-put_end-clause-ingests g c =
+pub returns-in_err-write_end-clause-ingests : goal.returns-in_err-write_end-clause-ingests
+returns-in_err-write_end-clause-ingests g c =
     let tells = g.D.Disk.tells in
     let v = c.args.ledger.now in
     let w = c.loop-name.ledger in
@@ -293,13 +293,13 @@ returns-in_err-put_end-clause-ingests g c =
     let gave = c.in_ok-name.ensures in
     let end = gave.end (ap Ok c.in_default.is) in
     let unchanged = ap g.D.Disk.state end.2 in
-    rw (err_with c.from_residual-in_err-put_end.result failure.Output c.from_residual-in_err-put_end.ensures.1)
+    rw (err_with c.from_residual-in_err-write_end.result failure.Output c.from_residual-in_err-write_end.ensures.1)
     (cut_by c.ledgers_have_one_reading.ensures c.cells_have_lengths.ensures c.cells_have_parts.ensures c.lasts_are_values.ensures c.objects_record_more.ensures c.digests_are_counted.ensures
     tells (c.loop-name.disk ≡ c.args.disk.now) v w c.requires.opened left rest old now before after inv.objects inv.gone (λ e. ap g.D.Disk.state e) c.requires.this
-    next unchanged rest2 (g.O.Sink.state c.put_end.new.out) c.loop-name.count c.in_err-put_end.field-0.0 inv.counted c.in_err-put_end.ensures.prints)
+    next unchanged rest2 (g.O.Sink.state c.write_end.new.out) c.loop-name.count c.in_err-write_end.field-0.0 inv.counted c.in_err-write_end.ensures.prints)
 
-pub returns-in_err-put_end-clause-writes : goal.returns-in_err-put_end-clause-writes
-returns-in_err-put_end-clause-writes g c =
+pub returns-in_err-write_end-clause-writes : goal.returns-in_err-write_end-clause-writes
+returns-in_err-write_end-clause-writes g c =
     let tells = g.D.Disk.tells in
     let v = c.args.ledger.now in
     let w = c.loop-name.ledger in
@@ -313,7 +313,7 @@ returns-in_err-put_end-clause-writes g c =
     let gave = c.in_ok-name.ensures in
     let end = gave.end (ap Ok c.in_default.is) in
     let unchanged = ap g.D.Disk.state end.2 in
-    rw (err_with c.from_residual-in_err-put_end.result failure.Output c.from_residual-in_err-put_end.ensures.1)
+    rw (err_with c.from_residual-in_err-write_end.result failure.Output c.from_residual-in_err-write_end.ensures.1)
     (writes_then c.ledgers_have_one_reading.ensures c.cells_have_lengths.ensures c.cells_have_parts.ensures c.lasts_are_values.ensures c.objects_record_more.ensures c.digests_are_counted.ensures
     tells (c.loop-name.disk ≡ c.args.disk.now) v w c.requires.opened left rest old now before after inv.objects inv.gone (λ e. ap g.D.Disk.state e) c.requires.this
     (g.D.Disk.state c.ingest_one.new.disk) (let a : Answer = Err failure.Output in a ≡ Err failure.Disk) unchanged (λ e. let h : (let a : Answer = Err failure.Output in a ≡ Err failure.Disk) = e in cc))
@@ -337,8 +337,8 @@ returns-clause-ingests g c =
     let unchanged = ap g.D.Disk.state end.2 in
     ends_by c.ledgers_have_one_reading.ensures c.cells_have_lengths.ensures c.cells_have_parts.ensures c.lasts_are_values.ensures c.objects_record_more.ensures c.digests_are_counted.ensures
     tells (c.loop-name.disk ≡ c.args.disk.now) v w c.requires.opened left rest old now before after inv.objects inv.gone (λ e. ap g.D.Disk.state e) c.requires.this
-    next unchanged rest2 (g.O.Sink.state c.put_end.new.out) c.loop-name.count inv.counted (gave.ended (ap Ok c.in_default.is))
-    (counted_none rest rest2 c.loop-name.at c.ingest_one.new.at (265 + room_left w) gave.taken end.3) (prints_as tt c.in_ok-put_end.ensures.prints)
+    next unchanged rest2 (g.O.Sink.state c.write_end.new.out) c.loop-name.count inv.counted (gave.ended (ap Ok c.in_default.is))
+    (counted_none rest rest2 c.loop-name.at c.ingest_one.new.at (265 + room_left w) gave.taken end.3) (prints_as tt c.in_ok-write_end.ensures.prints)
 
 pub returns-clause-refuses : goal.returns-clause-refuses
 returns-clause-refuses g c output =

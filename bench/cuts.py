@@ -16,6 +16,7 @@ from dataclasses import dataclass, field
 from pathlib import Path
 
 from judging import Archive, Wrong, frame, shortened
+from measuring import called
 from plain_archive import Plain, stored_line
 
 TOP = Path(__file__).resolve().parent.parent
@@ -249,17 +250,6 @@ def in_a_room_of_its_own():
     if sys.argv[1:2] != ["--inside"]:
         os.execvp("unshare", ["unshare", "--mount", "--propagation", "private", sys.executable, sys.argv[0], "--inside", *sys.argv[1:]])
     del sys.argv[1]
-
-
-def called():
-    """The words of the call: whether one seed is to be tried, the minutes, the seed, and the program or none."""
-    words = sys.argv[1:]
-    one = words[:1] == ["--one"]
-    if one:
-        words = ["0", *words[1:]]
-        if len(words) < 2:
-            sys.exit("which seed?")
-    return one, float(words[0]) if words else 1, words[1] if len(words) > 1 else os.urandom(4).hex(), words[2] if len(words) > 2 else None
 
 
 def try_seeds(bench, one, minutes, first, tried):

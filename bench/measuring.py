@@ -47,6 +47,17 @@ def number_at(words, place, otherwise):
     return int(words[place]) if len(words) > place else otherwise
 
 
+def called():
+    """The words of the call: whether one seed is to be tried, the minutes, the seed, and the program or none."""
+    words = sys.argv[1:]
+    one = words[:1] == ["--one"]
+    if one:
+        words = ["0", *words[1:]]
+        if len(words) < 2:
+            sys.exit("which seed?")
+    return one, float(words[0]) if words else 1, words[1] if len(words) > 1 else os.urandom(4).hex(), words[2] if len(words) > 2 else None
+
+
 def compiled(room, name):
     """Compiles a Rust program of bench/ into a room, and gives its path."""
     path = f"{room}/{name}"

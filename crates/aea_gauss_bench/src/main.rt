@@ -1,4 +1,4 @@
-//! What `bench/gauss` runs: an elimination of rows by chance, the fates of lost blocks, and the XOR of blocks and words.
+//! What `bench/gauss` runs: an elimination of random rows, the fates of lost blocks, and the XOR of blocks and words.
 //! The words are `eliminate ROWS COLUMNS` or `fill ROWS COLUMNS`, which leaves the elimination out; `solve ALPHA S P NODES`
 //! with the lost blocks on the input, a line each; `words COUNT ROUNDS` and `bytes COUNT ROUNDS`.
 #![tactic(auto)]

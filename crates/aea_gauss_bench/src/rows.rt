@@ -1,4 +1,4 @@
-//! Rows by chance.
+//! Random rows.
 
 ghost use Rattle.std.specs.Prelude.{◌≤◌};
 
@@ -11,7 +11,7 @@ pub fn step(x: u64) -> u64 {
         .wrapping_add(1_442_695_040_888_963_407)
 }
 
-// A word by chance: the high halves of two steps.
+// A random word: the high halves of two steps.
 fn chance(x: &mut u64) -> u64 {
     *x = step(*x);
     let high = *x >> 32;
@@ -19,7 +19,7 @@ fn chance(x: &mut u64) -> u64 {
     (high << 32) | (*x >> 32)
 }
 
-// Rows by chance of so many words each.
+// Random rows of so many words each.
 fn random_rows(alloc: Global, rows: u32, wide: u32) -> Result<Vec<u64>, AllocError> {
     let mut words = Vec::with_capacity(alloc, rows as usize * wide as usize)?;
     let mut x = 1;
@@ -31,7 +31,7 @@ fn random_rows(alloc: Global, rows: u32, wide: u32) -> Result<Vec<u64>, AllocErr
     Ok(words)
 }
 
-// A number of a row that tells rows apart, but for chance.
+// A number of a row that tells rows apart, except by coincidence.
 fn row_digest(row: &[u64]) -> u64 {
     let mut digest = 0;
     for word in row {
@@ -40,7 +40,7 @@ fn row_digest(row: &[u64]) -> u64 {
     digest
 }
 
-// The sum of the rows' numbers, in whatever order the rows stand; rows without columns are left out.
+// The sum of the rows' numbers, in whatever order the rows come; rows without columns are left out.
 fn digest(words: &[u64], wide: usize) -> u64
     requires { 1 ≤ wide }
 {
@@ -53,7 +53,7 @@ fn digest(words: &[u64], wide: usize) -> u64
     sum
 }
 
-/// Fills rows by chance, of a multiple of 64 columns, reduces them where it is asked, and gives their digest.
+/// Fills random rows, of a multiple of 64 columns, reduces them where it is asked, and gives their digest.
 pub fn line(alloc: Global, rows: u32, cols: u32, reduces: bool) -> Result<String, AllocError> {
     let wide = cols / 64;
     if wide == 0 || 65_536 < rows || 65_536 < cols {

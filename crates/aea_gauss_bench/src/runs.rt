@@ -5,7 +5,7 @@ use aea_gauss_words::xor_words;
 use aea_weave::xor_into;
 use std::alloc::{AllocError, Global};
 
-// Words by chance, from a seed.
+// Random words, from a seed.
 fn words_from(alloc: Global, count: u32, seed: u64) -> Result<Vec<u64>, AllocError> {
     let mut words = Vec::new(alloc);
     let mut x = seed;
@@ -33,7 +33,7 @@ pub fn words_line(alloc: Global, count: u32, rounds: u32) -> Result<String, Allo
     format!(in alloc; "{sum}")
 }
 
-// Bytes by chance, from a seed.
+// Random bytes, from a seed.
 fn bytes_from(alloc: Global, count: u32, seed: u64) -> Result<Vec<u8>, AllocError> {
     let mut bytes = Vec::new(alloc);
     let mut x = seed;

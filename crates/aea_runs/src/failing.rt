@@ -6,7 +6,7 @@ use aea_disk::Disk;
 use aea_io::{MemSink, MemSource};
 use std::alloc::{AllocError, Global};
 
-/// Which call of each stream fails, counted from 1 (at 0 none does), and the rooms of the sinks in bytes.
+/// Which call of each stream fails, counted from 1 (at 0 none does), and the capacities of the sinks in bytes.
 #[derive(Clone, Copy)]
 pub struct Faults {
     pub read: u32,
@@ -16,7 +16,7 @@ pub struct Faults {
     pub err_room: usize,
 }
 
-/// No call fails, and there is room.
+/// No call fails, and there is space.
 pub const NONE: Faults = Faults {
     read: 0,
     out_call: 0,

@@ -1,4 +1,4 @@
-//! Runs of the program over streams and disks in memory, for the trials.
+//! Runs of the program over streams and disks in memory, for the tests.
 #![tactic(auto)]
 
 mod failing;
@@ -32,7 +32,7 @@ impl Left {
     }
 }
 
-/// The words of a line, parted by spaces. An error is want of memory, here and below.
+/// The words of a line, parted by spaces. An error is lack of memory, here and below.
 pub fn words_of(alloc: Global, line: &str) -> Result<Vec<String>, AllocError> {
     let mut words = Vec::new(alloc);
     for word in line.split_whitespace() {
@@ -46,7 +46,7 @@ pub fn text_of(bytes: &[u8]) -> Result<&str, Utf8Error> {
     str::from_utf8(bytes)
 }
 
-/// Runs the command of a line over a disk without room and streams that do not fail.
+/// Runs the command of a line over a disk without space and streams that do not fail.
 pub fn run_line(alloc: Global, line: &str, list: &[u8]) -> Result<Left, AllocError> {
     let words = words_of(alloc, line)?;
     let mut disk = SureDisk::new(alloc, 0, 0, 0)?;
@@ -70,7 +70,7 @@ pub fn run_line(alloc: Global, line: &str, list: &[u8]) -> Result<Left, AllocErr
     })
 }
 
-// Runs the command of these words over this disk and input, with so many bytes of room on `out` and 64 on `err`.
+// Runs the command of these words over this disk and input, with so many bytes of space on `out` and 64 on `err`.
 fn run_with<D: Disk>(
     alloc: Global,
     words: &[String],
@@ -91,7 +91,7 @@ fn run_with<D: Disk>(
     })
 }
 
-/// Runs the command of a line over this disk, with so many bytes of room on `out` and an input that no such command reads.
+/// Runs the command of a line over this disk, with so many bytes of space on `out` and an input that no such command reads.
 pub fn run_over<D: Disk>(
     alloc: Global,
     line: &str,
@@ -113,7 +113,7 @@ pub fn run_input<D: Disk>(
     run_with(alloc, words.as_slice(), disk, bytes, 999)
 }
 
-/// Runs the command of these words over this disk and input, with so many bytes of room on `out`.
+/// Runs the command of these words over this disk and input, with so many bytes of space on `out`.
 pub fn run_words<D: Disk>(
     alloc: Global,
     texts: &[&str],

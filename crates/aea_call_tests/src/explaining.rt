@@ -1,0 +1,313 @@
+//! Explained blocks: in words, and beside the fates of the whole lattice; and each read failing in turn.
+
+ghost use Rattle.std.specs.Prelude.{◌≤◌, ◌^◌};
+ghost use Rattle.aea_lattice.specs.Blocks.{HasBlock};
+
+use crate::archives::{PLAIN, WIDE, WOVEN, archive, store};
+use aea_disk::{Disk, FailDisk, SureDisk};
+use aea_explain::{ExplainFault, Explanation, explain};
+use aea_gauss::{Fate, FateList, solve};
+use aea_io::MemSource;
+use aea_lattice::{BlockId, Class, EqList, NodeList, Shape, parse_block};
+use aea_ledger::{Ledger, open_ledger};
+use aea_place::home;
+use aea_scrub::scan;
+use std::alloc::Global;
+use std::test::Fail;
+
+// The bytes of an object that takes eleven blocks.
+const BYTES: [u8; 176] = [97; 176];
+
+// The blocks of two codewords and three that peeling leaves, in an archive of WOVEN with eleven nodes.
+const STUCK: [&[u8]; 19] = [
+    b"d1", b"d3", b"d4", b"d5", b"d6", b"d8", b"d9", b"d10", b"d11", b"h1", b"h3", b"h4", b"h8",
+    b"h9", b"r1", b"r3", b"r5", b"r8", b"r10",
+];
+
+// Sets a fence after the last node; false where it could not be set.
+fn fence<D: Disk>(alloc: Global, disk: &mut D) -> bool {
+    let Ok(mut ledger) = open_ledger(alloc, disk) else {
+        return false;
+    };
+    ledger.append_fence(disk).is_ok()
+}
+
+// The same with a fence, and a second object after it.
+fn fenced(alloc: Global, shape: &Shape, bytes: &[u8]) -> Result<Option<SureDisk>, Fail> {
+    let Some(mut disk) = archive(alloc, shape, bytes)? else {
+        return Ok(None);
+    };
+    let mut source = MemSource::new(alloc, bytes, &[])?;
+    if fence(alloc, &mut disk) && store(alloc, &mut disk, b"two", &mut source) {
+        return Ok(Some(disk));
+    }
+    Ok(None)
+}
+
+// Flips a byte.
+fn spoil<D: Disk>(disk: &mut D, file: u8, at: u64) -> bool
+    requires file { file ≤ 66 }
+    requires range { at ≤ 2 ^ 60 }
+{
+    let mut byte = [0; 1];
+    match disk.read(file, at, &mut byte) {
+        Ok(1) => disk.write(file, at, &[byte[0] ^ 255]).is_ok(),
+        _ => false,
+    }
+}
+
+// Flips the first payload byte of the block of this number.
+fn spoil_number<D: Disk>(disk: &mut D, shape: &Shape, number: u32) -> bool {
+    if shape.sites() == 0 || 64 < shape.sites() {
+        return false;
+    }
+    let spot = home(shape.sites(), u64::from(number));
+    spoil(disk, spot.site, spot.cell * 64 + 16)
+}
+
+// The same of the block with this text, in a shape with so many blocks a node.
+fn spoil_block<D: Disk>(disk: &mut D, shape: &Shape, text: &[u8]) -> bool {
+    let Some(b) = parse_block(text) else {
+        return false;
+    };
+    if b.node == 0 || 1000 < b.node || 3 < shape.alpha() {
+        return false;
+    }
+    let number = (b.node - 1) * (1 + u32::from(shape.alpha())) + u32::from(b.class as u8);
+    spoil_number(disk, shape, number)
+}
+
+// Makes a file empty.
+fn empty<D: Disk>(disk: &mut D, file: u8) -> bool
+    requires { file ≤ 66 }
+{
+    disk.cut(file, 0).is_ok()
+}
+
+// The letter of a class.
+fn letter(class: Class) -> &'static str {
+    match class {
+        Class::Datum => "d",
+        Class::Horiz => "h",
+        Class::Right => "r",
+        Class::Left => "l",
+    }
+}
+
+// Writes the equations of a sum after a text.
+fn write_sum(text: &mut String, eqs: &EqList) -> Result<(), Fail> {
+    write!(text, " sum")?;
+    for k in 0..eqs.len() {
+        if let Some(e) = eqs.get(k) {
+            write!(text, " {}{}", letter(e.class), e.node)?;
+        }
+    }
+    Ok(())
+}
+
+// Writes the nodes of a codeword after a text.
+fn write_word(text: &mut String, nodes: &NodeList) -> Result<(), Fail> {
+    write!(text, " word")?;
+    for k in 0..nodes.len() {
+        if let Some(node) = nodes.get(k) {
+            write!(text, " {node}")?;
+        }
+    }
+    Ok(())
+}
+
+// Writes a fate after a text.
+fn write_fate(text: &mut String, fate: &Fate) -> Result<(), Fail> {
+    match fate {
+        Fate::Sum { block: _, eqs } => write_sum(text, eqs),
+        Fate::Word { block: _, nodes } => write_word(text, nodes),
+    }
+}
+
+// An explanation in words, with the block that it is of.
+fn words(alloc: Global, intact: bool, fate: &Fate) -> Result<String, Fail> {
+    let mut text = String::new(alloc);
+    let block = fate.block();
+    let is = if intact { "intact" } else { "damaged" };
+    write!(text, "{is} {}{}", letter(block.class), block.node)?;
+    write_fate(&mut text, fate)?;
+    Ok(text)
+}
+
+// Opens the archive and explains the block of this text; no answer where it is not opened or has no such block.
+fn answer<D: Disk>(
+    alloc: Global,
+    disk: &mut D,
+    text: &[u8],
+) -> Option<Result<Explanation, ExplainFault>> {
+    let Ok(ledger) = open_ledger(alloc, disk) else {
+        return None;
+    };
+    let Some(block) = parse_block(text) else {
+        return None;
+    };
+    if !ledger.lattice().contains(block) {
+        return None;
+    }
+    Some(explain(alloc, &ledger, disk, block))
+}
+
+// The explanation of the block of this text in words; no text where there is none.
+fn explained<D: Disk>(alloc: Global, disk: &mut D, text: &[u8]) -> Result<String, Fail> {
+    match answer(alloc, disk, text) {
+        Some(Ok(e)) => words(alloc, e.intact, &e.fate),
+        _ => Ok(String::new(alloc)),
+    }
+}
+
+// The explanation in words of the block by the fates of all blocks that are not known; no text where it is none of them.
+fn listed(alloc: Global, intact: bool, fates: &FateList, block: BlockId) -> Result<String, Fail> {
+    for k in 0..fates.len() {
+        if let Some(fate) = fates.get(k) {
+            if fate.block() == block {
+                return words(alloc, intact, fate);
+            }
+        }
+    }
+    Ok(String::new(alloc))
+}
+
+// Whether the explanation of the block is the one that the fates of the whole lattice give.
+fn agrees<D: Disk>(
+    alloc: Global,
+    ledger: &Ledger,
+    disk: &mut D,
+    block: BlockId,
+) -> Result<bool, Fail>
+    requires { HasBlock ledger.now.lattice block }
+{
+    let Ok(mut marks) = scan(alloc, ledger, disk) else {
+        return Ok(false);
+    };
+    let intact = marks.get(block);
+    marks.set(block, false);
+    let fates = solve(alloc, &ledger.lattice(), &marks)?;
+    let want = listed(alloc, intact, &fates, block)?;
+    let Ok(e) = explain(alloc, ledger, disk, block) else {
+        return Ok(false);
+    };
+    let text = words(alloc, e.intact, &e.fate)?;
+    Ok(text == want && !want.is_empty())
+}
+
+// How many blocks the archive has, where each explanation is the one that the fates of the whole lattice give; none
+// where one is not.
+fn all_agree<D: Disk>(alloc: Global, disk: &mut D) -> Result<Option<u32>, Fail> {
+    let Ok(ledger) = open_ledger(alloc, disk) else {
+        return Ok(None);
+    };
+    let lattice = ledger.lattice();
+    for k in 0..lattice.blocks() {
+        if !agrees(alloc, &ledger, disk, lattice.block(k))? {
+            return Ok(None);
+        }
+    }
+    Ok(Some(lattice.blocks()))
+}
+
+#[test]
+fn blocks_of_two_codewords(rt: HostRuntime) -> Result<(), Fail> {
+    let alloc = rt.alloc();
+    let Some(mut disk) = archive(alloc, &WOVEN, &BYTES)? else {
+        panic!(rt; "no archive");
+    };
+    for text in STUCK {
+        assert!(rt; spoil_block(&mut disk, &WOVEN, text));
+    }
+    let want = [
+        "damaged d5 sum h1 r1 h3 r3 h4 r4 h5 h6 r6",
+        "damaged d1 word 1 3 4 6",
+        "damaged d9 word 8 9 10 11",
+        "intact d2 sum h2",
+    ];
+    let blocks: [&[u8]; 4] = [b"d5", b"d1", b"d9", b"d2"];
+    for k in 0..4 {
+        let text = explained(alloc, &mut disk, blocks[k])?;
+        assert!(rt; text.as_str() == want[k]);
+    }
+    assert!(rt; answer(alloc, &mut disk, b"d12").is_none());
+    assert!(rt; all_agree(alloc, &mut disk)? == Some(33));
+    Ok(())
+}
+
+#[test]
+fn an_undamaged_archive(rt: HostRuntime) -> Result<(), Fail> {
+    let alloc = rt.alloc();
+    for shape in [PLAIN, WOVEN, WIDE] {
+        let Some(mut disk) = archive(alloc, &shape, &BYTES)? else {
+            panic!(rt; "no archive");
+        };
+        let text = explained(alloc, &mut disk, b"d5")?;
+        assert!(rt; text.as_str() == "intact d5 sum h5");
+        let text = explained(alloc, &mut disk, b"h11")?;
+        assert!(rt; text.as_str() == "intact h11 sum h11");
+        let blocks = 11 * (1 + u32::from(shape.alpha));
+        assert!(rt; all_agree(alloc, &mut disk)? == Some(blocks));
+    }
+    Ok(())
+}
+
+#[test]
+fn damage_here_and_there(rt: HostRuntime) -> Result<(), Fail> {
+    let alloc = rt.alloc();
+    for shape in [PLAIN, WOVEN, WIDE] {
+        let Some(mut disk) = fenced(alloc, &shape, &BYTES)? else {
+            panic!(rt; "no archive");
+        };
+        let blocks = 22 * (1 + u32::from(shape.alpha));
+        for k in 0..blocks {
+            if k * k % 7 < 3 {
+                assert!(rt; spoil_number(&mut disk, &shape, k));
+            }
+        }
+        assert!(rt; all_agree(alloc, &mut disk)? == Some(blocks));
+    }
+    Ok(())
+}
+
+#[test]
+fn files_that_are_missing(rt: HostRuntime) -> Result<(), Fail> {
+    let alloc = rt.alloc();
+    let Some(mut disk) = archive(alloc, &WOVEN, &BYTES)? else {
+        panic!(rt; "no archive");
+    };
+    for file in 1..4u8 {
+        assert!(rt; empty(&mut disk, file));
+        assert!(rt; all_agree(alloc, &mut disk)? == Some(33), "file {file}");
+    }
+    // nothing is left
+    let text = explained(alloc, &mut disk, b"d11")?;
+    assert!(rt; text.as_str() == "damaged d11 word 3 11");
+    Ok(())
+}
+
+#[test]
+fn a_read_that_fails_is_a_fault(rt: HostRuntime) -> Result<(), Fail> {
+    let alloc = rt.alloc();
+    for k in 1..=5u64 {
+        let Some(mut disk) = archive(alloc, &PLAIN, &[97; 32])? else {
+            panic!(rt; "no archive");
+        };
+        let Ok(ledger) = open_ledger(alloc, &mut disk) else {
+            panic!(rt; "not opened");
+        };
+        let node = 2;
+        let class = Class::Horiz;
+        let block = BlockId { node, class };
+        assert!(rt; ledger.lattice().contains(block));
+        let mut failing = FailDisk::new(alloc, disk, &[k])?;
+        let want = if k <= 4 {
+            Some(ExplainFault::DiskFault)
+        } else {
+            None
+        };
+        let fault = explain(alloc, &ledger, &mut failing, block).err();
+        assert!(rt; fault == want, "read {k}");
+    }
+    Ok(())
+}

@@ -1,0 +1,13 @@
+//! Tests of single calls over archives in memory: scans, reports that are judged, blocks that are explained, and rehearsals.
+#![tactic(auto)]
+
+#[cfg(test)]
+mod archives;
+#[cfg(test)]
+mod explaining;
+#[cfg(test)]
+mod judging;
+#[cfg(test)]
+mod rehearsing;
+#[cfg(test)]
+mod scanning;

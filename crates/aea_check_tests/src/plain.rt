@@ -1,0 +1,165 @@
+//! A plain judge of reports, as docs/FORMATS.md has them: the lines as text, and the damaged blocks as a list.
+
+use crate::lines::{Kind, Told, text_of_block, told_of};
+use aea_lattice::{BlockId, Lattice};
+use aea_plain::codeword;
+use std::alloc::{AllocError, Global};
+use std::test::Fail;
+
+/// An archive that a report is about: its lattice, and the blocks that are damaged.
+#[derive(Clone, Copy)]
+pub struct Facts<'a> {
+    pub lattice: &'a Lattice,
+    pub damaged: &'a [BlockId],
+}
+
+// The number of a block, none where the lattice has no such block.
+fn number_of(lattice: &Lattice, b: BlockId) -> Option<u32> {
+    lattice.contains(b).then(|| lattice.number(b))
+}
+
+// Whether these are nodes of the lattice, one or more, each greater than the one before.
+fn rise(lattice: &Lattice, nodes: &[u32]) -> bool {
+    let mut last = 0;
+    for node in nodes {
+        if *node <= last || lattice.n() < *node {
+            return false;
+        }
+        last = *node;
+    }
+    !nodes.is_empty()
+}
+
+// What the lines say, none after the first that is no line of a report where the block of the one before has a number; and the
+// number of that line in the report, if there is one.
+fn read_lines(
+    alloc: Global,
+    lattice: &Lattice,
+    lines: &str,
+) -> Result<(Vec<Told>, Option<usize>), AllocError> {
+    let mut read = Vec::new(alloc);
+    let mut least = 0;
+    for (k, line) in lines.lines().enumerate() {
+        let bad = Some(k.saturating_add(5));
+        let Some(told) = told_of(alloc, line)? else {
+            return Ok((read, bad));
+        };
+        let Some(number) = number_of(lattice, told.block) else {
+            return Ok((read, bad));
+        };
+        let nodes_rise = told.kind != Kind::Lost || rise(lattice, told.nodes.as_slice());
+        if number < least || !nodes_rise {
+            return Ok((read, bad));
+        }
+        least = number.saturating_add(1);
+        read.push(told)?;
+    }
+    Ok((read, None))
+}
+
+// The text of a block after a word.
+fn with_block(alloc: Global, word: &str, b: BlockId) -> Result<String, Fail> {
+    let block = text_of_block(alloc, b)?;
+    let said = format!(in alloc; "{word} {block}")?;
+    Ok(said)
+}
+
+// The damaged block with the least number in this range.
+fn missing(facts: Facts, from: u32, to: u32) -> Option<BlockId> {
+    for k in 0..facts.lattice.blocks() {
+        let b = facts.lattice.block(k);
+        if from <= k && k < to && facts.damaged.contains(&b) {
+            return Some(b);
+        }
+    }
+    None
+}
+
+// What is wrong with the nodes of a lost block.
+fn wrong_word(alloc: Global, facts: Facts, told: &Told) -> Result<Option<String>, Fail> {
+    let word = codeword(alloc, facts.lattice, told.nodes.as_slice())?;
+    if !word.as_slice().contains(&told.block) {
+        return Ok(Some(with_block(alloc, "word-misses", told.block)?));
+    }
+    for b in word.as_slice() {
+        if !facts.damaged.contains(b) {
+            return Ok(Some(with_block(alloc, "word-touches", *b)?));
+        }
+    }
+    Ok(None)
+}
+
+// What is wrong with a line where the block of the one before has a number below this.
+fn wrong_line(
+    alloc: Global,
+    facts: Facts,
+    least: u32,
+    told: &Told,
+) -> Result<Option<String>, Fail> {
+    let number = number_of(facts.lattice, told.block).unwrap_or(0);
+    if let Some(b) = missing(facts, least, number) {
+        return Ok(Some(with_block(alloc, "missing", b)?));
+    }
+    let is_damaged = facts.damaged.contains(&told.block);
+    match told.kind {
+        Kind::Lost if is_damaged => wrong_word(alloc, facts, told),
+        Kind::Lost => Ok(Some(with_block(alloc, "not-damaged", told.block)?)),
+        _ if is_damaged => Ok(Some(with_block(alloc, "still-bad", told.block)?)),
+        _ => Ok(None),
+    }
+}
+
+// The first line that is wrong, and why.
+fn first_wrong(
+    alloc: Global,
+    facts: Facts,
+    lines: &[Told],
+) -> Result<Option<(usize, String)>, Fail> {
+    let mut least = 0;
+    for (k, told) in lines.iter().enumerate() {
+        if let Some(why) = wrong_line(alloc, facts, least, told)? {
+            return Ok(Some((k.saturating_add(5), why)));
+        }
+        let number = number_of(facts.lattice, told.block).unwrap_or(0);
+        least = number.saturating_add(1);
+    }
+    if let Some(b) = missing(facts, least, facts.lattice.blocks()) {
+        let why = with_block(alloc, "missing", b)?;
+        return Ok(Some((lines.len().saturating_add(5), why)));
+    }
+    Ok(None)
+}
+
+// How many of the lines are of this kind.
+fn count(lines: &[Told], kind: Kind) -> usize {
+    lines.iter().filter(|told| told.kind == kind).count()
+}
+
+/// What a check says of the report with the head of this archive, this fourth line, which is a line of counts, and these lines
+/// after it.
+pub fn plain_verdict(
+    alloc: Global,
+    facts: Facts,
+    counts: &str,
+    lines: &str,
+) -> Result<String, Fail> {
+    let (told, bad) = read_lines(alloc, facts.lattice, lines)?;
+    if let Some(line) = bad {
+        let text = format!(in alloc; "refused: bad line {line}\n")?;
+        return Ok(text);
+    }
+    let told = told.as_slice();
+    if let Some((line, why)) = first_wrong(alloc, facts, told)? {
+        let text = format!(in alloc; "rejected {line} {why}\n")?;
+        return Ok(text);
+    }
+    let (all, peeled) = (told.len(), count(told, Kind::Peeled));
+    let (solved, lost) = (count(told, Kind::Solved), count(told, Kind::Lost));
+    let right = format!(in alloc; "counts {all} {peeled} {solved} {lost}")?;
+    let text = if counts == right.as_str() {
+        "accepted\n"
+    } else {
+        "rejected 4 wrong-count\n"
+    };
+    Ok(String::from_str(alloc, text)?)
+}

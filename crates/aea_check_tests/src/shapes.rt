@@ -1,0 +1,120 @@
+//! Reports of repaired archives of several shapes, with and without fences, which are accepted, and once more after a second
+//! repair.
+
+use crate::archives::{said, some_bytes, spoil_cell, verdict_of};
+use aea_cli::Status;
+use aea_disk::SureDisk;
+use aea_runs::{run_over, run_put, text_of};
+use std::alloc::Global;
+use std::test::Fail;
+
+// The line that makes an archive on four sites with blocks of 16 bytes, whether a fence follows each object, and how many
+// blocks it has.
+type Row = (&'static str, bool, u32);
+
+const ONE_CLASS: [Row; 2] = [
+    ("create 1 1 0 16 4", false, 30),
+    ("create 1 1 0 16 4", true, 30),
+];
+
+const TWO_CLASSES: [Row; 2] = [
+    ("create 2 2 2 16 4", true, 45),
+    ("create 2 2 5 16 4", false, 45),
+];
+
+const THREE_CLASSES: [Row; 2] = [
+    ("create 3 2 5 16 4", true, 60),
+    ("create 3 5 5 16 4", false, 60),
+];
+
+// How many of a hundred cells are damaged.
+const PERCENTS: [u64; 5] = [0, 5, 30, 60, 90];
+
+// One step of the linear congruential generator of Knuth's MMIX.
+fn step(x: u64) -> u64 {
+    x.wrapping_mul(6_364_136_223_846_793_005)
+        .wrapping_add(1_442_695_040_888_963_407)
+}
+
+// An archive of three objects with fifteen nodes.
+fn of_three(alloc: Global, row: Row) -> Result<SureDisk, Fail> {
+    let (line, fenced, _blocks) = row;
+    let mut disk = SureDisk::new(alloc, 4, 8192, 4096)?;
+    let _made = run_over(alloc, line, &mut disk, 99)?;
+    for (name, count) in [("a", 100u32), ("b", 17), ("c", 95)] {
+        let bytes = some_bytes(alloc, count)?;
+        let _stored = run_put(alloc, &mut disk, name, bytes.as_slice())?;
+        if fenced {
+            let _fence = run_over(alloc, "fence", &mut disk, 99)?;
+        }
+    }
+    Ok(disk)
+}
+
+// Damages so many percent of the cells, by the generator that begins with the seed.
+fn damage(disk: &mut SureDisk, blocks: u32, percent: u64, seed: u64) -> Result<(), Fail> {
+    let mut x = seed;
+    for k in 0..blocks {
+        x = step(x);
+        if (x >> 32) % 100 < percent {
+            spoil_cell(disk, 4, 64, k)?;
+        }
+    }
+    Ok(())
+}
+
+// Repairs the archive, and has its report judged. The answer is what is said of it.
+fn repaired_and_judged(alloc: Global, disk: &mut SureDisk) -> Result<Option<String>, Fail> {
+    let left = run_over(alloc, "repair", disk, 16_384)?;
+    if left.status != Status::Done && left.status != Status::Damage {
+        return Ok(None);
+    }
+    verdict_of(alloc, disk, text_of(left.out.bytes())?)
+}
+
+// What is said first of a report of the archive of this row that is not accepted, after damage of each degree.
+fn first_not_accepted(alloc: Global, row: Row, seed: u64) -> Result<Option<String>, Fail> {
+    let (line, _fenced, blocks) = row;
+    let mut x = seed;
+    for percent in PERCENTS {
+        let mut disk = of_three(alloc, row)?;
+        x = step(x);
+        damage(&mut disk, blocks, percent, x)?;
+        // and once more after a second repair
+        for _ in 0..2 {
+            let told = repaired_and_judged(alloc, &mut disk)?;
+            if said(&told) != "accepted\n" {
+                let text = format!(in alloc; "{line}, {percent} from {x}: {}", said(&told))?;
+                return Ok(Some(text));
+            }
+        }
+    }
+    Ok(None)
+}
+
+#[test]
+fn reports_of_one_class_are_accepted(rt: HostRuntime) -> Result<(), Fail> {
+    for row in ONE_CLASS {
+        let found = first_not_accepted(rt.alloc(), row, 1)?;
+        assert!(rt; said(&found) == "none");
+    }
+    Ok(())
+}
+
+#[test]
+fn reports_of_two_classes_are_accepted(rt: HostRuntime) -> Result<(), Fail> {
+    for row in TWO_CLASSES {
+        let found = first_not_accepted(rt.alloc(), row, 2)?;
+        assert!(rt; said(&found) == "none");
+    }
+    Ok(())
+}
+
+#[test]
+fn reports_of_three_classes_are_accepted(rt: HostRuntime) -> Result<(), Fail> {
+    for row in THREE_CLASSES {
+        let found = first_not_accepted(rt.alloc(), row, 3)?;
+        assert!(rt; said(&found) == "none");
+    }
+    Ok(())
+}

@@ -1,0 +1,196 @@
+//! Random damage, against the plain programs.
+
+ghost use Rattle.std.specs.Prelude.{◌≡◌};
+ghost use Rattle.aea_lattice.specs.Closure.{is_among};
+
+use crate::lists::add_line;
+use crate::reports::plain_report;
+use aea_cli::Status;
+use aea_lattice::{BlockId, Lattice};
+use aea_peel::{Plan, peel};
+use aea_plain::closure;
+use aea_runs::run_line;
+use aea_view::View;
+use std::alloc::{AllocError, Global};
+use std::test::Fail;
+
+// α, s, p and the number of nodes.
+const SHAPES: [(u8, u8, u8, u32); 12] = [
+    (1, 1, 0, 1),
+    (1, 1, 0, 60),
+    (2, 2, 2, 11),
+    (2, 2, 5, 60),
+    (2, 3, 7, 50),
+    (2, 16, 16, 60),
+    (3, 2, 2, 30),
+    (3, 2, 5, 60),
+    (3, 3, 3, 45),
+    (3, 4, 5, 60),
+    (3, 5, 5, 40),
+    (3, 16, 64, 60),
+];
+
+// α, s, p, the fences and the number of nodes.
+const FENCED: [(u8, u8, u8, &[u32], u32); 13] = [
+    (1, 1, 0, &[1], 1),
+    (1, 1, 0, &[1, 2], 60),
+    (2, 2, 2, &[4, 7], 11),
+    (2, 2, 5, &[13, 14], 60),
+    (2, 3, 7, &[50], 50),
+    (2, 16, 16, &[20, 40], 60),
+    (3, 2, 2, &[1, 9, 20], 30),
+    (3, 2, 5, &[30], 60),
+    (3, 3, 3, &[44, 45], 45),
+    (3, 4, 5, &[30, 60], 60),
+    (3, 5, 5, &[13, 25], 40),
+    (
+        3,
+        5,
+        5,
+        &[1, 2, 4, 8, 9, 15, 21, 22, 30, 31, 40, 41, 47, 50, 55, 60],
+        60,
+    ),
+    (3, 16, 64, &[59], 60),
+];
+
+// How many of a hundred blocks are damaged.
+const PERCENTS: [u64; 4] = [1, 10, 25, 50];
+
+// The blocks of a lattice, in number order.
+#[derive(Drop)]
+struct Damage {
+    lost: Vec<BlockId>,
+    left: Vec<BlockId>,
+}
+
+// One step of the linear congruential generator of Knuth's MMIX.
+fn step(x: u64) -> u64 {
+    x.wrapping_mul(6_364_136_223_846_793_005)
+        .wrapping_add(1_442_695_040_888_963_407)
+}
+
+// Loses so many percent of the blocks, by the generator that begins with the seed.
+fn lose_blocks(
+    alloc: Global,
+    lattice: &Lattice,
+    percent: u64,
+    seed: u64,
+) -> Result<Damage, AllocError> {
+    let mut lost = Vec::new(alloc);
+    let mut left = Vec::new(alloc);
+    let mut x = seed;
+    for k in 0..lattice.blocks() {
+        x = step(x);
+        if (x >> 32) % 100 < percent {
+            lost.push(lattice.block(k))?;
+        } else {
+            left.push(lattice.block(k))?;
+        }
+    }
+    Ok(Damage { lost, left })
+}
+
+// Whether the block is one of these.
+fn has_block(blocks: &[BlockId], b: BlockId) -> bool
+    ensures { result ≡ is_among blocks.now b }
+{
+    blocks.iter().any(|d| b == *d)
+}
+
+// The plan where these blocks are left.
+fn plan_repair(alloc: Global, lattice: &Lattice, left: &[BlockId]) -> Result<Plan, AllocError> {
+    let view = View::new(lattice, |b: BlockId| has_block(left, b));
+    peel(alloc, lattice, &view)
+}
+
+// The blocks that the steps give.
+fn given_blocks(alloc: Global, plan: &Plan) -> Result<Vec<BlockId>, AllocError> {
+    let mut blocks = Vec::new(alloc);
+    for k in 0..plan.steps.len() {
+        if let Some(step) = plan.steps.get(k) {
+            blocks.push(step.block)?;
+        }
+    }
+    Ok(blocks)
+}
+
+// The damage list of these blocks.
+fn damage_list(alloc: Global, lost: &[BlockId]) -> Result<String, AllocError> {
+    let mut list = String::new(alloc);
+    for b in lost {
+        add_line(&mut list, "", *b)?;
+    }
+    Ok(list)
+}
+
+// Whether the plan and the blocks that are left are exactly the closure.
+fn is_plan_of(steps: &[BlockId], left: &[BlockId], reached: &[BlockId]) -> bool {
+    let count = steps.iter().chain(left.iter()).count();
+    count == reached.len()
+        && reached
+            .iter()
+            .all(|b| steps.contains(b) || left.contains(b))
+}
+
+#[test]
+fn plans_and_drills_agree_with_the_plain_programs(rt: HostRuntime) -> Result<(), Fail> {
+    let mut seed = 0;
+    for (alpha, s, p, n) in SHAPES {
+        let lattice = Lattice::new(alpha, s, p, n).ok_or("no lattice")?;
+        for percent in PERCENTS {
+            seed = step(seed);
+            let Damage { lost, left } = lose_blocks(rt.alloc(), &lattice, percent, seed)?;
+            let case = format!(in rt.alloc(); "drill {alpha} {s} {p} {n}")?;
+            let reached = closure(rt.alloc(), &lattice, left.as_slice())?;
+            let plan = plan_repair(rt.alloc(), &lattice, left.as_slice())?;
+            let steps = given_blocks(rt.alloc(), &plan)?;
+            assert!(rt;
+                is_plan_of(steps.as_slice(), left.as_slice(), reached.as_slice()),
+                "{case}, {percent} of 100, from {seed}"
+            );
+            let list = damage_list(rt.alloc(), lost.as_slice())?;
+            let want = plain_report(rt.alloc(), &lattice, lost.as_slice(), reached.as_slice())?;
+            let left = run_line(rt.alloc(), case.as_str(), list.as_bytes())?;
+            assert!(rt;
+                left.out.bytes() == want.as_str().as_bytes(),
+                "{case}, {percent} of 100, from {seed}"
+            );
+            let is_done = left.status == Status::Done;
+            assert!(rt;
+                is_done == !want.as_str().contains("\nlost "),
+                "{case}, from {seed}"
+            );
+        }
+    }
+    Ok(())
+}
+
+// The lattice of this shape with these fences and n nodes.
+fn fenced(shape: (u8, u8, u8), fences: &[u32], n: u32) -> Option<Lattice> {
+    let (alpha, s, p) = shape;
+    let mut lattice = Lattice::new(alpha, s, p, 0)?;
+    for fence in fences {
+        lattice = lattice.grown(*fence)?.fenced()?;
+    }
+    lattice.grown(n)
+}
+
+#[test]
+fn plans_over_fences_agree_with_the_plain_closure(rt: HostRuntime) -> Result<(), Fail> {
+    let mut seed = 1;
+    for (alpha, s, p, fences, n) in FENCED {
+        let lattice = fenced((alpha, s, p), fences, n).ok_or("no lattice")?;
+        for percent in PERCENTS {
+            seed = step(seed);
+            let Damage { lost: _, left } = lose_blocks(rt.alloc(), &lattice, percent, seed)?;
+            let reached = closure(rt.alloc(), &lattice, left.as_slice())?;
+            let plan = plan_repair(rt.alloc(), &lattice, left.as_slice())?;
+            let steps = given_blocks(rt.alloc(), &plan)?;
+            assert!(rt;
+                is_plan_of(steps.as_slice(), left.as_slice(), reached.as_slice()),
+                "{lattice:?}, {percent} of 100, from {seed}"
+            );
+        }
+    }
+    Ok(())
+}

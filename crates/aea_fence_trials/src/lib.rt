@@ -1,5 +1,0 @@
-//! Trials of fences and raises of the limit.
-#![tactic(auto)]
-
-#[cfg(test)]
-mod adding;

@@ -1,0 +1,83 @@
+//! Random damage, against a plain elimination.
+
+use crate::bench::fates_of;
+use crate::plain::plain_fates;
+use aea_lattice::{BlockId, Lattice};
+use std::alloc::{AllocError, Global};
+use std::test::Fail;
+
+/// α, s, p, and the nodes: the first and the second number have a fence each, where they are not 0.
+pub const SHAPES: [(u8, u8, u8, [u32; 3]); 14] = [
+    (1, 1, 0, [0, 0, 1]),
+    (1, 1, 0, [0, 0, 30]),
+    (1, 1, 0, [4, 5, 20]),
+    (2, 2, 2, [0, 0, 11]),
+    (2, 2, 5, [0, 0, 24]),
+    (2, 2, 5, [7, 15, 24]),
+    (2, 3, 7, [0, 0, 24]),
+    (2, 16, 16, [0, 20, 24]),
+    (3, 2, 2, [0, 0, 16]),
+    (3, 2, 5, [0, 0, 20]),
+    (3, 2, 5, [6, 13, 20]),
+    (3, 3, 3, [1, 2, 18]),
+    (3, 4, 5, [0, 10, 20]),
+    (3, 5, 5, [0, 0, 20]),
+];
+
+// How many of a hundred blocks are lost.
+const PERCENTS: [u64; 4] = [10, 30, 50, 75];
+
+/// One step of the linear congruential generator of Knuth's MMIX.
+pub fn step(x: u64) -> u64 {
+    x.wrapping_mul(6_364_136_223_846_793_005)
+        .wrapping_add(1_442_695_040_888_963_407)
+}
+
+/// A lattice with fences at the first two numbers of nodes, where they are not 0.
+pub fn fenced(alpha: u8, s: u8, p: u8, nodes: [u32; 3]) -> Option<Lattice> {
+    let [first, second, n] = nodes;
+    let mut lattice = Lattice::new(alpha, s, p, 0)?;
+    for fence in [first, second] {
+        if fence != 0 {
+            lattice = lattice.grown(fence)?.fenced()?;
+        }
+    }
+    lattice.grown(n)
+}
+
+/// So many percent of the blocks, by the generator that begins with the seed.
+pub fn lost_blocks(
+    alloc: Global,
+    lattice: &Lattice,
+    percent: u64,
+    seed: u64,
+) -> Result<Vec<BlockId>, AllocError> {
+    let mut lost = Vec::new(alloc);
+    let mut x = seed;
+    for k in 0..lattice.blocks() {
+        x = step(x);
+        if (x >> 32) % 100 < percent {
+            lost.push(lattice.block(k))?;
+        }
+    }
+    Ok(lost)
+}
+
+#[test]
+fn fates_agree_with_the_plain_elimination(rt: HostRuntime) -> Result<(), Fail> {
+    let mut seed = 0;
+    for (alpha, s, p, nodes) in SHAPES {
+        let lattice = fenced(alpha, s, p, nodes).ok_or("no lattice")?;
+        for percent in PERCENTS {
+            seed = step(seed);
+            let lost = lost_blocks(rt.alloc(), &lattice, percent, seed)?;
+            let fates = fates_of(rt.alloc(), &lattice, lost.as_slice())?;
+            let want = plain_fates(rt.alloc(), &lattice, lost.as_slice())?;
+            assert!(rt;
+                fates.as_str() == want.as_str(),
+                "{percent} of 100 in {lattice:?}, from {seed}"
+            );
+        }
+    }
+    Ok(())
+}

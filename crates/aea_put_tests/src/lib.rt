@@ -1,0 +1,7 @@
+//! Tests of objects that are put, and of scrubs of their archives.
+#![tactic(auto)]
+
+#[cfg(test)]
+mod putting;
+#[cfg(test)]
+mod scrubbing;

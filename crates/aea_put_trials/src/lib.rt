@@ -1,7 +1,0 @@
-//! Trials of objects that are put, and of scrubs of their archives.
-#![tactic(auto)]
-
-#[cfg(test)]
-mod putting;
-#[cfg(test)]
-mod scrubbing;

@@ -1,8 +1,0 @@
-use Rattle.std.proofs.lemmas.Result.{on_ok_weaker}
-use Rattle.aea_disk.proofs.Moments.{synced_fixed}
-use Rattle.aea_system_trials.proofs.commits.gate.begin.Goals as goal
-
-pub returns-clause-fixed : goal.returns-clause-fixed
-returns-clause-fixed g c =
-    let last = g.D.Disk.state c.sync.new.self in
-    on_ok_weaker c.sync.result (λ durable told. synced_fixed last 0 (durable told)) c.sync.ensures.durable

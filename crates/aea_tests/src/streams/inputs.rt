@@ -1,0 +1,162 @@
+//! Inputs that end early, come a byte at a time or fail: each reader with its input cut at each place, and with each of its reads
+//! failing.
+
+use super::ends::{Kind, commits_in, lines_in, told_of};
+use crate::cases::{Case, DRILL, INGEST, PUT, VERIFY, cases};
+use crate::standing::{is_got, is_whole, prepared, printed, stands};
+use aea_cli::Status;
+use aea_disk::SureDisk;
+use aea_runs::{Faults, NONE, run_failing, run_input, run_slowly};
+use std::alloc::{AllocError, Global};
+use std::test::Fail;
+
+// The runs that read, and what each reads.
+const READERS: &[(Case, Kind)] = &[
+    (DRILL, Kind::DamageList),
+    (PUT, Kind::Object),
+    (INGEST, Kind::Frames),
+    (VERIFY, Kind::Report),
+];
+
+// The same, for proofs that do not look into the table.
+fn readers() -> &'static [(Case, Kind)] {
+    READERS
+}
+
+// Whether what is there is what the run stores of this first part of its input.
+fn stores(
+    alloc: Global,
+    disk: &mut SureDisk,
+    case: &Case,
+    kind: Kind,
+    part: &[u8],
+) -> Result<bool, Fail> {
+    match kind {
+        Kind::Object => Ok(is_got(alloc, disk, "b", part)?),
+        Kind::Frames => {
+            let commits = commits_in(case, part.len());
+            stands(alloc, disk, case, commits, commits)
+        }
+        Kind::DamageList | Kind::Report => Ok(true),
+    }
+}
+
+// Whether the run over this first part of its input says and stores what it should, and the same where the part comes a byte at
+// a time.
+fn ends_well(alloc: Global, case: &Case, kind: Kind, part: &[u8]) -> Result<bool, Fail> {
+    let told = told_of(alloc, case, kind, part)?;
+    let mut disk = prepared(alloc, case)?;
+    let at_once = run_input(alloc, case.line, &mut disk, part)?;
+    let is_stored = stores(alloc, &mut disk, case, kind, part)?;
+    let mut disk = prepared(alloc, case)?;
+    let slowly = run_slowly(alloc, case.line, &mut disk, part, 0)?;
+    let is_same = stores(alloc, &mut disk, case, kind, part)?;
+    Ok(told.is_of(&at_once) && told.is_of(&slowly) && is_stored && is_same)
+}
+
+// The first place where the input may be cut so that the run does not end as it should.
+fn first_wrong_end(alloc: Global, case: &Case, kind: Kind) -> Result<Option<usize>, Fail> {
+    for end in 0..=case.input.len() {
+        let part = case.input.as_bytes().get(..end).ok_or("no such part")?;
+        if !ends_well(alloc, case, kind, part)? {
+            return Ok(Some(end));
+        }
+    }
+    Ok(None)
+}
+
+#[test]
+fn inputs_are_cut_at_each_place(rt: HostRuntime) -> Result<(), Fail> {
+    for (case, kind) in readers() {
+        let found = first_wrong_end(rt.alloc(), case, *kind)?;
+        assert!(rt; found == None, "{}", case.line);
+    }
+    Ok(())
+}
+
+// Whether a run whose input has failed after so many commits says so, and has printed what they print.
+fn tells_fault(
+    alloc: Global,
+    case: &Case,
+    status: Status,
+    out: &[u8],
+    err: &[u8],
+    commits: usize,
+) -> Result<bool, AllocError> {
+    let is_told = status == Status::Input && err == b"fault: input\n".as_slice();
+    Ok(is_told && out == printed(alloc, case, commits)?.as_bytes())
+}
+
+// Whether the run whose read of this number fails, of an input that gives a byte at a time, ends as it should, and leaves what it
+// should. There are as many reads as bytes, and one that finds the end.
+fn bears_slow_read(alloc: Global, case: &Case, read: usize) -> Result<bool, Fail> {
+    let mut disk = prepared(alloc, case)?;
+    let left = run_slowly(alloc, case.line, &mut disk, case.input.as_bytes(), read)?;
+    let (out, err) = (left.out.bytes(), left.err.bytes());
+    if case.input.len().saturating_add(1) < read {
+        return Ok(is_whole(case, left.status, out, err));
+    }
+    let commits = commits_in(case, read.saturating_sub(1));
+    let is_told = tells_fault(alloc, case, left.status, out, err, commits)?;
+    Ok(is_told && stands(alloc, &mut disk, case, commits, commits)?)
+}
+
+// The first such read that the run does not bear.
+fn first_slow_read(alloc: Global, case: &Case) -> Result<Option<usize>, Fail> {
+    for read in 1..case.input.len().saturating_add(3) {
+        if !bears_slow_read(alloc, case, read)? {
+            return Ok(Some(read));
+        }
+    }
+    Ok(None)
+}
+
+#[test]
+fn each_read_of_a_byte_fails(rt: HostRuntime) -> Result<(), Fail> {
+    for (case, _kind) in readers() {
+        let found = first_slow_read(rt.alloc(), case)?;
+        assert!(rt; found == None, "{}", case.line);
+    }
+    Ok(())
+}
+
+// How the run ends whose read of this number fails, of an input that gives as much as is asked for: none where it is whole, and
+// else whether it says so, also where the errors fail, and leaves what it should.
+fn bears_read(alloc: Global, case: &Case, read: u32) -> Result<Option<bool>, Fail> {
+    let faults = Faults { read, ..NONE };
+    let mut disk = prepared(alloc, case)?;
+    let left = run_failing(alloc, case.line, &mut disk, case.input.as_bytes(), faults)?;
+    let (out, err) = (left.out.bytes(), left.err.bytes());
+    if is_whole(case, left.status, out, err) {
+        return Ok(None);
+    }
+    let commits = lines_in(out);
+    let is_told = tells_fault(alloc, case, left.status, out, err, commits)?;
+    Ok(Some(is_told && stands(alloc, &mut disk, case, commits, commits)?))
+}
+
+// The number of reads that the run makes, where it bears each; none where it does not.
+fn reads_borne(alloc: Global, case: &Case) -> Result<Option<u32>, Fail> {
+    for read in 1..99u32 {
+        match bears_read(alloc, case, read)? {
+            None => return Ok(Some(read - 1)),
+            Some(true) => {}
+            Some(false) => return Ok(None),
+        }
+    }
+    Ok(None)
+}
+
+#[test]
+fn each_read_of_a_piece_fails(rt: HostRuntime) -> Result<(), Fail> {
+    for case in cases() {
+        let reads = reads_borne(rt.alloc(), case)?;
+        // an input is read by one at least, and its end found by one; a command that takes none reads nothing
+        let fits = match reads {
+            Some(count) => (count == 0) == case.input.is_empty() && count != 1,
+            None => false,
+        };
+        assert!(rt; fits, "{}: {reads:?}", case.line);
+    }
+    Ok(())
+}

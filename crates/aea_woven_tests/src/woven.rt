@@ -1,0 +1,227 @@
+//! Archives whose blocks are compared with the plain sums of their data.
+
+ghost use Rattle.std.specs.Prelude.{◌≤◌, ◌^◌};
+ghost use Rattle.aea_lattice.specs.Blocks.{HasBlock};
+
+use aea_cli::Status;
+use aea_disk::{Disk, SureDisk};
+use aea_lattice::{BlockId, Class, Lattice};
+use aea_ledger::{Ledger, open_ledger};
+use aea_plain::prefix;
+use aea_runs::{run_over, run_put, run_words};
+use sha2::{Digest, Sha256};
+use std::alloc::{AllocError, Global};
+use std::test::Fail;
+
+// Archives of these tests have blocks of 16 bytes, so cells of 64, on four sites.
+const CELL: u64 = 64;
+
+// Adds the blocks of an object: its bytes, cut, and the last filled with zeros.
+fn add_blocks(datas: &mut Vec<[u8; 16]>, bytes: &[u8]) -> Result<(), AllocError> {
+    let mut block = [0; 16];
+    for (k, byte) in bytes.iter().enumerate() {
+        block[k % 16] = *byte;
+        if k % 16 == 15 {
+            datas.push(block)?;
+            block = [0; 16];
+        }
+    }
+    if bytes.len() % 16 != 0 {
+        datas.push(block)?;
+    }
+    Ok(())
+}
+
+// The datum of a node, zeros where there is none.
+fn datum(datas: &[[u8; 16]], node: u32) -> [u8; 16] {
+    match datas.get((node as usize).wrapping_sub(1)) {
+        Some(block) => *block,
+        None => [0; 16],
+    }
+}
+
+// The payload that a block is to have: a datum, or the XOR of the data up to the parity's node on its strand.
+fn payload_of(
+    alloc: Global,
+    lattice: &Lattice,
+    b: BlockId,
+    datas: &[[u8; 16]],
+) -> Result<[u8; 16], AllocError>
+    requires { HasBlock lattice.now b }
+{
+    if b.class as u8 == 0 {
+        return Ok(datum(datas, b.node));
+    }
+    let mut sum = [0; 16];
+    for node in &prefix(alloc, lattice, b.node, b.class)? {
+        for (byte, other) in sum.iter_mut().zip(datum(datas, *node)) {
+            *byte ^= other;
+        }
+    }
+    Ok(sum)
+}
+
+// The cell of a block with this payload, spelled by hand.
+fn cell_of(alloc: Global, b: BlockId, payload: &[u8]) -> Result<Vec<u8>, AllocError> {
+    let mut cell = Vec::from_slice(alloc, b"AEB1")?;
+    cell.push(b.class as u8)?;
+    cell.extend_from_slice(&[0; 3])?;
+    cell.extend_from_slice(&u64::from(b.node).to_be_bytes())?;
+    cell.extend_from_slice(payload)?;
+    let digest = Sha256::digest(cell.as_slice());
+    cell.extend_from_slice(&digest)?;
+    Ok(cell)
+}
+
+// The file and the place of the cell of block number k.
+fn home(k: u32) -> (u8, u64)
+    ensures file { result.0 ≤ 4 }
+    ensures place { result.1 ≤ 2 ^ 40 }
+{
+    let row = k / 4;
+    let site = 1 + ((k % 4 + row % 4) % 4) as u8;
+    (site, u64::from(row) * CELL)
+}
+
+// Whether block number k is at its home as the cell of its plain sum, and its digest is the recorded one.
+fn is_block_woven<D: Disk>(
+    alloc: Global,
+    disk: &mut D,
+    ledger: &Ledger,
+    k: u32,
+    datas: &[[u8; 16]],
+) -> Result<bool, Fail> {
+    let lattice = ledger.lattice();
+    if k >= lattice.blocks() {
+        return Ok(false);
+    }
+    let b = lattice.block(k);
+    let payload = payload_of(alloc, &lattice, b, datas)?;
+    let cell = cell_of(alloc, b, &payload)?;
+    let (file, place) = home(k);
+    let mut bytes = [0; 64];
+    let count = disk.read(file, place, &mut bytes)?;
+    let stands = count == 64 && bytes.starts_with(cell.as_slice());
+    Ok(stands && cell.ends_with(&ledger.digest(k)))
+}
+
+// The first block of the archive that is not there as the plain sum of these data; the node 0 where it has not as many
+// nodes.
+fn first_unwoven<D: Disk>(
+    alloc: Global,
+    disk: &mut D,
+    datas: &[[u8; 16]],
+) -> Result<Option<BlockId>, Fail> {
+    let ledger = open_ledger(alloc, disk)?;
+    let lattice = ledger.lattice();
+    if lattice.n() as usize != datas.len() {
+        return Ok(Some(BlockId {
+            node: 0,
+            class: Class::Datum,
+        }));
+    }
+    for k in 0..lattice.blocks() {
+        if !is_block_woven(alloc, disk, &ledger, k, datas)? {
+            return Ok(Some(lattice.block(k)));
+        }
+    }
+    Ok(None)
+}
+
+// So many bytes, no two neighbours the same.
+fn some_bytes(alloc: Global, count: u32, step: u32) -> Result<Vec<u8>, AllocError> {
+    let mut bytes = Vec::new(alloc);
+    for k in 0..count {
+        bytes.push((k.wrapping_mul(step) % 251) as u8)?;
+    }
+    Ok(bytes)
+}
+
+// Each shape, and how many bytes the three objects have.
+const SHAPES: [(&str, [u32; 3]); 6] = [
+    ("create 1 1 0 16 4", [16, 100, 1]),
+    ("create 2 2 2 16 4", [15, 250, 33]),
+    ("create 2 2 5 16 4", [0, 33, 300]),
+    ("create 3 2 2 16 4", [17, 200, 48]),
+    ("create 3 2 5 16 4", [1, 33, 400]),
+    ("create 3 5 5 16 4", [300, 5, 300]),
+];
+
+#[test]
+fn three_objects_are_plain_sums(rt: HostRuntime) -> Result<(), Fail> {
+    let alloc = rt.alloc();
+    for (line, counts) in SHAPES {
+        let mut disk = SureDisk::new(alloc, 4, 8192, 4096)?;
+        let _made = run_over(alloc, line, &mut disk, 99)?;
+        let mut datas = Vec::new(alloc);
+        for (count, name) in counts.iter().zip(["a", "b", "c"]) {
+            let bytes = some_bytes(alloc, *count, 7)?;
+            add_blocks(&mut datas, &bytes)?;
+            let left = run_put(alloc, &mut disk, name, &bytes)?;
+            assert!(rt; left.status == Status::Done, "{line} {name}");
+            assert!(rt;
+                first_unwoven(alloc, &mut disk, &datas)? == None,
+                "{line} {name}"
+            );
+        }
+    }
+    Ok(())
+}
+
+#[test]
+fn strands_begin_anew_behind_a_fence(rt: HostRuntime) -> Result<(), Fail> {
+    let alloc = rt.alloc();
+    for (line, counts) in SHAPES {
+        let mut disk = SureDisk::new(alloc, 4, 8192, 4096)?;
+        let _made = run_over(alloc, line, &mut disk, 99)?;
+        let mut datas = Vec::new(alloc);
+        for (count, name) in counts.iter().zip(["a", "b", "c"]) {
+            let bytes = some_bytes(alloc, *count, 11)?;
+            add_blocks(&mut datas, &bytes)?;
+            let left = run_put(alloc, &mut disk, name, &bytes)?;
+            assert!(rt; left.status == Status::Done, "{line} {name}");
+            let _fenced = run_words(alloc, &["fence"], &mut disk, b"", 99)?;
+            assert!(rt;
+                first_unwoven(alloc, &mut disk, &datas)? == None,
+                "{line} {name}"
+            );
+        }
+    }
+    Ok(())
+}
+
+#[test]
+fn a_fence_serves_where_a_head_is_lost(rt: HostRuntime) -> Result<(), Fail> {
+    let alloc = rt.alloc();
+    let mut disk = SureDisk::new(alloc, 4, 4096, 1024)?;
+    let _made = run_words(
+        alloc,
+        &["create", "3", "2", "5", "16", "4"],
+        &mut disk,
+        b"",
+        99,
+    )?;
+    let mut datas = Vec::new(alloc);
+    add_blocks(&mut datas, b"seventeen bytes..")?;
+    let left = run_put(alloc, &mut disk, "a", b"seventeen bytes..")?;
+    assert!(rt; left.status == Status::Done);
+    // h1 is block 1: the first cell of the second site
+    let mut cell = [0; 64];
+    assert!(rt; disk.read(2, 0, &mut cell) == Ok(64));
+    disk.write(2, 0, &[0; 64])?;
+    let left = run_put(alloc, &mut disk, "b", b"later")?;
+    assert!(rt; left.err.bytes() == "refused: head damaged h1\n".as_bytes());
+    let left = run_words(alloc, &["fence"], &mut disk, b"", 99)?;
+    assert!(rt; left.out.bytes() == "fence 2\n".as_bytes());
+    let left = run_put(alloc, &mut disk, "b", b"later")?;
+    assert!(rt; left.status == Status::Done);
+    let left = run_words(alloc, &["upgrade"], &mut disk, b"", 99)?;
+    assert!(rt; left.status == Status::Done);
+    let left = run_put(alloc, &mut disk, "c", b"and one more object")?;
+    assert!(rt; left.status == Status::Done);
+    add_blocks(&mut datas, b"later")?;
+    add_blocks(&mut datas, b"and one more object")?;
+    disk.write(2, 0, &cell)?;
+    assert!(rt; first_unwoven(alloc, &mut disk, &datas)? == None);
+    Ok(())
+}

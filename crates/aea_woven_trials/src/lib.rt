@@ -1,5 +1,0 @@
-//! Trials of the blocks of objects that are put.
-#![tactic(auto)]
-
-#[cfg(test)]
-mod woven;

@@ -2,9 +2,10 @@
 
 use aea_catalog::check_name;
 use aea_cli::Status;
-use aea_disk::{Disk, DiskFault, SureDisk};
+use aea_disk::{Disk, SureDisk};
 use aea_ledger::open_ledger;
 use aea_runs::run_over;
+use aea_test_helpers::has_file;
 use sha2::{Digest, Sha256};
 use std::alloc::Global;
 use std::test::Fail;
@@ -16,24 +17,17 @@ const CREATED: &str = "created 3 2 5 64 4\n";
 // The ledger of that archive, without records.
 const LEDGER: &[u8; 18] = b"\x01AEALEDG1\x03\x02\x05\x04\0\0\0\x40\0";
 
-// Whether the ledger's file has exactly these bytes, fewer than 32.
-fn stands<D: Disk>(disk: &mut D, want: &[u8]) -> Result<bool, DiskFault> {
-    let mut bytes = [9u8; 32];
-    let count = disk.read(0, 0, &mut bytes)?;
-    Ok(count == want.len() && bytes.starts_with(want))
-}
-
 #[test]
 fn makes_an_archive_once(rt: HostRuntime) -> Result<(), Fail> {
     let mut disk = SureDisk::new(rt.alloc(), 0, 32, 0)?;
     let left = run_over(rt.alloc(), LINE, &mut disk, 99)?;
     assert!(rt; left.is(Status::Done, CREATED, ""));
     assert!(rt; left.out.flushed == CREATED.len());
-    assert!(rt; stands(&mut disk, LEDGER) == Ok(true));
+    assert!(rt; has_file(&mut disk, 0, LEDGER) == Ok(true));
 
     let left = run_over(rt.alloc(), "create 1 1 0 16 1", &mut disk, 99)?;
     assert!(rt; left.is(Status::Refused, "", "refused: occupied\n"));
-    assert!(rt; stands(&mut disk, LEDGER) == Ok(true));
+    assert!(rt; has_file(&mut disk, 0, LEDGER) == Ok(true));
     Ok(())
 }
 

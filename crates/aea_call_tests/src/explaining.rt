@@ -1,28 +1,21 @@
 //! Explained blocks: in words, and beside the fates of the whole lattice; and each read failing in turn.
 
-ghost use Rattle.std.specs.Prelude.{◌≤◌, ◌^◌};
 ghost use Rattle.aea_lattice.specs.Blocks.{HasBlock};
 
-use crate::archives::{PLAIN, WIDE, WOVEN, archive, store};
+use crate::archives::{archive, store};
 use aea_disk::{Disk, FailDisk, SureDisk};
 use aea_explain::{ExplainFault, Explanation, explain};
 use aea_gauss::{Fate, FateList, solve};
 use aea_io::MemSource;
 use aea_lattice::{BlockId, Class, EqList, NodeList, Shape, parse_block};
 use aea_ledger::{Ledger, open_ledger};
-use aea_place::home;
 use aea_scrub::scan;
+use aea_test_helpers::{NINETEEN, PLAIN, WIDE, WOVEN, shorten, spoil_block};
 use std::alloc::Global;
 use std::test::Fail;
 
 // The bytes of an object that takes eleven blocks.
 const BYTES: [u8; 176] = [97; 176];
-
-// The blocks of two codewords and three that peeling leaves, in an archive of WOVEN with eleven nodes.
-const STUCK: [&[u8]; 19] = [
-    b"d1", b"d3", b"d4", b"d5", b"d6", b"d8", b"d9", b"d10", b"d11", b"h1", b"h3", b"h4", b"h8",
-    b"h9", b"r1", b"r3", b"r5", b"r8", b"r10",
-];
 
 // Sets a fence after the last node; false where it could not be set.
 fn fence<D: Disk>(alloc: Global, disk: &mut D) -> bool {
@@ -44,62 +37,12 @@ fn fenced(alloc: Global, shape: &Shape, bytes: &[u8]) -> Result<Option<SureDisk>
     Ok(None)
 }
 
-// Flips a byte.
-fn spoil<D: Disk>(disk: &mut D, file: u8, at: u64) -> bool
-    requires file { file ≤ 66 }
-    requires range { at ≤ 2 ^ 60 }
-{
-    let mut byte = [0; 1];
-    match disk.read(file, at, &mut byte) {
-        Ok(1) => disk.write(file, at, &[byte[0] ^ 255]).is_ok(),
-        _ => false,
-    }
-}
-
-// Flips the first payload byte of the block of this number.
-fn spoil_number<D: Disk>(disk: &mut D, shape: &Shape, number: u32) -> bool {
-    if shape.sites() == 0 || 64 < shape.sites() {
-        return false;
-    }
-    let spot = home(shape.sites(), u64::from(number));
-    spoil(disk, spot.site, spot.cell * 64 + 16)
-}
-
-// The same of the block with this text, in a shape with so many blocks a node.
-fn spoil_block<D: Disk>(disk: &mut D, shape: &Shape, text: &[u8]) -> bool {
-    let Some(b) = parse_block(text) else {
-        return false;
-    };
-    if b.node == 0 || 1000 < b.node || 3 < shape.alpha() {
-        return false;
-    }
-    let number = (b.node - 1) * (1 + u32::from(shape.alpha())) + u32::from(b.class as u8);
-    spoil_number(disk, shape, number)
-}
-
-// Makes a file empty.
-fn empty<D: Disk>(disk: &mut D, file: u8) -> bool
-    requires { file ≤ 66 }
-{
-    disk.cut(file, 0).is_ok()
-}
-
-// The letter of a class.
-fn letter(class: Class) -> &'static str {
-    match class {
-        Class::Datum => "d",
-        Class::Horiz => "h",
-        Class::Right => "r",
-        Class::Left => "l",
-    }
-}
-
 // Writes the equations of a sum after a text.
 fn write_sum(text: &mut String, eqs: &EqList) -> Result<(), Fail> {
     write!(text, " sum")?;
     for k in 0..eqs.len() {
         if let Some(e) = eqs.get(k) {
-            write!(text, " {}{}", letter(e.class), e.node)?;
+            write!(text, " {}{}", char::from(e.class.letter()), e.node)?;
         }
     }
     Ok(())
@@ -129,7 +72,12 @@ fn words(alloc: Global, intact: bool, fate: &Fate) -> Result<String, Fail> {
     let mut text = String::new(alloc);
     let block = fate.block();
     let is = if intact { "intact" } else { "damaged" };
-    write!(text, "{is} {}{}", letter(block.class), block.node)?;
+    write!(
+        text,
+        "{is} {}{}",
+        char::from(block.class.letter()),
+        block.node
+    )?;
     write_fate(&mut text, fate)?;
     Ok(text)
 }
@@ -216,8 +164,8 @@ fn blocks_of_two_codewords(rt: HostRuntime) -> Result<(), Fail> {
     let Some(mut disk) = archive(alloc, &WOVEN, &BYTES)? else {
         panic!(rt; "no archive");
     };
-    for text in STUCK {
-        assert!(rt; spoil_block(&mut disk, &WOVEN, text));
+    for number in NINETEEN {
+        assert!(rt; spoil_block(&mut disk, &WOVEN, number)?);
     }
     let want = [
         "damaged d5 sum h1 r1 h3 r3 h4 r4 h5 h6 r6",
@@ -262,7 +210,7 @@ fn damage_here_and_there(rt: HostRuntime) -> Result<(), Fail> {
         let blocks = 22 * (1 + u32::from(shape.alpha));
         for k in 0..blocks {
             if k * k % 7 < 3 {
-                assert!(rt; spoil_number(&mut disk, &shape, k));
+                assert!(rt; spoil_block(&mut disk, &shape, k)?);
             }
         }
         assert!(rt; all_agree(alloc, &mut disk)? == Some(blocks));
@@ -277,7 +225,7 @@ fn files_that_are_missing(rt: HostRuntime) -> Result<(), Fail> {
         panic!(rt; "no archive");
     };
     for file in 1..4u8 {
-        assert!(rt; empty(&mut disk, file));
+        assert!(rt; shorten(&mut disk, file, 0)?);
         assert!(rt; all_agree(alloc, &mut disk)? == Some(33), "file {file}");
     }
     // nothing is left

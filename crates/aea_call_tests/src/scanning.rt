@@ -1,8 +1,6 @@
 //! Scans: each mark beside a read of the block, damage of each kind, and each read failing in turn.
 
-ghost use Rattle.std.specs.Prelude.{◌≤◌, ◌^◌};
-
-use crate::archives::{WIDE, store};
+use crate::archives::store;
 use aea_archive::read_block;
 use aea_disk::{Disk, FailDisk, SureDisk};
 use aea_io::MemSource;
@@ -10,6 +8,7 @@ use aea_lattice::{BlockId, Class};
 use aea_ledger::{Ledger, create_ledger, open_ledger};
 use aea_scrub::{ScanFault, scan};
 use aea_shelf::Cell;
+use aea_test_helpers::{WIDE, shorten};
 use aea_view::Marks;
 use std::alloc::{AllocError, Global};
 use std::test::Fail;
@@ -49,17 +48,6 @@ fn damaged<D: Disk>(alloc: Global, disk: &mut D) -> Option<u32> {
     Some(marks.unmarked())
 }
 
-// Cuts the file, where it is as long.
-fn shorten<D: Disk>(disk: &mut D, file: u8, to: u64) -> bool
-    requires file { file ≤ 66 }
-    requires range { to ≤ 2 ^ 62 }
-{
-    match disk.len(file) {
-        Ok(long) => to <= long && disk.cut(file, to).is_ok(),
-        Err(_) => false,
-    }
-}
-
 // An archive of two objects, with four nodes, so that each site's file has four cells; none where it could not be made.
 fn two_objects(alloc: Global) -> Result<Option<SureDisk>, AllocError> {
     let mut disk = SureDisk::new(alloc, 4, 4096, 4096)?;
@@ -88,9 +76,9 @@ fn damage_is_found(rt: HostRuntime) -> Result<(), Fail> {
     assert!(rt; disk.write(1, 64, &[255]).is_ok());
     assert!(rt; damaged(rt.alloc(), &mut disk) == Some(1));
     // a cell that is too short, and a file without bytes
-    assert!(rt; shorten(&mut disk, 2, 255));
+    assert!(rt; shorten(&mut disk, 2, 255)?);
     assert!(rt; damaged(rt.alloc(), &mut disk) == Some(2));
-    assert!(rt; shorten(&mut disk, 3, 0));
+    assert!(rt; shorten(&mut disk, 3, 0)?);
     assert!(rt; damaged(rt.alloc(), &mut disk) == Some(6));
     // bytes past the last cell
     assert!(rt; disk.write(4, 256, &[255; 100]).is_ok());

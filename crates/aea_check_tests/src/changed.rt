@@ -1,13 +1,12 @@
 //! Each single change of reports of damaged archives, against the plain judge.
 
-use crate::archives::{
-    archive_of, damaged_blocks, empty, report_of, said, some_bytes, spoil_cell, verdict_of,
-};
+use crate::archives::{archive_of, damaged_blocks, said, verdict_of};
 use crate::lines::{Change, changed_text, other_lines};
 use crate::plain::{Facts, plain_verdict};
 use aea_disk::SureDisk;
 use aea_lattice::{BlockId, Lattice};
 use aea_runs::{run_over, run_put, text_of};
+use aea_test_helpers::{NINETEEN, report_of, shorten, some_bytes, spoil_cell};
 use std::alloc::Global;
 use std::test::Fail;
 
@@ -135,23 +134,21 @@ fn first_miscounted(alloc: Global, archive: &mut Repaired) -> Result<Option<Stri
 
 // Nineteen blocks of AE(2,2,2) are damaged: three are determined, and the others are in two codewords.
 fn two_codewords(alloc: Global) -> Result<Repaired, Fail> {
-    let bytes = some_bytes(alloc, 176)?;
+    let bytes = some_bytes(alloc, 176, 0)?;
     let mut disk = archive_of(alloc, "create 2 2 2 16 3", bytes.as_slice())?;
-    for number in [
-        0, 6, 9, 12, 15, 21, 24, 27, 30, 1, 7, 10, 22, 25, 2, 8, 14, 23, 29,
-    ] {
-        spoil_cell(&mut disk, 3, 64, number)?;
+    for number in NINETEEN {
+        spoil_cell(&mut disk, 3, 64, number, 20)?;
     }
     make_repaired(alloc, disk, Lattice::new(2, 2, 2, 11).ok_or("no lattice")?)
 }
 
 // One of four sites of AE(3,2,5) is gone, and all four blocks of the last node.
 fn a_site(alloc: Global) -> Result<Repaired, Fail> {
-    let bytes = some_bytes(alloc, 112)?;
+    let bytes = some_bytes(alloc, 112, 0)?;
     let mut disk = archive_of(alloc, "create 3 2 5 16 4", bytes.as_slice())?;
-    empty(&mut disk, 2)?;
+    shorten(&mut disk, 2, 0)?;
     for number in [24, 25, 26, 27] {
-        spoil_cell(&mut disk, 4, 64, number)?;
+        spoil_cell(&mut disk, 4, 64, number, 20)?;
     }
     make_repaired(alloc, disk, Lattice::new(3, 2, 5, 7).ok_or("no lattice")?)
 }
@@ -163,7 +160,7 @@ fn a_fence(alloc: Global) -> Result<Repaired, Fail> {
     let _fenced = run_over(alloc, "fence", &mut disk, 99)?;
     let _stored = run_put(alloc, &mut disk, "b", b"0123456789abcdefg")?;
     for number in [2, 3, 4, 6, 7] {
-        spoil_cell(&mut disk, 1, 64, number)?;
+        spoil_cell(&mut disk, 1, 64, number, 20)?;
     }
     let lattice = Lattice::new(1, 1, 0, 2).ok_or("no lattice")?;
     let lattice = lattice.fenced().ok_or("no fence")?;
@@ -225,7 +222,7 @@ fn reports_of_an_archive_that_is_damaged_again_are_judged_plainly(
         let counts = String::from_str(alloc, archive.counts.as_str())?;
         let lines = String::from_str(alloc, archive.lines.as_str())?;
         for number in [4u32, 7, 13, 20] {
-            spoil_cell(&mut archive.disk, 3, 64, number)?;
+            spoil_cell(&mut archive.disk, 3, 64, number, 20)?;
             archive.damaged = damaged_blocks(alloc, &mut archive.disk)?;
             let found = difference(alloc, &mut archive, counts.as_str(), lines.as_str())?;
             assert!(rt; said(&found) == "none", "{number}");

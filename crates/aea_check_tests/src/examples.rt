@@ -1,20 +1,19 @@
 //! Worked examples of checks and of explanations.
 
-use crate::archives::{
-    archive_of, empty, report_of, run_explain, run_verify, said, some_bytes, spoil_cell, verdict_of,
-};
+use crate::archives::{archive_of, run_explain, run_verify, said, verdict_of};
 use aea_cli::Status;
 use aea_disk::{Disk, SureDisk};
 use aea_runs::{run_over, run_put, text_of};
+use aea_test_helpers::{NINETEEN, TWO_CODEWORDS, report_of, shorten, some_bytes, spoil_cell};
 use std::alloc::Global;
 use std::test::Fail;
 
 #[test]
 fn a_repaired_site_of_four_is_accepted(rt: HostRuntime) -> Result<(), Fail> {
     let alloc = rt.alloc();
-    let bytes = some_bytes(alloc, 640)?;
+    let bytes = some_bytes(alloc, 640, 0)?;
     let mut disk = archive_of(alloc, "create 3 2 5 16 4", bytes.as_slice())?;
-    empty(&mut disk, 2)?;
+    shorten(&mut disk, 2, 0)?;
     let left = run_over(alloc, "repair", &mut disk, 4096)?;
     assert!(rt; left.status == Status::Done);
     let report = text_of(left.out.bytes())?;
@@ -25,31 +24,18 @@ fn a_repaired_site_of_four_is_accepted(rt: HostRuntime) -> Result<(), Fail> {
     let left = run_over(alloc, "scrub", &mut disk, 99)?;
     assert!(rt; left.out.bytes() == "total 160 damaged 0\n".as_bytes());
     // once the site is gone again, its first block is damaged still
-    empty(&mut disk, 2)?;
+    shorten(&mut disk, 2, 0)?;
     let told = verdict_of(alloc, &mut disk, report)?;
     assert!(rt; said(&told) == "rejected 5 still-bad h1\n");
     Ok(())
 }
 
-// The numbers of nineteen blocks of AE(2,2,2) with eleven nodes, of which no equation has just one, and the lines of their
-// report: three are determined, and the others are in two codewords.
-const NINETEEN: [u32; 19] = [
-    0, 6, 9, 12, 15, 21, 24, 27, 30, 1, 7, 10, 22, 25, 2, 8, 14, 23, 29,
-];
-
-const TWO_CODEWORDS: &str = "counts 19 0 3 16\n\
-    lost d1 by 1 3 4 6\nlost h1 by 1 3 4 6\nlost r1 by 1 3 4 6\nlost d3 by 1 3 4 6\nsolved h3\n\
-    lost r3 by 1 3 4 6\nlost d4 by 1 3 4 6\nlost h4 by 1 3 4 6\nsolved d5\nsolved r5\n\
-    lost d6 by 1 3 4 6\nlost d8 by 8 9 10 11\nlost h8 by 8 9 10 11\nlost r8 by 8 9 10 11\n\
-    lost d9 by 8 9 10 11\nlost h9 by 8 9 10 11\nlost d10 by 8 9 10 11\nlost r10 by 8 9 10 11\n\
-    lost d11 by 8 9 10 11\n";
-
-// An archive in which these nineteen are damaged.
+// An archive in which the nineteen blocks are damaged.
 fn nineteen(alloc: Global) -> Result<SureDisk, Fail> {
-    let bytes = some_bytes(alloc, 176)?;
+    let bytes = some_bytes(alloc, 176, 0)?;
     let mut disk = archive_of(alloc, "create 2 2 2 16 3", bytes.as_slice())?;
     for number in NINETEEN {
-        spoil_cell(&mut disk, 3, 64, number)?;
+        spoil_cell(&mut disk, 3, 64, number, 20)?;
     }
     Ok(disk)
 }
@@ -201,7 +187,7 @@ fn reports_of_one_node_are_judged(rt: HostRuntime) -> Result<(), Fail> {
     for (is_gone, lines, told) in OF_ONE_NODE {
         let mut disk = archive_of(alloc, "create 3 2 5 64 4", b"abc")?;
         if is_gone {
-            empty(&mut disk, 1)?;
+            shorten(&mut disk, 1, 0)?;
         }
         let report = report_of(alloc, &mut disk, "3 2 5 1", lines)?;
         let answer = verdict_of(alloc, &mut disk, report.as_str())?;
@@ -214,7 +200,7 @@ fn reports_of_one_node_are_judged(rt: HostRuntime) -> Result<(), Fail> {
 fn a_report_of_what_is_lost_before_a_fence_is_accepted(rt: HostRuntime) -> Result<(), Fail> {
     let alloc = rt.alloc();
     let mut disk = archive_of(alloc, "create 1 1 0 16 1", b"abc")?;
-    empty(&mut disk, 1)?;
+    shorten(&mut disk, 1, 0)?;
     let lines = "counts 2 0 0 2\nlost d1 by 1\nlost h1 by 1\n";
     let first = report_of(alloc, &mut disk, "1 1 0 1", lines)?;
     let answer = verdict_of(alloc, &mut disk, first.as_str())?;
@@ -291,7 +277,7 @@ fn the_last_that_stands_for_its_node_is_a_word(rt: HostRuntime) -> Result<(), Fa
         (4, "h1", "damaged h1\nsum h1\n"),
         (1, "d1", "damaged d1\nword 1\n"),
     ] {
-        empty(&mut disk, gone)?;
+        shorten(&mut disk, gone, 0)?;
         let left = run_explain(alloc, &mut disk, block)?;
         assert!(rt; left.out.bytes() == told.as_bytes(), "{gone} {block}");
     }

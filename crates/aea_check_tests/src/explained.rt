@@ -1,11 +1,12 @@
 //! What `explain` says of each block of damaged archives, against drills and plain sums.
 
-use crate::archives::{archive_of, run_explain, said, some_bytes, spoil_cell};
+use crate::archives::{archive_of, run_explain, said};
 use crate::lines::text_of_block;
 use aea_disk::SureDisk;
 use aea_lattice::{BlockId, EqId, Lattice, parse_block};
 use aea_plain::sum;
 use aea_runs::{run_line, text_of};
+use aea_test_helpers::{NINETEEN, some_bytes, spoil_cell};
 use std::alloc::{AllocError, Global};
 use std::test::Fail;
 
@@ -26,12 +27,12 @@ fn make_damaged(
     lattice: Lattice,
     numbers: &[u32],
 ) -> Result<Damaged, Fail> {
-    let bytes = some_bytes(alloc, lattice.n().min(1_000).saturating_mul(16))?;
+    let bytes = some_bytes(alloc, lattice.n().min(1_000).saturating_mul(16), 0)?;
     let mut disk = archive_of(alloc, line, bytes.as_slice())?;
     let mut blocks = Vec::new(alloc);
     for k in 0..lattice.blocks() {
         if numbers.contains(&k) {
-            spoil_cell(&mut disk, 3, 64, k)?;
+            spoil_cell(&mut disk, 3, 64, k, 20)?;
             blocks.push(lattice.block(k))?;
         }
     }
@@ -160,15 +161,12 @@ fn each_block_of_a_chain_is_explained(rt: HostRuntime) -> Result<(), Fail> {
 fn each_block_around_two_codewords_is_explained(rt: HostRuntime) -> Result<(), Fail> {
     let alloc = rt.alloc();
     let lattice = Lattice::new(2, 2, 2, 11).ok_or("no lattice")?;
-    let numbers = [
-        0, 6, 9, 12, 15, 21, 24, 27, 30, 1, 7, 10, 22, 25, 2, 8, 14, 23, 29,
-    ];
     let mut archive = make_damaged(
         alloc,
         "create 2 2 2 16 3",
         "drill 2 2 2 11",
         lattice,
-        &numbers,
+        &NINETEEN,
     )?;
     let found = first_false(alloc, &mut archive)?;
     assert!(rt; said(&found) == "none");

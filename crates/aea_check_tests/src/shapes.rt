@@ -1,10 +1,11 @@
 //! Reports of repaired archives of several shapes, with and without fences, which are accepted, and once more after a second
 //! repair.
 
-use crate::archives::{said, some_bytes, spoil_cell, verdict_of};
+use crate::archives::{said, verdict_of};
 use aea_cli::Status;
 use aea_disk::SureDisk;
 use aea_runs::{run_over, run_put, text_of};
+use aea_test_helpers::{some_bytes, spoil_cell};
 use std::alloc::Global;
 use std::test::Fail;
 
@@ -42,7 +43,7 @@ fn of_three(alloc: Global, row: Row) -> Result<SureDisk, Fail> {
     let mut disk = SureDisk::new(alloc, 4, 8192, 4096)?;
     let _made = run_over(alloc, line, &mut disk, 99)?;
     for (name, count) in [("a", 100u32), ("b", 17), ("c", 95)] {
-        let bytes = some_bytes(alloc, count)?;
+        let bytes = some_bytes(alloc, count, 0)?;
         let _stored = run_put(alloc, &mut disk, name, bytes.as_slice())?;
         if fenced {
             let _fence = run_over(alloc, "fence", &mut disk, 99)?;
@@ -57,7 +58,7 @@ fn damage(disk: &mut SureDisk, blocks: u32, percent: u64, seed: u64) -> Result<(
     for k in 0..blocks {
         x = step(x);
         if (x >> 32) % 100 < percent {
-            spoil_cell(disk, 4, 64, k)?;
+            spoil_cell(disk, 4, 64, k, 20)?;
         }
     }
     Ok(())

@@ -3,13 +3,13 @@
 ghost use Rattle.std.specs.Prelude.{◌≡◌};
 ghost use Rattle.aea_lattice.specs.Closure.{is_among};
 
-use crate::lists::add_line;
 use crate::reports::plain_report;
 use aea_cli::Status;
 use aea_lattice::{BlockId, Lattice};
 use aea_peel::{Plan, peel};
 use aea_plain::closure;
 use aea_runs::run_line;
+use aea_test_helpers::add_line;
 use aea_view::View;
 use std::alloc::{AllocError, Global};
 use std::test::Fail;

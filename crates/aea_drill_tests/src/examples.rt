@@ -1,9 +1,9 @@
 //! Worked examples of whole runs.
 
-use crate::lists::add_line;
 use aea_cli::{Command, Status, parse_words};
 use aea_lattice::Lattice;
 use aea_runs::{Left, run_line, words_of};
+use aea_test_helpers::add_line;
 use std::test::Fail;
 
 // The words, the damage list, the status, and what is printed. One more, of two codewords, is a case of aea_tests.

@@ -7,8 +7,6 @@ mod chance;
 #[cfg(test)]
 mod examples;
 #[cfg(test)]
-mod lists;
-#[cfg(test)]
 mod reports;
 #[cfg(test)]
 mod sizes;

@@ -1,9 +1,9 @@
 //! Damage lists of the greatest length, and the greatest lattice of a drill.
 
-use crate::lists::add_line;
 use aea_cli::Status;
 use aea_lattice::Lattice;
 use aea_runs::run_line;
+use aea_test_helpers::add_line;
 use std::alloc::{AllocError, Global};
 use std::test::Fail;
 

@@ -5,6 +5,7 @@ use aea_cli::Status;
 use aea_disk::{Disk, DiskFault, SureDisk};
 use aea_ledger::open_ledger;
 use aea_runs::run_over;
+use aea_test_helpers::{fill_file, has_file};
 use std::alloc::Global;
 use std::test::Fail;
 
@@ -39,8 +40,7 @@ const COMMANDS: [(&str, &str, &[u8; 11], &str); 2] = [
 
 // Makes that of one node the whole ledger file, and syncs all files.
 fn fill<D: Disk>(disk: &mut D) -> Result<(), DiskFault> {
-    disk.cut(0, 0)?;
-    disk.write(0, 0, ONE)?;
+    fill_file(disk, 0, ONE)?;
     disk.sync()
 }
 
@@ -49,13 +49,6 @@ fn has_added<D: Disk>(disk: &mut D, record: &[u8; 11]) -> Result<bool, DiskFault
     let mut bytes = [9u8; 160];
     let count = disk.read(0, 0, &mut bytes)?;
     Ok(count == 149 && bytes.starts_with(&ONE[..138]) && bytes[138..].starts_with(record))
-}
-
-// Whether it is that ledger, byte for byte.
-fn is_one<D: Disk>(disk: &mut D) -> Result<bool, DiskFault> {
-    let mut bytes = [9u8; 160];
-    let count = disk.read(0, 0, &mut bytes)?;
-    Ok(count == 139 && bytes.starts_with(ONE))
 }
 
 #[test]
@@ -200,7 +193,7 @@ fn words_beside_them_are_no_command(rt: HostRuntime) -> Result<(), Fail> {
             left.is(Status::Words, "", "words: no such command\n"),
             "{line}"
         );
-        assert!(rt; is_one(&mut disk) == Ok(true), "{line}");
+        assert!(rt; has_file(&mut disk, 0, ONE) == Ok(true), "{line}");
     }
     Ok(())
 }

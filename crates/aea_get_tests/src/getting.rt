@@ -1,10 +1,10 @@
 //! Objects that are got back and listed.
 
-use crate::turning::TurningDisk;
 use aea_cli::{Status, run};
 use aea_disk::{Disk, SureDisk};
 use aea_io::{MemSink, SureSource};
-use aea_runs::{Left, run_over, run_put, run_words, text_of, words_of};
+use aea_runs::{run_get, run_over, run_put, text_of, words_of};
+use aea_test_helpers::FlippingDisk;
 use std::alloc::{AllocError, Global};
 use std::test::Fail;
 
@@ -30,16 +30,6 @@ fn filled(alloc: Global) -> Result<SureDisk, AllocError> {
         let _stored = run_put(alloc, &mut disk, name, bytes)?;
     }
     Ok(disk)
-}
-
-// Runs `get` with this name over this disk, with so much space on `out`.
-fn run_get<D: Disk>(
-    alloc: Global,
-    disk: &mut D,
-    name: &str,
-    room: usize,
-) -> Result<Left, AllocError> {
-    run_words(alloc, &["get", name], disk, b"unread", room)
 }
 
 #[test]
@@ -166,9 +156,10 @@ fn a_cell_that_changes_between_the_passes_is_damaged(rt: HostRuntime) -> Result<
         (98, "refused: damaged d49\n", 2 * PAGE),
     ] {
         let inner = with_pages(alloc, bytes.as_slice())?;
-        let mut disk = TurningDisk {
+        let mut disk = FlippingDisk {
             inner,
             file: 1,
+            byte: 0,
             from,
             reads: 0,
         };
@@ -179,9 +170,10 @@ fn a_cell_that_changes_between_the_passes_is_damaged(rt: HostRuntime) -> Result<
         assert!(rt; bytes.as_slice().starts_with(left.out.bytes()), "{from}");
     }
     let inner = with_pages(alloc, bytes.as_slice())?;
-    let mut disk = TurningDisk {
+    let mut disk = FlippingDisk {
         inner,
         file: 1,
+        byte: 0,
         from: 99,
         reads: 0,
     };

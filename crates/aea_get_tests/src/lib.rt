@@ -6,5 +6,3 @@
 mod getting;
 #[cfg(test)]
 mod got_back;
-#[cfg(test)]
-mod turning;

@@ -1,8 +1,9 @@
 //! Objects that are put: what is printed, what is refused, and what is then in the files.
 
 use aea_cli::Status;
-use aea_disk::{Disk, DiskFault, SureDisk};
+use aea_disk::{Disk, SureDisk};
 use aea_runs::{run_over, run_put, run_words};
+use aea_test_helpers::{fill_file, spoil};
 use std::alloc::{AllocError, Global};
 use std::test::Fail;
 
@@ -174,14 +175,6 @@ fn as_many_nodes_as_there_may_be_and_a_byte_more(rt: HostRuntime) -> Result<(), 
     Ok(())
 }
 
-// Makes the file of the ledger these bytes. No disk here has space for 2^40.
-fn fill(disk: &mut SureDisk, bytes: &[u8]) -> Result<(), DiskFault> {
-    if bytes.len() > 1 << 40 {
-        return Err(DiskFault);
-    }
-    disk.write(0, 0, bytes)
-}
-
 // One of sixteen letters.
 fn letter(k: u32) -> u8 {
     b'a' + (k % 16) as u8
@@ -212,7 +205,7 @@ fn a_full_catalogue_takes_no_object(rt: HostRuntime) -> Result<(), Fail> {
     }
     bytes.push(0)?;
     let mut disk = SureDisk::new(alloc, 1, 4_200_000, 64)?;
-    fill(&mut disk, &bytes)?;
+    fill_file(&mut disk, 0, &bytes)?;
     for (name, line) in [
         ("more", "refused: catalog full\n"),
         ("aaaaz", "refused: name taken\n"),
@@ -237,11 +230,6 @@ fn a_full_catalogue_takes_no_object(rt: HostRuntime) -> Result<(), Fail> {
     Ok(())
 }
 
-// Changes a byte of the payload of the site's first cell.
-fn spoil<D: Disk>(disk: &mut D, site: u8) -> Result<(), DiskFault> {
-    disk.write(site.min(4), 16, b"x")
-}
-
 #[test]
 fn the_damaged_head_with_the_least_number_is_named(rt: HostRuntime) -> Result<(), Fail> {
     let alloc = rt.alloc();
@@ -254,7 +242,7 @@ fn the_damaged_head_with_the_least_number_is_named(rt: HostRuntime) -> Result<()
     ] {
         let mut disk = with_abc(alloc)?;
         for site in sites {
-            spoil(&mut disk, site)?;
+            spoil(&mut disk, site, 16)?;
         }
         let before = snapshot(alloc, &mut disk)?;
         for bytes in [b"x".as_slice(), b""] {
@@ -269,7 +257,7 @@ fn the_damaged_head_with_the_least_number_is_named(rt: HostRuntime) -> Result<()
 
     // a datum alone is no head
     let mut disk = with_abc(alloc)?;
-    spoil(&mut disk, 1)?;
+    spoil(&mut disk, 1, 16)?;
     let left = run_put(alloc, &mut disk, "b", b"x")?;
     assert!(rt; left.status == Status::Done);
     let left = run_put(alloc, &mut disk, "c", b"x")?;

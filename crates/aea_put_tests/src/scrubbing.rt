@@ -1,13 +1,12 @@
 //! Scrubs: which blocks of an archive are damaged.
 
-ghost use Rattle.std.specs.Prelude.{◌≤◌, ◌^◌};
-
 use aea_append::put;
 use aea_cli::Status;
 use aea_disk::{Disk, SureDisk};
 use aea_io::SureSource;
 use aea_ledger::open_ledger;
 use aea_runs::run_over;
+use aea_test_helpers::shorten;
 use std::alloc::{AllocError, Global};
 use std::test::Fail;
 
@@ -47,17 +46,6 @@ fn filled(alloc: Global) -> Result<Option<SureDisk>, AllocError> {
     Ok(None)
 }
 
-// Cuts the file, where it is as long.
-fn shorten<D: Disk>(disk: &mut D, file: u8, to: u64) -> bool
-    requires file { file ≤ 66 }
-    requires range { to ≤ 2 ^ 62 }
-{
-    match disk.len(file) {
-        Ok(long) => to <= long && disk.cut(file, to).is_ok(),
-        Err(_) => false,
-    }
-}
-
 #[test]
 fn a_fresh_archive_has_no_block(rt: HostRuntime) -> Result<(), Fail> {
     let mut disk = SureDisk::new(rt.alloc(), 0, 18, 0)?;
@@ -78,7 +66,7 @@ fn a_lost_site_is_told(rt: HostRuntime) -> Result<(), Fail> {
     assert!(rt; left.is(Status::Done, SOUND, ""));
     assert!(rt; left.out.flushed == SOUND.len());
 
-    assert!(rt; shorten(&mut disk, 3, 0));
+    assert!(rt; shorten(&mut disk, 3, 0)?);
     let left = run_over(rt.alloc(), "scrub", &mut disk, 99)?;
     assert!(rt; left.is(Status::Damage, SITE_3_LOST, ""));
     assert!(rt; left.out.flushed == SITE_3_LOST.len());

@@ -1,14 +1,13 @@
 //! Random damage, against the plain repair of the files.
 
-use crate::archives::{
-    all_bytes, fill_file, has_bytes, report_of, run_repair, shorten, spoil_cell,
-};
+use crate::archives::{all_bytes, has_bytes, run_repair};
 use crate::lines::{counts_of, drilled};
 use crate::plain::{SITES, determined, lost_blocks, repaired_files};
 use aea_cli::Status;
 use aea_disk::{Disk, DiskFault, SureDisk};
 use aea_lattice::Lattice;
 use aea_runs::{run_over, run_put, text_of};
+use aea_test_helpers::{fill_file, report_of, shorten, spoil_cell};
 use std::alloc::{AllocError, Global};
 use std::test::Fail;
 
@@ -154,7 +153,7 @@ fn first_difference(
     } else {
         Status::Damage
     };
-    let left = run_repair(alloc, disk, 1 << 15, &[], 64)?;
+    let left = run_repair(alloc, disk, 1 << 15, 0, 64)?;
     if left.status != status {
         return Ok(Some("the status"));
     }

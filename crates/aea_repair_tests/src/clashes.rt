@@ -1,10 +1,10 @@
 //! Clashes: blocks whose computed or re-read payloads have other digests than the ledger keeps of them.
 
-use crate::archives::{all_bytes, digits_of, has_bytes, run_repair, shorten, spoil_cell};
-use crate::turning::TurningDisk;
+use crate::archives::{all_bytes, has_bytes, run_repair};
 use aea_cli::Status;
 use aea_disk::{Disk, SureDisk};
 use aea_runs::{run_over, run_put, text_of};
+use aea_test_helpers::{FlippingDisk, digits_of, shorten, spoil_cell};
 use sha2::{Digest, Sha256};
 use std::alloc::{AllocError, Global};
 use std::test::Fail;
@@ -60,7 +60,7 @@ fn a_sum_with_another_digest_is_a_clash(rt: HostRuntime) -> Result<(), Fail> {
     for room in [200usize, 157, 156, 64, 6, 0] {
         let mut disk = dishonest(alloc)?;
         let stands = all_bytes(alloc, &mut disk)?;
-        let left = run_repair(alloc, &mut disk, 999, &[], room)?;
+        let left = run_repair(alloc, &mut disk, 999, 0, room)?;
         assert!(rt; left.status == Status::Clash, "{room}");
         assert!(rt; left.out.bytes().is_empty() && left.unread == 6, "{room}");
         assert!(rt; left.err.bytes().len() == room.min(157));
@@ -79,7 +79,7 @@ fn a_clash_goes_before_a_lost_block_and_a_failing_output(rt: HostRuntime) -> Res
     let _stored = run_put(alloc, &mut disk, "b", b"abc")?;
     spoil_cell(&mut disk, 2, 64, 2, 16)?;
     spoil_cell(&mut disk, 2, 64, 3, 16)?;
-    let left = run_repair(alloc, &mut disk, 999, &[1], 200)?;
+    let left = run_repair(alloc, &mut disk, 999, 1, 200)?;
     assert!(rt; left.status == Status::Clash);
     assert!(rt; text_of(left.err.bytes())?.starts_with("clash d1 recorded "));
     assert!(rt; left.out.bytes().is_empty());
@@ -119,7 +119,7 @@ fn a_survivor_that_changes_under_way_is_a_clash(rt: HostRuntime) -> Result<(), F
     turned[2] ^= 1;
     let computed = digest_of(alloc, 1, &turned)?;
     let want = clash_line(alloc, "h1", &recorded, &computed)?;
-    let mut disk = TurningDisk {
+    let mut disk = FlippingDisk {
         inner: of_three(alloc, &[0])?,
         file: 2,
         byte: 18,
@@ -127,7 +127,7 @@ fn a_survivor_that_changes_under_way_is_a_clash(rt: HostRuntime) -> Result<(), F
         reads: 0,
     };
     let damaged = all_bytes(alloc, &mut disk.inner)?;
-    let left = run_repair(alloc, &mut disk, 999, &[], 200)?;
+    let left = run_repair(alloc, &mut disk, 999, 0, 200)?;
     assert!(rt; left.status == Status::Clash);
     assert!(rt; left.err.bytes() == want.as_str().as_bytes());
     assert!(rt; left.out.bytes().is_empty());
@@ -141,14 +141,14 @@ fn a_head_that_changes_under_way_does_no_harm(rt: HostRuntime) -> Result<(), Fai
     let whole = all_bytes(alloc, &mut of_three(alloc, &[])?)?;
     // the letters of the cell, its class, its node, and its digest
     for byte in [0usize, 4, 15, 32, 63] {
-        let mut disk = TurningDisk {
+        let mut disk = FlippingDisk {
             inner: of_three(alloc, &[0])?,
             file: 2,
             byte,
             from: 4,
             reads: 0,
         };
-        let left = run_repair(alloc, &mut disk, 999, &[], 200)?;
+        let left = run_repair(alloc, &mut disk, 999, 0, 200)?;
         assert!(rt; left.status == Status::Done, "{byte}");
         assert!(rt;
             has_bytes(alloc, &mut disk.inner, whole.as_slice())?,

@@ -1,12 +1,10 @@
 //! Worked examples of repairs.
 
-use crate::archives::{
-    all_bytes, archive_of_four, file_bytes, fill_file, has_bytes, report_of, run_get, shorten,
-    spoil, spoil_cell,
-};
+use crate::archives::{all_bytes, archive_of_four, has_bytes};
 use aea_cli::Status;
 use aea_disk::{Disk, SureDisk};
-use aea_runs::{run_over, run_put, text_of};
+use aea_runs::{run_get, run_over, run_put, text_of};
+use aea_test_helpers::{file_bytes, fill_file, report_of, shorten, spoil, spoil_cell};
 use std::test::Fail;
 
 const STORED: &str =

@@ -1,23 +1,17 @@
 //! Repairs of archives of many blocks.
 
-use crate::archives::{all_bytes, has_bytes, report_of, run_get, run_repair, shorten, spoil_cell};
-use crate::lines::{add_line, drilled};
+use crate::archives::{all_bytes, has_bytes, run_repair};
+use crate::lines::drilled;
 use aea_cli::Status;
 use aea_disk::SureDisk;
 use aea_lattice::Lattice;
 use aea_plain::codeword;
-use aea_runs::{run_over, run_put, text_of};
+use aea_runs::{run_get, run_over, run_put, text_of};
+use aea_test_helpers::{
+    NINETEEN, TWO_CODEWORDS, add_line, report_of, shorten, some_bytes, spoil_cell,
+};
 use std::alloc::{AllocError, Global};
 use std::test::Fail;
-
-/// So many bytes, no two neighbours the same.
-pub fn some_bytes(alloc: Global, count: u32, first: u32) -> Result<Vec<u8>, AllocError> {
-    let mut bytes = Vec::new(alloc);
-    for k in 0..count {
-        bytes.push((k.wrapping_mul(7).wrapping_add(first) % 251) as u8)?;
-    }
-    Ok(bytes)
-}
 
 /// The lines of the report where all blocks of a lattice whose homes are on this one of four sites are peeled.
 pub fn lines_of_site(alloc: Global, lattice: &Lattice, site: u32) -> Result<String, AllocError> {
@@ -64,19 +58,7 @@ fn a_lost_site_of_four_is_peeled(rt: HostRuntime) -> Result<(), Fail> {
     Ok(())
 }
 
-// The numbers of nineteen blocks of which no equation has just one, and the lines of their report: three are determined, and
-// the others are in two codewords.
-const NINETEEN: [u32; 19] = [
-    0, 6, 9, 12, 15, 21, 24, 27, 30, 1, 7, 10, 22, 25, 2, 8, 14, 23, 29,
-];
-
-const TWO_CODEWORDS: &str = "counts 19 0 3 16\n\
-    lost d1 by 1 3 4 6\nlost h1 by 1 3 4 6\nlost r1 by 1 3 4 6\nlost d3 by 1 3 4 6\nsolved h3\n\
-    lost r3 by 1 3 4 6\nlost d4 by 1 3 4 6\nlost h4 by 1 3 4 6\nsolved d5\nsolved r5\n\
-    lost d6 by 1 3 4 6\nlost d8 by 8 9 10 11\nlost h8 by 8 9 10 11\nlost r8 by 8 9 10 11\n\
-    lost d9 by 8 9 10 11\nlost h9 by 8 9 10 11\nlost d10 by 8 9 10 11\nlost r10 by 8 9 10 11\n\
-    lost d11 by 8 9 10 11\n";
-
+// What a scrub prints after the repair of the nineteen blocks.
 const STILL_DAMAGED: &str = "damaged d1\ndamaged h1\ndamaged r1\ndamaged d3\ndamaged r3\n\
     damaged d4\ndamaged h4\ndamaged d6\ndamaged d8\ndamaged h8\ndamaged r8\ndamaged d9\ndamaged h9\n\
     damaged d10\ndamaged r10\ndamaged d11\ntotal 33 damaged 16\n";
@@ -152,7 +134,7 @@ fn each_write_of_a_long_report_fails(rt: HostRuntime) -> Result<(), Fail> {
         (4, long, long),
         (5, long, long),
     ] {
-        let left = run_repair(alloc, &mut disk, 1 << 15, &[call], 64)?;
+        let left = run_repair(alloc, &mut disk, 1 << 15, call, 64)?;
         let written = left.out.bytes().len();
         let told = if call < 5 {
             (Status::Output, "fault: output\n")

@@ -20,5 +20,3 @@ mod objects;
 mod plain;
 #[cfg(test)]
 mod statuses;
-#[cfg(test)]
-mod turning;

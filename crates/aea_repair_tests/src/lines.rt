@@ -1,27 +1,11 @@
 //! The lines of damage lists and reports.
 
-use aea_lattice::{BlockId, Class, Lattice};
+use aea_lattice::{BlockId, Lattice};
 use aea_plain::closure;
 use aea_runs::{run_line, text_of};
+use aea_test_helpers::add_line;
 use std::alloc::{AllocError, Global};
 use std::test::Fail;
-
-// The letter of a class.
-fn letter(class: Class) -> char {
-    match class {
-        Class::Datum => 'd',
-        Class::Horiz => 'h',
-        Class::Right => 'r',
-        Class::Left => 'l',
-    }
-}
-
-/// Adds a line to the text: the word, and the block.
-pub fn add_line(text: &mut String, word: &str, b: BlockId) -> Result<(), AllocError> {
-    let letter = letter(b.class);
-    let node = b.node;
-    writeln!(text, "{word}{letter}{node}")
-}
 
 // The damage list of these blocks.
 fn damage_list(alloc: Global, lost: &[BlockId]) -> Result<String, AllocError> {

@@ -1,24 +1,13 @@
-//! What the tests of repairs share: archives in memory with one object, damage to their files, and what a scan finds.
-
-ghost use Rattle.std.specs.Prelude.{◌≤◌, ◌^◌};
+//! What the tests of repairs share: archives in memory with one object, and what a scan finds.
 
 use aea_append::{PutFault, put};
-use aea_disk::{Disk, SureDisk};
+use aea_disk::{Disk, DiskFault, SureDisk};
 use aea_io::MemSource;
 use aea_lattice::Shape;
 use aea_ledger::{create_ledger, open_ledger};
-use aea_place::home;
 use aea_scrub::scan;
+use aea_test_helpers::spoil;
 use std::alloc::{AllocError, Global};
-
-/// AE(2,2,2) with blocks of 16 bytes, so that a cell has 64, on three sites.
-pub const WOVEN: Shape = Shape {
-    alpha: 2,
-    s: 2,
-    p: 2,
-    block: 16,
-    sites: 3,
-};
 
 /// Puts an object of these bytes; none where the archive is not opened.
 pub fn put_one<D: Disk>(
@@ -70,36 +59,11 @@ pub fn damaged<D: Disk>(alloc: Global, disk: &mut D) -> Option<u32> {
     Some(marks.unmarked())
 }
 
-/// Flips a byte.
-pub fn spoil<D: Disk>(disk: &mut D, file: u8, at: u64) -> bool
-    requires file { file ≤ 66 }
-    requires range { at ≤ 2 ^ 60 }
-{
-    let mut byte = [0; 1];
-    match disk.read(file, at, &mut byte) {
-        Ok(1) => disk.write(file, at, &[byte[0] ^ 255]).is_ok(),
-        _ => false,
-    }
-}
-
-/// Flips the first payload byte of the block of this number.
-pub fn spoil_block<D: Disk>(disk: &mut D, shape: &Shape, number: u32) -> bool {
-    if shape.sites() == 0 || 64 < shape.sites() {
-        return false;
-    }
-    let spot = home(shape.sites(), u64::from(number));
-    spoil(disk, spot.site, spot.cell * 64 + 16)
-}
-
-/// Cuts the file to this length, where it is as long.
-pub fn shorten<D: Disk>(disk: &mut D, file: u8, to: u64) -> bool
-    requires file { file ≤ 66 }
-    requires range { to ≤ 2 ^ 60 }
-{
-    match disk.len(file) {
-        Ok(long) => to <= long && disk.cut(file, to).is_ok(),
-        Err(_) => false,
-    }
+/// Flips the first byte of the digest of a datum that the ledger has, with that of its parity and the gate, at its end. Returns
+/// whether it is as long.
+pub fn spoil_digest<D: Disk>(disk: &mut D) -> Result<bool, DiskFault> {
+    let long = disk.len(0)?;
+    spoil(disk, 0, long.saturating_sub(65))
 }
 
 /// Whether the ledger and four sites have the same bytes.

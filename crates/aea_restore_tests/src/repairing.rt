@@ -1,52 +1,24 @@
 //! Repairs from the scan to the report: what they print and restore, faults of the disk and of the output, and stops.
 
-use crate::archives::{
-    WOVEN, archive, begin, damaged, put_one, same_files, shorten, spoil, spoil_block,
-};
+use crate::archives::{archive, begin, damaged, put_one, same_files, spoil_digest};
 use aea_append::PutFault;
 use aea_disk::{Disk, FailDisk, Loss, MemDisk};
 use aea_envelope::digest_of;
 use aea_io::MemSink;
-use aea_lattice::{BlockId, Class, Shape};
+use aea_lattice::{BlockId, Class};
 use aea_ledger::open_ledger;
 use aea_repair::{Outcome, RepairFault, repair};
+use aea_test_helpers::{
+    NINETEEN, PLAIN, TWO_CODEWORDS, WIDE, WOVEN, report_of, shorten, spoil_block,
+};
 use std::alloc::{AllocError, Global};
 use std::test::Fail;
-
-// AE(1) on two sites, with blocks of 16 bytes.
-const PLAIN: Shape = Shape {
-    alpha: 1,
-    s: 1,
-    p: 0,
-    block: 16,
-    sites: 2,
-};
-
-// AE(3,2,5) on four sites.
-const WIDE: Shape = Shape {
-    alpha: 3,
-    s: 2,
-    p: 5,
-    block: 16,
-    sites: 4,
-};
 
 // The bytes of an object that takes eleven blocks.
 const BYTES: [u8; 176] = [97; 176];
 
 // A report without the digits of its seal, and these.
 const HEAD: &[u8] = b"aea-report 1\nlattice 2 2 2 11\nledger ";
-
-const LOST: &[u8] = b"\ncounts 19 0 3 16\n\
-lost d1 by 1 3 4 6\nlost h1 by 1 3 4 6\nlost r1 by 1 3 4 6\nlost d3 by 1 3 4 6\nsolved h3\nlost r3 by 1 3 4 6\n\
-lost d4 by 1 3 4 6\nlost h4 by 1 3 4 6\nsolved d5\nsolved r5\nlost d6 by 1 3 4 6\n\
-lost d8 by 8 9 10 11\nlost h8 by 8 9 10 11\nlost r8 by 8 9 10 11\nlost d9 by 8 9 10 11\nlost h9 by 8 9 10 11\n\
-lost d10 by 8 9 10 11\nlost r10 by 8 9 10 11\nlost d11 by 8 9 10 11\n";
-
-// The numbers of the blocks that it names.
-const STUCK: [u32; 19] = [
-    0, 6, 9, 12, 15, 21, 24, 27, 30, 1, 7, 10, 22, 25, 2, 8, 14, 23, 29,
-];
 
 // What a repair returned, and what it printed.
 #[derive(Drop)]
@@ -84,7 +56,7 @@ fn a_lost_site_is_peeled(rt: HostRuntime) -> Result<(), Fail> {
     let Some(mut disk) = archive(alloc, &WIDE, &bytes)? else {
         panic!(rt; "no archive");
     };
-    assert!(rt; shorten(&mut disk, 2, 0));
+    assert!(rt; shorten(&mut disk, 2, 0)?);
     assert!(rt; damaged(alloc, &mut disk) == Some(40));
     let left = repaired(alloc, &mut disk, &[])?;
     let outcome = Outcome {
@@ -115,7 +87,7 @@ fn a_damaged_head_is_repaired_before_the_next_put(rt: HostRuntime) -> Result<(),
         node: 1,
         class: Class::Right,
     };
-    assert!(rt; spoil_block(&mut disk, &WIDE, 2));
+    assert!(rt; spoil_block(&mut disk, &WIDE, 2)?);
     let refused = put_one(alloc, &mut disk, b"two", b"abc")?;
     assert!(rt; refused == Some(Err(PutFault::HeadDamaged { block })));
     let left = repaired(alloc, &mut disk, &[])?;
@@ -136,8 +108,8 @@ fn what_is_solved_and_lost_is_told(rt: HostRuntime) -> Result<(), Fail> {
     let Some(mut disk) = archive(alloc, &WOVEN, &BYTES)? else {
         panic!(rt; "no archive");
     };
-    for number in STUCK {
-        assert!(rt; spoil_block(&mut disk, &WOVEN, number));
+    for number in NINETEEN {
+        assert!(rt; spoil_block(&mut disk, &WOVEN, number)?);
     }
     let left = repaired(alloc, &mut disk, &[])?;
     let outcome = Outcome {
@@ -146,8 +118,8 @@ fn what_is_solved_and_lost_is_told(rt: HostRuntime) -> Result<(), Fail> {
         lost: 16,
     };
     assert!(rt; left.answer == Some(Ok(outcome)));
-    assert!(rt; reads(left.out.bytes(), HEAD, LOST));
-    assert!(rt; left.out.bytes().len() == HEAD.len() + 64 + LOST.len());
+    let want = report_of(alloc, &mut disk, "2 2 2 11", TWO_CODEWORDS)?;
+    assert!(rt; left.out.bytes() == want.as_bytes());
     assert!(rt; damaged(alloc, &mut disk) == Some(16));
     Ok(())
 }
@@ -164,12 +136,8 @@ fn a_sum_with_another_digest_is_a_clash(rt: HostRuntime) -> Result<(), Fail> {
         panic!(rt; "no archive");
     };
     // the digests of the datum and of its parity come before the gate that ends the ledger
-    let Ok(long) = disk.len(0) else {
-        panic!(rt; "no ledger");
-    };
-    assert!(rt; 65 <= long && long <= 4096);
-    assert!(rt; spoil(&mut disk, 0, long - 65));
-    assert!(rt; shorten(&mut disk, 1, 0));
+    assert!(rt; spoil_digest(&mut disk)?);
+    assert!(rt; shorten(&mut disk, 1, 0)?);
     let left = repaired(alloc, &mut disk, &[])?;
     let computed = digest_of(block, &payload);
     let mut recorded = computed;
@@ -197,7 +165,7 @@ fn a_disk_that_fails_is_at_fault_and_is_repaired_later(rt: HostRuntime) -> Resul
             panic!(rt; "no archive");
         };
         for number in [0, 12, 13, 14] {
-            assert!(rt; spoil_block(&mut disk, &WOVEN, number));
+            assert!(rt; spoil_block(&mut disk, &WOVEN, number)?);
         }
         let mut out = MemSink::new(alloc, 65_536, &[])?;
         let Ok(ledger) = open_ledger(alloc, &mut disk) else {
@@ -229,8 +197,8 @@ fn each_stop_leaves_what_can_be_repaired(rt: HostRuntime) -> Result<(), Fail> {
     let mut disk = MemDisk::new(alloc, 4, 8192, 4096, 256, 4096)?;
     assert!(rt; begin(alloc, &mut disk, &WOVEN, &BYTES[..48])?);
     // the cells of the first site are gone past the first one, which makes their file grow, and one parity is rotten
-    assert!(rt; shorten(&mut disk, 1, 100));
-    assert!(rt; spoil_block(&mut disk, &WOVEN, 4));
+    assert!(rt; shorten(&mut disk, 1, 100)?);
+    assert!(rt; spoil_block(&mut disk, &WOVEN, 4)?);
     assert!(rt; disk.sync().is_ok());
     let begun = disk.calls();
     let left = repaired(alloc, &mut disk, &[])?;
@@ -263,7 +231,7 @@ fn an_output_that_fails_leaves_all_restored(rt: HostRuntime) -> Result<(), Fail>
         let Some(mut disk) = archive(alloc, &WOVEN, &BYTES)? else {
             panic!(rt; "no archive");
         };
-        assert!(rt; spoil_block(&mut disk, &WOVEN, 0));
+        assert!(rt; spoil_block(&mut disk, &WOVEN, 0)?);
         let left = repaired(alloc, &mut disk, &[call])?;
         assert!(rt; left.answer == Some(Err(RepairFault::WriteFault)));
         assert!(rt; left.out.bytes().len() == long);

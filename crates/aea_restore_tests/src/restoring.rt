@@ -4,8 +4,8 @@ ghost use Rattle.std.specs.Prelude.{◌≡◌, IfOk};
 ghost use Rattle.aea_view.specs.Marked.{Marked, is_marked};
 ghost use Rattle.aea_restore.specs.Given.{CanBeRestored};
 
-use crate::archives::{WOVEN, archive, damaged, same_files, shorten, spoil, spoil_block};
-use aea_disk::{Disk, FailDisk};
+use crate::archives::{archive, damaged, same_files, spoil_digest};
+use aea_disk::{Disk, DiskFault, FailDisk};
 use aea_envelope::digest_of;
 use aea_gauss::{FateList, solve};
 use aea_lattice::{BlockId, Class, Shape};
@@ -13,18 +13,10 @@ use aea_ledger::{Ledger, open_ledger};
 use aea_peel::{StepList, peel_marks};
 use aea_restore::{RestoreFault, plans_can_be_restored, restore};
 use aea_scrub::scan;
+use aea_test_helpers::{NINETEEN, SMALL, WOVEN, shorten, spoil_block};
 use aea_view::Marks;
 use std::alloc::{AllocError, Global};
 use std::test::Fail;
-
-// AE(1) on one site, with blocks of 16 bytes.
-const PLAIN: Shape = Shape {
-    alpha: 1,
-    s: 1,
-    p: 0,
-    block: 16,
-    sites: 1,
-};
 
 // The bytes of an object that takes eleven blocks.
 const BYTES: &str =
@@ -100,28 +92,24 @@ fn repaired<D: Disk>(
     Ok(Some(answer))
 }
 
-// Flips the first payload byte of each block of these numbers.
-fn spoil_blocks<D: Disk>(disk: &mut D, shape: &Shape, numbers: &[u32]) -> bool {
+// Flips the first payload byte of each block of these numbers. Returns whether the files have all of them.
+fn spoil_blocks<D: Disk>(disk: &mut D, shape: &Shape, numbers: &[u32]) -> Result<bool, DiskFault> {
+    let mut are_there = true;
     for number in numbers {
-        if !spoil_block(disk, shape, *number) {
-            return false;
-        }
+        are_there &= spoil_block(disk, shape, *number)?;
     }
-    true
+    Ok(are_there)
 }
 
 #[test]
 fn cells_are_restored_byte_for_byte(rt: HostRuntime) -> Result<(), Fail> {
     let alloc = rt.alloc();
     // by steps alone, with sums, and with blocks that are lost
-    let stuck = [
-        0, 6, 9, 12, 15, 21, 24, 27, 30, 1, 7, 10, 22, 25, 2, 8, 14, 23, 29,
-    ];
     for (name, numbers, left) in [
         ("none", [].as_slice(), 0),
         ("three apart", [0, 13, 32].as_slice(), 0),
         ("a datum and its parities", [12, 13, 14].as_slice(), 0),
-        ("sums", stuck.as_slice(), 16),
+        ("sums", NINETEEN.as_slice(), 16),
     ] {
         let Some(mut whole) = archive(alloc, &WOVEN, BYTES.as_bytes())? else {
             panic!(rt; "no archive");
@@ -129,7 +117,7 @@ fn cells_are_restored_byte_for_byte(rt: HostRuntime) -> Result<(), Fail> {
         let Some(mut disk) = archive(alloc, &WOVEN, BYTES.as_bytes())? else {
             panic!(rt; "no archive");
         };
-        assert!(rt; spoil_blocks(&mut disk, &WOVEN, numbers), "{name}");
+        assert!(rt; spoil_blocks(&mut disk, &WOVEN, numbers)?, "{name}");
         assert!(rt;
             damaged(alloc, &mut disk) == Some(numbers.len() as u32),
             "{name}"
@@ -151,7 +139,7 @@ fn a_lost_site_is_restored(rt: HostRuntime) -> Result<(), Fail> {
         let Some(mut disk) = archive(alloc, &WOVEN, BYTES.as_bytes())? else {
             panic!(rt; "no archive");
         };
-        assert!(rt; shorten(&mut disk, file, to));
+        assert!(rt; shorten(&mut disk, file, to)?);
         assert!(rt; repaired(alloc, &mut disk)? == Some(Ok(())), "{file} {to}");
         assert!(rt; same_files(&mut disk, &mut whole), "{file} {to}");
     }
@@ -161,18 +149,18 @@ fn a_lost_site_is_restored(rt: HostRuntime) -> Result<(), Fail> {
 #[test]
 fn a_survivor_that_changes_is_a_clash(rt: HostRuntime) -> Result<(), Fail> {
     let alloc = rt.alloc();
-    let Some(mut disk) = archive(alloc, &PLAIN, &BYTES.as_bytes()[..48])? else {
+    let Some(mut disk) = archive(alloc, &SMALL, &BYTES.as_bytes()[..48])? else {
         panic!(rt; "no archive");
     };
     let Ok(ledger) = open_ledger(alloc, &mut disk) else {
         panic!(rt; "not opened");
     };
-    assert!(rt; spoil_block(&mut disk, &PLAIN, 0));
+    assert!(rt; spoil_block(&mut disk, &SMALL, 0)?);
     let Ok(mut marks) = scan(alloc, &ledger, &mut disk) else {
         panic!(rt; "not scanned");
     };
     assert!(rt; marks.unmarked() == 1);
-    assert!(rt; spoil_block(&mut disk, &PLAIN, 1));
+    assert!(rt; spoil_block(&mut disk, &SMALL, 1)?);
     let answer = restore_from(alloc, &ledger, &mut disk, &mut marks)?;
     let Err(
         RestoreFault::Clash {
@@ -209,16 +197,12 @@ fn a_sum_with_another_digest_is_a_clash(rt: HostRuntime) -> Result<(), Fail> {
         class: Class::Datum,
     };
     let payload = [77; 16];
-    let Some(mut disk) = archive(alloc, &PLAIN, &payload)? else {
+    let Some(mut disk) = archive(alloc, &SMALL, &payload)? else {
         panic!(rt; "no archive");
     };
     // the digests of the datum and of its parity come before the gate that ends the ledger
-    let Ok(long) = disk.len(0) else {
-        panic!(rt; "no ledger");
-    };
-    assert!(rt; 65 <= long && long <= 4096);
-    assert!(rt; spoil(&mut disk, 0, long - 65));
-    assert!(rt; spoil_block(&mut disk, &PLAIN, 0));
+    assert!(rt; spoil_digest(&mut disk)?);
+    assert!(rt; spoil_block(&mut disk, &SMALL, 0)?);
     let Some(
         Err(
             RestoreFault::Clash {
@@ -255,7 +239,7 @@ fn a_disk_that_fails_is_at_fault_and_can_be_restored_later(rt: HostRuntime) -> R
             panic!(rt; "not opened");
         };
         for number in [0, 12, 13, 14] {
-            assert!(rt; spoil_block(&mut disk, &WOVEN, number));
+            assert!(rt; spoil_block(&mut disk, &WOVEN, number)?);
         }
         let Ok(mut marks) = scan(alloc, &ledger, &mut disk) else {
             panic!(rt; "not scanned");

@@ -31,6 +31,8 @@ pub struct Ended {
     pub status: Status,
     pub out: MemSink,
     pub err: MemSink,
+    /// How many bytes of the input were not read.
+    pub unread: usize,
 }
 
 /// Runs the command of a line over this disk, with these bytes on an input that gives as many as are asked for, and streams
@@ -54,5 +56,11 @@ pub fn run_failing<D: Disk>(
         &mut out,
         &mut err,
     );
-    Ok(Ended { status, out, err })
+    let unread = input.bytes.len().saturating_sub(input.taken);
+    Ok(Ended {
+        status,
+        out,
+        err,
+        unread,
+    })
 }

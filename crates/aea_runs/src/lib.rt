@@ -128,6 +128,16 @@ pub fn run_words<D: Disk>(
     run_with(alloc, words.as_slice(), disk, bytes, room)
 }
 
+/// Runs `get` with this name over this disk, with so many bytes of space on `out`.
+pub fn run_get<D: Disk>(
+    alloc: Global,
+    disk: &mut D,
+    name: &str,
+    room: usize,
+) -> Result<Left, AllocError> {
+    run_words(alloc, &["get", name], disk, b"unread", room)
+}
+
 /// Runs `put` with this name over this disk and input.
 pub fn run_put<D: Disk>(
     alloc: Global,

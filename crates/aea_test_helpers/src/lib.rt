@@ -18,7 +18,7 @@ pub use damage::{shorten, spoil, spoil_block, spoil_cell};
 pub use examples::{NINETEEN, TWO_CODEWORDS, some_bytes};
 pub use files::{file_bytes, fill_file, has_file};
 pub use flipping::FlippingDisk;
-pub use lines::{add_line, letter};
+pub use lines::add_line;
 pub use reports::{digits_of, report_of};
 pub use sets::{Mask, Split, escapes, masks_of, meets_oddly, take_out};
 pub use shapes::{PLAIN, SMALL, WIDE, WOVEN};

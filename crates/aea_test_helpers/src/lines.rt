@@ -1,21 +1,11 @@
 //! The lines of damage lists and reports.
 
-use aea_lattice::{BlockId, Class};
+use aea_lattice::BlockId;
 use std::alloc::AllocError;
-
-/// The letter of a class.
-pub fn letter(class: Class) -> char {
-    match class {
-        Class::Datum => 'd',
-        Class::Horiz => 'h',
-        Class::Right => 'r',
-        Class::Left => 'l',
-    }
-}
 
 /// Adds a line to the text: the word, and the block. An error is lack of memory.
 pub fn add_line(text: &mut String, word: &str, b: BlockId) -> Result<(), AllocError> {
-    let letter = letter(b.class);
+    let letter = char::from(b.class.letter());
     let node = b.node;
     writeln!(text, "{word}{letter}{node}")
 }

@@ -4,21 +4,11 @@ use crate::cases::{
     CREATE_LINE, Case, HEAD_REFUSED, MORE, Object, STORED_MORE, TORN_HEAD, TORN_LINES,
 };
 use aea_cli::Status;
-use aea_disk::{Disk, DiskFault, SureDisk};
+use aea_disk::{Disk, SureDisk};
 use aea_runs::{Left, run_input, run_over, run_put, run_words, text_of};
+use aea_test_helpers::spoil;
 use std::alloc::{AllocError, Global};
 use std::test::Fail;
-
-// Flips a byte of a file, where it has one at this place.
-fn turn_over<D: Disk>(disk: &mut D, file: u8, at: u64) -> Result<(), DiskFault> {
-    let file = file.min(64);
-    let at = at.min(1 << 40);
-    let mut byte = [0u8; 1];
-    if disk.read(file, at, &mut byte)? == 1 {
-        disk.write(file, at, &[byte[0] ^ 255])?;
-    }
-    Ok(())
-}
 
 /// Makes what is there before the run of this case.
 pub fn prepare<D: Disk>(alloc: Global, case: &Case, disk: &mut D) -> Result<(), Fail> {
@@ -26,7 +16,7 @@ pub fn prepare<D: Disk>(alloc: Global, case: &Case, disk: &mut D) -> Result<(), 
         let _left = run_input(alloc, line, disk, bytes.as_bytes())?;
     }
     for (file, at) in case.turned {
-        turn_over(disk, *file, *at)?;
+        spoil(disk, *file, *at)?;
     }
     disk.sync()?;
     Ok(())

@@ -9,6 +9,7 @@ use aea_lattice::{BlockId, Class, Lattice};
 use aea_ledger::{Ledger, open_ledger};
 use aea_plain::prefix;
 use aea_runs::{run_over, run_put, run_words};
+use aea_test_helpers::some_bytes;
 use sha2::{Digest, Sha256};
 use std::alloc::{AllocError, Global};
 use std::test::Fail;
@@ -128,15 +129,6 @@ fn first_unwoven<D: Disk>(
     Ok(None)
 }
 
-// So many bytes, no two neighbours the same.
-fn some_bytes(alloc: Global, count: u32, step: u32) -> Result<Vec<u8>, AllocError> {
-    let mut bytes = Vec::new(alloc);
-    for k in 0..count {
-        bytes.push((k.wrapping_mul(step) % 251) as u8)?;
-    }
-    Ok(bytes)
-}
-
 // Each shape, and how many bytes the three objects have.
 const SHAPES: [(&str, [u32; 3]); 6] = [
     ("create 1 1 0 16 4", [16, 100, 1]),
@@ -147,45 +139,43 @@ const SHAPES: [(&str, [u32; 3]); 6] = [
     ("create 3 5 5 16 4", [300, 5, 300]),
 ];
 
+// Whether three objects of so many bytes, with a fence after each or with none, are plain sums after each put.
+fn are_woven(
+    alloc: Global,
+    line: &str,
+    counts: &[u32; 3],
+    first: u32,
+    are_fenced: bool,
+) -> Result<bool, Fail> {
+    let mut disk = SureDisk::new(alloc, 4, 8192, 4096)?;
+    let _made = run_over(alloc, line, &mut disk, 99)?;
+    let mut datas = Vec::new(alloc);
+    for (count, name) in counts.iter().zip(["a", "b", "c"]) {
+        let bytes = some_bytes(alloc, *count, first)?;
+        add_blocks(&mut datas, &bytes)?;
+        let left = run_put(alloc, &mut disk, name, &bytes)?;
+        if are_fenced {
+            let _fenced = run_words(alloc, &["fence"], &mut disk, b"", 99)?;
+        }
+        if left.status != Status::Done || first_unwoven(alloc, &mut disk, &datas)? != None {
+            return Ok(false);
+        }
+    }
+    Ok(true)
+}
+
 #[test]
 fn three_objects_are_plain_sums(rt: HostRuntime) -> Result<(), Fail> {
-    let alloc = rt.alloc();
     for (line, counts) in SHAPES {
-        let mut disk = SureDisk::new(alloc, 4, 8192, 4096)?;
-        let _made = run_over(alloc, line, &mut disk, 99)?;
-        let mut datas = Vec::new(alloc);
-        for (count, name) in counts.iter().zip(["a", "b", "c"]) {
-            let bytes = some_bytes(alloc, *count, 7)?;
-            add_blocks(&mut datas, &bytes)?;
-            let left = run_put(alloc, &mut disk, name, &bytes)?;
-            assert!(rt; left.status == Status::Done, "{line} {name}");
-            assert!(rt;
-                first_unwoven(alloc, &mut disk, &datas)? == None,
-                "{line} {name}"
-            );
-        }
+        assert!(rt; are_woven(rt.alloc(), line, &counts, 0, false)?, "{line}");
     }
     Ok(())
 }
 
 #[test]
 fn strands_begin_anew_behind_a_fence(rt: HostRuntime) -> Result<(), Fail> {
-    let alloc = rt.alloc();
     for (line, counts) in SHAPES {
-        let mut disk = SureDisk::new(alloc, 4, 8192, 4096)?;
-        let _made = run_over(alloc, line, &mut disk, 99)?;
-        let mut datas = Vec::new(alloc);
-        for (count, name) in counts.iter().zip(["a", "b", "c"]) {
-            let bytes = some_bytes(alloc, *count, 11)?;
-            add_blocks(&mut datas, &bytes)?;
-            let left = run_put(alloc, &mut disk, name, &bytes)?;
-            assert!(rt; left.status == Status::Done, "{line} {name}");
-            let _fenced = run_words(alloc, &["fence"], &mut disk, b"", 99)?;
-            assert!(rt;
-                first_unwoven(alloc, &mut disk, &datas)? == None,
-                "{line} {name}"
-            );
-        }
+        assert!(rt; are_woven(rt.alloc(), line, &counts, 11, true)?, "{line}");
     }
     Ok(())
 }

@@ -4,3 +4,4 @@ pub mod Reading
 pub mod OneList
 pub mod Joining
 pub mod Parting
+pub mod LostFates

@@ -1,5 +1,5 @@
 -- What is not known falls into parts by labels, and what happens to the blocks of a part.
-use Rattle.std.proofs.Common.{◌≡◌, ℕ, zero, suc, ◌+◌, ◌<◌, ◌≤◌, ◌^◌, inl, inr, Bool, true, false, not, ◌&&◌, ◌||◌, ◌==◌, cond, List, [], ◌∷◌, ◌++◌, take, map, filter, length, get_or, All, refl, sym, ◌∙◌, ap, subst, arith}
+use Rattle.std.proofs.Common.{◌≡◌, ℕ, zero, suc, ◌+◌, ◌<◌, ◌≤◌, ◌^◌, inl, inr, Bool, true, false, not, ◌&&◌, ◌||◌, ◌==◌, cond, List, Option, [], ◌∷◌, ◌++◌, take, map, filter, length, get_or, All, refl, sym, ◌∙◌, ap, subst, arith}
 use Rattle.std.specs.List.{list_any}
 use Rattle.std.proofs.Math.ListN.{set}
 use Rattle.std.proofs.lemmas.Bool.{cases_Bool, cases_eq, or_cases, or_parts, eq-eqb, ne_eqb, eqb-true, true≢false, false≢true, false_from_ne_true, not-true}
@@ -29,6 +29,7 @@ use Rattle.aea_gauss.specs.declared.fates.Fate.TheVariants.{Sum, Word}
 use Rattle.aea_gauss.specs.Fates.{block_of_fate, IsFate, AreFates}
 use Rattle.aea_gauss.specs.Fills.{AreColumns}
 use Rattle.aea_gauss.specs.Told.{TellsFates}
+use Rattle.aea_gauss.specs.Lost.{AreLostRight}
 use Rattle.aea_gauss.specs.Parts.{items_at, JoinsEach, label_at, IsLabelOf, ArePart, StandsIn, fate_in, Rights}
 use Rattle.aea_gauss.proofs.Turning.{once}
 
@@ -377,16 +378,18 @@ putting_all l us all rest old new p empty kn each = record {
 
 -- ---- all parts
 
--- the fates of the first parts are right
-pub record Solved (l : Lattice) (kn : BlockId → Bool) (us : List BlockId) (parts : List (List BlockId)) (count : ℕ) (fates : List Fate) : Type 0 where
+-- the fates of the first parts are right, and those of the lost blocks
+pub record Solved (l : Lattice) (kn : BlockId → Bool) (us : List BlockId) (losses : List (Option (List ℕ))) (parts : List (List BlockId)) (count : ℕ) (fates : List Fate) : Type 0 where
   pub blocks : map block_of_fate fates ≡ us
+  pub lost : AreLostRight l kn us losses fates
   pub right : (c a : ℕ) → c < count → a < length us → StandsIn (get_or parts c []) (block_in us a) → IsFate l kn (fate_in fates a)
 
 -- where the fates of the next part are right, and those that were right still are, one part more is solved
-pub solved_more : (l : Lattice) (kn : BlockId → Bool) (us : List BlockId) (parts : List (List BlockId)) (count : ℕ) (part : List BlockId) (old new : List Fate)
-    → Solved l kn us parts count old → part ≡ get_or parts count [] → map block_of_fate new ≡ us → Rights l kn us part old new → Solved l kn us parts (count + 1) new
-solved_more l kn us parts count part old new before is blocks rights = record {
+pub solved_more : (l : Lattice) (kn : BlockId → Bool) (us : List BlockId) (losses : List (Option (List ℕ))) (parts : List (List BlockId)) (count : ℕ) (part : List BlockId) (old new : List Fate)
+    → Solved l kn us losses parts count old → part ≡ get_or parts count [] → map block_of_fate new ≡ us → Rights l kn us part old new → Solved l kn us losses parts (count + 1) new
+solved_more l kn us losses parts count part old new before is blocks rights = record {
   blocks = blocks;
+  lost = λ a less is_lost. rights.kept a less (before.lost a less is_lost);
   right = λ c a c_less less stands. elim (cases_eq c count) [
     | inl same ↦ rights.put a less (subst (λ xs. StandsIn xs (block_in us a)) (ap (λ j. get_or parts j []) same ∙ sym is) stands)
     | inr other ↦ rights.kept a less (before.right c a (omega arith) less stands)
@@ -395,10 +398,10 @@ solved_more l kn us parts count part old new before is blocks rights = record {
 
 -- where the first parts are solved, as many as there are unknown blocks or more, and each of these blocks is in
 -- one of so many parts, the fates are those of the lattice
-pub solved_all : (l : Lattice) (kn : BlockId → Bool) (us : List BlockId) (parts : List (List BlockId)) (count : ℕ) (fates : List Fate) → us ≡ unknown_blocks l kn
-    → length us ≤ count → Solved l kn us parts count fates
+pub solved_all : (l : Lattice) (kn : BlockId → Bool) (us : List BlockId) (losses : List (Option (List ℕ))) (parts : List (List BlockId)) (count : ℕ) (fates : List Fate) → us ≡ unknown_blocks l kn
+    → length us ≤ count → Solved l kn us losses parts count fates
     → ((a : ℕ) → a < length us → (c : ℕ) × (c < length us) × StandsIn (get_or parts c []) (block_in us a)) → AreFates l kn fates
-solved_all l kn us parts count fates us_are many solved whole = record {
+solved_all l kn us losses parts count fates us_are many solved whole = record {
   blocks = solved.blocks ∙ us_are;
   each =
       All-from_get_or (IsFate l kn) fates (Word (block_of 0 Datum) [])

@@ -2,3 +2,4 @@ pub mod Fates
 pub mod Fills
 pub mod Told
 pub mod Parts
+pub mod Lost

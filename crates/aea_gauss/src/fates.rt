@@ -5,9 +5,11 @@ ghost use Rattle.aea_view.specs.Marked.{is_marked};
 use crate::buckets::bucket_at;
 use crate::columns::set_columns;
 use crate::equations::{live_equations, unknown_blocks};
-use crate::parts::{open_fates, parts_of, solve_part};
+use crate::lost::lost_fates;
+use crate::parts::{parts_of, solve_part};
 use aea_lattice::{BlockId, EqList, Lattice, NodeList};
 use aea_readings::unknown_are_listed;
+use aea_sweep::losses;
 use aea_view::Marks;
 use std::alloc::{AllocError, Global};
 use std::marker::Model;
@@ -96,10 +98,12 @@ impl FateList {
     }
 }
 
-/// The fate of each block that is not marked, in number order. Part by part: blocks that an equation has together are in
-/// one part, and each part has an elimination of its own. Beside the fates it takes 8 bytes for each block of the lattice,
-/// some 150 bytes for each block that is not marked, some 16 bytes for each equation, and the rows of one part at a time:
-/// of b blocks and e equations, (b + e) bits for each of the e equations. An error means that memory ran out.
+/// The fate of each block that is not marked, in number order. What is lost, and by which nodes, `losses` of `aea_sweep` says, in
+/// time that grows with the lattice. The sums are found part by part: blocks that an equation has together are in one part, and
+/// each part in which some block is determined has an elimination of its own. Beside the fates it takes what `losses` takes, 8
+/// bytes for each block of the lattice, some 150 bytes for each block that is not marked, some 16 bytes for each equation, and the
+/// rows of one such part at a time: of b blocks and e equations, (b + e) bits for each of the e equations. An error means that
+/// memory ran out.
 pub fn solve(alloc: Global, lattice: &Lattice, known: &Marks) -> Result<FateList, AllocError>
     requires same { known.now.lattice ≡ lattice.now }
     ensures { IfOk result (λ fates. AreFates lattice.now (is_marked known.now) fates) }
@@ -117,13 +121,16 @@ pub fn solve(alloc: Global, lattice: &Lattice, known: &Marks) -> Result<FateList
     set_columns(lattice, columns, blocks);
     let parts = parts_of(alloc, lattice, known, columns, blocks, equations.as_slice())?;
     let scratch = scratch.as_mut_slice();
-    let mut fates = open_fates(alloc, blocks)?;
+    let list = losses(alloc, lattice, known)?;
+    let lost = &list;
+    let mut fates = lost_fates(alloc, lattice, lost, blocks)?;
     for label in 0..blocks.len() {
         let part_blocks = bucket_at(parts.blocks.as_slice(), label);
         let part_equations = bucket_at(parts.equations.as_slice(), label);
         solve_part(
             alloc,
             lattice,
+            lost,
             columns,
             scratch,
             blocks,

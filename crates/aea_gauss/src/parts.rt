@@ -7,15 +7,18 @@ ghost use Rattle.aea_fates.specs.Live.{live_equations};
 ghost use Rattle.aea_readings.specs.Small.{block_in, unknown_blocks, AreListed};
 ghost use Rattle.aea_gauss.specs.Fates.{block_of_fate, IsFate};
 ghost use Rattle.aea_gauss.specs.Fills.{AreColumns};
+ghost use Rattle.aea_gauss.specs.Lost.{AreLostRight};
 ghost use Rattle.aea_gauss.specs.Parts.{ArePart, StandsIn, Rights};
 
 use crate::buckets::{Bucket, by_label};
 use crate::columns::find_column;
 use crate::fates::{Fate, FateList};
 use crate::labels::{block_labels, equation_labels};
+use crate::lost::has_determined;
 use crate::small::solve_small;
 use aea_fates::parts_stand_alone;
-use aea_lattice::{BlockId, EqId, Lattice, NodeList};
+use aea_lattice::{BlockId, EqId, Lattice};
+use aea_sweep::LossList;
 use aea_view::Marks;
 use std::alloc::{AllocError, Global};
 
@@ -61,19 +64,6 @@ pub(crate) fn parts_of(
     })
 }
 
-// For each block a fate that is not found yet: a word without nodes.
-pub(crate) fn open_fates(alloc: Global, blocks: &[BlockId]) -> Result<FateList, AllocError>
-    ensures { IfOk result (λ fates. map block_of_fate fates ≡ blocks.now) }
-{
-    let mut fates = FateList::new(alloc);
-    for at in 0..blocks.len() {
-        let block = blocks[at];
-        let nodes = NodeList::new(alloc);
-        fates.push(Fate::Word { block, nodes })?;
-    }
-    Ok(fates)
-}
-
 // Puts a fate at the place of its block.
 fn put_fate(
     fates: &mut FateList,
@@ -116,10 +106,12 @@ fn put_all(
     }
 }
 
-// Puts the fates of the blocks of a part at their places. The scratch is space for one number per block of the lattice.
+// Puts the fates of the blocks of a part at their places; where all of them are lost, they are there. The scratch is space for one
+// number per block of the lattice.
 pub(crate) fn solve_part(
     alloc: Global,
     lattice: &Lattice,
+    losses: &LossList,
     columns: &[u32],
     scratch: &mut [u32],
     blocks: &[BlockId],
@@ -132,15 +124,20 @@ pub(crate) fn solve_part(
     requires columns { AreColumns lattice.now blocks.now columns.now }
     requires listed { AreListed lattice.now blocks.now }
     requires fates { map block_of_fate fates.old ≡ blocks.now }
+    requires losses { length losses.now ≡ blocks_count lattice.now }
     requires part { AreListed lattice.now part_blocks.now }
     requires stand { All (StandsIn blocks.now) part_blocks.now }
     requires equations { All (HasEquation lattice.now) part_equations.now }
     requires few { length part_equations.now < 2 ^ 23 }
     ensures fates { OnOk result (map block_of_fate fates.new ≡ blocks.now) }
     ensures rights { OnOk result ((known : BlockId → Bool) → ArePart lattice.now known part_blocks.now part_equations.now
+        → AreLostRight lattice.now known blocks.now losses.now fates.old
         → Rights lattice.now known blocks.now part_blocks.now fates.old fates.new) }
 {
     parts_stand_alone();
+    if !has_determined(lattice, losses, part_blocks) {
+        return Ok(());
+    }
     let part = solve_small(alloc, lattice, scratch, part_blocks, part_equations)?;
     put_all(fates, lattice, columns, blocks, part);
     Ok(())

@@ -1,5 +1,5 @@
 -- Places in lists, and items that are passed over.
-use Rattle.std.proofs.Common.{◌≡◌, ℕ, zero, suc, ◌+◌, ◌<◌, ◌≤◌, List, [], ◌∷◌, length, get_or, drop, Bool, true, false, cond, Option, Some, None, refl, sym, ◌∙◌, ap, arith, inl, inr}
+use Rattle.std.proofs.Common.{◌≡◌, ℕ, zero, suc, ◌+◌, ◌<◌, ◌≤◌, List, [], ◌∷◌, length, drop, Bool, true, false, cond, Option, Some, None, refl, sym, ◌∙◌, ap, arith, inl, inr}
 use Rattle.std.specs.Prelude.{slice_get, filter, All}
 use Rattle.std.proofs.lemmas.Bool.{cases_Bool}
 use Rattle.std.proofs.lemmas.List.Elements.{All-head, All-tail}
@@ -15,23 +15,6 @@ drop-here (y ∷ ys) (suc k) x here = drop-here ys k x here
 -- from the place of an item on
 pub drop-at : {X : Type 0} → (xs : List X) (k : ℕ) (x : X) → slice_get xs k ≡ Some x → drop k xs ≡ x ∷ drop (k + 1) xs
 drop-at xs k x here = drop-here xs k x here ∙ ap (λ n. x ∷ drop n xs) (sym (one_more k))
-
--- what is at a place where a list of items begins
-pub record Begins {X : Type 0} (xs : List X) (k : ℕ) (d x : X) (ys : List X) : Type 0 where
-  pub within : k < length xs
-  pub first : get_or xs k d ≡ x
-  pub rest : drop (k + 1) xs ≡ ys
-
-begins : {X : Type 0} → (xs : List X) (k : ℕ) (d x : X) (ys : List X) → drop k xs ≡ x ∷ ys → (k < length xs) × (get_or xs k d ≡ x) × (drop (suc k) xs ≡ ys)
-begins [] zero d x ys e = let h : [] ≡ x ∷ ys = e in cc
-begins [] (suc k) d x ys e = let h : [] ≡ x ∷ ys = e in cc
-begins (z ∷ zs) zero d x ys e = let h : z ∷ zs ≡ x ∷ ys = e in (omega arith, cc, cc)
-begins (z ∷ zs) (suc k) d x ys e = let b = begins zs k d x ys e in (omega (arith, b.0), b.1, b.2)
-
-pub begins-at : {X : Type 0} → (xs : List X) (k : ℕ) (d x : X) (ys : List X) → drop k xs ≡ x ∷ ys → Begins xs k d x ys
-begins-at xs k d x ys e =
-    let b = begins xs k d x ys e in
-    record { within = b.0; first = b.1; rest = ap (λ n. drop n xs) (one_more k) ∙ b.2 }
 
 -- a place within a list has an item
 pub within_some : {X : Type 0} → (xs : List X) (k : ℕ) → k < length xs → slice_get xs k ≡ None → ⊥
@@ -76,9 +59,3 @@ same-filter p q (x ∷ xs) all = elim (cases_Bool (q x)) [
       ∙ same-filter p q xs (All-tail (λ y. p y ≡ q y) x xs all)
       ∙ sym (filter-fails q x xs fails)
 ]
-
--- nothing passes a test that each item fails
-pub none-pass : {X : Type 0} → (test : X → Bool) (xs : List X) → All (λ x. test x ≡ false) xs → filter test xs ≡ []
-none-pass test [] all = refl
-none-pass test (x ∷ xs) all =
-    filter-fails test x xs (All-head (λ y. test y ≡ false) x xs all) ∙ none-pass test xs (All-tail (λ y. test y ≡ false) x xs all)

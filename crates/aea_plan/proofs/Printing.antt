@@ -29,26 +29,26 @@ texts-around before line after =
     ∙ sym (append_assoc (texts_of before) (line_text line ++ newline) (texts_of after))
 
 -- How far a walk along the lines has come: these were passed, and the others are still to come.
-pub record IsPast (v : Verdicts) (from at : ℕ) (done : List Line) : Type 0 where
-  pub whole : done ++ lines_after v from at ≡ lines_by v
+pub record IsPast (v : Verdicts) (from : ℕ) (done : List Line) : Type 0 where
+  pub whole : done ++ lines_after v from ≡ lines_by v
 
 -- one line more was passed
-pub past-more : (v : Verdicts) (from at next_from next_at : ℕ) (done : List Line) (line : Line) → IsPast v from at done
-    → lines_after v from at ≡ line ∷ lines_after v next_from next_at → IsPast v next_from next_at (done ++ line ∷ [])
-past-more v from at next_from next_at done line past more = record {
-  whole = append_assoc done (line ∷ []) (lines_after v next_from next_at) ∙ ap (λ ls. done ++ ls) (sym more) ∙ past.whole;
+pub past-more : (v : Verdicts) (from next : ℕ) (done : List Line) (line : Line) → IsPast v from done
+    → lines_after v from ≡ line ∷ lines_after v next → IsPast v next (done ++ line ∷ [])
+past-more v from next done line past more = record {
+  whole = append_assoc done (line ∷ []) (lines_after v next) ∙ ap (λ ls. done ++ ls) (sym more) ∙ past.whole;
 }
 
 -- all were passed
-pub past-all : (v : Verdicts) (from at : ℕ) (done : List Line) → IsPast v from at done → lines_after v from at ≡ [] → done ≡ lines_by v
-past-all v from at done past none = sym (append-nil done) ∙ ap (λ ls. done ++ ls) (sym none) ∙ past.whole
+pub past-all : (v : Verdicts) (from : ℕ) (done : List Line) → IsPast v from done → lines_after v from ≡ [] → done ≡ lines_by v
+past-all v from done past none = sym (append-nil done) ∙ ap (λ ls. done ++ ls) (sym none) ∙ past.whole
 
 -- the whole text, around a line that is printed next
-pub whole-around : (v : Verdicts) (from at next_from next_at : ℕ) (done : List Line) (line : Line) → IsPast v from at done
-    → lines_after v from at ≡ line ∷ lines_after v next_from next_at
-    → texts_of (lines_by v) ≡ (texts_of done ++ (line_text line ++ newline)) ++ texts_of (lines_after v next_from next_at)
-whole-around v from at next_from next_at done line past more =
-    ap texts_of (sym past.whole ∙ ap (λ ls. done ++ ls) more) ∙ texts-around done line (lines_after v next_from next_at)
+pub whole-around : (v : Verdicts) (from next : ℕ) (done : List Line) (line : Line) → IsPast v from done
+    → lines_after v from ≡ line ∷ lines_after v next
+    → texts_of (lines_by v) ≡ (texts_of done ++ (line_text line ++ newline)) ++ texts_of (lines_after v next)
+whole-around v from next done line past more =
+    ap texts_of (sym past.whole ∙ ap (λ ls. done ++ ls) more) ∙ texts-around done line (lines_after v next)
 
 -- the text of a report: its head, and its lines
 pub report-parts : (h : Head) (lines : List Line) → report_bytes h lines ≡ joined (head_texts h) ++ texts_of lines

@@ -1,14 +1,13 @@
 -- Marks that are flipped, and marks that are all set.
-use Rattle.std.proofs.Common.{◌≡◌, ◌<◌, [], map, length, get_or, sym, ◌∙◌, ap, subst, Bool, true, false, refl, arith}
-use Rattle.std.specs.Prelude.{not, filter}
+use Rattle.std.proofs.Common.{◌≡◌, ◌<◌, map, length, get_or, sym, ◌∙◌, ap, subst, Bool, true, false, refl, arith}
+use Rattle.std.specs.Prelude.{not}
+use Rattle.std.proofs.lemmas.Bool.{true≢false}
 use Rattle.std.proofs.lemmas.List.{get_or-map, length-map}
 use Rattle.aea_lattice.specs.declared.blocks.BlockId.{BlockId}
 use Rattle.aea_lattice.specs.declared.grid.Lattice.{Lattice}
-use Rattle.aea_lattice.specs.Blocks.{HasBlock, number_of, blocks_count, blocks_of}
-use Rattle.aea_lattice.specs.Facts.{BlocksAreInside}
+use Rattle.aea_lattice.specs.Blocks.{HasBlock, number_of, blocks_count}
 use Rattle.aea_lattice.proofs.Equations.{number_below}
 use Rattle.aea_view.specs.Marked.{Marked, AreMarks, IsWhole, AreClear, is_marked}
-use Rattle.aea_plan.proofs.Lists.{none-pass}
 
 -- a truth value that is flipped twice is as it was
 pub twice : (b : Bool) → not (not b) ≡ b
@@ -33,16 +32,14 @@ pub turned-twice : (m n o : Marked) (test : BlockId → Bool) → n.lattice ≡ 
 turned-twice m n o test same marks whole same_again marks_again whole_again are b inside =
     turned n o (λ d. not (test d)) same_again marks_again whole_again (turned m n test same marks whole are) b inside ∙ twice (test b)
 
--- where flipped marks have none at all, no block is without a mark
-pub none-clear : BlocksAreInside → (m n : Marked) → n.lattice ≡ m.lattice → n.marks ≡ map not m.marks → IsWhole n
-    → AreClear n 0 (blocks_count n.lattice) → filter (λ b. not (is_marked m b)) (blocks_of m.lattice) ≡ []
-none-clear inside m n same marks whole clear =
-    none-pass (λ b. not (is_marked m b)) (blocks_of m.lattice)
-    (λ k d lt.
-    let b = get_or (blocks_of m.lattice) k d in
+-- where flipped marks have none at all, each block is marked
+pub all-marked : (m n : Marked) → n.lattice ≡ m.lattice → n.marks ≡ map not m.marks → IsWhole n
+    → AreClear n 0 (blocks_count n.lattice) → (b : BlockId) → HasBlock m.lattice b → is_marked m b ≡ false → ⊥
+all-marked m n same marks whole clear b has unmarked =
     let i = number_of m.lattice b in
-    let less : i < blocks_count m.lattice = number_below m.lattice b (inside m.lattice k d lt) in
+    let less : i < blocks_count m.lattice = number_below m.lattice b has in
     let there : i < blocks_count n.lattice = subst (λ (l : Lattice). i < blocks_count l) (sym same) less in
     let long = sym (ap blocks_count same) ∙ sym whole ∙ ap length marks ∙ length-map m.marks not in
     let below : i < length m.marks = subst (λ j. i < j) long less in
-    sym (get_or-map not m.marks i false false below) ∙ sym (ap (λ xs. get_or xs i false) marks) ∙ clear i (omega arith) there)
+    let clear_here : get_or n.marks i false ≡ false = clear i (omega arith) there in
+    true≢false (ap not (sym unmarked) ∙ sym (get_or-map not m.marks i false false below) ∙ sym (ap (λ xs. get_or xs i false) marks) ∙ clear_here)

@@ -1,4 +1,3 @@
 pub mod Verdicts
 pub mod Plans
-pub mod Walks
 pub mod Texts

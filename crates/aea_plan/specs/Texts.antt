@@ -1,22 +1,19 @@
 -- The text of the nodes of a lost block, kept for the next lost block.
-use Rattle.std.specs.Prelude.{◌≡◌, ℕ, ◌*◌, ◌≤◌, List, All, slice_get, Option, Some, MatchOption, ⊤}
-use Rattle.aea_lattice.specs.declared.blocks.BlockId.{BlockId}
-use Rattle.aea_gauss.specs.declared.fates.Fate.{Fate}
-use Rattle.aea_gauss.specs.declared.fates.Fate.TheVariants.{Word}
+use Rattle.std.specs.Prelude.{◌≡◌, ℕ, ◌*◌, ◌≤◌, List, Option, Some, MatchOption, ⊤}
 use Rattle.aea_report.specs.Format.{numbers_text}
 use Rattle.aea_plan.specs.Plans.{nodes_count}
+use Rattle.aea_plan.specs.Verdicts.{nodes_at}
 
--- the text is that of the nodes of the fate at this place
-pub record IsTextOf (fates : List Fate) (text : List ℕ) (at : ℕ) : Type 0 where
-  pub block : BlockId
+-- the text is that of the nodes that are listed for the block of this number
+pub record IsTextOf (losses : Option (List (Option (List ℕ)))) (text : List ℕ) (number : ℕ) : Type 0 where
   pub nodes : List ℕ
-  pub lost : slice_get fates at ≡ Some (Word block nodes)
+  pub lost : nodes_at losses number ≡ Some nodes
   pub is : text ≡ numbers_text nodes
 
--- where a place is noted, the text is that of its nodes
-abbrev pub KeepsText : List Fate → List ℕ → Option ℕ → Type 0
-KeepsText fates text noted = MatchOption noted ⊤ (IsTextOf fates text)
+-- where a number is noted, the text is that of its nodes
+abbrev pub KeepsText : Option (List (Option (List ℕ))) → List ℕ → Option ℕ → Type 0
+KeepsText losses text noted = MatchOption noted ⊤ (IsTextOf losses text)
 
--- so many bytes are space for the text of the nodes of each of these fates
-abbrev pub HasRoomFor : List Fate → ℕ → Type 0
-HasRoomFor fates bytes = All (λ fate. 11 * nodes_count fate ≤ bytes) fates
+-- so many bytes are space for the text of the nodes of each lost block
+abbrev pub HasRoomFor : Option (List (Option (List ℕ))) → ℕ → Type 0
+HasRoomFor losses bytes = (k : ℕ) → 11 * nodes_count (nodes_at losses k) ≤ bytes

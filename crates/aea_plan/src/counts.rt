@@ -1,15 +1,14 @@
 //! Counts of the damaged blocks, by what happens to them.
 
-ghost use Rattle.std.specs.Prelude.{◌≡◌, ◌+◌, ◌-◌, ◌<◌, ◌≤◌, ◌^◌, ◌++◌, ◌∷◌, [], List};
-ghost use Rattle.aea_lattice.specs.Blocks.{blocks_count};
+ghost use Rattle.std.specs.Prelude.{◌≡◌, ◌+◌, ◌-◌, ◌<◌, ◌≤◌, ◌^◌, ◌++◌, ◌∷◌, [], List, None, length, get_or};
+ghost use Rattle.aea_lattice.specs.Blocks.{HasBlock, blocks_count, number_of};
 ghost use Rattle.aea_report.specs.declared.line.Line.{Line};
 ghost use Rattle.aea_plan.specs.Plans.{AreCounts, AtMost, nodes_count};
-ghost use Rattle.aea_plan.specs.Verdicts.{AreVerdicts, lines_by, line_of_fate};
-ghost use Rattle.aea_plan.specs.Walks.{IsOf, line_by};
+ghost use Rattle.aea_plan.specs.Verdicts.{AreVerdicts, lines_by, line_of};
 
-use crate::verdicts::Verdicts;
-use crate::walk::{Next, Place, next_line};
-use aea_gauss::{Fate, FateList};
+use crate::verdicts::{Verdicts, listed_nodes};
+use crate::walk::{Damaged, next_damaged};
+use aea_sweep::LossList;
 
 /// How many damaged blocks are peeled, solved and lost.
 #[derive(Clone, Copy, Debug, PartialEq, Eq)]
@@ -20,33 +19,22 @@ pub struct Counts {
 }
 
 impl Counts {
-    // Counts the block of a fate.
-    fn add_fate(&mut self, fate: &Fate)
-        requires { self.old.peeled + self.old.solved + self.old.lost < 2 ^ 32 - 1 }
-        ensures counts { (lines : List Line) → AreCounts self.old lines → AreCounts self.new (lines ++ line_of_fate fate.now ∷ []) }
-        ensures one { self.new.peeled + self.new.solved + self.new.lost ≡ self.old.peeled + self.old.solved + self.old.lost + 1 }
-    {
-        match fate {
-            Fate::Sum { block: _, eqs: _ } => self.solved += 1,
-            Fate::Word { block: _, nodes: _ } => self.lost += 1,
-        }
-    }
-
-    // Counts the block of what comes next.
-    fn add(&mut self, verdicts: &Verdicts, next: Next)
+    // Counts a damaged block.
+    fn add(&mut self, verdicts: &Verdicts, damaged: Damaged)
+        requires verdicts { AreVerdicts verdicts.now }
         requires few { self.old.peeled + self.old.solved + self.old.lost < 2 ^ 32 - 1 }
-        requires next { IsOf verdicts.now next }
-        ensures counts { (lines : List Line) → AreCounts self.old lines → AreCounts self.new (lines ++ line_by verdicts.now next ∷ []) }
+        requires block { HasBlock verdicts.now.damaged.lattice damaged.block }
+        requires number { number_of verdicts.now.damaged.lattice damaged.block ≡ damaged.number }
+        ensures counts { (lines : List Line) → AreCounts self.old lines → AreCounts self.new (lines ++ line_of verdicts.now damaged.block ∷ []) }
         ensures one { self.new.peeled + self.new.solved + self.new.lost ≡ self.old.peeled + self.old.solved + self.old.lost + 1 }
     {
-        match next {
-            Next::Peeled { block: _ } => self.peeled += 1,
-            Next::Fated { at } => {
-                let Some(fate) = verdicts.fates.get(at) else {
-                    unreachable!()
-                };
-                self.add_fate(fate);
-            }
+        if verdicts.reached.get(damaged.block) {
+            self.peeled += 1;
+            return;
+        }
+        match listed_nodes(&verdicts.losses, damaged.number) {
+            None => self.solved += 1,
+            Some(_) => self.lost += 1,
         }
     }
 }
@@ -62,42 +50,36 @@ pub(crate) fn count_blocks(verdicts: &Verdicts) -> Counts
         solved: 0,
         lost: 0,
     };
-    let mut place = Place::first();
-    while let Some(next) = next_line(verdicts, &mut place) {
-        counts.add(verdicts, next);
+    let mut from = 0;
+    while let Some(damaged) = next_damaged(verdicts, &mut from) {
+        counts.add(verdicts, damaged);
     }
     counts
 }
 
-// The number of nodes by which the block of a fate is lost.
-fn count_nodes(fate: &Fate) -> usize
-    ensures { result ≡ nodes_count fate.now }
-{
-    match fate {
-        Fate::Sum { block: _, eqs: _ } => 0,
-        Fate::Word { block: _, nodes } => nodes.len(),
-    }
-}
-
-// The greater of this number and the number of nodes of the fate.
-fn most_with(most: usize, fate: &Fate) -> usize
+// The greater of this number and the number of nodes of the block of the list at this place.
+fn most_with(list: &LossList, most: usize, k: usize) -> usize
+    requires { k < length list.now }
     ensures kept { most ≤ result }
-    ensures here { nodes_count fate.now ≤ result }
+    ensures here { nodes_count (get_or list.now k None) ≤ result }
 {
-    let count = count_nodes(fate);
+    let count = match list.nodes(k) {
+        None => 0,
+        Some(nodes) => nodes.len(),
+    };
     if count < most { most } else { count }
 }
 
-/// The most nodes by which a block of these fates is lost.
-pub(crate) fn most_nodes(fates: &FateList) -> usize
-    ensures { AtMost result fates.now }
+/// The most nodes by which a block is lost.
+pub(crate) fn most_nodes(losses: &Option<LossList>) -> usize
+    ensures { AtMost result losses.now }
 {
+    let Some(list) = losses else {
+        return 0;
+    };
     let mut most = 0;
-    for at in 0..fates.len() {
-        let Some(fate) = fates.get(at) else {
-            unreachable!()
-        };
-        most = most_with(most, fate);
+    for k in 0..list.len() {
+        most = most_with(list, most, k);
     }
     most
 }

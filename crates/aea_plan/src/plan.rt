@@ -4,18 +4,17 @@ ghost use Rattle.std.specs.Prelude.{◌≡◌, ℕ, Bool, not, List, Option, vec
 ghost use Rattle.aea_lattice.specs.declared.blocks.BlockId.{BlockId};
 ghost use Rattle.aea_view.specs.Marked.{AreMarks, is_marked};
 ghost use Rattle.aea_peel.specs.Plans.{IsPlan, AreReached};
-ghost use Rattle.aea_gauss.specs.Fates.{AreFates};
 ghost use Rattle.aea_report.specs.Printed.{IsPrinted};
-ghost use Rattle.aea_plan.specs.Plans.{IsPlanOf, IsSound, HasRoom, head_by};
+ghost use Rattle.aea_plan.specs.Plans.{AreLossesOf, IsPlanOf, IsSound, HasRoom, head_by};
 ghost use Rattle.aea_plan.specs.Verdicts.{AreVerdicts, lines_by};
 
 use crate::counts::{Counts, count_blocks, most_nodes};
 use crate::nodes::NODE_BYTES;
 use crate::verdicts::Verdicts;
-use aea_fates::{determined_stay, sums_are_determined, words_are_open, words_stay};
-use aea_gauss::{FateList, solve};
+use aea_fates::{determined_stay, words_are_open, words_stay};
 use aea_lattice::{blocks_are_inside, reached_are_determined};
 use aea_peel::{StepList, peel_marks};
+use aea_sweep::{LossList, losses};
 use aea_view::Marks;
 use std::alloc::{AllocError, Global};
 
@@ -37,45 +36,44 @@ struct Judged {
     verdicts: Verdicts,
 }
 
-// The fates of what is not reached. Where all is, no block is looked at.
-fn fates_of(alloc: Global, reached: &Marks) -> Result<FateList, AllocError>
-    ensures { IfOk result (λ fates. AreFates reached.now.lattice (is_marked reached.now) fates) }
+// What is lost of what is not reached. Where all is reached, no block is looked at.
+fn losses_of(alloc: Global, reached: &Marks) -> Result<Option<LossList>, AllocError>
+    ensures { IfOk result (λ list. AreLossesOf reached.now.lattice (is_marked reached.now) list) }
 {
-    blocks_are_inside();
     let lattice = reached.lattice();
     let open = reached.complement(alloc)?;
     match open.next_marked(0) {
-        None => Ok(FateList::new(alloc)),
-        Some(_) => solve(alloc, lattice, reached),
+        None => Ok(None),
+        Some(_) => Ok(Some(losses(alloc, lattice, reached)?)),
     }
 }
 
-// Peels, and solves what peeling leaves.
+// Peels, and says what is lost of what peeling leaves.
 fn judge(alloc: Global, known: &Marks) -> Result<Judged, AllocError>
     ensures lattice { IfOk result (λ j. j.verdicts.damaged.lattice ≡ known.now.lattice) }
     ensures verdicts { IfOk result (λ j. AreVerdicts j.verdicts) }
     ensures damaged { IfOk result (λ j. (test : BlockId → Bool) → AreMarks known.now test → AreMarks j.verdicts.damaged (λ b. not (test b))) }
     ensures steps { IfOk result (λ j. (test : BlockId → Bool) → AreMarks known.now test → IsPlan known.now.lattice test j.steps) }
     ensures reached { IfOk result (λ j. (test : BlockId → Bool) → AreMarks known.now test → AreReached j.verdicts.reached test) }
-    ensures fates { IfOk result (λ j. AreFates known.now.lattice (is_marked j.verdicts.reached) j.verdicts.fates) }
+    ensures losses { IfOk result (λ j. AreLossesOf known.now.lattice (is_marked j.verdicts.reached) j.verdicts.losses) }
 {
     let damaged = known.complement(alloc)?;
     let peeled = peel_marks(alloc, damaged.complement(alloc)?)?;
     let reached = peeled.marks;
-    let fates = fates_of(alloc, &reached)?;
+    let losses = losses_of(alloc, &reached)?;
     Ok(Judged {
         steps: peeled.plan.steps,
         verdicts: Verdicts {
             damaged,
             reached,
-            fates,
+            losses,
         },
     })
 }
 
 impl Plan {
-    /// The plan for these known blocks. Peeling takes the memory that `peel_marks` says, and `solve` takes its own where
-    /// peeling leaves a block; beside the steps and the fates a plan keeps two bits a block. An error is a lack of memory.
+    /// The plan for these known blocks. Peeling takes the memory that `peel_marks` says, and `losses` takes its own where
+    /// peeling leaves a block; beside the steps and this list a plan keeps two bits a block. An error is a lack of memory.
     pub fn new(alloc: Global, known: &Marks) -> Result<Plan, AllocError>
         ensures lattice { IfOk result (λ plan. plan.verdicts.damaged.lattice ≡ known.now.lattice) }
         ensures sound { IfOk result IsSound }
@@ -85,13 +83,12 @@ impl Plan {
     {
         blocks_are_inside();
         reached_are_determined();
-        sums_are_determined();
         words_are_open();
         words_stay();
         determined_stay();
         let judged = judge(alloc, known)?;
         let counts = count_blocks(&judged.verdicts);
-        let most_nodes = most_nodes(&judged.verdicts.fates);
+        let most_nodes = most_nodes(&judged.verdicts.losses);
         Ok(Plan {
             steps: judged.steps,
             verdicts: judged.verdicts,

@@ -2,18 +2,16 @@
 
 ghost use Rattle.std.specs.Prelude.{◌≡◌, ◌+◌, ◌*◌, ◌<◌, ◌≤◌, ◌^◌, ◌++◌, length, map, vec_capacity};
 ghost use Rattle.aea_io.specs.Pages.{Prints};
-ghost use Rattle.aea_gauss.specs.Fates.{block_of_fate};
+ghost use Rattle.aea_lattice.specs.Blocks.{HasBlock, number_of};
 ghost use Rattle.aea_report.specs.Format.{newline, joined, line_text, report_bytes};
 ghost use Rattle.aea_plan.specs.Plans.{IsSound, HasRoom, head_by};
 ghost use Rattle.aea_plan.specs.Texts.{KeepsText, HasRoomFor};
-ghost use Rattle.aea_plan.specs.Verdicts.{AreVerdicts, lines_by, line_of_fate};
-ghost use Rattle.aea_plan.specs.Walks.{IsOf, fate_at, line_by};
+ghost use Rattle.aea_plan.specs.Verdicts.{AreVerdicts, lines_by, line_of};
 
 use crate::nodes::keep_text;
 use crate::plan::Plan;
-use crate::verdicts::Verdicts;
-use crate::walk::{Next, Place, next_line};
-use aea_gauss::{Fate, FateList};
+use crate::verdicts::{Verdicts, listed_nodes};
+use crate::walk::{Damaged, next_damaged};
 use aea_io::{Page, Sink, WriteFault};
 use aea_report::{Head, Line, print_head, print_line, print_lost_with};
 
@@ -37,54 +35,34 @@ fn head_of(plan: &Plan, seal: &Option<[u8; 32]>) -> Head
     }
 }
 
-// Prints the line of the fate at this place.
-fn print_fate<O: Sink>(
-    out: &mut O,
-    page: &mut Page,
-    fates: &FateList,
-    text: &mut Vec<u8>,
-    noted: &mut Option<usize>,
-    at: usize,
-) -> Result<(), WriteFault>
-    requires at { at < length fates.now }
-    requires node { 1 ≤ (block_of_fate (fate_at fates.now at)).node }
-    requires room { HasRoomFor fates.now (vec_capacity text.old) }
-    requires kept { KeepsText fates.now text.old.items noted.old }
-    ensures prints { Prints (O.state out.old) page.old (O.state out.new) page.new result (line_text (line_of_fate (fate_at fates.now at)) ++ newline) }
-    ensures room { vec_capacity text.old ≤ vec_capacity text.new }
-    ensures kept { KeepsText fates.now text.new.items noted.new }
-{
-    let Some(fate) = fates.get(at) else {
-        unreachable!()
-    };
-    match fate {
-        Fate::Sum { block, eqs: _ } => { print_line(out, page, &Line::Solved { block: *block }) }
-        Fate::Word { block, nodes } => {
-            keep_text(text, noted, fates, at, nodes);
-            print_lost_with(out, page, *block, text.as_slice())
-        }
-    }
-}
-
-// Prints the line of what comes next.
-fn print_next<O: Sink>(
+// Prints the line of a damaged block.
+fn print_block<O: Sink>(
     out: &mut O,
     page: &mut Page,
     verdicts: &Verdicts,
     text: &mut Vec<u8>,
-    noted: &mut Option<usize>,
-    next: Next,
+    noted: &mut Option<u32>,
+    damaged: Damaged,
 ) -> Result<(), WriteFault>
-    requires next { IsOf verdicts.now next }
-    requires room { HasRoomFor verdicts.now.fates (vec_capacity text.old) }
-    requires kept { KeepsText verdicts.now.fates text.old.items noted.old }
-    ensures prints { Prints (O.state out.old) page.old (O.state out.new) page.new result (line_text (line_by verdicts.now next) ++ newline) }
+    requires verdicts { AreVerdicts verdicts.now }
+    requires block { HasBlock verdicts.now.damaged.lattice damaged.block }
+    requires number { number_of verdicts.now.damaged.lattice damaged.block ≡ damaged.number }
+    requires room { HasRoomFor verdicts.now.losses (vec_capacity text.old) }
+    requires kept { KeepsText verdicts.now.losses text.old.items noted.old }
+    ensures prints { Prints (O.state out.old) page.old (O.state out.new) page.new result (line_text (line_of verdicts.now damaged.block) ++ newline) }
     ensures room { vec_capacity text.old ≤ vec_capacity text.new }
-    ensures kept { KeepsText verdicts.now.fates text.new.items noted.new }
+    ensures kept { KeepsText verdicts.now.losses text.new.items noted.new }
 {
-    match next {
-        Next::Peeled { block } => print_line(out, page, &Line::Peeled { block }),
-        Next::Fated { at } => print_fate(out, page, &verdicts.fates, text, noted, at),
+    let block = damaged.block;
+    if verdicts.reached.get(block) {
+        return print_line(out, page, &Line::Peeled { block });
+    }
+    match listed_nodes(&verdicts.losses, damaged.number) {
+        None => print_line(out, page, &Line::Solved { block }),
+        Some(nodes) => {
+            keep_text(text, noted, &verdicts.losses, damaged.number, nodes);
+            print_lost_with(out, page, block, text.as_slice())
+        }
     }
 }
 
@@ -96,13 +74,13 @@ fn print_lines<O: Sink>(
     text: &mut Vec<u8>,
 ) -> Result<(), WriteFault>
     requires verdicts { AreVerdicts verdicts.now }
-    requires room { HasRoomFor verdicts.now.fates (vec_capacity text.old) }
+    requires room { HasRoomFor verdicts.now.losses (vec_capacity text.old) }
     ensures { Prints (O.state out.old) page.old (O.state out.new) page.new result (joined (map line_text (lines_by verdicts.now))) }
 {
     let mut noted = None;
-    let mut place = Place::first();
-    while let Some(next) = next_line(verdicts, &mut place) {
-        print_next(out, page, verdicts, text, &mut noted, next)?;
+    let mut from = 0;
+    while let Some(damaged) = next_damaged(verdicts, &mut from) {
+        print_block(out, page, verdicts, text, &mut noted, damaged)?;
     }
     Ok(())
 }

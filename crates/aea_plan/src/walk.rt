@@ -1,53 +1,31 @@
-//! A walk along the lines of a report.
+//! A walk along the damaged blocks.
 
-ghost use Rattle.std.specs.Prelude.{◌≡◌, ◌+◌, ◌<◌, ◌∷◌, [], MatchOption, IfSome, OnSome};
-ghost use Rattle.aea_plan.specs.Verdicts.{AreVerdicts, lines_after};
-ghost use Rattle.aea_plan.specs.Walks.{IsOf, StandsAt, line_by};
+ghost use Rattle.std.specs.Prelude.{◌≡◌, ◌<◌, ◌≤◌, ◌∷◌, [], MatchOption, IfSome, OnSome};
+ghost use Rattle.aea_lattice.specs.Blocks.{HasBlock, blocks_count, number_of};
+ghost use Rattle.aea_plan.specs.Verdicts.{lines_after, line_of};
 
 use crate::verdicts::Verdicts;
 use aea_lattice::BlockId;
 
-/// A place between two lines: the number from which on the next damaged block is sought, and the place of the next fate.
+/// A damaged block and its number.
 #[derive(Clone, Copy, Debug)]
-pub(crate) struct Place {
-    pub from: u32,
-    pub at: usize,
+pub(crate) struct Damaged {
+    pub number: u32,
+    pub block: BlockId,
 }
 
-/// What comes next: a block that is peeled, or the fate at a place.
-#[derive(Clone, Copy, Debug)]
-pub(crate) enum Next {
-    Peeled { block: BlockId },
-    Fated { at: usize },
-}
-
-impl Place {
-    /// The place before the first line.
-    pub(crate) fn first() -> Place
-        ensures from { result.from ≡ 0 }
-        ensures at { result.at ≡ 0 }
-    {
-        Place { from: 0, at: 0 }
-    }
-}
-
-/// What comes next after the place, and the place after it; the time is that of finding the next damaged block.
-pub(crate) fn next_line(verdicts: &Verdicts, place: &mut Place) -> Option<Next>
-    requires verdicts { AreVerdicts verdicts.now }
-    requires stands { StandsAt verdicts.now place.old.from place.old.at }
-    ensures stands { StandsAt verdicts.now place.new.from place.new.at }
-    ensures later { OnSome result (place.old.from < place.new.from) }
-    ensures inside { IfSome result (IsOf verdicts.now) }
-    ensures lines { MatchOption result (lines_after verdicts.now place.old.from place.old.at ≡ [])
-        (λ next. lines_after verdicts.now place.old.from place.old.at ≡ line_by verdicts.now next ∷ lines_after verdicts.now place.new.from place.new.at) }
+/// The next damaged block from a number on, and the number after it; the time is that of finding the next mark.
+pub(crate) fn next_damaged(verdicts: &Verdicts, from: &mut u32) -> Option<Damaged>
+    requires inside { from.old ≤ blocks_count verdicts.now.damaged.lattice }
+    ensures inside { from.new ≤ blocks_count verdicts.now.damaged.lattice }
+    ensures later { OnSome result (from.old < from.new) }
+    ensures block { IfSome result (λ d. HasBlock verdicts.now.damaged.lattice d.block) }
+    ensures number { IfSome result (λ d. number_of verdicts.now.damaged.lattice d.block ≡ d.number) }
+    ensures lines { MatchOption result (lines_after verdicts.now from.old ≡ [])
+        (λ d. lines_after verdicts.now from.old ≡ line_of verdicts.now d.block ∷ lines_after verdicts.now from.new) }
 {
-    let k = verdicts.damaged.next_marked(place.from)?;
-    let block = verdicts.damaged.lattice().block(k);
-    place.from = k + 1;
-    if verdicts.reached.get(block) {
-        return Some(Next::Peeled { block });
-    }
-    let at = place.at;
-    place.at += 1;
-    Some(Next::Fated { at })
+    let number = verdicts.damaged.next_marked(*from)?;
+    let block = verdicts.damaged.lattice().block(number);
+    *from = number + 1;
+    Some(Damaged { number, block })
 }

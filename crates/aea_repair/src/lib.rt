@@ -7,8 +7,8 @@
 //!
 //! `specs/Repairs.antt` says what a repair leaves on the disk, and `specs/Reports.antt` what it prints.
 //!
-//! Read `Repairs` (`Restores`) first. It rests on `scan` of `aea_scrub`, on plans (`aea_plan`), and on `restore` of
-//! `aea_restore`.
+//! Read `Repairs` (`Restores`) first. It rests on `scan` of `aea_scrub`, on plans (`aea_plan`), on the sums of `solve` of
+//! `aea_gauss`, and on `restore` of `aea_restore`.
 #![tactic(auto)]
 
 mod fault;

@@ -5,6 +5,7 @@ ghost use Rattle.aea_lattice.specs.declared.blocks.BlockId.{BlockId};
 ghost use Rattle.aea_lattice.specs.declared.shape.Shape.{Shape};
 ghost use Rattle.aea_shelf.specs.Places.{cell_size};
 ghost use Rattle.aea_view.specs.Marked.{AreMarks, is_marked};
+ghost use Rattle.aea_gauss.specs.Fates.{AreFates};
 ghost use Rattle.aea_report.specs.Printed.{IsPrinted};
 ghost use Rattle.aea_plan.specs.Plans.{IsSound, HasRoom, head_by};
 ghost use Rattle.aea_plan.specs.Verdicts.{lines_by};
@@ -12,6 +13,8 @@ ghost use Rattle.aea_restore.specs.Given.{IsGiven, CanBeRestored};
 ghost use Rattle.aea_restore.specs.Laws.{IsRestorable};
 
 use aea_archive::cell_buffer;
+use aea_gauss::{FateList, solve};
+use aea_lattice::blocks_are_inside;
 use aea_ledger::Ledger;
 use aea_plan::Plan;
 use aea_restore::{given_are_restorable, plans_can_be_restored};
@@ -26,10 +29,12 @@ pub(crate) struct Buffers {
     pub write: Vec<u8>,
 }
 
-/// The plan of a repair, with space for the text of the nodes of one lost block, and its buffers.
+/// The plan of a repair and the fates of what peeling leaves, of which the sums give blocks; with space for the text of the nodes
+/// of one lost block, and its buffers.
 #[derive(Drop)]
 pub(crate) struct Prepared {
     pub plan: Plan,
+    pub fates: FateList,
     pub text: Vec<u8>,
     pub buffers: Buffers,
 }
@@ -47,18 +52,39 @@ fn take_buffers(alloc: Global, ledger: &Ledger) -> Result<Buffers, AllocError>
     Ok(Buffers { sum, read, write })
 }
 
-// The plan where the marked blocks are known.
-fn plan_of(alloc: Global, marks: &Marks) -> Result<Plan, AllocError>
-    ensures lattice { IfOk result (λ p. p.verdicts.damaged.lattice ≡ marks.now.lattice) }
-    ensures sound { IfOk result IsSound }
-    ensures printed { IfOk result (λ p. (test : BlockId → Bool) (seal : Option (List ℕ)) → AreMarks marks.now test → IsPrinted marks.now.lattice test seal (head_by seal p) (lines_by p.verdicts)) }
-    ensures can { IfOk result (λ p. CanBeRestored marks.now.lattice (is_marked marks.now) p.steps p.verdicts.fates) }
-    ensures mends { IfOk result (λ p. (test : BlockId → Bool) → AreMarks marks.now test → (b : BlockId) → IsGiven p.steps p.verdicts.fates b ↔ IsRestorable marks.now.lattice test b) }
+/// A plan, and the fates of what peeling leaves.
+#[derive(Drop)]
+struct Planned {
+    plan: Plan,
+    fates: FateList,
+}
+
+// The fates of what is not reached. Where all is, no block is looked at.
+fn fates_of(alloc: Global, reached: &Marks) -> Result<FateList, AllocError>
+    ensures { IfOk result (λ fates. AreFates reached.now.lattice (is_marked reached.now) fates) }
+{
+    blocks_are_inside();
+    let lattice = reached.lattice();
+    let open = reached.complement(alloc)?;
+    match open.next_marked(0) {
+        None => Ok(FateList::new(alloc)),
+        Some(_) => solve(alloc, lattice, reached),
+    }
+}
+
+// The plan where the marked blocks are known, and the fates of what its steps do not reach.
+fn plan_of(alloc: Global, marks: &Marks) -> Result<Planned, AllocError>
+    ensures lattice { IfOk result (λ p. p.plan.verdicts.damaged.lattice ≡ marks.now.lattice) }
+    ensures sound { IfOk result (λ p. IsSound p.plan) }
+    ensures printed { IfOk result (λ p. (test : BlockId → Bool) (seal : Option (List ℕ)) → AreMarks marks.now test → IsPrinted marks.now.lattice test seal (head_by seal p.plan) (lines_by p.plan.verdicts)) }
+    ensures can { IfOk result (λ p. CanBeRestored marks.now.lattice (is_marked marks.now) p.plan.steps p.fates) }
+    ensures mends { IfOk result (λ p. (test : BlockId → Bool) → AreMarks marks.now test → (b : BlockId) → IsGiven p.plan.steps p.fates b ↔ IsRestorable marks.now.lattice test b) }
 {
     plans_can_be_restored();
     given_are_restorable();
     let plan = Plan::new(alloc, marks)?;
-    Ok(plan)
+    let fates = fates_of(alloc, &plan.verdicts.reached)?;
+    Ok(Planned { plan, fates })
 }
 
 /// Plans the repair where the marked blocks are known, and takes all memory that is needed from then on.
@@ -67,17 +93,19 @@ pub(crate) fn prepare(alloc: Global, ledger: &Ledger, marks: &Marks) -> Result<P
     ensures sound { IfOk result (λ p. IsSound p.plan) }
     ensures room { IfOk result (λ p. HasRoom p.plan (vec_capacity p.text)) }
     ensures printed { IfOk result (λ p. (test : BlockId → Bool) (seal : Option (List ℕ)) → AreMarks marks.now test → IsPrinted marks.now.lattice test seal (head_by seal p.plan) (lines_by p.plan.verdicts)) }
-    ensures can { IfOk result (λ p. CanBeRestored marks.now.lattice (is_marked marks.now) p.plan.steps p.plan.verdicts.fates) }
-    ensures mends { IfOk result (λ p. (test : BlockId → Bool) → AreMarks marks.now test → (b : BlockId) → IsGiven p.plan.steps p.plan.verdicts.fates b ↔ IsRestorable marks.now.lattice test b) }
+    ensures can { IfOk result (λ p. CanBeRestored marks.now.lattice (is_marked marks.now) p.plan.steps p.fates) }
+    ensures mends { IfOk result (λ p. (test : BlockId → Bool) → AreMarks marks.now test → (b : BlockId) → IsGiven p.plan.steps p.fates b ↔ IsRestorable marks.now.lattice test b) }
     ensures sum { IfOk result (λ p. length p.buffers.sum.items ≡ ledger.now.shape.block) }
     ensures read { IfOk result (λ p. length p.buffers.read.items ≡ cell_size ledger.now.shape) }
     ensures write { IfOk result (λ p. length p.buffers.write.items ≡ cell_size ledger.now.shape) }
 {
-    let plan = plan_of(alloc, marks)?;
+    let planned = plan_of(alloc, marks)?;
+    let plan = planned.plan;
     let text = plan.text_room(alloc)?;
     let buffers = take_buffers(alloc, ledger)?;
     Ok(Prepared {
         plan,
+        fates: planned.fates,
         text,
         buffers,
     })

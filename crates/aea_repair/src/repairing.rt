@@ -92,8 +92,8 @@ pub fn repair<D: Disk, O: Sink>(
     ensures flushed { OnOk result (IsFlushed (O.state out.new)) }
     ensures unused { IsErr result → result ≢ Err RepairFault.WriteFault → out.new ≡ out.old }
 
-    // A clash is one of two digests that differ, the first of them the ledger's; and where the intact blocks are honest for a
-    // data list that the ledger records, there is none.
+    // A clash is one of two digests that differ, the first of them the ledger's, the other that of a payload; and where the
+    // intact blocks are honest for a data list that the ledger records, there is none.
     ensures clash { (b : BlockId) (told computed : List ℕ) → result ≡ Err (RepairFault.Clash b told computed) → IsOtherDigest ledger.now b told computed }
     ensures no_clash { D.tells → (records : List Record) (datas : List (List ℕ)) → HasRecords ledger.now records → AreRecordsOf ledger.now.shape records datas
         → AreSurvivorsHonest ledger.now.shape ledger.now.lattice ledger.now.digests datas (D.state disk.old).files → (b : BlockId) (told computed : List ℕ) → result ≢ Err (RepairFault.Clash b told computed) }

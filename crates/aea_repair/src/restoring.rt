@@ -25,6 +25,7 @@ ghost use Rattle.aea_repair.specs.Reports.{IsReportOf};
 use crate::fault::RepairFault;
 use crate::prepare::{Buffers, Prepared, prepare};
 use aea_disk::Disk;
+use aea_gauss::FateList;
 use aea_ledger::Ledger;
 use aea_plan::Plan;
 use aea_restore::{RestoreFault, restore};
@@ -64,11 +65,12 @@ fn restore_planned<D: Disk>(
     disk: &mut D,
     marks: &mut Marks,
     plan: &Plan,
+    fates: &FateList,
     buffers: &mut Buffers,
 ) -> Result<(), RepairFault>
     requires lattice { marks.old.lattice ≡ ledger.now.lattice }
-    requires can { CanBeRestored ledger.now.lattice (is_marked marks.old) plan.now.steps plan.now.verdicts.fates }
-    requires mends { (test : BlockId → Bool) → AreMarks marks.old test → (b : BlockId) → IsGiven plan.now.steps plan.now.verdicts.fates b ↔ IsRestorable ledger.now.lattice test b }
+    requires can { CanBeRestored ledger.now.lattice (is_marked marks.old) plan.now.steps fates.now }
+    requires mends { (test : BlockId → Bool) → AreMarks marks.old test → (b : BlockId) → IsGiven plan.now.steps fates.now b ↔ IsRestorable ledger.now.lattice test b }
     requires sum { length buffers.old.sum.items ≡ ledger.now.shape.block }
     requires read { length buffers.old.read.items ≡ cell_size ledger.now.shape }
     requires write { length buffers.old.write.items ≡ cell_size ledger.now.shape }
@@ -90,7 +92,7 @@ fn restore_planned<D: Disk>(
         disk,
         marks,
         &plan.steps,
-        &plan.verdicts.fates,
+        fates,
         buffers.sum.as_mut_slice(),
         buffers.read.as_mut_slice(),
         buffers.write.as_mut_slice(),
@@ -135,10 +137,11 @@ pub(crate) fn restore_archive<D: Disk>(
     };
     let Prepared {
         plan,
+        fates,
         text,
         mut buffers,
     } = prepared;
-    match restore_planned(ledger, disk, &mut marks, &plan, &mut buffers) {
+    match restore_planned(ledger, disk, &mut marks, &plan, &fates, &mut buffers) {
         Ok(()) => Ok(Done { plan, text }),
         Err(fault) => Err(fault),
     }

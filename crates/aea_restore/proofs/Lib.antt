@@ -3,8 +3,10 @@ mod Parts
 mod Drawing
 mod Ways
 mod Ends
-mod Adding
+mod Items
 mod Loops
+mod Judging
+mod Ordered
 mod Blocks
 pub mod Planned
 mod Restorable

@@ -19,7 +19,7 @@ use Rattle.aea_view.specs.Marked.{Marked, is_marked}
 use Rattle.aea_ledger.specs.Values.{Opened}
 use Rattle.aea_restore.specs.Repairs.{MarksSome}
 use Rattle.aea_restore.specs.UnderWay.{IsUnderWay, GoesOn, IsTornAfter, StaysDrawn, AddsBlock}
-use Rattle.aea_restore.proofs.Adding.{take_next, take_more}
+use Rattle.aea_restore.proofs.Items.{take_next, take_more}
 
 -- ---- marks
 
@@ -31,7 +31,7 @@ or_none : (a : Bool) → (a || false) ≡ a
 or_none true = refl
 or_none false = refl
 
-among-both : (xs ys : List BlockId) (d : BlockId) → is_among (xs ++ ys) d ≡ (is_among xs d || is_among ys d)
+pub among-both : (xs ys : List BlockId) (d : BlockId) → is_among (xs ++ ys) d ≡ (is_among xs d || is_among ys d)
 among-both [] ys d = refl
 among-both (x ∷ xs) ys d = ap (λ b. same_block d x || b) (among-both xs ys d) ∙ sym (or_assoc (same_block d x) (is_among xs d) (is_among ys d))
 

@@ -75,7 +75,7 @@ each-blocks_at l e has (Some g) was = (
   (member_inside l e (block_of e.node Datum) has (datum_in l e), (member_inside l e (block_of e.node e.class) has (output_in l e), tt)),
 )
 
-each-equations : (l : Lattice) (es : List EqId) → Each (HasEquation l) es → Each (HasBlock l) (flat_map (equation_blocks l) es)
+pub each-equations : (l : Lattice) (es : List EqId) → Each (HasEquation l) es → Each (HasBlock l) (flat_map (equation_blocks l) es)
 each-equations l [] each = tt
 each-equations l (e ∷ es) each =
     Each-append (HasBlock l) (equation_blocks l e) (flat_map (equation_blocks l) es)

@@ -1,5 +1,5 @@
 -- Payloads that are sums of survivors.
-use Rattle.std.specs.Prelude.{◌≡◌, ◌≢◌, ◌&&◌, ℕ, Bool, not, List, map, filter, fold, All, IsTrue}
+use Rattle.std.specs.Prelude.{◌≡◌, ◌≢◌, ◌&&◌, ℕ, Bool, not, List, length, map, filter, fold, All, IsTrue}
 use Rattle.std.specs.List.{flat_map}
 use Rattle.aea_lattice.specs.declared.blocks.BlockId.{BlockId}
 use Rattle.aea_lattice.specs.declared.blocks.EqId.{EqId}
@@ -43,10 +43,14 @@ other_blocks l picks b equations = filter (is_other picks b) (flat_map (equation
 abbrev pub added_up : Shape → Files → List ℕ → List BlockId → List ℕ
 added_up shape c start blocks = fold xor_bytes start (map (payload_at shape c) blocks)
 
--- Two digests of a block of the lattice differ: the one that the ledger keeps of it, and another.
+-- Two digests of a block of the lattice differ: the one that the ledger keeps of it, and that of another payload, which has the
+-- bytes of a block.
 pub record IsOtherDigest (v : Opened) (b : BlockId) (told computed : List ℕ) : Type 0 where
   pub block : HasBlock v.lattice b
   pub told_is : told ≡ recorded_in v.shape v.digests b
+  pub payload : List ℕ
+  pub size : length payload ≡ v.shape.block
+  pub computed_is : computed ≡ block_digest b payload
   pub differ : computed ≢ told
 
 -- Two digests of a block that is to be restored differ: the one that the ledger keeps of it, and that of a payload which

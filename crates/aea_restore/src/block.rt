@@ -9,6 +9,8 @@ ghost use Rattle.aea_shelf.specs.Places.{cell_size};
 ghost use Rattle.aea_view.specs.Marked.{is_marked};
 ghost use Rattle.aea_restore.specs.Plans.{Give};
 ghost use Rattle.aea_restore.specs.Drawn.{IsDrawn, IsOtherDigest, IsClash};
+ghost use Rattle.aea_archive.specs.Blocks.{recorded_in};
+ghost use Rattle.aea_restore.specs.Judged.{IsComputed, IsFound};
 ghost use Rattle.aea_restore.specs.Repairs.{WritesBlocks};
 ghost use Rattle.aea_restore.specs.UnderWay.{AreDrawn, GoesOn, IsTornAfter, StaysDrawn, AddsBlock};
 
@@ -49,6 +51,7 @@ fn write_block<D: Disk>(
     ensures way { result ≢ Err RestoreFault.DiskFault → D.tells → GoesOn ledger.now (is_marked marks.old) (is_marked marks.new) (D.state disk.old).files (D.state disk.new).files }
     ensures torn { result ≡ Err RestoreFault.DiskFault → D.tells → IsTornAfter ledger.now (λ a. a ≡ b) (is_marked marks.old) (is_marked marks.new) (D.state disk.old).files (D.state disk.new).files }
     ensures drawn { D.tells → (known : BlockId → Bool) (first : Files) → IsDrawn ledger.now known first b sum.now → AreDrawn ledger.now known (is_marked marks.old) first (D.state disk.old).files → AreDrawn ledger.now known (is_marked marks.new) first (D.state disk.new).files }
+    ensures digest { OnOk result (block_digest b sum.now ≡ recorded_in ledger.now.shape ledger.now.digests b) }
     ensures clash { (d : BlockId) (told computed : List ℕ) → result ≡ Err (RestoreFault.Clash d told computed) → (d ≡ b) × (IsOtherDigest ledger.now b told computed × (computed ≡ block_digest b sum.now)) }
     ensures writes { WritesBlocks D.tells ledger.now (λ a. a ≢ b) (result ≡ Err RestoreFault.DiskFault) (D.state disk.old) (D.state disk.new) }
 {
@@ -85,6 +88,8 @@ pub(crate) fn restore_step<D: Disk>(
     ensures way { result ≢ Err RestoreFault.DiskFault → D.tells → GoesOn ledger.now (is_marked marks.old) (is_marked marks.new) (D.state disk.old).files (D.state disk.new).files }
     ensures torn { result ≡ Err RestoreFault.DiskFault → D.tells → IsTornAfter ledger.now (λ a. a ≡ step.block) (is_marked marks.old) (is_marked marks.new) (D.state disk.old).files (D.state disk.new).files }
     ensures drawn { D.tells → StaysDrawn ledger.now (is_marked marks.old) (is_marked marks.new) (D.state disk.old).files (D.state disk.new).files }
+    ensures judged { OnOk result (is_marked marks.old step.block ≡ false → IsComputed D.tells ledger.now (D.state disk.old).files (is_marked marks.old) step.block (step.by ∷ [])) }
+    ensures found { (d : BlockId) (told computed : List ℕ) → result ≡ Err (RestoreFault.Clash d told computed) → (is_marked marks.old step.block ≡ false) × IsFound D.tells ledger.now (D.state disk.old).files (is_marked marks.old) step.block (step.by ∷ []) d told computed }
     ensures other { (d : BlockId) (told computed : List ℕ) → result ≡ Err (RestoreFault.Clash d told computed) → IsOtherDigest ledger.now d told computed }
     ensures clash { (d : BlockId) (told computed : List ℕ) → result ≡ Err (RestoreFault.Clash d told computed) → D.tells → (known : BlockId → Bool) (first : Files) → AreDrawn ledger.now known (is_marked marks.old) first (D.state disk.old).files → (d ≡ step.block) × IsClash ledger.now known first d told computed }
     ensures writes { WritesBlocks D.tells ledger.now (λ a. a ≢ step.block) (result ≡ Err RestoreFault.DiskFault) (D.state disk.old) (D.state disk.new) }
@@ -126,6 +131,8 @@ pub(crate) fn restore_sum<D: Disk>(
     ensures way { result ≢ Err RestoreFault.DiskFault → D.tells → GoesOn ledger.now (is_marked marks.old) (is_marked marks.new) (D.state disk.old).files (D.state disk.new).files }
     ensures torn { result ≡ Err RestoreFault.DiskFault → D.tells → IsTornAfter ledger.now (λ a. a ≡ b) (is_marked marks.old) (is_marked marks.new) (D.state disk.old).files (D.state disk.new).files }
     ensures drawn { D.tells → StaysDrawn ledger.now (is_marked marks.old) (is_marked marks.new) (D.state disk.old).files (D.state disk.new).files }
+    ensures judged { OnOk result (is_marked marks.old b ≡ false → IsComputed D.tells ledger.now (D.state disk.old).files (is_marked marks.old) b (equations.now)) }
+    ensures found { (d : BlockId) (told computed : List ℕ) → result ≡ Err (RestoreFault.Clash d told computed) → (is_marked marks.old b ≡ false) × IsFound D.tells ledger.now (D.state disk.old).files (is_marked marks.old) b (equations.now) d told computed }
     ensures other { (d : BlockId) (told computed : List ℕ) → result ≡ Err (RestoreFault.Clash d told computed) → IsOtherDigest ledger.now d told computed }
     ensures clash { (d : BlockId) (told computed : List ℕ) → result ≡ Err (RestoreFault.Clash d told computed) → D.tells → (known : BlockId → Bool) (first : Files) → AreDrawn ledger.now known (is_marked marks.old) first (D.state disk.old).files → (d ≡ b) × IsClash ledger.now known first d told computed }
     ensures writes { WritesBlocks D.tells ledger.now (λ a. a ≢ b) (result ≡ Err RestoreFault.DiskFault) (D.state disk.old) (D.state disk.new) }

@@ -11,6 +11,7 @@ ghost use Rattle.aea_shelf.specs.Intact.{payload_in, payload_at};
 ghost use Rattle.aea_shelf.specs.Writes.{KeepsPadded};
 ghost use Rattle.aea_archive.specs.Blocks.{recorded_in, IsIntactBy};
 ghost use Rattle.aea_restore.specs.Drawn.{IsOtherDigest};
+ghost use Rattle.aea_restore.specs.Judged.{IsJudged, IsReadClash};
 ghost use Rattle.aea_restore.specs.Repairs.{WritesBlocks};
 
 use crate::fault::RestoreFault;
@@ -33,10 +34,9 @@ pub(crate) fn read_payload<D: Disk>(
 ) -> Result<(), RestoreFault>
     requires block { HasBlock ledger.now.lattice b }
     requires buffer { length read.old ≡ cell_size ledger.now.shape }
-    ensures digest { OnOk result (block_digest b (payload_in ledger.now.shape read.new) ≡ recorded_in ledger.now.shape ledger.now.digests b) }
-    ensures payload { OnOk result (D.tells → IsIntactBy ledger.now.shape ledger.now.digests (D.state disk.old).files b → payload_in ledger.now.shape read.new ≡ payload_at ledger.now.shape (D.state disk.old).files b) }
+    ensures judged { OnOk result (IsJudged D.tells ledger.now (D.state disk.old).files b (payload_in ledger.now.shape read.new)) }
     ensures clash { (d : BlockId) (told computed : List ℕ) → result ≡ Err (RestoreFault.Clash d told computed) → IsOtherDigest ledger.now d told computed }
-    ensures damaged { (d : BlockId) (told computed : List ℕ) → result ≡ Err (RestoreFault.Clash d told computed) → D.tells → IsIntactBy ledger.now.shape ledger.now.digests (D.state disk.old).files b → ⊥ }
+    ensures found { (d : BlockId) (told computed : List ℕ) → result ≡ Err (RestoreFault.Clash d told computed) → (d ≡ b) × IsReadClash D.tells ledger.now (D.state disk.old).files d told computed }
     ensures reads { OnlyReads D.tells (result ≡ Err RestoreFault.DiskFault) (D.state disk.old) (D.state disk.new) }
 {
     let want = recorded(ledger, b);
@@ -78,6 +78,7 @@ pub(crate) fn write_payload<D: Disk>(
     requires sum { length sum.now ≡ ledger.now.shape.block }
     requires buffer { length write.old ≡ cell_size ledger.now.shape }
     ensures intact { OnOk result (D.tells → IsIntactBy ledger.now.shape ledger.now.digests (D.state disk.new).files b) }
+    ensures digest { OnOk result (block_digest b sum.now ≡ recorded_in ledger.now.shape ledger.now.digests b) }
     ensures payload { OnOk result (D.tells → payload_at ledger.now.shape (D.state disk.new).files b ≡ sum.now) }
     ensures clash { (d : BlockId) (told computed : List ℕ) → result ≡ Err (RestoreFault.Clash d told computed) → (d ≡ b) × (IsOtherDigest ledger.now b told computed × (computed ≡ block_digest b sum.now)) }
     // A clash comes before the write.

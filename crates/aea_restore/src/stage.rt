@@ -1,7 +1,8 @@
 //! The writing stage of a repair.
 
-ghost use Rattle.std.specs.Prelude.{◌≡◌, ◌≢◌, ◌||◌, ℕ, List, Bool, length, All, IsTrue, IsErr, OnOk, Err};
+ghost use Rattle.std.specs.Prelude.{◌≡◌, ◌≢◌, ◌||◌, ℕ, List, Bool, false, length, All, IsTrue, IsErr, OnOk, Err};
 ghost use Rattle.aea_lattice.specs.declared.blocks.BlockId.{BlockId};
+ghost use Rattle.aea_lattice.specs.declared.blocks.EqId.{EqId};
 ghost use Rattle.aea_lattice.specs.Blocks.{HasBlock};
 ghost use Rattle.aea_lattice.specs.Closure.{is_among};
 ghost use Rattle.aea_disk.specs.Files.{Files};
@@ -9,6 +10,7 @@ ghost use Rattle.aea_disk.specs.State.{During, AtEachMoment, IsFixed, IsSynced};
 ghost use Rattle.aea_shelf.specs.Places.{cell_size};
 ghost use Rattle.aea_shelf.specs.Intact.{IsHeldIn};
 ghost use Rattle.aea_view.specs.Marked.{is_marked};
+ghost use Rattle.aea_gauss.specs.declared.fates.Fate.TheVariants.{Sum};
 ghost use Rattle.aea_records.specs.Format.{Record};
 ghost use Rattle.aea_ledger.specs.Recorded.{AreRecordsOf};
 ghost use Rattle.aea_ledger.specs.Values.{HasRecords};
@@ -16,8 +18,10 @@ ghost use Rattle.aea_archive.specs.Blocks.{recorded_in, IsIntactBy, IsHeldBy, Te
 ghost use Rattle.aea_archive.specs.Data.{AreSurvivorsHonest, AreSomeHonest};
 ghost use Rattle.aea_restore.specs.Given.{block_summed, blocks_summed, is_given, IsGiven, CanSum, CanBeRestored};
 ghost use Rattle.aea_restore.specs.Drawn.{IsOtherDigest, IsClash};
+ghost use Rattle.aea_restore.specs.Judged.{IsComputed, IsFound};
+ghost use Rattle.aea_restore.specs.InOrder.{all_sums, GoInOrder, AreReadJudged};
 ghost use Rattle.aea_restore.specs.Repairs.{IsLeft, WritesBlocks, Leaves, MarksSome, MarksMore};
-ghost use Rattle.aea_restore.specs.UnderWay.{AreDrawn, GoesOn, IsTornAfter, StaysDrawn};
+ghost use Rattle.aea_restore.specs.UnderWay.{IsUnderWay, AreDrawn, GoesOn, IsTornAfter, StaysDrawn};
 
 use crate::block::restore_sum;
 use crate::fault::RestoreFault;
@@ -50,6 +54,8 @@ fn restore_fate<D: Disk>(
     ensures way { result ≢ Err RestoreFault.DiskFault → D.tells → GoesOn ledger.now (is_marked marks.old) (is_marked marks.new) (D.state disk.old).files (D.state disk.new).files }
     ensures torn { result ≡ Err RestoreFault.DiskFault → D.tells → IsTornAfter ledger.now (λ d. IsTrue (is_among (block_summed fate.now) d)) (is_marked marks.old) (is_marked marks.new) (D.state disk.old).files (D.state disk.new).files }
     ensures drawn { D.tells → StaysDrawn ledger.now (is_marked marks.old) (is_marked marks.new) (D.state disk.old).files (D.state disk.new).files }
+    ensures judged { OnOk result ((b : BlockId) (equations : List EqId) → fate.now ≡ Sum b equations → is_marked marks.old b ≡ false → IsComputed D.tells ledger.now (D.state disk.old).files (is_marked marks.old) b equations) }
+    ensures found { (d : BlockId) (told computed : List ℕ) → result ≡ Err (RestoreFault.Clash d told computed) → (b : BlockId) × (equations : List EqId) × (fate.now ≡ Sum b equations) × (is_marked marks.old b ≡ false) × IsFound D.tells ledger.now (D.state disk.old).files (is_marked marks.old) b equations d told computed }
     ensures other { (d : BlockId) (told computed : List ℕ) → result ≡ Err (RestoreFault.Clash d told computed) → IsOtherDigest ledger.now d told computed }
     ensures clash { (d : BlockId) (told computed : List ℕ) → result ≡ Err (RestoreFault.Clash d told computed) → D.tells → (known : BlockId → Bool) (first : Files) → AreDrawn ledger.now known (is_marked marks.old) first (D.state disk.old).files → IsTrue (is_among (block_summed fate.now) d) × IsClash ledger.now known first d told computed }
     ensures writes { WritesBlocks D.tells ledger.now (IsLeft (λ d. IsTrue (is_among (block_summed fate.now) d))) (result ≡ Err RestoreFault.DiskFault) (D.state disk.old) (D.state disk.new) }
@@ -84,6 +90,7 @@ fn restore_sums<D: Disk>(
     ensures way { result ≢ Err RestoreFault.DiskFault → D.tells → GoesOn ledger.now (is_marked marks.old) (is_marked marks.new) (D.state disk.old).files (D.state disk.new).files }
     ensures torn { result ≡ Err RestoreFault.DiskFault → D.tells → IsTornAfter ledger.now (λ d. IsTrue (is_among (blocks_summed fates.now) d)) (is_marked marks.old) (is_marked marks.new) (D.state disk.old).files (D.state disk.new).files }
     ensures drawn { D.tells → StaysDrawn ledger.now (is_marked marks.old) (is_marked marks.new) (D.state disk.old).files (D.state disk.new).files }
+    ensures order { (known : BlockId → Bool) (first : Files) → (D.tells → IsUnderWay ledger.now known (is_marked marks.old) first (D.state disk.old).files) → GoInOrder D.tells ledger.now known (is_marked marks.old) (is_marked marks.new) first fates.now result }
     ensures other { (d : BlockId) (told computed : List ℕ) → result ≡ Err (RestoreFault.Clash d told computed) → IsOtherDigest ledger.now d told computed }
     ensures clash { (d : BlockId) (told computed : List ℕ) → result ≡ Err (RestoreFault.Clash d told computed) → D.tells → (known : BlockId → Bool) (first : Files) → AreDrawn ledger.now known (is_marked marks.old) first (D.state disk.old).files → IsTrue (is_among (blocks_summed fates.now) d) × IsClash ledger.now known first d told computed }
     ensures writes { WritesBlocks D.tells ledger.now (IsLeft (λ d. IsTrue (is_among (blocks_summed fates.now) d))) (result ≡ Err RestoreFault.DiskFault) (D.state disk.old) (D.state disk.new) }
@@ -123,6 +130,7 @@ fn restore_all<D: Disk>(
     ensures way { result ≢ Err RestoreFault.DiskFault → D.tells → GoesOn ledger.now (is_marked marks.old) (is_marked marks.new) (D.state disk.old).files (D.state disk.new).files }
     ensures torn { result ≡ Err RestoreFault.DiskFault → D.tells → IsTornAfter ledger.now (IsGiven steps.now fates.now) (is_marked marks.old) (is_marked marks.new) (D.state disk.old).files (D.state disk.new).files }
     ensures drawn { D.tells → StaysDrawn ledger.now (is_marked marks.old) (is_marked marks.new) (D.state disk.old).files (D.state disk.new).files }
+    ensures order { (known : BlockId → Bool) (first : Files) → (D.tells → IsUnderWay ledger.now known (is_marked marks.old) first (D.state disk.old).files) → GoInOrder D.tells ledger.now known (is_marked marks.old) (is_marked marks.new) first (all_sums steps.now fates.now) result }
     ensures other { (d : BlockId) (told computed : List ℕ) → result ≡ Err (RestoreFault.Clash d told computed) → IsOtherDigest ledger.now d told computed }
     ensures clash { (d : BlockId) (told computed : List ℕ) → result ≡ Err (RestoreFault.Clash d told computed) → D.tells → (known : BlockId → Bool) (first : Files) → AreDrawn ledger.now known (is_marked marks.old) first (D.state disk.old).files → IsGiven steps.now fates.now d × IsClash ledger.now known first d told computed }
     ensures writes { WritesBlocks D.tells ledger.now (IsLeft (IsGiven steps.now fates.now)) (result ≡ Err RestoreFault.DiskFault) (D.state disk.old) (D.state disk.new) }
@@ -166,7 +174,15 @@ pub fn restore<D: Disk>(
     ensures marks { MarksMore ledger.now.lattice (IsGiven steps.now fates.now) marks.old marks.new result }
     ensures lattice { marks.new.lattice ≡ ledger.now.lattice }
 
-    // Over any disk, a clash is one of two digests that differ, the first of them the ledger's.
+    // In the order of the lists, over any disk and whatever is marked: the first of the steps and then the Sums were carried
+    // out, all where it is Ok. Each of their blocks was computed from payloads that were read and judged, those at their homes
+    // in the files as they were then, where the contents are known; and a clash came at the next of them, of a block that was
+    // read for it or of its own block. So each block that was marked at first and was read had its payload at first.
+    ensures order { GoInOrder D.tells ledger.now (is_marked marks.old) (is_marked marks.old) (is_marked marks.new) (D.state disk.old).files (all_sums steps.now fates.now) result }
+    ensures judged { OnOk result (D.tells → AreReadJudged D.tells ledger.now (is_marked marks.old) (D.state disk.old).files (all_sums steps.now fates.now)) }
+    ensures way { result ≢ Err RestoreFault.DiskFault → D.tells → IsUnderWay ledger.now (is_marked marks.old) (is_marked marks.new) (D.state disk.old).files (D.state disk.new).files }
+
+    // Over any disk, a clash is one of two digests that differ, the first of them the ledger's, the other that of a payload.
     ensures clash { (d : BlockId) (told computed : List ℕ) → result ≡ Err (RestoreFault.Clash d told computed) → IsOtherDigest ledger.now d told computed }
 
     // Where the blocks that are marked at first are exactly the intact ones: a clash is one of a block that is given, of which

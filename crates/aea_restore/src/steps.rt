@@ -1,6 +1,6 @@
 //! Steps that are carried out one after the other.
 
-ghost use Rattle.std.specs.Prelude.{◌≡◌, ◌≢◌, ℕ, List, Bool, length, IsTrue, OnOk, Err};
+ghost use Rattle.std.specs.Prelude.{◌≡◌, ◌≢◌, ℕ, List, Bool, length, map, IsTrue, OnOk, Err};
 ghost use Rattle.aea_lattice.specs.declared.blocks.BlockId.{BlockId};
 ghost use Rattle.aea_lattice.specs.Blocks.{HasBlock};
 ghost use Rattle.aea_lattice.specs.Closure.{is_among};
@@ -10,8 +10,9 @@ ghost use Rattle.aea_view.specs.Marked.{is_marked};
 ghost use Rattle.aea_peel.specs.Plans.{blocks_given, is_had};
 ghost use Rattle.aea_restore.specs.Plans.{AreStepsOn};
 ghost use Rattle.aea_restore.specs.Drawn.{IsOtherDigest, IsClash};
+ghost use Rattle.aea_restore.specs.InOrder.{sum_of, GoInOrder};
 ghost use Rattle.aea_restore.specs.Repairs.{IsLeft, WritesBlocks, MarksSome};
-ghost use Rattle.aea_restore.specs.UnderWay.{AreDrawn, GoesOn, IsTornAfter, StaysDrawn};
+ghost use Rattle.aea_restore.specs.UnderWay.{IsUnderWay, AreDrawn, GoesOn, IsTornAfter, StaysDrawn};
 
 use crate::block::restore_step;
 use crate::fault::RestoreFault;
@@ -41,6 +42,7 @@ pub(crate) fn restore_steps<D: Disk>(
     ensures way { result ≢ Err RestoreFault.DiskFault → D.tells → GoesOn ledger.now (is_marked marks.old) (is_marked marks.new) (D.state disk.old).files (D.state disk.new).files }
     ensures torn { result ≡ Err RestoreFault.DiskFault → D.tells → IsTornAfter ledger.now (λ d. IsTrue (is_among (blocks_given steps.now) d)) (is_marked marks.old) (is_marked marks.new) (D.state disk.old).files (D.state disk.new).files }
     ensures drawn { D.tells → StaysDrawn ledger.now (is_marked marks.old) (is_marked marks.new) (D.state disk.old).files (D.state disk.new).files }
+    ensures order { (known : BlockId → Bool) (first : Files) → (D.tells → IsUnderWay ledger.now known (is_marked marks.old) first (D.state disk.old).files) → GoInOrder D.tells ledger.now known (is_marked marks.old) (is_marked marks.new) first (map sum_of steps.now) result }
     ensures other { (d : BlockId) (told computed : List ℕ) → result ≡ Err (RestoreFault.Clash d told computed) → IsOtherDigest ledger.now d told computed }
     ensures clash { (d : BlockId) (told computed : List ℕ) → result ≡ Err (RestoreFault.Clash d told computed) → D.tells → (known : BlockId → Bool) (first : Files) → AreDrawn ledger.now known (is_marked marks.old) first (D.state disk.old).files → IsTrue (is_among (blocks_given steps.now) d) × IsClash ledger.now known first d told computed }
     ensures writes { WritesBlocks D.tells ledger.now (IsLeft (λ d. IsTrue (is_among (blocks_given steps.now) d))) (result ≡ Err RestoreFault.DiskFault) (D.state disk.old) (D.state disk.new) }

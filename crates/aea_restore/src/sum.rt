@@ -10,7 +10,8 @@ ghost use Rattle.aea_disk.specs.Frames.{OnlyReads};
 ghost use Rattle.aea_shelf.specs.Places.{cell_size};
 ghost use Rattle.aea_archive.specs.Blocks.{IsIntactBy};
 ghost use Rattle.aea_shelf.specs.Intact.{payload_at};
-ghost use Rattle.aea_restore.specs.Drawn.{is_other, other_blocks, added_up, AreAllIntact, IsOtherDigest};
+ghost use Rattle.aea_restore.specs.Drawn.{is_other, other_blocks, IsOtherDigest};
+ghost use Rattle.aea_restore.specs.Judged.{IsJudgedSum, IsReadClashIn};
 
 use crate::fault::RestoreFault;
 use crate::payload::read_payload;
@@ -31,9 +32,9 @@ fn add_payload<D: Disk>(
     requires block { HasBlock ledger.now.lattice b }
     requires buffer { length read.old ≡ cell_size ledger.now.shape }
     requires sum { length sum.old ≡ ledger.now.shape.block }
-    ensures sum { OnOk result (D.tells → IsIntactBy ledger.now.shape ledger.now.digests (D.state disk.old).files b → sum.new ≡ xor_bytes sum.old (payload_at ledger.now.shape (D.state disk.old).files b)) }
+    ensures judged { OnOk result (IsJudgedSum D.tells ledger.now (D.state disk.old).files sum.old (b ∷ []) sum.new) }
     ensures clash { (d : BlockId) (told computed : List ℕ) → result ≡ Err (RestoreFault.Clash d told computed) → IsOtherDigest ledger.now d told computed }
-    ensures damaged { (d : BlockId) (told computed : List ℕ) → result ≡ Err (RestoreFault.Clash d told computed) → D.tells → IsIntactBy ledger.now.shape ledger.now.digests (D.state disk.old).files b → ⊥ }
+    ensures found { (d : BlockId) (told computed : List ℕ) → result ≡ Err (RestoreFault.Clash d told computed) → IsReadClashIn D.tells ledger.now (D.state disk.old).files (b ∷ []) d told computed }
     ensures reads { OnlyReads D.tells (result ≡ Err RestoreFault.DiskFault) (D.state disk.old) (D.state disk.new) }
 {
     match read_payload(ledger, disk, b, read) {
@@ -71,9 +72,9 @@ fn add_other<D: Disk>(
     requires block { HasBlock ledger.now.lattice other }
     requires buffer { length read.old ≡ cell_size ledger.now.shape }
     requires sum { length sum.old ≡ ledger.now.shape.block }
-    ensures sum { OnOk result (D.tells → AreAllIntact ledger.now (is_marked marks.now) (D.state disk.old).files → sum.new ≡ added_up ledger.now.shape (D.state disk.old).files sum.old (filter (is_other (is_marked marks.now) b) (other ∷ []))) }
+    ensures judged { OnOk result (IsJudgedSum D.tells ledger.now (D.state disk.old).files sum.old (filter (is_other (is_marked marks.now) b) (other ∷ [])) sum.new) }
     ensures clash { (d : BlockId) (told computed : List ℕ) → result ≡ Err (RestoreFault.Clash d told computed) → IsOtherDigest ledger.now d told computed }
-    ensures damaged { (d : BlockId) (told computed : List ℕ) → result ≡ Err (RestoreFault.Clash d told computed) → D.tells → AreAllIntact ledger.now (is_marked marks.now) (D.state disk.old).files → ⊥ }
+    ensures found { (d : BlockId) (told computed : List ℕ) → result ≡ Err (RestoreFault.Clash d told computed) → IsReadClashIn D.tells ledger.now (D.state disk.old).files (filter (is_other (is_marked marks.now) b) (other ∷ [])) d told computed }
     ensures reads { OnlyReads D.tells (result ≡ Err RestoreFault.DiskFault) (D.state disk.old) (D.state disk.new) }
 {
     if !is_another(marks, b, other) {
@@ -96,9 +97,9 @@ fn add_input<D: Disk>(
     requires block { IfSome input (HasBlock ledger.now.lattice) }
     requires buffer { length read.old ≡ cell_size ledger.now.shape }
     requires sum { length sum.old ≡ ledger.now.shape.block }
-    ensures sum { OnOk result (D.tells → AreAllIntact ledger.now (is_marked marks.now) (D.state disk.old).files → sum.new ≡ added_up ledger.now.shape (D.state disk.old).files sum.old (filter (is_other (is_marked marks.now) b) (option_to_list input))) }
+    ensures judged { OnOk result (IsJudgedSum D.tells ledger.now (D.state disk.old).files sum.old (filter (is_other (is_marked marks.now) b) (option_to_list input)) sum.new) }
     ensures clash { (d : BlockId) (told computed : List ℕ) → result ≡ Err (RestoreFault.Clash d told computed) → IsOtherDigest ledger.now d told computed }
-    ensures damaged { (d : BlockId) (told computed : List ℕ) → result ≡ Err (RestoreFault.Clash d told computed) → D.tells → AreAllIntact ledger.now (is_marked marks.now) (D.state disk.old).files → ⊥ }
+    ensures found { (d : BlockId) (told computed : List ℕ) → result ≡ Err (RestoreFault.Clash d told computed) → IsReadClashIn D.tells ledger.now (D.state disk.old).files (filter (is_other (is_marked marks.now) b) (option_to_list input)) d told computed }
     ensures reads { OnlyReads D.tells (result ≡ Err RestoreFault.DiskFault) (D.state disk.old) (D.state disk.new) }
 {
     match input {
@@ -121,9 +122,9 @@ pub(crate) fn add_equation<D: Disk>(
     requires equation { HasEquation ledger.now.lattice e }
     requires buffer { length read.old ≡ cell_size ledger.now.shape }
     requires sum { length sum.old ≡ ledger.now.shape.block }
-    ensures sum { OnOk result (D.tells → AreAllIntact ledger.now (is_marked marks.now) (D.state disk.old).files → sum.new ≡ added_up ledger.now.shape (D.state disk.old).files sum.old (other_blocks ledger.now.lattice (is_marked marks.now) b (e ∷ []))) }
+    ensures judged { OnOk result (IsJudgedSum D.tells ledger.now (D.state disk.old).files sum.old (other_blocks ledger.now.lattice (is_marked marks.now) b (e ∷ [])) sum.new) }
     ensures clash { (d : BlockId) (told computed : List ℕ) → result ≡ Err (RestoreFault.Clash d told computed) → IsOtherDigest ledger.now d told computed }
-    ensures damaged { (d : BlockId) (told computed : List ℕ) → result ≡ Err (RestoreFault.Clash d told computed) → D.tells → AreAllIntact ledger.now (is_marked marks.now) (D.state disk.old).files → ⊥ }
+    ensures found { (d : BlockId) (told computed : List ℕ) → result ≡ Err (RestoreFault.Clash d told computed) → IsReadClashIn D.tells ledger.now (D.state disk.old).files (other_blocks ledger.now.lattice (is_marked marks.now) b (e ∷ [])) d told computed }
     ensures reads { OnlyReads D.tells (result ≡ Err RestoreFault.DiskFault) (D.state disk.old) (D.state disk.new) }
 {
     let blocks = ledger.lattice().equation(e);
@@ -155,9 +156,9 @@ pub(crate) fn add_equations<D: Disk>(
     requires equations { All (HasEquation ledger.now.lattice) equations.now }
     requires buffer { length read.old ≡ cell_size ledger.now.shape }
     requires sum { length sum.old ≡ ledger.now.shape.block }
-    ensures sum { OnOk result (D.tells → AreAllIntact ledger.now (is_marked marks.now) (D.state disk.old).files → sum.new ≡ added_up ledger.now.shape (D.state disk.old).files sum.old (other_blocks ledger.now.lattice (is_marked marks.now) b equations.now)) }
+    ensures judged { OnOk result (IsJudgedSum D.tells ledger.now (D.state disk.old).files sum.old (other_blocks ledger.now.lattice (is_marked marks.now) b equations.now) sum.new) }
     ensures clash { (d : BlockId) (told computed : List ℕ) → result ≡ Err (RestoreFault.Clash d told computed) → IsOtherDigest ledger.now d told computed }
-    ensures damaged { (d : BlockId) (told computed : List ℕ) → result ≡ Err (RestoreFault.Clash d told computed) → D.tells → AreAllIntact ledger.now (is_marked marks.now) (D.state disk.old).files → ⊥ }
+    ensures found { (d : BlockId) (told computed : List ℕ) → result ≡ Err (RestoreFault.Clash d told computed) → IsReadClashIn D.tells ledger.now (D.state disk.old).files (other_blocks ledger.now.lattice (is_marked marks.now) b equations.now) d told computed }
     ensures reads { OnlyReads D.tells (result ≡ Err RestoreFault.DiskFault) (D.state disk.old) (D.state disk.new) }
 {
     for k in 0..equations.len() {

@@ -52,6 +52,13 @@ solve_part-requires-clause-few c =
     let part : ArePart l kn bs es = part_from l kn bs _ es _ (c.in_ok-parts.ensures.each label c.loop-label-test.true) b e in
     part_few l kn bs es part
 
+pub loop-label-init : goal.loop-label-init
+loop-label-init c = record {
+  blocks = c.in_ok-fates.ensures.blocks;
+  lost = c.in_ok-fates.ensures.lost (is_marked c.args.known.now) c.in_ok-list.ensures;
+  right = λ k a none. absurd (omega (arith, none));
+}
+
 pub loop-label-preserved : goal.loop-label-preserved
 loop-label-preserved c =
     let l = c.args.lattice.now in
@@ -62,12 +69,12 @@ loop-label-preserved c =
     let b : bs ≡ get_or c.in_ok-parts.parts.blocks.items label [] = c.bucket_at-part_blocks.ensures ∙ ap (λ xs. get_or xs label []) c.as_slice-in-loop-label.ensures.value in
     let e : es ≡ get_or c.in_ok-parts.parts.equations.items label [] = c.bucket_at-part_equations.ensures ∙ ap (λ xs. get_or xs label []) c.as_slice-in-loop-label-2.ensures.value in
     let part : ArePart l kn bs es = part_from l kn bs _ es _ (c.in_ok-parts.ensures.each label c.loop-label-test.true) b e in
-    solved_more l kn c.as_slice-blocks.result.now c.in_ok-parts.parts.blocks.items label bs c.loop-label.fates c.solve_part.new.fates c.loop-label.invariant b
-    c.in_ok-solve_part.ensures.fates (c.in_ok-solve_part.ensures.rights kn part)
+    solved_more l kn c.as_slice-blocks.result.now c.in_ok-list.list c.in_ok-parts.parts.blocks.items label bs c.loop-label.fates c.solve_part.new.fates c.loop-label.invariant b
+    c.in_ok-solve_part.ensures.fates (c.in_ok-solve_part.ensures.rights kn part c.loop-label.invariant.lost)
 
 pub returns : goal.returns
 returns c =
     let us = c.as_slice-blocks.result.now in
     let past = c.loop-label-test.false in
-    solved_all c.args.lattice.now (is_marked c.args.known.now) us c.in_ok-parts.parts.blocks.items c.loop-label.label c.loop-label.fates (c.as_slice-blocks.ensures.value ∙ c.in_ok-blocks.ensures.all) (omega arith)
+    solved_all c.args.lattice.now (is_marked c.args.known.now) us c.in_ok-list.list c.in_ok-parts.parts.blocks.items c.loop-label.label c.loop-label.fates (c.as_slice-blocks.ensures.value ∙ c.in_ok-blocks.ensures.all) (omega arith)
     c.loop-label.invariant c.in_ok-parts.ensures.whole

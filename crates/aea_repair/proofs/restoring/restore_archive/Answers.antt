@@ -80,11 +80,11 @@ returns-in_default-clause-writes g c =
 
 pub restore_planned-requires-clause-can : goal.restore_planned-requires-clause-can
 restore_planned-requires-clause-can g c =
-    subst (λ (l : Lattice). CanBeRestored l (is_marked c.in-Ok.marks) c.in-Ok-prepare.prepared.plan.steps c.in-Ok-prepare.prepared.plan.verdicts.fates) c.in-Ok.ensures.lattice c.in-Ok-prepare.ensures.can
+    subst (λ (l : Lattice). CanBeRestored l (is_marked c.in-Ok.marks) c.in-Ok-prepare.prepared.plan.steps c.in-Ok-prepare.prepared.fates) c.in-Ok.ensures.lattice c.in-Ok-prepare.ensures.can
 
 pub restore_planned-requires-clause-mends : goal.restore_planned-requires-clause-mends
 restore_planned-requires-clause-mends g c test are b =
-    subst (λ (l : Lattice). IsGiven c.in-Ok-prepare.prepared.plan.steps c.in-Ok-prepare.prepared.plan.verdicts.fates b ↔ IsRestorable l test b) c.in-Ok.ensures.lattice (c.in-Ok-prepare.ensures.mends test are b)
+    subst (λ (l : Lattice). IsGiven c.in-Ok-prepare.prepared.plan.steps c.in-Ok-prepare.prepared.fates b ↔ IsRestorable l test b) c.in-Ok.ensures.lattice (c.in-Ok-prepare.ensures.mends test are b)
 
 pub returns-in-Ok-restore_planned-clause-repairs : goal.returns-in-Ok-restore_planned-clause-repairs
 returns-in-Ok-restore_planned-clause-repairs g c told known tell =

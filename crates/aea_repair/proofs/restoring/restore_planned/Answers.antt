@@ -20,7 +20,7 @@ returns-in-Ok-clause-repairs g c told marked known tell =
     let old = g.D.Disk.state c.args.disk.now in
     let new = g.D.Disk.state c.restore.new.disk in
     let steps = c.args.plan.now.steps in
-    let fates = c.args.plan.now.verdicts.fates in
+    let fates = c.args.fates.now in
     let inside : AreInside v = λ b has. block_in_archive v c.lattice-lattice.result b c.lattice-lattice.ensures.value c.lattice-lattice.ensures.of_shape has in
     let mends = c.requires.mends known (marks_agree v old.files c.args.marks.now known c.requires.lattice inside marked tell) in
     repairs_done {T = Unit {0}} g.D.Disk.tells (c.restore.result ≡ Err stage.DiskFault) v known (is_given steps fates) (is_marked c.restore.new.marks) old new tt c.plain_damage_stays.ensures inside
@@ -33,7 +33,7 @@ returns-in-Ok-clause-repairs g c told marked known tell =
 pub returns-in-Ok-clause-writes : goal.returns-in-Ok-clause-writes
 returns-in-Ok-clause-writes g c =
     let v = c.args.ledger.now in
-    let given = IsGiven c.args.plan.now.steps c.args.plan.now.verdicts.fates in
+    let given = IsGiven c.args.plan.now.steps c.args.fates.now in
     cells_less_as g.D.Disk.tells (c.restore.result ≡ Err stage.DiskFault) _ v.shape v.lattice.n (IsLeft given) (IsLeft (HasBlock v.lattice)) (g.D.Disk.state c.args.disk.now) (g.D.Disk.state c.restore.new.disk)
     (λ a left one. left ((c.requires.mends (is_marked c.args.marks.now) (λ b has. refl) a).0 one).block)
     (λ e. absurd (let h = e in cc)) (λ e. absurd (let h = sym c.in-Ok.is ∙ e in cc)) c.restore.ensures.writes
@@ -43,7 +43,7 @@ returns-in-Err-clause-repairs g c told marked known tell =
     let v = c.args.ledger.now in
     let old = g.D.Disk.state c.args.disk.now in
     let new = g.D.Disk.state c.restore.new.disk in
-    let given = IsGiven c.args.plan.now.steps c.args.plan.now.verdicts.fates in
+    let given = IsGiven c.args.plan.now.steps c.args.fates.now in
     let fault = c.in-Err.fault in
     let inside : AreInside v = λ b has. block_in_archive v c.lattice-lattice.result b c.lattice-lattice.ensures.value c.lattice-lattice.ensures.of_shape has in
     let mends = c.requires.mends known (marks_agree v old.files c.args.marks.now known c.requires.lattice inside marked tell) in
@@ -70,7 +70,7 @@ returns-in-Err-clause-no_clash g c told marked records datas has are honest b t 
 pub returns-in-Err-clause-writes : goal.returns-in-Err-clause-writes
 returns-in-Err-clause-writes g c =
     let v = c.args.ledger.now in
-    let given = IsGiven c.args.plan.now.steps c.args.plan.now.verdicts.fates in
+    let given = IsGiven c.args.plan.now.steps c.args.fates.now in
     cells_less_as g.D.Disk.tells (c.restore.result ≡ Err stage.DiskFault) _ v.shape v.lattice.n (IsLeft given) (IsLeft (HasBlock v.lattice)) (g.D.Disk.state c.args.disk.now) (g.D.Disk.state c.restore.new.disk)
     (λ a left one. left ((c.requires.mends (is_marked c.args.marks.now) (λ b has. refl) a).0 one).block)
     (λ e. let is : c.repair_fault.result ≡ DiskFault = (let h = e in cc) in c.in-Err.is ∙ ap Err (was_disk c.in-Err.fault (sym c.repair_fault.ensures ∙ is))) (λ e. let is_disk : c.in-Err.fault ≡ stage.DiskFault = (let h = sym c.in-Err.is ∙ e in cc) in ap Err (c.repair_fault.ensures ∙ ap fault_of is_disk)) c.restore.ensures.writes

@@ -1,8 +1,12 @@
-use Rattle.std.proofs.Common.{◌≡◌, ◌≢◌, replicate, Err, sym, ◌∙◌, ap}
+use Rattle.std.proofs.Common.{◌≡◌, ◌≢◌, inl, inr, replicate, Err, sym, ◌∙◌, ap, subst}
+use Rattle.std.proofs.lemmas.Result.{on_ok_weaker}
+use Rattle.aea_lattice.specs.declared.blocks.BlockId.{BlockId}
 use Rattle.aea_view.specs.Marked.{is_marked}
 use Rattle.aea_restore.specs.declared.fault.RestoreFault.TheVariants.{DiskFault}
+use Rattle.aea_restore.specs.Drawn.{IsOtherDigest}
 use Rattle.aea_archive.proofs.Writes.{cells_none, cells_read, read_then_cells}
 use Rattle.aea_restore.proofs.Blocks.{read_failed, read_then_goes, read_then_torn, added_stays, added_clash}
+use Rattle.aea_restore.proofs.Judging.{judged_added, read_never, computed_one, computed_clash}
 use Rattle.aea_restore.proofs.block.restore_sum.Goals as goal
 
 pub returns-then-get-clause-writes : goal.returns-then-get-clause-writes
@@ -12,8 +16,12 @@ pub returns-in-Err-clause-torn : goal.returns-in-Err-clause-torn
 returns-in-Err-clause-torn g c is told =
     read_failed c.args.ledger.now (is_marked c.args.marks.now) c.args.b (g.D.Disk.state c.args.disk.now).files (g.D.Disk.state c.add_equations.new.disk).files (sym c.get.ensures ∙ c.if-get.false) (c.add_equations.ensures.reads.contents told)
 
+pub returns-in-Err-clause-found : goal.returns-in-Err-clause-found
+returns-in-Err-clause-found g c d told computed is = (sym c.get.ensures ∙ c.if-get.false, inl (c.add_equations.ensures.found d told computed (c.in-Err.is ∙ is)))
+
 pub returns-in-Err-clause-clash : goal.returns-in-Err-clause-clash
-returns-in-Err-clause-clash g c d told computed is tells known first all = absurd (c.add_equations.ensures.damaged d told computed (c.in-Err.is ∙ is) tells all.intact)
+returns-in-Err-clause-clash g c d told computed is tells known first all =
+    absurd (read_never g.D.Disk.tells c.args.ledger.now (is_marked c.args.marks.now) (g.D.Disk.state c.args.disk.now).files c.args.b d c.args.equations.now told computed tells c.requires.block c.requires.gives (c.add_equations.ensures.found d told computed (c.in-Err.is ∙ is)) all.intact)
 
 pub returns-in-Err-clause-writes : goal.returns-in-Err-clause-writes
 returns-in-Err-clause-writes g c =
@@ -29,13 +37,35 @@ returns-clause-torn g c is told =
     read_then_torn c.args.ledger.now (is_marked c.args.marks.now) (is_marked c.write_block.new.marks) c.args.b (g.D.Disk.state c.args.disk.now).files (g.D.Disk.state c.add_equations.new.disk).files (g.D.Disk.state c.write_block.new.disk).files
     (c.add_equations.ensures.reads.contents told) (c.write_block.ensures.torn is told)
 
+pub returns-clause-judged : goal.returns-clause-judged
+returns-clause-judged g c =
+    let v = c.args.ledger.now in
+    let zeros : c.clear.new.sum ≡ replicate c.args.ledger.now.shape.block 0 = c.clear.ensures ∙ ap (λ n. replicate n 0) c.requires.sum in
+    on_ok_weaker c.write_block.result
+    (λ digest unmarked. computed_one g.D.Disk.tells v (g.D.Disk.state c.args.disk.now).files (is_marked c.args.marks.now) c.args.b c.args.equations.now c.clear.new.sum c.add_equations.new.sum zeros c.in-Ok.ensures.judged digest)
+    c.write_block.ensures.digest
+
+pub returns-clause-found : goal.returns-clause-found
+returns-clause-found g c d told computed is =
+    let v = c.args.ledger.now in
+    let zeros : c.clear.new.sum ≡ replicate c.args.ledger.now.shape.block 0 = c.clear.ensures ∙ ap (λ n. replicate n 0) c.requires.sum in
+    let clash = c.write_block.ensures.clash d told computed is in (
+      sym c.get.ensures ∙ c.if-get.false,
+      inr (clash.0, computed_clash g.D.Disk.tells v (g.D.Disk.state c.args.disk.now).files (is_marked c.args.marks.now) c.args.b c.args.equations.now c.clear.new.sum c.add_equations.new.sum told computed zeros c.in-Ok.ensures.judged clash.1.0 clash.1.1),
+    )
+
 pub returns-clause-drawn : goal.returns-clause-drawn
 returns-clause-drawn g c told =
     let v = c.args.ledger.now in
     let zeros : c.clear.new.sum ≡ replicate c.args.ledger.now.shape.block 0 = c.clear.ensures ∙ ap (λ n. replicate n 0) c.requires.sum in
     added_stays v (is_marked c.args.marks.now) (is_marked c.write_block.new.marks) (g.D.Disk.state c.args.disk.now).files (g.D.Disk.state c.add_equations.new.disk).files (g.D.Disk.state c.write_block.new.disk).files
     c.args.b (c.args.equations.now) c.clear.new.sum c.add_equations.new.sum c.requires.block c.requires.gives zeros (c.add_equations.ensures.reads.contents told)
-    (c.in-Ok.ensures.sum told) (c.write_block.ensures.drawn told)
+    (judged_added g.D.Disk.tells v (is_marked c.args.marks.now) (g.D.Disk.state c.args.disk.now).files c.args.b c.args.equations.now c.clear.new.sum c.add_equations.new.sum told c.requires.block c.requires.gives c.in-Ok.ensures.judged) (c.write_block.ensures.drawn told)
+
+pub returns-clause-other : goal.returns-clause-other
+returns-clause-other g c d told computed is =
+    let clash = c.write_block.ensures.clash d told computed is in
+    subst (λ (a : BlockId). IsOtherDigest c.args.ledger.now a told computed) (sym clash.0) clash.1.0
 
 pub returns-clause-clash : goal.returns-clause-clash
 returns-clause-clash g c d told computed is tells known first all =
@@ -43,7 +73,7 @@ returns-clause-clash g c d told computed is tells known first all =
     let zeros : c.clear.new.sum ≡ replicate c.args.ledger.now.shape.block 0 = c.clear.ensures ∙ ap (λ n. replicate n 0) c.requires.sum in
     let clash = c.write_block.ensures.clash d told computed is in
     added_clash v known (is_marked c.args.marks.now) first (g.D.Disk.state c.args.disk.now).files c.args.b d (c.args.equations.now) c.clear.new.sum c.add_equations.new.sum told computed c.requires.block c.requires.gives zeros
-    (c.in-Ok.ensures.sum tells) all clash.0 clash.1.0 clash.1.1
+    (judged_added g.D.Disk.tells v (is_marked c.args.marks.now) (g.D.Disk.state c.args.disk.now).files c.args.b c.args.equations.now c.clear.new.sum c.add_equations.new.sum tells c.requires.block c.requires.gives c.in-Ok.ensures.judged) all clash.0 clash.1.0 clash.1.1
 
 pub returns-clause-writes : goal.returns-clause-writes
 returns-clause-writes g c =

@@ -1,5 +1,5 @@
-use Rattle.std.proofs.Common.{◌≡◌, inl, Err, refl, sym, ◌∙◌, ap, subst}
-use Rattle.std.specs.Prelude.{IsErr}
+use Rattle.std.proofs.Common.{◌≡◌, inl, Ok, Err, refl, sym, ◌∙◌, ap, subst}
+use Rattle.std.specs.Prelude.{IsOk, IsErr}
 use Rattle.std.proofs.lemmas.Bool.{or_right}
 use Rattle.aea_disk.specs.State.{IsReady}
 use Rattle.aea_disk.proofs.Frames.{reads_one, ok_fine}
@@ -8,11 +8,13 @@ use Rattle.aea_archive.specs.Cells.{IsNoSite, FitsRows}
 use Rattle.aea_archive.proofs.Cells.{file_kept}
 use Rattle.aea_restore.specs.declared.fault.RestoreFault.TheVariants.{DiskFault}
 use Rattle.aea_restore.specs.Given.{is_given, IsGiven}
-use Rattle.aea_restore.specs.Repairs.{IsLeft}
+use Rattle.aea_restore.specs.InOrder.{all_sums, GoInOrder}
+use Rattle.aea_restore.specs.Repairs.{Answer, IsLeft}
 use Rattle.aea_restore.proofs.Drawing.{block_of_shape, block_in_archive, drawn_first, drawn_same}
 use Rattle.aea_archive.proofs.Writes.{cells_less_as, cells_then_read, cells_held}
 use Rattle.aea_restore.proofs.Ways.{way_first, way_same, ends_all, ends_some}
 use Rattle.aea_restore.proofs.Ends.{all_intact, honest_of, never_clash, left_fault, only_given, held_left}
+use Rattle.aea_restore.proofs.Ordered.{order_as, order_judged}
 use Rattle.aea_restore.proofs.Planned.{given_inside}
 use Rattle.aea_restore.proofs.stage.restore.Goals as goal
 
@@ -35,6 +37,14 @@ returns-in-Err-clause-ledger g c fixed =
 pub returns-in-Err-clause-marks : goal.returns-in-Err-clause-marks
 returns-in-Err-clause-marks g c =
     c.restore_all.ensures.some
+
+pub returns-in-Err-clause-order : goal.returns-in-Err-clause-order
+returns-in-Err-clause-order g c =
+    subst (λ (r : Answer). GoInOrder g.D.Disk.tells c.args.ledger.now (is_marked c.args.marks.now) (is_marked c.args.marks.now) (is_marked c.restore_all.new.marks) (g.D.Disk.state c.args.disk.now).files (all_sums c.args.steps.now c.args.fates.now) r) c.in-Err.is
+    (c.restore_all.ensures.order (is_marked c.args.marks.now) (g.D.Disk.state c.args.disk.now).files (λ told. way_first c.args.ledger.now (is_marked c.args.marks.now) (g.D.Disk.state c.args.disk.now).files))
+
+pub returns-in-Err-clause-way : goal.returns-in-Err-clause-way
+returns-in-Err-clause-way g c fine told = c.restore_all.ensures.way (λ bad. fine (sym c.in-Err.is ∙ bad)) told (is_marked c.args.marks.now) (g.D.Disk.state c.args.disk.now).files (way_first c.args.ledger.now (is_marked c.args.marks.now) (g.D.Disk.state c.args.disk.now).files)
 
 pub returns-in-Err-clause-clash : goal.returns-in-Err-clause-clash
 returns-in-Err-clause-clash g c d told computed is =
@@ -85,6 +95,21 @@ pub returns-in-Ok-sync-clause-marks : goal.returns-in-Ok-sync-clause-marks
 returns-in-Ok-sync-clause-marks g c =
     (c.restore_all.ensures.some, λ b is. c.in-Ok.ensures.done b (given_inside c.args.ledger.now.lattice (is_marked c.args.marks.now) c.args.steps.now c.args.fates.now c.requires.plan b is).0 ∙ or_right (is_marked c.args.marks.now b) (is_given c.args.steps.now c.args.fates.now b) is)
 
+pub returns-in-Ok-sync-clause-order : goal.returns-in-Ok-sync-clause-order
+returns-in-Ok-sync-clause-order g c =
+    order_as g.D.Disk.tells c.args.ledger.now (is_marked c.args.marks.now) (is_marked c.args.marks.now) (is_marked c.restore_all.new.marks) (g.D.Disk.state c.args.disk.now).files (all_sums c.args.steps.now c.args.fates.now) c.restore_all.result (Ok tt) (λ ok. subst IsOk (sym c.in-Ok.is) refl) (λ d told computed is. cc)
+    (c.restore_all.ensures.order (is_marked c.args.marks.now) (g.D.Disk.state c.args.disk.now).files (λ told. way_first c.args.ledger.now (is_marked c.args.marks.now) (g.D.Disk.state c.args.disk.now).files))
+
+pub returns-in-Ok-sync-clause-judged : goal.returns-in-Ok-sync-clause-judged
+returns-in-Ok-sync-clause-judged g c told =
+    order_judged g.D.Disk.tells c.args.ledger.now (is_marked c.args.marks.now) (is_marked c.restore_all.new.marks) (g.D.Disk.state c.args.disk.now).files (all_sums c.args.steps.now c.args.fates.now) (Ok tt) told refl
+    (λ b has. block_of_shape c.args.ledger.now c.lattice-lattice.result b c.lattice-lattice.ensures.value c.lattice-lattice.ensures.of_shape has) (returns-in-Ok-sync-clause-order g c)
+
+pub returns-in-Ok-sync-clause-way : goal.returns-in-Ok-sync-clause-way
+returns-in-Ok-sync-clause-way g c fine told =
+    way_same c.args.ledger.now (is_marked c.args.marks.now) (is_marked c.restore_all.new.marks) (g.D.Disk.state c.args.disk.now).files (g.D.Disk.state c.restore_all.new.disk).files (g.D.Disk.state c.sync.new.self).files (c.sync.ensures.contents told)
+    (c.restore_all.ensures.way (λ bad. absurd (let is = c.in-Ok.is in cc)) told (is_marked c.args.marks.now) (g.D.Disk.state c.args.disk.now).files (way_first c.args.ledger.now (is_marked c.args.marks.now) (g.D.Disk.state c.args.disk.now).files))
+
 pub returns-in-Ok-sync-clause-marked : goal.returns-in-Ok-sync-clause-marked
 returns-in-Ok-sync-clause-marked g c tells are b has is =
     (drawn_same c.args.ledger.now (is_marked c.args.marks.now) (is_marked c.restore_all.new.marks) (g.D.Disk.state c.args.disk.now).files (g.D.Disk.state c.restore_all.new.disk).files (g.D.Disk.state c.sync.new.self).files (c.sync.ensures.contents tells) (c.restore_all.ensures.drawn tells (is_marked c.args.marks.now) (g.D.Disk.state c.args.disk.now).files (drawn_first c.args.ledger.now (is_marked c.args.marks.now) (g.D.Disk.state c.args.disk.now).files (all_intact c.args.ledger.now (g.D.Disk.state c.args.disk.now).files (is_marked c.args.marks.now) (λ b has. block_in_archive c.args.ledger.now c.lattice-lattice.result b c.lattice-lattice.ensures.value c.lattice-lattice.ensures.of_shape has) are)))).intact b has is
@@ -119,6 +144,11 @@ returns-in-Err-sync-clause-ledger g c fixed =
 pub returns-in-Err-sync-clause-marks : goal.returns-in-Err-sync-clause-marks
 returns-in-Err-sync-clause-marks g c =
     c.restore_all.ensures.some
+
+pub returns-in-Err-sync-clause-order : goal.returns-in-Err-sync-clause-order
+returns-in-Err-sync-clause-order g c =
+    order_as g.D.Disk.tells c.args.ledger.now (is_marked c.args.marks.now) (is_marked c.args.marks.now) (is_marked c.restore_all.new.marks) (g.D.Disk.state c.args.disk.now).files (all_sums c.args.steps.now c.args.fates.now) c.restore_all.result (Err DiskFault) (λ ok. absurd (let e = ok in cc)) (λ d told computed is. cc)
+    (c.restore_all.ensures.order (is_marked c.args.marks.now) (g.D.Disk.state c.args.disk.now).files (λ told. way_first c.args.ledger.now (is_marked c.args.marks.now) (g.D.Disk.state c.args.disk.now).files))
 
 pub returns-in-Err-sync-clause-marked : goal.returns-in-Err-sync-clause-marked
 returns-in-Err-sync-clause-marked g c tells are b has is =

@@ -1,13 +1,17 @@
-use Rattle.std.proofs.Common.{◌≡◌, Err, sym, ◌∙◌, ap}
-use Rattle.std.specs.Prelude.{IsTrue, ◌||◌}
+use Rattle.std.proofs.Common.{◌≡◌, Err, map, refl, sym, ◌∙◌, ap, subst}
+use Rattle.std.specs.Prelude.{IsTrue, IsOk, ◌||◌}
 use Rattle.std.proofs.lemmas.Bool.{or_left, or_right}
 use Rattle.std.proofs.lemmas.Result.{on_ok_weaker}
 use Rattle.aea_lattice.specs.Closure.{is_among}
 use Rattle.aea_view.specs.Marked.{is_marked}
 use Rattle.aea_peel.specs.Plans.{blocks_given, is_had}
 use Rattle.aea_restore.specs.declared.fault.RestoreFault.TheVariants.{DiskFault}
-use Rattle.aea_restore.specs.Given.{blocks_summed, IsGiven}
-use Rattle.aea_restore.specs.Repairs.{IsLeft}
+use Rattle.aea_gauss.specs.declared.fates.Fate.TheVariants.{Sum}
+use Rattle.aea_restore.specs.Given.{blocks_summed, IsGiven, CanSum}
+use Rattle.aea_restore.specs.InOrder.{sum_of, GoInOrder}
+use Rattle.aea_restore.specs.Repairs.{Answer, IsLeft}
+use Rattle.aea_restore.proofs.Items.{item_has}
+use Rattle.aea_restore.proofs.Ordered.{sum_of_lattice, order_early, order_both}
 use Rattle.aea_restore.proofs.Planned.{fates_sum}
 use Rattle.aea_archive.proofs.Writes.{cells_both, cells_less_as}
 use Rattle.aea_restore.proofs.Loops.{or_assoc, some_more, some_both, goes_both, torn_both, torn_more, stays_both}
@@ -25,6 +29,11 @@ pub returns-in-Err-clause-torn : goal.returns-in-Err-clause-torn
 returns-in-Err-clause-torn g c is told =
     torn_more c.args.ledger.now (λ d. IsTrue (is_among (blocks_given c.args.steps.now) d)) (IsGiven c.args.steps.now c.args.fates.now) (is_marked c.args.marks.now) (is_marked c.restore_steps.new.marks) (g.D.Disk.state c.args.disk.now).files (g.D.Disk.state c.restore_steps.new.disk).files
     (λ d one. or_left (is_among (blocks_given c.args.steps.now) d) (is_among (blocks_summed c.args.fates.now) d) one) (c.restore_steps.ensures.torn (c.in-Err.is ∙ is) told)
+
+pub returns-in-Err-clause-order : goal.returns-in-Err-clause-order
+returns-in-Err-clause-order g c known first way =
+    order_early g.D.Disk.tells c.args.ledger.now known (is_marked c.args.marks.now) (is_marked c.restore_steps.new.marks) first (map sum_of c.args.steps.now) c.args.fates.now (Err c.in-Err.fault) (λ ok. absurd (let e = ok in cc))
+    (subst (λ (r : Answer). GoInOrder g.D.Disk.tells c.args.ledger.now known (is_marked c.args.marks.now) (is_marked c.restore_steps.new.marks) first (map sum_of c.args.steps.now) r) c.in-Err.is (c.restore_steps.ensures.order known first way))
 
 pub returns-in-Err-clause-clash : goal.returns-in-Err-clause-clash
 returns-in-Err-clause-clash g c d told computed is tells known first all =
@@ -69,6 +78,16 @@ pub returns-clause-drawn : goal.returns-clause-drawn
 returns-clause-drawn g c told =
     stays_both c.args.ledger.now (is_marked c.args.marks.now) (is_marked c.restore_steps.new.marks) (is_marked c.restore_sums.new.marks) (g.D.Disk.state c.args.disk.now).files (g.D.Disk.state c.restore_steps.new.disk).files (g.D.Disk.state c.restore_sums.new.disk).files
     (c.restore_steps.ensures.drawn told) (c.restore_sums.ensures.drawn told)
+
+pub returns-clause-order : goal.returns-clause-order
+returns-clause-order g c known first way =
+    order_both g.D.Disk.tells c.args.ledger.now known (is_marked c.args.marks.now) (is_marked c.restore_steps.new.marks) (is_marked c.restore_sums.new.marks) first (map sum_of c.args.steps.now) c.args.fates.now c.restore_steps.result c.restore_sums.result (subst IsOk (sym c.in-Ok.is) refl)
+    (λ j b es at.
+    sum_of_lattice c.args.ledger.now.lattice (is_marked c.restore_steps.new.marks) (Sum b es) b es refl
+    (item_has (CanSum c.args.ledger.now.lattice (is_marked c.restore_steps.new.marks)) c.args.fates.now (Sum b es) j at
+    (fates_sum c.args.ledger.now.lattice (is_marked c.args.marks.now) (is_had (is_marked c.args.marks.now) c.args.steps.now) (is_marked c.restore_steps.new.marks) (λ d has is. c.in-Ok.ensures.done d has ∙ is) c.args.fates.now c.requires.plan.sums)))
+    (c.restore_steps.ensures.order known first way)
+    (c.restore_sums.ensures.order known first (λ told. c.restore_steps.ensures.way (λ bad. absurd (let is = c.in-Ok.is in cc)) told known first (way told)))
 
 pub returns-clause-clash : goal.returns-clause-clash
 returns-clause-clash g c d told computed is tells known first all =

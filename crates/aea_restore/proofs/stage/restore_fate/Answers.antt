@@ -33,6 +33,11 @@ returns-in-Sum-clause-clash g c d told computed is tells known first all =
     let clash = c.restore_sum.ensures.clash d told computed is tells known first all in
     (summed_one c.args.fate.now c.in-Sum.block c.in-Sum.eqs c.in-Sum.is d clash.0, clash.1)
 
+pub returns-in-Sum-clause-found : goal.returns-in-Sum-clause-found
+returns-in-Sum-clause-found g c d told computed is =
+    let found = c.restore_sum.ensures.found d told computed is in
+    (c.in-Sum.block, c.in-Sum.eqs, c.in-Sum.is, found.0, found.1)
+
 pub returns-in-Sum-clause-writes : goal.returns-in-Sum-clause-writes
 returns-in-Sum-clause-writes g c =
     cells_less_as g.D.Disk.tells (c.restore_sum.result ≡ Err DiskFault) _ c.args.ledger.now.shape c.args.ledger.now.lattice.n (λ a. a ≢ c.in-Sum.block) (IsLeft (λ d. IsTrue (is_among (block_summed c.args.fate.now) d))) (g.D.Disk.state c.args.disk.now) (g.D.Disk.state c.restore_sum.new.disk)

@@ -1,13 +1,15 @@
-use Rattle.std.proofs.Common.{◌≡◌, length, take}
+use Rattle.std.proofs.Common.{◌≡◌, length, take, Bool}
 use Rattle.std.specs.Prelude.{IsTrue, ◌||◌}
 use Rattle.aea_lattice.specs.declared.blocks.BlockId.{BlockId}
 use Rattle.aea_lattice.specs.Blocks.{HasBlock}
 use Rattle.aea_lattice.specs.Closure.{is_among}
+use Rattle.aea_disk.specs.Files.{Files}
 use Rattle.aea_shelf.specs.Places.{cell_size}
 use Rattle.aea_view.specs.Marked.{is_marked}
 use Rattle.aea_restore.specs.Given.{blocks_summed}
+use Rattle.aea_restore.specs.InOrder.{AreRestoredFrom}
 use Rattle.aea_restore.specs.Repairs.{IsLeft, WritesBlocks}
-use Rattle.aea_restore.specs.UnderWay.{GoesOn, StaysDrawn}
+use Rattle.aea_restore.specs.UnderWay.{IsUnderWay, GoesOn, StaysDrawn}
 use Rattle.aea_restore.proofs.stage.restore_sums.Given as goal
 
 abbrev pub invariant-loop-k : goal.invariant-loop-k
@@ -20,4 +22,5 @@ invariant-loop-k g l = record {
   way : g.D.Disk.tells → GoesOn l.ledger (is_marked l.fn.marks) (is_marked l.marks) (g.D.Disk.state l.fn.disk).files (g.D.Disk.state l.disk).files;
   drawn : g.D.Disk.tells → StaysDrawn l.ledger (is_marked l.fn.marks) (is_marked l.marks) (g.D.Disk.state l.fn.disk).files (g.D.Disk.state l.disk).files;
   writes : WritesBlocks g.D.Disk.tells l.ledger (IsLeft (λ d. IsTrue (is_among (blocks_summed l.fates) d))) ⊥ (g.D.Disk.state l.fn.disk) (g.D.Disk.state l.disk);
+  each : (known : BlockId → Bool) (first : Files) → (g.D.Disk.tells → IsUnderWay l.ledger known (is_marked l.fn.marks) first (g.D.Disk.state l.fn.disk).files) → AreRestoredFrom g.D.Disk.tells l.ledger known (is_marked l.fn.marks) first l.fates l.k;
 }

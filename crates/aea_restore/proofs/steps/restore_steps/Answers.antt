@@ -1,5 +1,6 @@
-use Rattle.std.proofs.Common.{◌≡◌, [], ◌∷◌, List, Err, refl, sym, ◌∙◌, ap, subst, arith}
+use Rattle.std.proofs.Common.{◌≡◌, [], ◌∷◌, List, map, false, Ok, Err, refl, sym, ◌∙◌, ap, subst, arith}
 use Rattle.std.specs.Prelude.{IsTrue, IsErr}
+use Rattle.std.proofs.lemmas.List.{length-map}
 use Rattle.aea_lattice.specs.declared.blocks.BlockId.{BlockId}
 use Rattle.aea_lattice.specs.Closure.{is_among}
 use Rattle.aea_view.specs.Marked.{Marked, is_marked}
@@ -8,8 +9,11 @@ use Rattle.aea_peel.specs.Plans.{blocks_given, is_had}
 use Rattle.aea_restore.proofs.Parts.{step_gives, give_more}
 use Rattle.aea_restore.proofs.Loops.{steps_first, steps_next, step_given, steps_some, goes_both, torn_both, stays_both}
 use Rattle.aea_restore.specs.declared.fault.RestoreFault.TheVariants.{DiskFault}
+use Rattle.aea_restore.specs.Judged.{IsComputed}
+use Rattle.aea_restore.specs.InOrder.{sum_of}
 use Rattle.aea_restore.specs.Repairs.{IsLeft}
-use Rattle.aea_restore.proofs.Adding.{got_some, take_whole}
+use Rattle.aea_restore.proofs.Ordered.{IsOfLattice, each_none, each_next, clash_next, order_stop, order_end, sum_item, had_steps, step_at}
+use Rattle.aea_restore.proofs.Items.{got_some, take_whole}
 use Rattle.aea_archive.proofs.Writes.{cells_none, cells_both, cells_less_as}
 use Rattle.aea_restore.proofs.steps.restore_steps.Goals as goal
 
@@ -22,6 +26,7 @@ loop-k-init g c = record {
   done = λ d has. steps_first (is_marked c.args.marks.now) c.args.steps.now d;
   way = λ told known first way. way;
   drawn = λ told known first all. all;
+  each = λ known first way. each_none g.D.Disk.tells c.args.ledger.now known (is_marked c.args.marks.now) first (map sum_of c.args.steps.now);
   writes = cells_none g.D.Disk.tells ⊥ c.args.ledger.now.shape c.args.ledger.now.lattice.n (IsLeft (λ d. IsTrue (is_among (blocks_given c.args.steps.now) d))) (g.D.Disk.state c.args.disk.now) (λ none. none);
 }
 
@@ -56,6 +61,20 @@ returns-in-Err-clause-drawn g c told =
     stays_both c.args.ledger.now (is_marked c.args.marks.now) (is_marked c.loop-k.marks) (is_marked c.restore_step.new.marks) (g.D.Disk.state c.args.disk.now).files (g.D.Disk.state c.loop-k.disk).files (g.D.Disk.state c.restore_step.new.disk).files
     (c.loop-k.invariant.drawn told) (c.restore_step.ensures.drawn told)
 
+pub returns-in-Err-clause-order : goal.returns-in-Err-clause-order
+returns-in-Err-clause-order g c known first way =
+    let v = c.args.ledger.now in
+    let same = c.restore_step.ensures.same (subst IsErr (sym c.in-Err.is) refl) in
+    order_stop g.D.Disk.tells v known (is_marked c.args.marks.now) (is_marked c.restore_step.new.marks) first (map sum_of c.args.steps.now) (Err c.in-Err.fault) c.loop-k.k (omega (arith, c.loop-k-test.true, c.len-k-end.ensures, length-map c.args.steps.now sum_of)) (λ ok. absurd (let e = ok in cc))
+    (λ d has. ap (λ (m : Marked). is_marked m d) same ∙ c.loop-k.invariant.done d has ∙ had_steps (is_marked c.args.marks.now) c.args.steps.now c.loop-k.k d)
+    (c.loop-k.invariant.each known first way)
+    (λ d kept computed is.
+    let found = c.restore_step.ensures.found d kept computed (c.in-Err.is ∙ is) in
+    clash_next g.D.Disk.tells v known (is_marked c.args.marks.now) (is_marked c.loop-k.marks) first (g.D.Disk.state c.loop-k.disk).files (map sum_of c.args.steps.now) c.loop-k.k c.in-Some.step.block d (c.in-Some.step.by ∷ []) kept computed (step_at c.args.steps.now c.in-Some.step c.loop-k.k (sym c.get.ensures ∙ c.in-Some.is))
+    (λ a has. c.loop-k.invariant.done a has ∙ had_steps (is_marked c.args.marks.now) c.args.steps.now c.loop-k.k a)
+    ((c.requires.plan.fresh c.in-Some.step.block (step_given c.args.steps.now c.in-Some.step c.loop-k.k (sym c.get.ensures ∙ c.in-Some.is))).0, (step_gives c.args.ledger.now.lattice _ c.in-Some.step.block c.in-Some.step.by (c.requires.plan.forced c.loop-k.k c.in-Some.step (sym c.get.ensures ∙ c.in-Some.is))).valid)
+    found.0 found.1 (λ told. c.loop-k.invariant.way told known first (way told)))
+
 pub returns-in-Err-clause-other : goal.returns-in-Err-clause-other
 returns-in-Err-clause-other g c d told computed is = c.restore_step.ensures.other d told computed (c.in-Err.is ∙ is)
 
@@ -82,6 +101,12 @@ loop-k-preserved g c = record {
       (c.loop-k.invariant.way told) (c.restore_step.ensures.way (λ bad. absurd (let is = c.in-Ok.is in cc)) told);
   drawn = λ told. stays_both c.args.ledger.now (is_marked c.args.marks.now) (is_marked c.loop-k.marks) (is_marked c.restore_step.new.marks) (g.D.Disk.state c.args.disk.now).files (g.D.Disk.state c.loop-k.disk).files (g.D.Disk.state c.restore_step.new.disk).files
       (c.loop-k.invariant.drawn told) (c.restore_step.ensures.drawn told);
+  each = λ known first way.
+      each_next g.D.Disk.tells c.args.ledger.now known (is_marked c.args.marks.now) (is_marked c.loop-k.marks) first (g.D.Disk.state c.loop-k.disk).files (map sum_of c.args.steps.now) c.loop-k.k (sum_of c.in-Some.step) (step_at c.args.steps.now c.in-Some.step c.loop-k.k (sym c.get.ensures ∙ c.in-Some.is))
+      (λ d has. c.loop-k.invariant.done d has ∙ had_steps (is_marked c.args.marks.now) c.args.steps.now c.loop-k.k d)
+      (λ b es one. sum_item (IsOfLattice c.args.ledger.now.lattice) c.in-Some.step.block b (c.in-Some.step.by ∷ []) es one ((c.requires.plan.fresh c.in-Some.step.block (step_given c.args.steps.now c.in-Some.step c.loop-k.k (sym c.get.ensures ∙ c.in-Some.is))).0, (step_gives c.args.ledger.now.lattice _ c.in-Some.step.block c.in-Some.step.by (c.requires.plan.forced c.loop-k.k c.in-Some.step (sym c.get.ensures ∙ c.in-Some.is))).valid))
+      (λ b es one. sum_item (λ a ds. is_marked c.loop-k.marks a ≡ false → IsComputed g.D.Disk.tells c.args.ledger.now (g.D.Disk.state c.loop-k.disk).files (is_marked c.loop-k.marks) a ds) c.in-Some.step.block b (c.in-Some.step.by ∷ []) es one c.in-Ok.ensures.judged)
+      (λ told. c.loop-k.invariant.way told known first (way told)) (c.loop-k.invariant.each known first way);
   writes = cells_less_as g.D.Disk.tells (c.restore_step.result ≡ Err DiskFault) ⊥ c.args.ledger.now.shape c.args.ledger.now.lattice.n (IsLeft (λ d. IsTrue (is_among (blocks_given c.args.steps.now) d))) (IsLeft (λ d. IsTrue (is_among (blocks_given c.args.steps.now) d))) (g.D.Disk.state c.args.disk.now) (g.D.Disk.state c.restore_step.new.disk) (λ d left. left) (λ none. absurd none) (λ is. absurd (let e = sym c.in-Ok.is ∙ is in cc))
       (cells_both g.D.Disk.tells ⊥ (c.restore_step.result ≡ Err DiskFault) c.args.ledger.now.shape c.args.ledger.now.lattice.n (IsLeft (λ d. IsTrue (is_among (blocks_given c.args.steps.now) d))) (IsLeft (λ d. IsTrue (is_among (blocks_given c.args.steps.now) d))) (λ d. d ≡ c.in-Some.step.block → ⊥) (g.D.Disk.state c.args.disk.now) (g.D.Disk.state c.loop-k.disk) (g.D.Disk.state c.restore_step.new.disk)
       (λ none. none) (λ d left. left) (λ d left one. left (subst (λ (e : BlockId). IsTrue (is_among (blocks_given c.args.steps.now) e)) (sym one) (step_given c.args.steps.now c.in-Some.step c.loop-k.k (sym c.get.ensures ∙ c.in-Some.is)))) c.loop-k.invariant.writes c.restore_step.ensures.writes);
@@ -92,6 +117,11 @@ returns-clause-done g c d has = c.loop-k.invariant.done d has ∙ ap (λ (ss : L
 
 pub returns-clause-some : goal.returns-clause-some
 returns-clause-some g c = steps_some c.args.ledger.now.lattice c.args.steps.now c.loop-k.k c.args.marks.now c.loop-k.marks c.loop-k.invariant.done
+
+pub returns-clause-order : goal.returns-clause-order
+returns-clause-order g c known first way =
+    order_end g.D.Disk.tells c.args.ledger.now known (is_marked c.args.marks.now) (is_marked c.loop-k.marks) first (map sum_of c.args.steps.now) (Ok tt) c.loop-k.k (omega (arith, c.loop-k-test.false, c.len-k-end.ensures, length-map c.args.steps.now sum_of))
+    (λ d has. c.loop-k.invariant.done d has ∙ had_steps (is_marked c.args.marks.now) c.args.steps.now c.loop-k.k d) (c.loop-k.invariant.each known first way) (λ d kept computed is. cc)
 
 pub returns-clause-writes : goal.returns-clause-writes
 returns-clause-writes g c =

@@ -2,10 +2,9 @@ use Rattle.std.proofs.Common.{sym, subst}
 use Rattle.aea_lattice.specs.declared.grid.Lattice.{Lattice}
 use Rattle.aea_view.specs.Marked.{is_marked}
 use Rattle.aea_peel.specs.Plans.{IsPlan}
-use Rattle.aea_gauss.specs.Fates.{AreFates}
 use Rattle.aea_report.specs.Printed.{IsPrinted}
 use Rattle.aea_plan.specs.declared.plan.Plan.{Plan}
-use Rattle.aea_plan.specs.Plans.{IsPlanOf, head_by}
+use Rattle.aea_plan.specs.Plans.{AreLossesOf, IsPlanOf, head_by}
 use Rattle.aea_plan.specs.Verdicts.{lines_by}
 use Rattle.aea_plan.proofs.Lining.{Facts, printed-by}
 use Rattle.aea_plan.proofs.plan.Plan.new.Goals as goal
@@ -18,7 +17,7 @@ returns-clause-plan c test are =
       damaged = c.in_ok-judged.ensures.damaged test are;
       steps = subst (λ (l : Lattice). IsPlan l test judged.steps) same (c.in_ok-judged.ensures.steps test are);
       reached = c.in_ok-judged.ensures.reached test are;
-      fates = subst (λ (l : Lattice). AreFates l (is_marked judged.verdicts.reached) judged.verdicts.fates) same c.in_ok-judged.ensures.fates;
+      losses = subst (λ (l : Lattice). AreLossesOf l (is_marked judged.verdicts.reached) judged.verdicts.losses) same c.in_ok-judged.ensures.losses;
     }
 
 pub returns-clause-printed : goal.returns-clause-printed
@@ -30,12 +29,11 @@ returns-clause-printed c test seal are =
       damaged = c.in_ok-judged.ensures.damaged test are;
       steps = subst (λ (l : Lattice). IsPlan l test judged.steps) same (c.in_ok-judged.ensures.steps test are);
       reached = c.in_ok-judged.ensures.reached test are;
-      fates = subst (λ (l : Lattice). AreFates l (is_marked judged.verdicts.reached) judged.verdicts.fates) same c.in_ok-judged.ensures.fates;
+      losses = subst (λ (l : Lattice). AreLossesOf l (is_marked judged.verdicts.reached) judged.verdicts.losses) same c.in_ok-judged.ensures.losses;
     } in
     let facts : Facts = record {
       inside = c.blocks_are_inside.ensures;
       determined = c.reached_are_determined.ensures;
-      sums = c.sums_are_determined.ensures;
       open_still = c.words_are_open.ensures;
       words = c.words_stay.ensures;
       stay = c.determined_stay.ensures;

@@ -1,6 +1,0 @@
-use Rattle.std.proofs.Common.{◌≡◌, map, take}
-use Rattle.aea_gauss.specs.Fates.{block_of_fate}
-use Rattle.aea_gauss.proofs.parts.open_fates.Given as goal
-
-abbrev pub invariant-loop-at : goal.invariant-loop-at
-invariant-loop-at l = map block_of_fate l.fates ≡ take l.at l.blocks

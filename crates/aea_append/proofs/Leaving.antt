@@ -32,7 +32,6 @@ use Rattle.aea_archive.proofs.Stretches.{has_ledger, adds_nothing, adds_later}
 use Rattle.aea_append.specs.Causes.{HasWantedRoom}
 use Rattle.aea_append.specs.Puts.{MayHaveStored, LeavesLedger}
 use Rattle.aea_append.specs.Wanted.{KeepsHomes, StoresNone}
-use Rattle.aea_append.proofs.Wanted.{wanted_sites}
 
 -- the blocks of the archive
 abbrev pub old_blocks : Opened → BlockId → Type 0
@@ -45,7 +44,7 @@ cells_wider tells fault v name want left rest old new writes =
     writes_wider tells (IsReady old) (FitsRows v.shape (limit_when v.raised) old) (IsReady old) (HasWantedRoom v name want left rest old) fault
     (ChangesArchive v.shape (limit_when v.raised) (IsBlockIn v.shape v.lattice.n) (IsNoSite v.shape)) (ChangesArchive v.shape (limit_when v.raised) (IsBlockIn v.shape v.lattice.n) (IsBesides v.shape)) old new
     (λ c d step. changes_less v.shape (limit_when v.raised) (IsBlockIn v.shape v.lattice.n) (IsBlockIn v.shape v.lattice.n) (IsNoSite v.shape) (IsBesides v.shape) c d (λ a kept. kept) (λ f past. inr past) step) (λ _ is. is)
-    (λ _ room. wanted_sites v name want left rest old room) writes
+    (λ _ room. room.sites) writes
 
 -- the ledger's file stays
 pub leaves_ledger : (tells fault : Type 0) → tells → (v : Opened) (old new : State) → IsFixed old 0 → WritesCells tells v.shape (limit_when v.raised) (IsBlockIn v.shape v.lattice.n) fault old new → LeavesLedger old new
@@ -98,7 +97,7 @@ stopped_before one tells fault told v Fits old new fixed writes =
 -- and the files besides it, where the space of a put includes that of the ledger's write
 pub both_write : (tells first second : Type 0) (v : Opened) (name : List ℕ) (want : Option ℕ) (left rest : Option (List ℕ)) (end : ℕ) (old mid new : State) → (first → ⊥)
     → WritesCells tells v.shape (limit_when v.raised) (IsBlockIn v.shape v.lattice.n) first old mid
-    → OnlyWrites tells (IsReady mid) (FitsAdding mid 1 end) second (ChangesOnly 0) mid new → (HasWantedRoom v name want left rest old → FitsAdding old 1 end)
+    → OnlyWrites tells (IsReady mid) (FitsAdding mid 1 end) second (ChangesOnly 0) mid new → (tells → HasWantedRoom v name want left rest old → FitsAdding old 1 end)
     → OnlyWrites tells (IsReady old) (HasWantedRoom v name want left rest old) second (ChangesArchive v.shape (limit_when v.raised) (IsBlockIn v.shape v.lattice.n) (IsBesides v.shape)) old new
 both_write tells first second v name want left rest end old mid new fine cells commit room =
     writes_both tells (IsReady old) (IsReady old) (IsReady mid) (HasWantedRoom v name want left rest old) (FitsRows v.shape (limit_when v.raised) old) (FitsAdding mid 1 end) first second
@@ -108,7 +107,7 @@ both_write tells first second v name want left rest end old mid new fine cells c
     (changes_less v.shape (limit_when v.raised) (IsBlockIn v.shape v.lattice.n) (IsBlockIn v.shape v.lattice.n) (IsNoSite v.shape) (IsBesides v.shape) c d (λ a kept. kept) (λ f past. inr past) step)
     (changes_ledger v.shape (limit_when v.raised) (IsBlockIn v.shape v.lattice.n) d e only))
     (λ _ is. is) (λ _ is step goes. ready_same old mid (step.stay 0 (inl refl)) goes is)
-    (λ _ has. wanted_sites v name want left rest old has) (λ _ has step time. adding_later old mid 1 end (step.stay 0 (inl refl)) time (room has)) cells commit
+    (λ _ has. has.sites) (λ told has step time. adding_later old mid 1 end (step.stay 0 (inl refl)) time (room told has)) cells commit
 
 -- where the disk's contents are known, and nothing was pending on the ledger's file, calls that write cells and then add a record
 -- by a change of that file alone add it over all

@@ -11,3 +11,4 @@ mod Wanted
 mod Ended
 mod Frames
 mod Ingesting
+mod Space

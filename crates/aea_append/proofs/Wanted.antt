@@ -1,14 +1,12 @@
 -- What is wanted of a source: a number of its bytes, or all.
-use Rattle.std.proofs.Common.{◌≡◌, ℕ, ◌+◌, ◌*◌, ◌<◌, ◌≤◌, List, length, Option, None, Some, refl, sym, subst, arith}
+use Rattle.std.proofs.Common.{◌≡◌, ℕ, ◌+◌, ◌<◌, ◌≤◌, List, length, Option, None, Some, refl, arith}
 use Rattle.std.specs.Io.KnownBytes.{Consumes, IsAtEnd}
 use Rattle.aea_disk.specs.State.{State}
 use Rattle.aea_records.specs.Format.{nodes_for, limit_when}
-use Rattle.aea_ledger.specs.Taking.{FitsAdding}
 use Rattle.aea_ledger.specs.Values.{Opened}
-use Rattle.aea_archive.specs.Cells.{FitsRows}
 use Rattle.aea_append.specs.Taking.{limit_of, most_of, long_of, room_left, HasPassedRoom, IsOver, IsThere}
 use Rattle.aea_append.specs.Puts.{IsWanted}
-use Rattle.aea_append.specs.Causes.{HasWantedRoom, next_end}
+use Rattle.aea_append.specs.Causes.{HasRecordRoom, HasWantedRoom}
 use Rattle.aea_append.proofs.Rooms.{fits_room, taken_long}
 
 -- an object with what was wanted
@@ -17,18 +15,10 @@ pub wanted_of : (want : Option ℕ) (name bytes : List ℕ) (left rest : Option 
 wanted_of None name bytes left rest taken end long = record { name_is = refl; taken = taken; end = end refl }
 wanted_of (Some n) name bytes left rest taken end long = record { name_is = refl; taken = taken; long = long n refl }
 
--- the space of the sites
-pub wanted_sites : (v : Opened) (name : List ℕ) (want : Option ℕ) (left rest : Option (List ℕ)) (s : State) → HasWantedRoom v name want left rest s → FitsRows v.shape (limit_when v.raised) s
-wanted_sites v name None left rest s room = room.sites
-wanted_sites v name (Some n) left rest s room = room.sites
-
 -- the space of the ledger for the record of what was taken
-pub wanted_ledger : (v : Opened) (name : List ℕ) (want : Option ℕ) (left rest : Option (List ℕ)) (s : State) → HasWantedRoom v name want left rest s → (bytes : List ℕ) → Consumes left rest bytes
-    → ((n : ℕ) → want ≡ Some n → length bytes ≡ n) → v.lattice.n + nodes_for v.shape (length bytes) ≤ limit_when v.raised
-    → FitsAdding s 1 (next_end v.end (length name) (nodes_for v.shape (length bytes) * (1 + v.shape.alpha)))
-wanted_ledger v name None left rest s room bytes taken long fits = room.ledger bytes taken fits
-wanted_ledger v name (Some n) left rest s room bytes taken long fits =
-    subst (λ (k : ℕ). v.lattice.n + nodes_for v.shape k ≤ limit_when v.raised → FitsAdding s 1 (next_end v.end (length name) (nodes_for v.shape k * (1 + v.shape.alpha)))) (sym (long n refl)) room.ledger fits
+pub wanted_ledger : (v : Opened) (name : List ℕ) (want : Option ℕ) (left rest : Option (List ℕ)) (s : State) → HasWantedRoom v name want left rest s → (bytes : List ℕ) → Consumes left rest bytes → (want ≡ None → IsAtEnd rest)
+    → ((n : ℕ) → want ≡ Some n → length bytes ≡ n) → HasRecordRoom v name (length bytes) s
+wanted_ledger v name want left rest s room bytes taken end long = room.ledger (record { name = name; bytes = bytes }) (wanted_of want name bytes left rest taken end long)
 
 -- what exceeds the space does not fit
 pub over_none : (v : Opened) (want : Option ℕ) (left rest : Option (List ℕ)) (bytes : List ℕ) → left ≡ Some bytes → IsOver v want left rest → v.lattice.n + nodes_for v.shape (long_of want bytes) ≤ limit_when v.raised → ⊥

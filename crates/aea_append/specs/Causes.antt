@@ -1,14 +1,17 @@
 -- The causes of what `put` returns, in the order in which they are met.
-use Rattle.std.specs.Prelude.{◌≡◌, ◌≢◌, ◌⊎◌, ◌≤◌, ℕ, ◌+◌, ◌*◌, List, length, Option, None, Some, Result, Err}
+use Rattle.std.specs.Prelude.{◌≡◌, ◌≢◌, ◌⊎◌, ◌≤◌, ℕ, ◌+◌, ◌*◌, List, length, Option, None, Result, Err}
 use Rattle.std.specs.FinMap.{get, len}
-use Rattle.std.specs.Io.KnownBytes.{Consumes}
 use Rattle.aea_lattice.specs.declared.blocks.BlockId.{BlockId}
+use Rattle.aea_disk.specs.Files.{Files}
 use Rattle.aea_disk.specs.State.{State}
 use Rattle.aea_catalog.specs.Names.{IsName}
 use Rattle.aea_records.specs.Format.{greatest_objects, nodes_for, limit_when}
 use Rattle.aea_ledger.specs.Taking.{FitsAdding}
 use Rattle.aea_ledger.specs.Values.{Opened}
 use Rattle.aea_archive.specs.Cells.{FitsRows}
+use Rattle.aea_archive.specs.Lasts.{IsDamagedLast, AreLastsIntact}
+use Rattle.aea_archive.specs.Next.{NewObject}
+use Rattle.aea_append.specs.Puts.{IsWanted}
 use Rattle.aea_append.specs.declared.fault.PutFault.{PutFault}
 use Rattle.aea_append.specs.declared.fault.PutFault.TheVariants.{BadName, NameTaken, CatalogFull, HeadDamaged, DiskFault, NoMemory}
 
@@ -38,29 +41,23 @@ IsHeadRefused result = ((b : BlockId) × (result ≡ Err (HeadDamaged b))) ⊎ I
 abbrev pub next_end : ℕ → ℕ → ℕ → ℕ
 next_end end long digests = end + 56 + long + 32 * digests
 
--- the ledger has space for the record of each object that the source can have given
-abbrev pub HasLedgerRoom : Opened → List ℕ → Option (List ℕ) → Option (List ℕ) → State → Type 0
-HasLedgerRoom v name left rest s =
-    (bytes : List ℕ) → Consumes left rest bytes → v.lattice.n + nodes_for v.shape (length bytes) ≤ limit_when v.raised
-    → FitsAdding s 1 (next_end v.end (length name) (nodes_for v.shape (length bytes) * (1 + v.shape.alpha)))
-
--- the disk has space for all that may be written
-pub record HasPutRoom (v : Opened) (name : List ℕ) (left rest : Option (List ℕ)) (s : State) : Type 0 where
-  pub sites : FitsRows v.shape (limit_when v.raised) s
-  pub ledger : HasLedgerRoom v name left rest s
-
--- the ledger has space for the record of an object of so many bytes, if its nodes fit
+-- the ledger has space for the record of an object of so many bytes under this name, where it may enter, every last parity is
+-- intact, and its nodes fit
 abbrev pub HasRecordRoom : Opened → List ℕ → ℕ → State → Type 0
 HasRecordRoom v name size s =
-    v.lattice.n + nodes_for v.shape size ≤ limit_when v.raised
+    MayEnter v name → AreLastsIntact v.shape v.lattice v.digests s.files → v.lattice.n + nodes_for v.shape size ≤ limit_when v.raised
     → FitsAdding s 1 (next_end v.end (length name) (nodes_for v.shape size * (1 + v.shape.alpha)))
 
--- the disk has space for all that may be written for an object of so many bytes
-pub record HasCutRoom (v : Opened) (name : List ℕ) (size : ℕ) (s : State) : Type 0 where
+-- The disk has space for all that may be written for what is wanted of a source: for the rows of the sites, and for the record
+-- of each object that can have been given whole.
+pub record HasWantedRoom (v : Opened) (name : List ℕ) (want : Option ℕ) (left rest : Option (List ℕ)) (s : State) : Type 0 where
   pub sites : FitsRows v.shape (limit_when v.raised) s
-  pub ledger : HasRecordRoom v name size s
+  pub ledger : (o : NewObject) → IsWanted want name left rest o → HasRecordRoom v name (length o.bytes) s
 
--- the disk has space for all that may be written for what is wanted of a source
-abbrev pub HasWantedRoom : Opened → List ℕ → Option ℕ → Option (List ℕ) → Option (List ℕ) → State → Type 0
-HasWantedRoom v name None left rest s = HasPutRoom v name left rest s
-HasWantedRoom v name (Some want) left rest s = HasCutRoom v name want s
+-- the same where all that a source has is wanted
+abbrev pub HasPutRoom : Opened → List ℕ → Option (List ℕ) → Option (List ℕ) → State → Type 0
+HasPutRoom v name left rest s = HasWantedRoom v name None left rest s
+
+-- a reason for a refusal before the source is read: the object may not enter, or a last parity is damaged
+abbrev pub HasEarlyReason : Opened → List ℕ → Files → Type 0
+HasEarlyReason v name files = (MayEnter v name → ⊥) ⊎ ((a : BlockId) × IsDamagedLast v.shape v.lattice v.digests files a)

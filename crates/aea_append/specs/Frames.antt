@@ -107,11 +107,8 @@ IsReadOrHeadFault result = (result ≡ Err ReadFault) ⊎ IsHeadFault result
 abbrev pub IsByHead : {T : Type 0} → Result T IngestFault → Type 0
 IsByHead result = (result ≡ Err NameTaken) ⊎ ((result ≡ Err CatalogFull) ⊎ (((b : BlockId) × (result ≡ Err (HeadDamaged b))) ⊎ ((nodes : ℕ) × (result ≡ Err (Full nodes)))))
 
--- the source can begin with the head of a frame with this name and length
-abbrev pub BeginsWith : Option (List ℕ) → List ℕ → ℕ → Type 0
-BeginsWith left name size = (rest : Option (List ℕ)) × Consumes left rest (frame_head name size)
-
--- The disk has space for all that may be written for the frame that the source can begin with.
+-- The disk has space for all that may be written for the frame that the source can begin with: for the rows of the sites, and
+-- for the record of its object.
 pub record HasFrameRoom (v : Opened) (left : Option (List ℕ)) (s : State) : Type 0 where
   pub sites : FitsRows v.shape (limit_when v.raised) s
-  pub ledger : (name : List ℕ) (size : ℕ) → BeginsWith left name size → HasRecordRoom v name size s
+  pub ledger : (o : NewObject) (rest : Option (List ℕ)) → IsFramed left rest o → HasRecordRoom v o.name (length o.bytes) s

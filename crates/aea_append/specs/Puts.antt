@@ -6,11 +6,12 @@ use Rattle.sha2.specs.Sha256.{sha256}
 use Rattle.aea_lattice.specs.declared.blocks.BlockId.{BlockId}
 use Rattle.aea_lattice.specs.declared.grid.Lattice.{Lattice}
 use Rattle.aea_disk.specs.State.{State, During}
-use Rattle.aea_records.specs.Format.{Stored as StoredRecord, Record, Object, nodes_for, entry}
+use Rattle.aea_records.specs.Format.{Stored as StoredRecord, Record, Object, nodes_for, body, entry}
 use Rattle.aea_records.specs.Grammar.{AreRecords}
 use Rattle.aea_ledger.specs.Values.{Opened, HasRecords, IsThisOne}
 use Rattle.aea_ledger.specs.Next.{AreItsRecords}
 use Rattle.aea_ledger.specs.Recorded.{AreRecordsOf}
+use Rattle.aea_ledger.specs.Stops.{committed}
 use Rattle.aea_lattice.specs.declared.shape.Shape.{Shape}
 use Rattle.aea_records.specs.TableLaws.{AreBytes}
 use Rattle.aea_archive.specs.Blocks.{IsBlockOn}
@@ -52,6 +53,9 @@ pub record HasStored (tells : Type 0) (v w : Opened) (o : NewObject) (old new : 
   -- the disk: what each image of each moment has, and what is there in the end
   pub adds : tells → (records : List Record) → AreItsRecords v records (old.files 0) → Adds v.shape records (Object r ∷ []) payload old new
   pub added : tells → (records : List Record) → AreItsRecords v records (old.files 0) → HasAdded v.shape records (Object r ∷ []) new
+  -- the ledger's file is the old one, byte for byte, with the body of the record and a closed gate written after its ending
+  -- gate, and that gate opened
+  pub exactly : tells → new.files 0 ≡ committed (old.files 0) v.end (body (Object r) ++ 0 ∷ [])
   -- the cells of the new blocks, as the disk reads
   pub cells : tells → AreAtHome v.shape v.lattice.n w.lattice.n payload new.files
   -- each data list that was recorded, and for which the last parities are honest, is recorded with the object's blocks

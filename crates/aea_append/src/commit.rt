@@ -7,11 +7,11 @@ ghost use Rattle.aea_disk.specs.Files.{ChangesOnly};
 ghost use Rattle.aea_disk.specs.State.{KeepsImages, IsSynced, IsFixed, IsReady};
 ghost use Rattle.aea_disk.specs.Frames.{OnlyWrites};
 ghost use Rattle.aea_catalog.specs.Names.{IsName};
-ghost use Rattle.aea_records.specs.Format.{Record, Object, greatest_objects, nodes_for, limit_when, entry};
+ghost use Rattle.aea_records.specs.Format.{Record, Object, greatest_objects, nodes_for, limit_when, body, entry};
 ghost use Rattle.aea_ledger.specs.Values.{HasRecords, IsThisOne};
 ghost use Rattle.aea_ledger.specs.Taking.{FitsAdding};
 ghost use Rattle.aea_ledger.specs.Next.{next_stored, AreItsRecords};
-ghost use Rattle.aea_ledger.specs.Stops.{HasLedger};
+ghost use Rattle.aea_ledger.specs.Stops.{HasLedger, committed};
 ghost use Rattle.aea_archive.specs.Cells.{AreAtHome};
 ghost use Rattle.aea_archive.specs.Stretches.{Adds};
 
@@ -43,6 +43,7 @@ pub(crate) fn commit_object<D: Disk>(
         → AreAtHome ledger.old.shape ledger.old.lattice.n (ledger.old.lattice.n + count) payload (D.state disk.old).files
         → Adds ledger.old.shape records (Object (next_stored ledger.old name.now size digest count digests.now) ∷ []) payload (D.state disk.old) (D.state disk.new) }
     ensures appended { OnOk result (D.tells → (records : List Record) → AreItsRecords ledger.old records ((D.state disk.old).files 0) → HasLedger ledger.old.shape (records ++ Object (next_stored ledger.old name.now size digest count digests.now) ∷ []) ((D.state disk.new).files 0)) }
+    ensures exactly { OnOk result (D.tells → (D.state disk.new).files 0 ≡ committed ((D.state disk.old).files 0) ledger.old.end (body (Object (next_stored ledger.old name.now size digest count digests.now)) ++ 0 ∷ [])) }
     ensures value { OnOk result ((records : List Record) → HasRecords ledger.old records → HasRecords ledger.new (records ++ Object (next_stored ledger.old name.now size digest count digests.now) ∷ [])) }
     ensures shape { OnOk result (ledger.new.shape ≡ ledger.old.shape) }
     ensures live_on { OnOk result (ledger.new.live ≡ true) }

@@ -19,7 +19,7 @@ ghost use Rattle.aea_archive.specs.Next.{NewObject};
 ghost use Rattle.aea_append.specs.Taking.{HasEnded, room_left};
 ghost use Rattle.aea_append.specs.Puts.{IsCut, HasKept, HasStored, MayHaveStored, LeavesLedger};
 ghost use Rattle.aea_append.specs.Faults.{as_put};
-ghost use Rattle.aea_append.specs.Causes.{IsTaken, MayEnter, HasCutRoom, next_end};
+ghost use Rattle.aea_append.specs.Causes.{IsTaken, MayEnter, HasWantedRoom, next_end};
 ghost use Rattle.aea_append.specs.Frames.{IsFramed, HasHead, HasNoName, HasBadName, HasEntry, FitsFrame, IsTooLong, EndsInside, IsEarlyFault, IsHeadFault, IsReadOrHeadFault, IsByHead, HasFrameRoom, name_length, frame_name, object_length, frame_length};
 ghost use Rattle.aea_append.specs.declared.store.Stored.{Stored};
 
@@ -172,7 +172,7 @@ fn store_frame<D: Disk, S: Source>(
 
     // The blocks that the archive had and the other files stay, no site grows past the rows that the archive can have, and
     // when the disk is at fault.
-    ensures writes { OnlyWrites D.tells (IsReady (D.state disk.old)) (HasCutRoom ledger.old name.now size (D.state disk.old)) (result ≡ Err IngestFault.DiskFault) (ChangesArchive ledger.old.shape (limit_when ledger.old.raised) (IsBlockIn ledger.old.shape ledger.old.lattice.n) (IsBesides ledger.old.shape)) (D.state disk.old) (D.state disk.new) }
+    ensures writes { OnlyWrites D.tells (IsReady (D.state disk.old)) (HasWantedRoom ledger.old name.now (Some size) (S.state source.old).left (S.state source.new).left (D.state disk.old)) (result ≡ Err IngestFault.DiskFault) (ChangesArchive ledger.old.shape (limit_when ledger.old.raised) (IsBlockIn ledger.old.shape ledger.old.lattice.n) (IsBesides ledger.old.shape)) (D.state disk.old) (D.state disk.new) }
     ensures padded { result ≢ Err IngestFault.DiskFault → D.tells → KeepsPadded ledger.old.shape (IsBlockIn ledger.old.shape ledger.old.lattice.n) (D.state disk.old).files (D.state disk.new).files }
 
     // How many bytes are taken, and when the source is at fault.

@@ -6,13 +6,13 @@ ghost use Rattle.aea_faults.specs.Faults.{Rose};
 ghost use Rattle.aea_io.specs.Taken.{Counts};
 ghost use Rattle.aea_lattice.specs.declared.blocks.BlockId.{BlockId};
 ghost use Rattle.aea_disk.specs.Files.{Files};
-ghost use Rattle.aea_disk.specs.State.{HasEarlier};
+ghost use Rattle.aea_disk.specs.State.{HasEarlier, IsReady, IsRoomy, NeverFails};
 ghost use Rattle.aea_disk.specs.Frames.{OnlyReads};
 ghost use Rattle.aea_shelf.specs.Places.{cell_size};
 ghost use Rattle.aea_shelf.specs.Writes.{KeepsPadded};
 ghost use Rattle.aea_records.specs.Format.{nodes_for, limit_when};
 ghost use Rattle.aea_archive.specs.Blocks.{IsBlockIn};
-ghost use Rattle.aea_archive.specs.Lasts.{IsLastParity, IsFirstDamagedLast, AreLastsIntact};
+ghost use Rattle.aea_archive.specs.Lasts.{IsLastParity, IsDamagedLast, IsFirstDamagedLast, AreLastsIntact};
 ghost use Rattle.aea_archive.specs.Cells.{WritesCells};
 ghost use Rattle.aea_append.specs.Weaving.{HasWoven, IsBroken, IsStopping};
 ghost use Rattle.aea_append.specs.Causes.{IsHeadRefused};
@@ -229,6 +229,7 @@ pub(crate) fn weave_object<D: Disk, S: Source>(
     ensures read_intact { result ≡ Err PutFault.ReadFault → D.tells → AreLastsIntact ledger.now.shape ledger.now.lattice ledger.now.digests (D.state disk.old).files }
     ensures head { (b : BlockId) → result ≡ Err (PutFault.HeadDamaged b) → IsLastParity ledger.now.lattice b × (D.tells → IsFirstDamagedLast ledger.now.shape ledger.now.lattice ledger.now.digests (D.state disk.old).files b) }
     ensures head_leaves { (b : BlockId) → result ≡ Err (PutFault.HeadDamaged b) → (source.new ≡ source.old) × OnlyReads D.tells ⊥ (D.state disk.old) (D.state disk.new) }
+    ensures head_in_room { D.tells → (a : BlockId) → IsDamagedLast ledger.now.shape ledger.now.lattice ledger.now.digests (D.state disk.old).files a → IsReady (D.state disk.old) → NeverFails (IsRoomy (D.state disk.old)) (result ≢ Err PutFault.DiskFault) (D.state disk.old) (D.state disk.new) }
     ensures full { (nodes : ℕ) → result ≡ Err (PutFault.Full nodes) → (nodes ≡ ledger.now.lattice.n) × (IsOver ledger.now want (S.state source.old).left (S.state source.new).left × (D.tells → AreLastsIntact ledger.now.shape ledger.now.lattice ledger.now.digests (D.state disk.old).files)) }
     ensures full_leaves { (nodes n : ℕ) → result ≡ Err (PutFault.Full nodes) → want ≡ Some n → (source.new ≡ source.old) × (at.new ≡ at.old) }
     ensures over { (n : ℕ) → want ≡ Some n → room_left ledger.now < n → (result ≡ Err (PutFault.Full ledger.now.lattice.n)) ⊎ IsHeadRefused result }

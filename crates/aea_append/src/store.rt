@@ -5,7 +5,7 @@ ghost use Rattle.std.specs.FinMap.{len};
 ghost use Rattle.aea_faults.specs.Faults.{Rose};
 ghost use Rattle.aea_io.specs.Taken.{TakesAtMost, Counts};
 ghost use Rattle.aea_lattice.specs.declared.blocks.BlockId.{BlockId};
-ghost use Rattle.aea_disk.specs.State.{IsFixed, IsReady};
+ghost use Rattle.aea_disk.specs.State.{IsFixed, IsReady, IsRoomy, NeverFails};
 ghost use Rattle.aea_disk.specs.Frames.{OnlyReads, OnlyWrites};
 ghost use Rattle.aea_shelf.specs.Writes.{KeepsPadded};
 ghost use Rattle.aea_catalog.specs.Names.{IsName};
@@ -17,7 +17,7 @@ ghost use Rattle.aea_archive.specs.Lasts.{IsLastParity, IsDamagedLast, IsFirstDa
 ghost use Rattle.aea_append.specs.Taking.{HasPassedRoom, IsOver, IsThere, HasEnded, room_left, most_of, long_of};
 ghost use Rattle.aea_append.specs.Puts.{IsWhole, IsWanted, HasKept, HasPut, MayHaveStored, LeavesLedger};
 ghost use Rattle.aea_append.specs.Wanted.{StoresWanted};
-ghost use Rattle.aea_append.specs.Causes.{IsTaken, MayEnter, IsEarly, IsHeadRefused, HasPutRoom, HasWantedRoom, next_end};
+ghost use Rattle.aea_append.specs.Causes.{IsTaken, MayEnter, IsEarly, IsHeadRefused, HasEarlyReason, HasPutRoom, HasWantedRoom, next_end};
 
 use crate::commit::commit_object;
 use crate::fault::PutFault;
@@ -100,6 +100,9 @@ pub(crate) fn put_wanted<D: Disk, S: Source>(
     ensures stores { StoresWanted D.tells (source.new ≡ source.old) ledger.old ledger.new name.now want (S.state source.old).left (S.state source.new).left at.old at.new (D.state disk.old) (D.state disk.new) result }
     ensures late { IsEarly result → ⊥ }
     ensures whole { want ≡ None → result ≡ Ok None → ⊥ }
+
+    // Where a last parity is damaged, the disk needs space to sync alone.
+    ensures head_in_room { D.tells → (a : BlockId) → IsDamagedLast ledger.old.shape ledger.old.lattice ledger.old.digests (D.state disk.old).files a → IsReady (D.state disk.old) → NeverFails (IsRoomy (D.state disk.old)) (result ≢ Err PutFault.DiskFault) (D.state disk.old) (D.state disk.new) }
 
     // The blocks that the archive had and the other files stay, no site grows past the rows that the archive can have, and
     // when the disk is at fault.
@@ -187,6 +190,9 @@ pub fn put<D: Disk, S: Source>(
     ensures head { (b : BlockId) → result ≡ Err (PutFault.HeadDamaged b) → IsLastParity ledger.old.lattice b × (D.tells → IsFirstDamagedLast ledger.old.shape ledger.old.lattice ledger.old.digests (D.state disk.old).files b) }
     ensures head_leaves { (b : BlockId) → result ≡ Err (PutFault.HeadDamaged b) → (source.new ≡ source.old) × OnlyReads D.tells ⊥ (D.state disk.old) (D.state disk.new) }
     ensures head_refused { D.tells → MayEnter ledger.old name.now → (a : BlockId) → IsDamagedLast ledger.old.shape ledger.old.lattice ledger.old.digests (D.state disk.old).files a → IsHeadRefused result }
+
+    // Where a reason holds for a refusal before the source is read, the disk needs space to sync alone.
+    ensures refused_in_room { D.tells → HasEarlyReason ledger.old name.now (D.state disk.old).files → IsReady (D.state disk.old) → NeverFails (IsRoomy (D.state disk.old)) (result ≢ Err PutFault.DiskFault) (D.state disk.old) (D.state disk.new) }
 
     // More bytes than there are nodes for.
     ensures full { (nodes : ℕ) → result ≡ Err (PutFault.Full nodes) → (nodes ≡ ledger.old.lattice.n) × (HasPassedRoom ledger.old (S.state source.old).left (S.state source.new).left × (D.tells → AreLastsIntact ledger.old.shape ledger.old.lattice ledger.old.digests (D.state disk.old).files)) }

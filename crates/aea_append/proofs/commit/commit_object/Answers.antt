@@ -1,4 +1,4 @@
-use Rattle.std.proofs.Common.{◌≡◌, ℕ, ◌+◌, List, [], ◌∷◌, length, take, drop, refl, sym, ◌∙◌, ap, subst, arith}
+use Rattle.std.proofs.Common.{◌≡◌, ℕ, ◌+◌, List, [], ◌∷◌, ◌++◌, length, take, drop, refl, sym, ◌∙◌, ap, subst, arith}
 use Rattle.std.proofs.lemmas.Result.{on_ok_weaker}
 use Rattle.std.specs.Prelude.{IsErr}
 use Rattle.std.specs.List.{sum_by}
@@ -9,9 +9,9 @@ use Rattle.aea_disk.proofs.Frames.{ok_fine, ready_later, reads_one, reads_then_w
 use Rattle.aea_envelope.specs.Cells.{cell_of}
 use Rattle.aea_shelf.specs.Places.{home_file, home_place}
 use Rattle.aea_shelf.proofs.Runs.{shelf_others, no_home_in_ledger}
-use Rattle.aea_records.specs.Format.{Stored, Object, nodes_of, entry}
+use Rattle.aea_records.specs.Format.{Stored, Object, nodes_of, body, entry}
 use Rattle.aea_ledger.specs.Next.{next_stored, AreItsRecords}
-use Rattle.aea_ledger.specs.Stops.{HasLedger}
+use Rattle.aea_ledger.specs.Stops.{HasLedger, committed}
 use Rattle.aea_ledger.specs.Taking.{FitsAdding}
 use Rattle.aea_ledger.proofs.Readying.{adding_later}
 use Rattle.aea_records.proofs.OneMore.{nodes_of-push}
@@ -67,6 +67,14 @@ returns-clause-appended g c =
     on_ok_weaker c.append.result
     (λ committed told records its.
     committed.appended told records (subst (λ (l : List ℕ). AreItsRecords c.args.ledger.now records l) (sym (ap (λ (f : Files). f 0) (c.sync.ensures.contents told))) its))
+    c.append.ensures.committed
+
+pub returns-clause-exactly : goal.returns-clause-exactly
+returns-clause-exactly g c =
+    on_ok_weaker c.append.result
+    (λ done told.
+    done.exactly told
+    ∙ ap (λ (f : Files). committed (f 0) c.args.ledger.now.end (body (Object (next_stored c.args.ledger.now c.args.name.now c.args.size c.args.digest c.args.count c.args.digests.now)) ++ 0 ∷ [])) (c.sync.ensures.contents told))
     c.append.ensures.committed
 
 pub returns-clause-unchanged : goal.returns-clause-unchanged

@@ -1,4 +1,4 @@
-use Rattle.std.proofs.Common.{◌≡◌, ⊎_elim, inl, inr, ℕ, ◌+◌, ◌*◌, ◌<◌, ◌≤◌, min, max, [], length, take, Ok, refl, sym, ◌∙◌, ap, subst, arith}
+use Rattle.std.proofs.Common.{◌≡◌, ⊎_elim, inl, inr, ℕ, ◌+◌, ◌*◌, ◌<◌, ◌≤◌, min, max, [], length, take, Some, Ok, refl, sym, ◌∙◌, ap, subst, arith}
 use Rattle.std.proofs.lemmas.List.{length-take}
 use Rattle.aea_disk.proofs.Frames.{writes_wider}
 use Rattle.aea_shelf.proofs.Runs.{padded_none}
@@ -9,12 +9,13 @@ use Rattle.aea_archive.specs.Cells.{IsBesides, ChangesArchive}
 use Rattle.aea_append.specs.declared.frame.Head.{Head}
 use Rattle.aea_append.specs.Taking.{room_left}
 use Rattle.aea_append.specs.Puts.{IsCut}
-use Rattle.aea_append.specs.Causes.{IsTaken, MayEnter, HasCutRoom, next_end}
+use Rattle.aea_append.specs.Causes.{IsTaken, MayEnter, HasWantedRoom, next_end}
 use Rattle.aea_append.specs.Frames.{IsHeadOf, IsFramed, HasFrameRoom}
 use Rattle.aea_append.proofs.Rooms.{all_long}
 use Rattle.aea_append.proofs.Takings.{counts_more, counts_then}
 use Rattle.aea_append.proofs.Frames.{behind_head, head_not_end, head_not_cut, head_not_none, cut_not_end, bad_not_end, bad_not_cut, inside_not_end, inside_not_none}
 use Rattle.aea_append.proofs.Ingesting.{nothing_written, leaves_same, may_as, framed_of, rose_before}
+use Rattle.aea_append.proofs.Space.{frame_room}
 use Rattle.aea_append.proofs.ingest.ingest_one.Goals as goal
 
 pub returns-in-Ok-End-clause-writes : goal.returns-in-Ok-End-clause-writes
@@ -328,7 +329,7 @@ returns-in-Ok-Whole-clause-stopped g c is told =
 pub returns-in-Ok-Whole-clause-writes : goal.returns-in-Ok-Whole-clause-writes
 returns-in-Ok-Whole-clause-writes g c =
     let w = c.in-Ok-Whole.ensures.whole c.in-Ok-Whole.long c.in-Ok-Whole.size (ap Ok c.in-Ok-Whole.field-0-is) in
-    writes_wider g.D.Disk.tells _ (HasCutRoom c.args.ledger.now (take c.in-Ok-Whole.long c.read_head.new.buffer) c.in-Ok-Whole.size (g.D.Disk.state c.args.disk.now)) _ (HasFrameRoom c.args.ledger.now (g.S.Source.state c.args.source.now).left (g.D.Disk.state c.args.disk.now)) _ (ChangesArchive c.args.ledger.now.shape (limit_when c.args.ledger.now.raised) (IsBlockIn c.args.ledger.now.shape c.args.ledger.now.lattice.n) (IsBesides c.args.ledger.now.shape)) (ChangesArchive c.args.ledger.now.shape (limit_when c.args.ledger.now.raised) (IsBlockIn c.args.ledger.now.shape c.args.ledger.now.lattice.n) (IsBesides c.args.ledger.now.shape)) (g.D.Disk.state c.args.disk.now) (g.D.Disk.state c.store_frame.new.disk) (λ d e step. step) (λ _ is. is) (λ _ room. record { sites = room.sites; ledger = room.ledger (take c.in-Ok-Whole.long c.read_head.new.buffer) c.in-Ok-Whole.size ((g.S.Source.state c.read_head.new.source).left, w.3) }) c.store_frame.ensures.writes
+    writes_wider g.D.Disk.tells _ (HasWantedRoom c.args.ledger.now (take c.in-Ok-Whole.long c.read_head.new.buffer) (Some c.in-Ok-Whole.size) (g.S.Source.state c.read_head.new.source).left (g.S.Source.state c.store_frame.new.source).left (g.D.Disk.state c.args.disk.now)) _ (HasFrameRoom c.args.ledger.now (g.S.Source.state c.args.source.now).left (g.D.Disk.state c.args.disk.now)) _ (ChangesArchive c.args.ledger.now.shape (limit_when c.args.ledger.now.raised) (IsBlockIn c.args.ledger.now.shape c.args.ledger.now.lattice.n) (IsBesides c.args.ledger.now.shape)) (ChangesArchive c.args.ledger.now.shape (limit_when c.args.ledger.now.raised) (IsBlockIn c.args.ledger.now.shape c.args.ledger.now.lattice.n) (IsBesides c.args.ledger.now.shape)) (g.D.Disk.state c.args.disk.now) (g.D.Disk.state c.store_frame.new.disk) (λ d e step. step) (λ _ is. is) (λ _ room. frame_room c.args.ledger.now (g.S.Source.state c.args.source.now).left (g.S.Source.state c.read_head.new.source).left (g.S.Source.state c.store_frame.new.source).left (take c.in-Ok-Whole.long c.read_head.new.buffer) c.in-Ok-Whole.size (g.D.Disk.state c.args.disk.now) w.3 room) c.store_frame.ensures.writes
 
 pub returns-in-Ok-Whole-clause-ledger : goal.returns-in-Ok-Whole-clause-ledger
 returns-in-Ok-Whole-clause-ledger g c name stored r told =

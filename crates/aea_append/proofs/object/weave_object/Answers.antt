@@ -1,4 +1,4 @@
-use Rattle.std.proofs.Common.{◌≡◌, ⊎_elim, inl, inr, ℕ, List, Err, sym, ◌∙◌, ap}
+use Rattle.std.proofs.Common.{◌≡◌, ⊎_elim, inl, inr, ℕ, List, Err, refl, sym, ◌∙◌, ap}
 use Rattle.aea_disk.proofs.Frames.{ready_later, reads_writes, reads_then_writes, writes_as}
 use Rattle.aea_shelf.proofs.Runs.{padded_kept, padded_both}
 use Rattle.aea_records.specs.Format.{limit_when}
@@ -10,6 +10,7 @@ use Rattle.aea_append.proofs.Faults.{fault_is, fault_as, ok_no_fault, met_fault}
 use Rattle.aea_append.specs.Taking.{most_of, room_left}
 use Rattle.aea_append.proofs.Takings.{counts_none}
 use Rattle.aea_archive.proofs.Writes.{cells_none}
+use Rattle.aea_append.proofs.Space.{none_damaged}
 use Rattle.aea_append.proofs.object.weave_object.Goals as goal
 
 pub returns-in-Err-clause-writes : goal.returns-in-Err-clause-writes
@@ -115,3 +116,28 @@ returns-clause-full_leaves g c nodes n is some =
 pub returns-clause-short : goal.returns-clause-short
 returns-clause-short g c n some is =
     c.take_object.ensures.short n some (c.in-Err-take_object.is ∙ fault_as c.in-Err-take_object.fault ReadFault is)
+
+-- ---- where a last parity is damaged
+
+pub returns-in-Err-clause-head_in_room : goal.returns-in-Err-clause-head_in_room
+returns-in-Err-clause-head_in_room g c told a damaged ready roomy = ((λ is. absurd (let e = is in cc)), refl)
+
+pub returns-in-Err-HeadDamaged-clause-head_in_room : goal.returns-in-Err-HeadDamaged-clause-head_in_room
+returns-in-Err-HeadDamaged-clause-head_in_room g c told a damaged ready roomy =
+    ((λ is. absurd (let e = is in cc)), (c.ready_heads.ensures.reads.sure told ready roomy).1)
+
+pub returns-in-Err-NoMemory-clause-head_in_room : goal.returns-in-Err-NoMemory-clause-head_in_room
+returns-in-Err-NoMemory-clause-head_in_room g c told a damaged ready roomy =
+    ((λ is. absurd (let e = is in cc)), (c.ready_heads.ensures.reads.sure told ready roomy).1)
+
+pub returns-in-Err-DiskFault-clause-head_in_room : goal.returns-in-Err-DiskFault-clause-head_in_room
+returns-in-Err-DiskFault-clause-head_in_room g c told a damaged ready roomy =
+    absurd ((c.ready_heads.ensures.reads.sure told ready roomy).0 (c.in-Err-DiskFault.is ∙ ap Err c.in-Err-DiskFault.field-0-is))
+
+pub returns-in-Ok-take_object-clause-head_in_room : goal.returns-in-Ok-take_object-clause-head_in_room
+returns-in-Ok-take_object-clause-head_in_room g c told a damaged ready roomy =
+    absurd (none_damaged c.args.ledger.now (g.D.Disk.state c.args.disk.now) (c.in-Ok-ready_heads.ensures.intact told) a damaged)
+
+pub returns-clause-head_in_room : goal.returns-clause-head_in_room
+returns-clause-head_in_room g c told a damaged ready roomy =
+    absurd (none_damaged c.args.ledger.now (g.D.Disk.state c.args.disk.now) (c.in-Ok-ready_heads.ensures.intact told) a damaged)

@@ -9,6 +9,7 @@ use Rattle.aea_append.proofs.Takings.{counts_most}
 use Rattle.aea_append.proofs.Leaving.{cells_wider}
 use Rattle.aea_archive.proofs.Writes.{cells_none}
 use Rattle.aea_append.proofs.Ended.{ended_as, head_refused_by, full_refused_by, complete_by, none_by, kept_all}
+use Rattle.aea_append.proofs.Space.{none_damaged}
 use Rattle.aea_append.proofs.store.put.Goals as goal
 
 pub returns-in-Err-clause-writes : goal.returns-in-Err-clause-writes
@@ -114,3 +115,21 @@ returns-in-Err-put_wanted-clause-stopped g c is told =
 pub returns-in-Err-put_wanted-clause-read_cause : goal.returns-in-Err-put_wanted-clause-read_cause
 returns-in-Err-put_wanted-clause-read_cause g c is =
     c.put_wanted.ensures.read_cause (c.in-Err-put_wanted.is ∙ fault_as c.in-Err-put_wanted.fault ReadFault is)
+
+-- ---- where a reason held for a refusal before the source was read
+
+pub returns-in-Err-clause-refused_in_room : goal.returns-in-Err-clause-refused_in_room
+returns-in-Err-clause-refused_in_room g c told reason ready roomy = (
+  (λ is. let same = fault_is c.in-Err.fault DiskFault is in
+      ⊎_elim {C = ⊥} (λ ok. (let e = ok in cc)) (λ early. ⊎_elim {C = ⊥} (λ bad. (let e = fault_is c.in-Err.fault BadName bad in cc)) (λ rest. ⊎_elim {C = ⊥} (λ taken. (let e = fault_is c.in-Err.fault NameTaken taken in cc)) (λ many. (let e = fault_is c.in-Err.fault CatalogFull many in cc)) rest) early) c.in-Err.ensures.early),
+  refl,
+)
+
+pub returns-in-Ok-Some-clause-refused_in_room : goal.returns-in-Ok-Some-clause-refused_in_room
+returns-in-Ok-Some-clause-refused_in_room g c told reason ready roomy =
+    absurd (⊎_elim {C = ⊥} (λ no. no c.in-Ok.ensures.may) (λ some. none_damaged c.args.ledger.now (g.D.Disk.state c.args.disk.now) ((ended_as (c.in-Ok-Some.is ∙ ap Ok c.in-Ok-Some.field-0-is) c.put_wanted.ensures.stores).heads told) some.0 some.1) reason)
+
+pub returns-in-Err-put_wanted-clause-refused_in_room : goal.returns-in-Err-put_wanted-clause-refused_in_room
+returns-in-Err-put_wanted-clause-refused_in_room g c told reason ready roomy =
+    ⊎_elim (λ no. absurd (no c.in-Ok.ensures.may))
+    (λ some. let never = c.put_wanted.ensures.head_in_room told some.0 some.1 ready roomy in ((λ is. never.0 (c.in-Err-put_wanted.is ∙ fault_as c.in-Err-put_wanted.fault DiskFault is)), never.1)) reason

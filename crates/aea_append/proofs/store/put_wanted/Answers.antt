@@ -1,4 +1,4 @@
-use Rattle.std.proofs.Common.{◌≡◌, inl, inr, ℕ, ◌+◌, ◌-◌, ◌*◌, ◌≤◌, Err, [], ◌∷◌, List, length, refl, sym, ◌∙◌, ap, subst, arith}
+use Rattle.std.proofs.Common.{◌≡◌, inl, inr, ℕ, ◌+◌, ◌-◌, ◌*◌, ◌≤◌, Err, [], ◌∷◌, ◌++◌, List, length, refl, sym, ◌∙◌, ap, subst, arith}
 use Rattle.aea_lattice.specs.declared.grid.Lattice.{Lattice}
 use Rattle.std.specs.List.{sum_by}
 use Rattle.sha2.proofs.Facts256.{length-sha256}
@@ -6,8 +6,9 @@ use Rattle.aea_disk.specs.Files.{Files}
 use Rattle.aea_disk.proofs.Frames.{writes_as}
 use Rattle.aea_shelf.proofs.Cells.{keeps_intact}
 use Rattle.aea_shelf.proofs.Runs.{padded_both}
-use Rattle.aea_records.specs.Format.{Stored, Record, Object, nodes_for, limit_when, entry}
+use Rattle.aea_records.specs.Format.{Stored, Record, Object, nodes_for, limit_when, body, entry}
 use Rattle.aea_ledger.specs.Next.{next_stored}
+use Rattle.aea_ledger.specs.Stops.{committed}
 use Rattle.aea_archive.specs.Blocks.{IsBlockIn}
 use Rattle.aea_archive.specs.Cells.{AreAtHome, FitsRows, IsNoSite}
 use Rattle.aea_archive.proofs.Cells.{fixed_kept}
@@ -26,6 +27,7 @@ use Rattle.aea_append.proofs.Faults.{ok_not_over, read_not_over}
 use Rattle.aea_append.proofs.Rooms.{not_less}
 use Rattle.aea_append.proofs.Leaving.{one_of, cells_wider, stores_none, leaves_ledger, stopped_before, both_write, adds_put, its_later, cells_stay, padded_commit}
 use Rattle.aea_append.proofs.Storing.{next_woven, more_where, added_of, woven_to, next_of, more_of, honest_of}
+use Rattle.aea_append.proofs.Space.{none_damaged}
 use Rattle.aea_append.proofs.store.put_wanted.Goals as goal
 
 pub returns-in-Err-DiskFault-clause-writes : goal.returns-in-Err-DiskFault-clause-writes
@@ -109,7 +111,7 @@ returns-in-Ok-commit_object-clause-writes g c =
     let size : next_end v.end (length name) (nodes_for v.shape (length t.bytes) * (1 + v.shape.alpha)) ≡ v.end + length (entry (Object stored)) = omega (arith, c.commit_object.ensures.size (ap length t.digest_is ∙ length-sha256 t.bytes), long) in
     writes_as tells _ _ _ _ _ old new (λ is. absurd (let e = is in cc)) (λ is. absurd (ok_no_fault c.in-Ok-commit_object.is is))
     (both_write tells bad _ v name c.args.want left rest (v.end + length (entry (Object stored))) old mid new (ok_no_fault c.in-Ok.is) c.weave_object.ensures.writes c.commit_object.ensures.writes
-    (λ has. subst (FitsAdding old 1) size (wanted_ledger v name c.args.want left rest old has t.bytes t.taken (λ n is. (let cut = c.in-Ok.ensures.cut n is in let all = c.is_short.ensures.no c.if-is_short.false n is in omega (arith, cut.0, all, t.long))) fits)))
+    (λ told has. subst (FitsAdding old 1) size (wanted_ledger v name c.args.want left rest old has t.bytes t.taken c.in-Ok.ensures.end (λ n is. (let cut = c.in-Ok.ensures.cut n is in let all = c.is_short.ensures.no c.if-is_short.false n is in omega (arith, cut.0, all, t.long))) c.requires.enters (c.in-Ok.ensures.intact told) fits)))
 
 pub returns-in-Err-DiskFault-commit_object-clause-writes : goal.returns-in-Err-DiskFault-commit_object-clause-writes
 returns-in-Err-DiskFault-commit_object-clause-writes g c =
@@ -138,7 +140,7 @@ returns-in-Err-DiskFault-commit_object-clause-writes g c =
     let size : next_end v.end (length name) (nodes_for v.shape (length t.bytes) * (1 + v.shape.alpha)) ≡ v.end + length (entry (Object stored)) = omega (arith, c.commit_object.ensures.size (ap length t.digest_is ∙ length-sha256 t.bytes), long) in
     writes_as tells _ _ _ _ _ old new (λ is. c.in-Err-DiskFault-commit_object.is ∙ ap Err c.in-Err-DiskFault-commit_object.field-0-is) (λ is. cc)
     (both_write tells bad _ v name c.args.want left rest (v.end + length (entry (Object stored))) old mid new (ok_no_fault c.in-Ok.is) c.weave_object.ensures.writes c.commit_object.ensures.writes
-    (λ has. subst (FitsAdding old 1) size (wanted_ledger v name c.args.want left rest old has t.bytes t.taken (λ n is. (let cut = c.in-Ok.ensures.cut n is in let all = c.is_short.ensures.no c.if-is_short.false n is in omega (arith, cut.0, all, t.long))) fits)))
+    (λ told has. subst (FitsAdding old 1) size (wanted_ledger v name c.args.want left rest old has t.bytes t.taken c.in-Ok.ensures.end (λ n is. (let cut = c.in-Ok.ensures.cut n is in let all = c.is_short.ensures.no c.if-is_short.false n is in omega (arith, cut.0, all, t.long))) c.requires.enters (c.in-Ok.ensures.intact told) fits)))
 
 pub returns-in-Err-NoMemory-commit_object-clause-writes : goal.returns-in-Err-NoMemory-commit_object-clause-writes
 returns-in-Err-NoMemory-commit_object-clause-writes g c =
@@ -167,7 +169,7 @@ returns-in-Err-NoMemory-commit_object-clause-writes g c =
     let size : next_end v.end (length name) (nodes_for v.shape (length t.bytes) * (1 + v.shape.alpha)) ≡ v.end + length (entry (Object stored)) = omega (arith, c.commit_object.ensures.size (ap length t.digest_is ∙ length-sha256 t.bytes), long) in
     writes_as tells _ _ _ _ _ old new (λ is. absurd (let e = is in cc)) (λ is. absurd (let e = met_fault c.in-Err-NoMemory-commit_object.is c.in-Err-NoMemory-commit_object.field-0-is is in cc))
     (both_write tells bad _ v name c.args.want left rest (v.end + length (entry (Object stored))) old mid new (ok_no_fault c.in-Ok.is) c.weave_object.ensures.writes c.commit_object.ensures.writes
-    (λ has. subst (FitsAdding old 1) size (wanted_ledger v name c.args.want left rest old has t.bytes t.taken (λ n is. (let cut = c.in-Ok.ensures.cut n is in let all = c.is_short.ensures.no c.if-is_short.false n is in omega (arith, cut.0, all, t.long))) fits)))
+    (λ told has. subst (FitsAdding old 1) size (wanted_ledger v name c.args.want left rest old has t.bytes t.taken c.in-Ok.ensures.end (λ n is. (let cut = c.in-Ok.ensures.cut n is in let all = c.is_short.ensures.no c.if-is_short.false n is in omega (arith, cut.0, all, t.long))) c.requires.enters (c.in-Ok.ensures.intact told) fits)))
 
 pub commit_object-requires-clause-fixed : goal.commit_object-requires-clause-fixed
 commit_object-requires-clause-fixed g c told =
@@ -317,6 +319,8 @@ returns-in-Ok-commit_object-clause-stores g c =
                 added_of tells v name k nodes digest left rest digests old.files mid.files counted t c.cells_have_lengths.ensures c.cells_have_parts.ensures c.digests_are_counted.ensures records its.has new
                 (cells_stay v.shape v.lattice.n t.heads.lattice.n t.woven.payload mid.files new.files (c.commit_object.ensures.writes.contents told) (t.woven.cells told))
                 (c.in-Ok-commit_object.ensures.appended told records (its_later tells bad told v records old mid c.weave_object.ensures.writes its)) (c.in-Ok-commit_object.ensures.durable told);
+            exactly = λ told.
+                c.in-Ok-commit_object.ensures.exactly told ∙ ap (λ (l : List ℕ). committed l v.end (body (Object stored) ++ 0 ∷ [])) ((c.weave_object.ensures.writes.contents told).stay 0 (inl refl));
             cells = λ told.
                 subst (λ (l : Lattice). AreAtHome v.shape v.lattice.n l.n t.woven.payload new.files) (woven_is c.requires.opened.0 c.requires.opened.1)
                 (cells_stay v.shape v.lattice.n t.heads.lattice.n t.woven.payload mid.files new.files (c.commit_object.ensures.writes.contents told) (t.woven.cells told));
@@ -415,3 +419,41 @@ returns-in-Err-NoMemory-commit_object-clause-stores g c =
             padded_both v.shape (IsBlockIn v.shape v.lattice.n) old.files mid.files new.files (c.weave_object.ensures.padded (λ e. (let is = c.in-Ok.is in cc)) told) (padded_commit v mid.files new.files (c.commit_object.ensures.writes.contents told));
       };
     }
+
+-- ---- where a last parity is damaged
+
+pub returns-in-Err-DiskFault-clause-head_in_room : goal.returns-in-Err-DiskFault-clause-head_in_room
+returns-in-Err-DiskFault-clause-head_in_room g c told a damaged ready roomy =
+    absurd ((c.weave_object.ensures.head_in_room told a damaged ready roomy).0 (c.in-Err-DiskFault.is ∙ ap Err c.in-Err-DiskFault.field-0-is))
+
+pub returns-in-Err-HeadDamaged-clause-head_in_room : goal.returns-in-Err-HeadDamaged-clause-head_in_room
+returns-in-Err-HeadDamaged-clause-head_in_room g c told a damaged ready roomy =
+    ((λ is. absurd (let e = is in cc)), (c.weave_object.ensures.head_in_room told a damaged ready roomy).1)
+
+pub returns-in-Err-Full-clause-head_in_room : goal.returns-in-Err-Full-clause-head_in_room
+returns-in-Err-Full-clause-head_in_room g c told a damaged ready roomy =
+    ((λ is. absurd (let e = is in cc)), (c.weave_object.ensures.head_in_room told a damaged ready roomy).1)
+
+pub returns-in-Err-ReadFault-clause-head_in_room : goal.returns-in-Err-ReadFault-clause-head_in_room
+returns-in-Err-ReadFault-clause-head_in_room g c told a damaged ready roomy =
+    ((λ is. absurd (let e = is in cc)), (c.weave_object.ensures.head_in_room told a damaged ready roomy).1)
+
+pub returns-in-Err-NoMemory-clause-head_in_room : goal.returns-in-Err-NoMemory-clause-head_in_room
+returns-in-Err-NoMemory-clause-head_in_room g c told a damaged ready roomy =
+    ((λ is. absurd (let e = is in cc)), (c.weave_object.ensures.head_in_room told a damaged ready roomy).1)
+
+pub returns-then-is_short-clause-head_in_room : goal.returns-then-is_short-clause-head_in_room
+returns-then-is_short-clause-head_in_room g c told a damaged ready roomy =
+    absurd (none_damaged c.args.ledger.now (g.D.Disk.state c.args.disk.now) (c.in-Ok.ensures.intact told) a damaged)
+
+pub returns-in-Ok-commit_object-clause-head_in_room : goal.returns-in-Ok-commit_object-clause-head_in_room
+returns-in-Ok-commit_object-clause-head_in_room g c told a damaged ready roomy =
+    absurd (none_damaged c.args.ledger.now (g.D.Disk.state c.args.disk.now) (c.in-Ok.ensures.intact told) a damaged)
+
+pub returns-in-Err-DiskFault-commit_object-clause-head_in_room : goal.returns-in-Err-DiskFault-commit_object-clause-head_in_room
+returns-in-Err-DiskFault-commit_object-clause-head_in_room g c told a damaged ready roomy =
+    absurd (none_damaged c.args.ledger.now (g.D.Disk.state c.args.disk.now) (c.in-Ok.ensures.intact told) a damaged)
+
+pub returns-in-Err-NoMemory-commit_object-clause-head_in_room : goal.returns-in-Err-NoMemory-commit_object-clause-head_in_room
+returns-in-Err-NoMemory-commit_object-clause-head_in_room g c told a damaged ready roomy =
+    absurd (none_damaged c.args.ledger.now (g.D.Disk.state c.args.disk.now) (c.in-Ok.ensures.intact told) a damaged)

@@ -51,6 +51,7 @@ empty_is shape = record {
   place = refl;
 }
 
+-- and so it is one, as `open` asks
 pub empty_some : (shape : Shape) (bytes : List ℕ) → bytes ≡ empty_ledger shape → IsSomeLedger bytes
 empty_some shape bytes same = record {
   shape = shape;
@@ -97,7 +98,7 @@ and_second true y is = is
 and_second false y is = absurd (false≢true is)
 
 -- a list whose bytes are all below 128
-below_all : (xs : List ℕ) → list_all (λ x. ltb x 128) xs ≡ true → (i : ℕ) → get_or xs i 0 < 128
+pub below_all : (xs : List ℕ) → list_all (λ x. ltb x 128) xs ≡ true → (i : ℕ) → get_or xs i 0 < 128
 below_all [] all i = omega arith
 below_all (x ∷ xs) all zero = (Decides-ltb x 128).0 (and_first (ltb x 128) (list_all (λ y. ltb y 128) xs) all)
 below_all (x ∷ xs) all (suc i) = below_all xs (and_second (ltb x 128) (list_all (λ y. ltb y 128) xs) all) i
@@ -120,10 +121,11 @@ all_taken : (bytes taken : List ℕ) (rest : Option (List ℕ)) → Consumes (So
 all_taken bytes taken None gone end = absurd gone
 all_taken bytes taken (Some more) gone end = gone ∙ ap (λ (xs : List ℕ). taken ++ xs) end ∙ append-nil taken
 
--- blocks of 512 bytes
+-- how many nodes so many bytes take, in blocks of 512 bytes: by this a caller counts them
 pub nodes-512 : (shape : Shape) (n : ℕ) → IsRehearsalShape shape → nodes_for shape n ≡ (n + 512 - 1) / 512
 nodes-512 shape n is = ap (λ (k : ℕ). (n + k - 1) / k) is.block
 
+-- fewer bytes take no more nodes
 pub fewer_nodes : (shape : Shape) (m n : ℕ) → IsRehearsalShape shape → m ≤ n → nodes_for shape m ≤ nodes_for shape n
 fewer_nodes shape m n is less =
     let a = nodes-512 shape m is in let b = nodes-512 shape n is in
@@ -141,9 +143,10 @@ put_room v bytes rest s is has room = record {
         room.cells.sites f (site_bytes v.shape (limit_when v.raised)) first (omega (arith, last, count)) (rows-short v.shape (limit_when v.raised) is (omega (arith, limit)));
     sync = room.cells.syncs (s.files 0);
   };
-  ledger = λ taken gone fits.
+  ledger = λ o whole enters intact fits.
+      let taken = o.bytes in
       let end = new_end v has in
-      let fewer = fewer_nodes v.shape (length taken) (length bytes) is (taken_short bytes taken rest gone) in
+      let fewer = fewer_nodes v.shape (length taken) (length bytes) is (taken_short bytes taken rest whole.taken) in
       let four : nodes_for v.shape (length taken) * (1 + v.shape.alpha) ≡ nodes_for v.shape (length taken) * 4 = ap (λ (a : ℕ). nodes_for v.shape (length taken) * (1 + a)) is.alpha in
       record {
         room = room.ledger (next_end v.end (length (codes "rehearsal")) (nodes_for v.shape (length taken) * (1 + v.shape.alpha)) + 1) (omega (arith, end, fewer, four));

@@ -74,10 +74,11 @@ altered_in law number nodes permille c v a this =
     }
 
 module _ (lengths : CellsHaveLengths) (parts : CellsHaveParts) where
-  -- a report for the unaltered blocks has no more bytes than there is space for
-  fits_room : (nodes room : ℕ) (v : Opened) (h : Head) (lines : List Line) (known : BlockId → Bool) → IsRehearsalShape v.shape → IsLatticeOf v.shape nodes [] v.lattice → nodes ≤ 2000 → room ≡ report_room nodes
+  -- a printed report of an archive of this shape has no more bytes than there is space for: of any archive whose report is printed
+  -- on a sink with space for it
+  pub fits_room : (nodes room : ℕ) (fences : List ℕ) (v : Opened) (h : Head) (lines : List Line) (known : BlockId → Bool) → IsRehearsalShape v.shape → IsLatticeOf v.shape nodes fences v.lattice → nodes ≤ 2000 → room ≡ report_room nodes
       → IsReport (report_bytes h lines) h lines → IsPrinted v.lattice known (Some v.seal) h lines → length (report_bytes h lines) ≤ room
-  fits_room nodes room v h lines known shape lat few same report printed =
+  fits_room nodes room fences v h lines known shape lat few same report printed =
       let l = report.lattice in
       let alpha : l.alpha ≡ 3 = sym report.head.alpha ∙ printed.alpha ∙ lat.alpha ∙ shape.alpha in
       let s : l.s ≡ 2 = sym report.head.s ∙ printed.s ∙ lat.s ∙ shape.s in
@@ -107,7 +108,7 @@ module _ (lengths : CellsHaveLengths) (parts : CellsHaveParts) where
             cells.sites f (site_bytes v.shape v.lattice.n) first (omega (arith, last, count)) (rows-short v.shape v.lattice.n i.is_shape (omega (arith, n, few)));
         known = known;
         survivors = struck_tells lengths parts v known payload s.files struck i.is_lattice.alpha;
-        fits = λ h lines report printed. fits_room nodes room v h lines known i.is_shape i.is_lattice few same report printed;
+        fits = λ h lines report printed. fits_room nodes room [] v h lines known i.is_shape i.is_lattice few same report printed;
       }
 
 -- a known block is determined

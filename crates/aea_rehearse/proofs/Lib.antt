@@ -1,11 +1,11 @@
 mod States
 mod ReportRoom
-mod Homes
+pub mod Homes
 mod Turning
 mod Going
-mod Built
+pub mod Built
 mod Struck
 mod Tests
 mod Mending
-mod Ending
+pub mod Ending
 pub mod Fresh

@@ -13,7 +13,6 @@ ghost use Rattle.aea_rehearse.specs.Rehearsed.{IsRehearsalShape};
 ghost use Rattle.aea_rehearse.specs.Rooms.{IsWilling, HasRehearsalRoom};
 ghost use Rattle.aea_rehearse.specs.Building.{IsBuilt};
 
-use crate::fault::NoMemory;
 use aea_append::{PutFault, put};
 use aea_archive::none_record_none;
 use aea_disk::Disk;
@@ -22,7 +21,7 @@ use aea_io::SureSource;
 use aea_lattice::Shape;
 use aea_ledger::{CreateFault, Ledger, OpenFault, create_ledger, open_ledger};
 use aea_records::ledgers_have_one_reading;
-use std::alloc::Global;
+use std::alloc::{AllocError, Global};
 
 // The shape of the archive of a rehearsal: AE(3,2,5), blocks of 512 bytes, ten sites.
 const SHAPE: Shape = Shape {
@@ -33,15 +32,15 @@ const SHAPE: Shape = Shape {
     sites: 10,
 };
 
-// That shape.
-fn rehearsal_shape() -> Shape
+/// The shape of a rehearsal.
+pub fn rehearsal_shape() -> Shape
     ensures { IsRehearsalShape result }
 {
     SHAPE
 }
 
-// Makes an archive without objects of this shape on a disk whose ledger is empty.
-fn create<D: Disk>(disk: &mut D, shape: &Shape)
+/// Makes an archive without objects of this shape on a disk whose ledger is empty.
+pub fn create<D: Disk>(disk: &mut D, shape: &Shape)
     requires tells { D.tells }
     requires empty { (D.state disk.old).files 0 ≡ [] }
     requires willing { IsWilling (D.state disk.old) }
@@ -58,7 +57,7 @@ fn create<D: Disk>(disk: &mut D, shape: &Shape)
 }
 
 /// Opens the archive, which is one.
-pub(crate) fn open<D: Disk>(alloc: Global, disk: &mut D) -> Result<Ledger, NoMemory>
+pub fn open<D: Disk>(alloc: Global, disk: &mut D) -> Result<Ledger, AllocError>
     requires tells { D.tells }
     requires archive { IsSomeLedger ((D.state disk.old).files 0) }
     requires willing { IsWilling (D.state disk.old) }
@@ -69,7 +68,7 @@ pub(crate) fn open<D: Disk>(alloc: Global, disk: &mut D) -> Result<Ledger, NoMem
 {
     match open_ledger(alloc, disk) {
         Ok(ledger) => Ok(ledger),
-        Err(OpenFault::NoMemory) => Err(NoMemory),
+        Err(OpenFault::NoMemory) => Err(AllocError),
         Err(OpenFault::NoArchive) => unreachable!(),
         Err(OpenFault::LedgerBad { .. }) => unreachable!(),
         Err(OpenFault::DiskFault) => unreachable!(),
@@ -82,7 +81,7 @@ fn store<D: Disk>(
     ledger: &mut Ledger,
     disk: &mut D,
     bytes: &[u8],
-) -> Result<(), NoMemory>
+) -> Result<(), AllocError>
     requires tells { D.tells }
     requires live { ledger.old.live ≡ true }
     requires none { AreItsRecords ledger.old [] ((D.state disk.old).files 0) }
@@ -100,7 +99,7 @@ fn store<D: Disk>(
     let mut source = SureSource::new(bytes);
     match put(alloc, ledger, disk, b"rehearsal", &mut source) {
         Ok(_) => Ok(()),
-        Err(PutFault::NoMemory) => Err(NoMemory),
+        Err(PutFault::NoMemory) => Err(AllocError),
         Err(PutFault::BadName) => unreachable!(),
         Err(PutFault::NameTaken) => unreachable!(),
         Err(PutFault::CatalogFull) => unreachable!(),
@@ -112,7 +111,11 @@ fn store<D: Disk>(
 }
 
 /// Makes an archive on a disk whose ledger is empty, with one object of these bytes.
-pub(crate) fn build<D: Disk>(alloc: Global, disk: &mut D, bytes: &[u8]) -> Result<Ledger, NoMemory>
+pub(crate) fn build<D: Disk>(
+    alloc: Global,
+    disk: &mut D,
+    bytes: &[u8],
+) -> Result<Ledger, AllocError>
     requires tells { D.tells }
     requires empty { (D.state disk.old).files 0 ≡ [] }
     requires few { length bytes.now ≤ 2000 * 512 }

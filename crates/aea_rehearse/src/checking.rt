@@ -17,7 +17,6 @@ ghost use Rattle.aea_rehearse.specs.Rooms.{IsWilling};
 ghost use Rattle.aea_rehearse.specs.Checking.{IsReady, IsFitting};
 ghost use Rattle.aea_rehearse.specs.Altered.{IsMended};
 
-use crate::fault::NoMemory;
 use aea_disk::Disk;
 use aea_envelope::{cells_have_lengths, cells_have_parts};
 use aea_io::{SureSink, SureSource};
@@ -25,7 +24,7 @@ use aea_ledger::Ledger;
 use aea_repair::{Outcome, RepairFault, repair};
 use aea_report::printed_are_reports;
 use aea_verify::{Verdict, VerifyFault, verify};
-use std::alloc::Global;
+use std::alloc::{AllocError, Global};
 
 // These are bytes.
 fn are_bytes(bytes: &[u8])
@@ -42,12 +41,12 @@ fn is_seal(seal: &[u8; 32])
 }
 
 /// Repairs the archive, with the report on a sink that has space for it.
-pub(crate) fn mend<D: Disk>(
+pub fn mend<D: Disk>(
     alloc: Global,
     ledger: &Ledger,
     disk: &mut D,
     report: &mut SureSink,
-) -> Result<Outcome, NoMemory>
+) -> Result<Outcome, AllocError>
     requires tells { D.tells }
     requires ready { IsReady ledger.now (D.state disk.old) report.old.room }
     requires empty { report.old.bytes.items ≡ [] }
@@ -60,7 +59,7 @@ pub(crate) fn mend<D: Disk>(
     is_seal(&seal);
     match repair(alloc, ledger, disk, report) {
         Ok(outcome) => Ok(outcome),
-        Err(RepairFault::NoMemory) => Err(NoMemory),
+        Err(RepairFault::NoMemory) => Err(AllocError),
         Err(RepairFault::Clash { .. }) => unreachable!(),
         Err(RepairFault::DiskFault) => unreachable!(),
         Err(RepairFault::WriteFault) => unreachable!(),
@@ -73,7 +72,7 @@ fn judge_report<D: Disk>(
     ledger: &Ledger,
     disk: &mut D,
     report: &[u8],
-) -> Result<Verdict, NoMemory>
+) -> Result<Verdict, AllocError>
     requires tells { D.tells }
     requires willing { IsWilling (D.state disk.old) }
     requires report { AreReport report.now }
@@ -84,7 +83,7 @@ fn judge_report<D: Disk>(
     let mut source = SureSource::new(report);
     match verify(alloc, ledger, disk, &mut source) {
         Ok(verdict) => Ok(verdict),
-        Err(VerifyFault::NoMemory) => Err(NoMemory),
+        Err(VerifyFault::NoMemory) => Err(AllocError),
         Err(VerifyFault::BadLine { .. }) => unreachable!(),
         Err(VerifyFault::LineTooLong { .. }) => unreachable!(),
         Err(VerifyFault::ReadFault) => unreachable!(),
@@ -98,7 +97,7 @@ pub(crate) fn check<D: Disk>(
     ledger: &Ledger,
     disk: &mut D,
     report: &[u8],
-) -> Result<(), NoMemory>
+) -> Result<(), AllocError>
     requires tells { D.tells }
     requires willing { IsWilling (D.state disk.old) }
     requires fits { IsFitting ledger.now (D.state disk.old).files report.now }

@@ -13,7 +13,6 @@ ghost use Rattle.aea_rehearse.specs.Altered.{IsAltered, IsRestored, HasNumbers};
 use crate::altering::alter;
 use crate::building::{build, open};
 use crate::checking::{check, mend};
-use crate::fault::NoMemory;
 use crate::generator::Generator;
 use crate::rehearsal::Rehearsal;
 use aea_disk::{Disk, SureDisk};
@@ -33,16 +32,18 @@ fn report_sink(alloc: Global, nodes: u32) -> Result<SureSink, AllocError>
     SureSink::new(alloc, 512 + (25 + 5 * nodes) * (4 * nodes))
 }
 
-// Makes the archive, and alters blocks of it.
+// Makes the archive, and alters blocks of it, where the space for the report is there.
 fn damage<D: Disk>(
     alloc: Global,
     disk: &mut D,
+    _report: &SureSink,
     number: u64,
     nodes: u32,
     permille: u32,
-) -> Result<(), NoMemory>
+) -> Result<(), AllocError>
     requires tells { D.tells }
     requires few { nodes ≤ 2000 }
+    requires report { _report.now.room ≡ report_room nodes }
     requires empty { (D.state disk.old).files 0 ≡ [] }
     requires room { HasRehearsalRoom nodes (D.state disk.old) }
     ensures altered { OnOk result (IsAltered number nodes permille (D.state disk.new).files) }
@@ -57,7 +58,11 @@ fn damage<D: Disk>(
 }
 
 // Opens the archive again, repairs it, and checks the report.
-fn restore<D: Disk>(alloc: Global, disk: &mut D, report: &mut SureSink) -> Result<Outcome, NoMemory>
+fn restore<D: Disk>(
+    alloc: Global,
+    disk: &mut D,
+    report: &mut SureSink,
+) -> Result<Outcome, AllocError>
     requires tells { D.tells }
     requires archive { IsSomeLedger ((D.state disk.old).files 0) }
     requires ready { (v : Opened) → IsThisOne v ((D.state disk.old).files 0) → IsReady v (D.state disk.old) report.old.room }
@@ -94,7 +99,7 @@ fn rehearse_on<D: Disk>(
     number: u64,
     nodes: u32,
     permille: u32,
-) -> Result<Rehearsal, NoMemory>
+) -> Result<Rehearsal, AllocError>
     requires tells { D.tells }
     requires few { nodes ≤ 2000 }
     requires empty { (D.state disk.old).files 0 ≡ [] }
@@ -106,7 +111,7 @@ fn rehearse_on<D: Disk>(
     cells_have_parts();
     ledgers_have_one_reading();
     let mut report = report_sink(alloc, nodes)?;
-    damage(alloc, disk, number, nodes, permille)?;
+    damage(alloc, disk, &report, number, nodes, permille)?;
     let outcome = restore(alloc, disk, &mut report)?;
     Ok(numbers(nodes, outcome))
 }
@@ -117,14 +122,14 @@ fn rehearse_on<D: Disk>(
 /// the same rehearsal.
 ///
 /// It takes memory for the report before the archive is made, at most 80,200,512 bytes, most of which are never touched; for
-/// the object, and what `put`, `repair` and `verify` take. After `NoMemory` the disk has what the calls so far have left.
+/// the object, and what `put`, `repair` and `verify` take. After an error the disk has what the calls so far have left.
 pub fn rehearse(
     alloc: Global,
     disk: &mut SureDisk,
     number: u64,
     nodes: u32,
     permille: u32,
-) -> Result<Rehearsal, NoMemory>
+) -> Result<Rehearsal, AllocError>
     requires some { 1 ≤ nodes }
     requires few { nodes ≤ 2000 }
     requires part { permille ≤ 1000 }

@@ -1,5 +1,5 @@
 -- What a call that opens the archive returns, by the fault of the opening.
-use Rattle.std.proofs.Common.{◌≡◌, ℕ, ◌⊎◌, inl, inr, List, ◌<◌, arith, refl, sym, ◌∙◌, ap, subst, Ok, Err}
+use Rattle.std.proofs.Common.{◌≡◌, ◌≢◌, ℕ, ◌⊎◌, inl, inr, List, ◌<◌, arith, refl, sym, ◌∙◌, ap, subst, Ok, Err}
 use Rattle.std.specs.Prelude.{Result, IsErrAnd}
 use Rattle.std.proofs.lemmas.Bool.{cases_lt}
 use Rattle.aea_disk.specs.Files.{Files}
@@ -16,7 +16,7 @@ use Rattle.aea_command.specs.declared.refusal.Failure.{Failure}
 use Rattle.aea_command.specs.declared.refusal.Failure.TheVariants as failure
 use Rattle.aea_command.specs.Failures.{opening_failure}
 use Rattle.aea_command.specs.Causes.{place_of, IsFirst, IsStopped, Refuses}
-use Rattle.aea_command.specs.Openings.{OpeningCauses}
+use Rattle.aea_command.specs.Openings.{OpeningCauses, IsUntouched, Opens}
 use Rattle.aea_command.proofs.Refusing.{refuses_none}
 
 -- a file is not both no archive and one with an open header
@@ -172,3 +172,12 @@ opening_not_output opening.NoArchive e = cc
 opening_not_output (opening.LedgerBad at) e = cc
 opening_not_output opening.DiskFault e = cc
 opening_not_output opening.NoMemory e = cc
+
+-- but after a fault of the disk an opening leaves every file, with nothing pending, and its first sync has succeeded
+pub untouched : (tells : Type 0) (old new : State) (opening : Result Opened Failure) → Opens tells old new opening → opening ≢ Err failure.Disk → IsUntouched tells old new
+untouched tells old new opening opens differs = record {
+  images = opens.reads.crash;
+  files = opens.reads.contents;
+  synced = opens.synced differs;
+  sure = opens.opened differs;
+}

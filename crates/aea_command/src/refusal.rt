@@ -8,7 +8,6 @@ use aea_fetch::GetFault;
 use aea_io::WriteFault;
 use aea_lattice::{BlockId, NodeList};
 use aea_ledger::{CreateFault, FenceFault, OpenFault, UpgradeFault};
-use aea_rehearse::NoMemory;
 use aea_repair::RepairFault;
 use aea_verify::VerifyFault;
 use std::alloc::AllocError;
@@ -290,16 +289,6 @@ impl From<WriteFault> for Failure {
 
     fn from(_fault: WriteFault) -> Failure {
         Failure::Output
-    }
-}
-
-impl From<NoMemory> for Failure {
-    ghost use Rattle.aea_command.specs.declared.refusal.Failure.TheVariants.{Memory};
-
-    ghost from_gives = { λ _ failure. failure ≡ Memory };
-
-    fn from(_fault: NoMemory) -> Failure {
-        Failure::Memory
     }
 }
 

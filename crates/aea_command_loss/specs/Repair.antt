@@ -118,12 +118,14 @@ pub record HasHonestSurvivors (files : Files) : Type 0 where
   pub recorded : AreRecordsOf shape records datas
   pub honest : AreSurvivorsHonest shape lattice (digests_of records) datas files
 
--- The archive was not opened, which is the answer: nothing is printed, and the disk is only read.
+-- The archive was not opened, which is the answer: nothing is printed, and the disk is only read. But after a fault of the disk
+-- the first sync has succeeded, nothing is pending, and every image has every file as it reads.
 pub record IsUnopened (tells : Type 0) (f : Failure) (old new : State) (before after : SinkState) (answer : Answer) : Type 0 where
   pub is : answer ≡ Err f
   pub why : (fault : OpenFault) × (f ≡ opening_failure fault)
   pub unused : after ≡ before
   pub reads : OnlyReads tells (f ≡ failure.Disk) old new
+  pub untouched : f ≢ failure.Disk → IsUntouched tells old new
 
 -- Of a run that repairs the archive, with the disk and `out` before and after it, and its answer:
 pub record RepairsArchive (tells : Type 0) (old new : State) (before after : SinkState) (answer : Answer) : Type 0 where

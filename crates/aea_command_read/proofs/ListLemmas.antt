@@ -19,7 +19,6 @@ use Rattle.aea_command_read.specs.List.{list_text, ListsObjects, IsListOf}
 use Rattle.aea_command.specs.Openings.{OpeningCauses, Opens}
 use Rattle.aea_command.specs.Printed.{FitsText, PrintsText}
 use Rattle.aea_command.proofs.OpeningCases.{opening_more, opening_not_output}
-use Rattle.aea_command.proofs.Refusing.{refuses_told}
 use Rattle.aea_command_read.proofs.StatLemmas.{IsTelling}
 
 -- which answers there are where the archive was opened

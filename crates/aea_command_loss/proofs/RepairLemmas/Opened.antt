@@ -39,7 +39,7 @@ use Rattle.aea_command.specs.declared.refusal.Failure.TheVariants as failure
 use Rattle.aea_command.specs.Failures.{Answer}
 use Rattle.aea_command.specs.Openings.{Opens, KeepsAllBut}
 use Rattle.aea_command_loss.specs.Repair.{repair_answer, RepairsOpened, FitsRepair, IsSiteFile, RepairsArchive}
-use Rattle.aea_command.proofs.OpeningCases.{opening_more, opened_never}
+use Rattle.aea_command.proofs.OpeningCases.{opening_more, opened_never, untouched}
 use Rattle.aea_command.proofs.Opened.{opening_synced, image_is, opens_then, opening_then, untouched_by}
 use Rattle.aea_command.proofs.Reading.{has_ledger_of}
 use Rattle.aea_command_loss.proofs.RepairLemmas.Answering.{from_disk}
@@ -197,6 +197,7 @@ module _ (tells : Type 0) (old new : State) (out : SinkState) (f : Failure) (ope
       why = opens.kinds;
       unused = refl;
       reads = reads_as tells _ _ old new (λ e. ap Err e) (λ is. cc) opens.reads;
+      untouched = λ differs. untouched tells old new (Err f) opens (λ e. differs (let h : (let opening : Result Opened Failure = Err f in opening ≡ Err failure.Disk) = e in cc));
     };
     opened = tt;
     in_room = λ told ready fits. let sure = opens.reads.sure told ready fits.some in (λ e. sure.0 (let h : (let answer : Answer = Err f in answer ≡ Err failure.Disk) = e in cc), sure.1);

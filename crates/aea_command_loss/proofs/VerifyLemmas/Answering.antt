@@ -15,14 +15,14 @@ use Rattle.aea_command.specs.declared.refusal.Refusal.TheVariants.{NoArchive, Le
 use Rattle.aea_command.specs.declared.refusal.Failure.{Failure}
 use Rattle.aea_command.specs.declared.refusal.Failure.TheVariants as failure
 use Rattle.aea_command.specs.declared.status.Status.TheVariants.{Done, Damage}
-use Rattle.aea_command.specs.Causes.{place_of, IsFirst, IsStopped, Refuses}
+use Rattle.aea_command.specs.Causes.{place_of, IsFirst, IsStopped, RefusesBy, IsDecided}
 use Rattle.aea_command.specs.Failures.{Answer, verify_failure}
-use Rattle.aea_command.specs.Openings.{OpeningCauses, Opens}
+use Rattle.aea_command.specs.Openings.{OpeningCauses, IsAfterOpening, Opens}
 use Rattle.aea_command_loss.specs.Verify.{VerifyCauses, PrintsVerdict, verdict_status}
 use Rattle.aea_command.proofs.Behind.{AreBehindOpening, some_ledger, unopened_refuses, opened_no_opening}
 use Rattle.aea_command_loss.proofs.DrillLemmas.Refused.{told_is}
 use Rattle.aea_command.proofs.Reading.{has_ledger_of}
-use Rattle.aea_command.proofs.Refusing.{refuses_told}
+use Rattle.aea_command.proofs.Refusing.{refuses_by_told}
 
 -- the answer to what the check gave: of a verdict its status, or a failure of the output; of a fault its failure
 pub record IsAnswerTo (r : Result Verdict VerifyFault) (before after : SinkState) (answer : Answer) : Type 0 where
@@ -115,9 +115,9 @@ verify_behind bytes input = record { from = λ why cause. from_opening why cause
 
 -- an archive that was not opened shows why
 pub unopened_verify : {T : Type 0} (tells some : Type 0) (old new : State) (f : Failure) (input : List ℕ) → Opens tells old new (Err f)
-    → Refuses {T = T} (tells × some) (VerifyCauses (old.files 0) input) (Err f)
+    → RefusesBy {T = T} (IsDecided tells some IsAfterOpening) (VerifyCauses (old.files 0) input) (Err f)
 unopened_verify {T} tells some old new f input opens =
-    refuses_told {T = T} tells (tells × some) (VerifyCauses (old.files 0) input) (Err f) (λ both. both.0)
+    refuses_by_told {T = T} (λ why. tells) (IsDecided tells some IsAfterOpening) (VerifyCauses (old.files 0) input) (Err f) (λ why both. both.0)
     (unopened_refuses tells old new f (VerifyCauses (old.files 0) input) (verify_behind (old.files 0) input) opens)
 
 -- after the opening
@@ -125,6 +125,13 @@ module _ (reading : HasOneReading) (tells : Type 0) (v : Opened) (old mid : Stat
     (opens : Opens tells old mid (Ok v))
     (read : (report : List ℕ) → source.left ≡ Some report → IsReadAs report r)
     (to : IsAnswerTo r before after answer) where
+  -- the answer is no refusal of the opening
+  not_opening : (why : Refusal) → answer ≡ Err (failure.Refused why) → IsAfterOpening why
+  not_opening why is = elim (refused_by r before after answer why to is) [
+    | inl (k, e, same) ↦ subst IsAfterOpening (sym same) tt
+    | inr (k, e, same) ↦ subst IsAfterOpening (sym same) tt
+  ]
+
   module _ (told : tells) (some : IsSome source.left) where
     -- the input that is known
     abbrev input : List ℕ
@@ -169,5 +176,16 @@ module _ (reading : HasOneReading) (tells : Type 0) (v : Opened) (old mid : Stat
     ]
     always_for why first = absurd first.stands
 
-  pub checked_refuses : Refuses (tells × IsSome source.left) (VerifyCauses (old.files 0) (unwrap_or source.left [])) answer
-  checked_refuses = record { only = λ why is told. only_for told.0 told.1 why is; always = λ why told first. always_for told.0 told.1 why first }
+  -- where the files are known, no cause of the opening holds; any other is decided by the input too
+  always_decided : tells → (why : Refusal) → (IsAfterOpening why → IsSome source.left) → IsFirst (VerifyCauses (old.files 0) (unwrap_or source.left [])) why → (answer ≡ Err (failure.Refused why)) ⊎ IsStopped answer
+  always_decided told NoArchive some first = absurd (opened_no_opening tells old mid v opens told NoArchive first.stands)
+  always_decided told (LedgerBad at) some first = absurd (opened_no_opening tells old mid v opens told (LedgerBad at) first.stands)
+  always_decided told (BadLine k) some first = always_for told (some tt) (BadLine k) first
+  always_decided told (LineTooLong k) some first = always_for told (some tt) (LineTooLong k) first
+  always_decided told why some first = absurd first.stands
+
+  pub checked_refuses : RefusesBy (IsDecided tells (IsSome source.left) IsAfterOpening) (VerifyCauses (old.files 0) (unwrap_or source.left [])) answer
+  checked_refuses = record {
+    only = λ why is told. only_for told.0 (told.1 (not_opening why is)) why is;
+    always = λ why told first. always_decided told.0 why told.1 first;
+  }

@@ -4,8 +4,9 @@ ghost use Rattle.std.specs.Prelude.{◌≡◌, ◌≢◌, ◌≤◌, [], IfOk, I
 ghost use Rattle.aea_faults.specs.Faults.{Rose};
 ghost use Rattle.aea_io.specs.Written.{IsFlushed};
 ghost use Rattle.aea_disk.specs.Frames.{OnlyReads};
-ghost use Rattle.aea_command.specs.Causes.{Refuses};
+ghost use Rattle.aea_command.specs.Causes.{RefusesBy, IsDecided};
 ghost use Rattle.aea_command.specs.Failures.{IsWell, NeverClashes};
+ghost use Rattle.aea_command.specs.Openings.{IsAfterOpening};
 ghost use Rattle.aea_command_loss.specs.Verify.{VerifyCauses, Verifies};
 
 mod lines;
@@ -28,7 +29,7 @@ pub fn verify_report<D: Disk, S: Source, O: Sink>(
     out: &mut O,
 ) -> Result<Status, Failure>
     ensures verifies { Verifies D.tells (D.state disk.old) (D.state disk.new) (S.state input.old) (S.state input.new) (O.state out.old) (O.state out.new) result }
-    ensures refuses { Refuses (D.tells × IsSome (S.state input.old).left) (VerifyCauses ((D.state disk.old).files 0) (unwrap_or (S.state input.old).left [])) result }
+    ensures refuses { RefusesBy (IsDecided D.tells (IsSome (S.state input.old).left) IsAfterOpening) (VerifyCauses ((D.state disk.old).files 0) (unwrap_or (S.state input.old).left [])) result }
     ensures words { result ≢ Err Failure.Words }
     ensures clash { NeverClashes result }
     ensures kinds { IfOk result IsWell }

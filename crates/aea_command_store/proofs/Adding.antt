@@ -24,27 +24,24 @@ use Rattle.aea_command.specs.declared.refusal.Failure.{Failure}
 use Rattle.aea_command.specs.declared.refusal.Failure.TheVariants as failure
 use Rattle.aea_command_store.specs.Adding.{HasAddedRecord, MayHaveAdded, WouldEndAt, FitsRecord, AddsRecord, KeepsTheRest}
 use Rattle.aea_command.specs.Openings.{IsUntouched, Opens}
-use Rattle.aea_command.proofs.OpeningCases.{opening_not_output, opened_more, opening_more, opened_then}
+use Rattle.aea_command.proofs.OpeningCases.{untouched, opening_not_output, opened_more, opening_more, opened_then}
 use Rattle.aea_command.proofs.Behind.{some_ledger}
 
 err_same : {T : Type 0} (f g : Failure) → (let one : Result T Failure = Err f in one ≡ Err g) → f ≡ g
 err_same f g e = cc
 
+-- what the ledger records, it records with the record after it
+abbrev pub KeepsRecorded : (List Record → Record) → Type 0
+KeepsRecorded adds =
+    (shape : Shape) (records : List Record) (datas : List (List ℕ)) → AreRecords shape (records ++ adds records ∷ []) → AreRecordsOf shape records datas → AreRecordsOf shape (records ++ adds records ∷ []) datas
+
 -- where every file is as it was, none was added
-may_stay : (adds : List Record → Record) (old c : Files) → ((f : ℕ) → c f ≡ old f) → MayHaveAdded adds old c
-may_stay adds old c same = record {
+may_stay : (adds : List Record → Record) → KeepsRecorded adds → (old c : Files) → ((f : ℕ) → c f ≡ old f) → MayHaveAdded adds old c
+may_stay adds keeps old c same = record {
   ledger = λ shape records has. inl (subst (λ (bytes : List ℕ). HasLedger shape records bytes) (sym (same 0)) has);
+  recorded = λ shape records datas has. keeps shape records datas has.valid;
   none = λ _. same 0;
   others = λ f apart. same f;
-}
-
--- the opening alone
-untouched : (tells : Type 0) (old new : State) (opening : Result Opened Failure) → Opens tells old new opening → opening ≢ Err failure.Disk → IsUntouched tells old new
-untouched tells old new opening opens differs = record {
-  images = opens.reads.crash;
-  files = opens.reads.contents;
-  synced = opens.synced differs;
-  sure = opens.opened differs;
 }
 
 -- how an answer shows what was done, and not what was printed
@@ -77,15 +74,15 @@ adds_as {T} {U} adds tells old new gave answer agrees does = record {
 }
 
 -- the archive was opened, or not, and then nothing was written
-pub adds_read : {T : Type 0} (adds : List Record → Record) (tells : Type 0) (old new : State) (opening : Result Opened Failure) (f : Failure) → Opens tells old new opening → f ≢ failure.Output
+pub adds_read : {T : Type 0} (adds : List Record → Record) → KeepsRecorded adds → (tells : Type 0) (old new : State) (opening : Result Opened Failure) (f : Failure) → Opens tells old new opening → f ≢ failure.Output
     → (f ≡ failure.Disk → opening ≡ Err failure.Disk) → (opening ≡ Err failure.Disk → f ≡ failure.Disk) → AddsRecord {T = T} adds tells old new (Err f)
-adds_read {T} adds tells old new opening f opens output there back = record {
+adds_read {T} adds keeps tells old new opening f opens output there back = record {
   stands = λ e. elim e [ inl ok ↦ absurd (false≢true ok) | inr is ↦ absurd (output (err_same {T = T} f failure.Output is)) ];
   refused = λ why is. untouched tells old new opening opens (λ d. let a = back d in let b = err_same {T = T} f (failure.Refused why) is in let c : failure.Disk ≡ failure.Refused why = sym a ∙ b in cc);
   wanting = λ is. untouched tells old new opening opens (λ d. let a = back d in let b = err_same {T = T} f failure.Memory is in let c : failure.Disk ≡ failure.Memory = sym a ∙ b in cc);
-  stops = λ told. opening_more old new _ _ (λ c same. may_stay adds old.files c same) (opens.stops told);
-  opened = λ differs told. opened_more old new _ _ (λ c same. may_stay adds old.files c same) (opens.opened (λ d. differs (ap Err (back d))) told);
-  reads = λ told. may_stay adds old.files new.files (λ k. ap (λ (c : Files). c k) (opens.reads.contents told));
+  stops = λ told. opening_more old new _ _ (λ c same. may_stay adds keeps old.files c same) (opens.stops told);
+  opened = λ differs told. opened_more old new _ _ (λ c same. may_stay adds keeps old.files c same) (opens.opened (λ d. differs (ap Err (back d))) told);
+  reads = λ told. may_stay adds keeps old.files new.files (λ k. ap (λ (c : Files). c k) (opens.reads.contents told));
   long = λ told shape records has. let same = ap (λ (c : Files). length (c 0)) (opens.reads.contents told) in omega arith;
   in_room = λ told ready fits. let sure = opens.reads.sure told ready fits.some in (λ is. sure.0 (there (err_same {T = T} f failure.Disk is)), sure.1);
 }
@@ -102,9 +99,9 @@ rest_read tells old new opening answer opens there back = record {
 }
 
 -- the archive was not opened
-pub adds_opening : {T : Type 0} (adds : List Record → Record) (tells : Type 0) (old new : State) (f : Failure) → Opens tells old new (Err f) → AddsRecord {T = T} adds tells old new (Err f)
-adds_opening adds tells old new f opens =
-    adds_read adds tells old new (Err f) f opens (λ e. let kind = opens.kinds in opening_not_output kind.0 (sym kind.1 ∙ e)) (λ e. ap Err e) (λ e. err_same {T = Opened} f failure.Disk e)
+pub adds_opening : {T : Type 0} (adds : List Record → Record) → KeepsRecorded adds → (tells : Type 0) (old new : State) (f : Failure) → Opens tells old new (Err f) → AddsRecord {T = T} adds tells old new (Err f)
+adds_opening adds keeps tells old new f opens =
+    adds_read adds keeps tells old new (Err f) f opens (λ e. let kind = opens.kinds in opening_not_output kind.0 (sym kind.1 ∙ e)) (λ e. ap Err e) (λ e. err_same {T = Opened} f failure.Disk e)
 
 -- the record r, which is the one to be added, was committed to the opened archive v, or the disk failed at that
 pub record IsCommitting (adds : List Record → Record) (tells : Type 0) (v : Opened) (r : Record) (fault : Type 0) (old mid new : State) : Type 0 where
@@ -125,33 +122,34 @@ its_records tells old mid v opens told one = record {
 }
 
 -- what is left of files in which the old ledger was, or the new one
-may_add : HasOneReading → (adds : List Record → Record) (v : Opened) (r : Record) (old c : Files) (one : IsThisOne v (old 0)) → adds one.records ≡ r → HasOldOrNew v.shape one.records r (c 0) → ChangesOnly 0 old c → MayHaveAdded adds old c
-may_add reading adds v r old c one is either others = record {
+may_add : HasOneReading → (adds : List Record → Record) → KeepsRecorded adds → (v : Opened) (r : Record) (old c : Files) (one : IsThisOne v (old 0)) → adds one.records ≡ r → HasOldOrNew v.shape one.records r (c 0) → ChangesOnly 0 old c → MayHaveAdded adds old c
+may_add reading adds keeps v r old c one is either others = record {
   ledger = λ shape records has.
       let same = reading (old 0) v.shape shape one.records records v.end (length (spelled shape records)) one.ledger has in
       let e : r ≡ adds records = sym is ∙ ap adds same.1.0 in
       let one_shape = subst (λ (s : Shape). HasOldOrNew s one.records r (c 0)) same.0 either in
       let one_list = subst (λ (l : List Record). HasOldOrNew shape l r (c 0)) same.1.0 one_shape in
       subst (λ (q : Record). HasOldOrNew shape records q (c 0)) e one_list;
+  recorded = λ shape records datas has. keeps shape records datas has.valid;
   none = λ never. absurd (never (record { shape = v.shape; records = one.records; end = v.end; ledger = one.ledger }));
   others = others;
 }
 
 -- each image of the commit
-adds_during : HasOneReading → (adds : List Record → Record) (tells : Type 0) (v : Opened) (r : Record) (fault : Type 0) (old mid new : State) → IsCommitting adds tells v r fault old mid new → tells → During mid new (MayHaveAdded adds old.files)
-adds_during reading adds tells v r fault old mid new does told t c from to here =
+adds_during : HasOneReading → (adds : List Record → Record) → KeepsRecorded adds → (tells : Type 0) (v : Opened) (r : Record) (fault : Type 0) (old mid new : State) → IsCommitting adds tells v r fault old mid new → tells → During mid new (MayHaveAdded adds old.files)
+adds_during reading adds keeps tells v r fault old mid new does told t c from to here =
     let opens = does.opens in
     let one = opens.this_one told in
     let was = does.writes.crash t c from to here in
-    may_add reading adds v r old.files c one (does.is one.records one.has)
+    may_add reading adds keeps v r old.files c one (does.is one.records one.has)
     (does.leaves.any_moment told one.records (its_records tells old mid v opens told one) t c from to here)
     (λ k apart. was.2 k apart ∙ opens.synced (opened_not v failure.Disk) told was.0 was.1 k ∙ ap (λ (d : Files). d k) (opens.reads.contents told))
 
-adds_reads : HasOneReading → (adds : List Record → Record) (tells : Type 0) (v : Opened) (r : Record) (fault : Type 0) (old mid new : State) → IsCommitting adds tells v r fault old mid new → tells → MayHaveAdded adds old.files new.files
-adds_reads reading adds tells v r fault old mid new does told =
+adds_reads : HasOneReading → (adds : List Record → Record) → KeepsRecorded adds → (tells : Type 0) (v : Opened) (r : Record) (fault : Type 0) (old mid new : State) → IsCommitting adds tells v r fault old mid new → tells → MayHaveAdded adds old.files new.files
+adds_reads reading adds keeps tells v r fault old mid new does told =
     let opens = does.opens in
     let one = opens.this_one told in
-    may_add reading adds v r old.files new.files one (does.is one.records one.has)
+    may_add reading adds keeps v r old.files new.files one (does.is one.records one.has)
     (does.leaves.reads told one.records (its_records tells old mid v opens told one))
     (λ k apart. does.writes.contents told k apart ∙ ap (λ (d : Files). d k) (opens.reads.contents told))
 
@@ -197,22 +195,17 @@ commit_frame adds tells v r fault old mid new does =
     does.writes
 
 -- the disk failed at the commit
-pub adds_failed : {T : Type 0} → HasOneReading → (adds : List Record → Record) (tells : Type 0) (v : Opened) (r : Record) (fault : Type 0) (old mid new : State) → IsCommitting adds tells v r fault old mid new → fault → AddsRecord {T = T} adds tells old new (Err failure.Disk)
-adds_failed {T} reading adds tells v r fault old mid new does failed = record {
+pub adds_failed : {T : Type 0} → HasOneReading → (adds : List Record → Record) → KeepsRecorded adds → (tells : Type 0) (v : Opened) (r : Record) (fault : Type 0) (old mid new : State) → IsCommitting adds tells v r fault old mid new → fault → AddsRecord {T = T} adds tells old new (Err failure.Disk)
+adds_failed {T} reading adds keeps tells v r fault old mid new does failed = record {
   stands = λ e. elim e [ inl ok ↦ absurd (false≢true ok) | inr is ↦ let h = err_same {T = T} failure.Disk failure.Output is in cc ];
   refused = λ why is. let h = err_same {T = T} failure.Disk (failure.Refused why) is in cc;
   wanting = λ is. let h = err_same {T = T} failure.Disk failure.Memory is in cc;
-  stops = λ told. inr (opened_then old mid new _ _ does.opens.reads.time does.writes.time (λ c same. may_stay adds old.files c same) (adds_during reading adds tells v r fault old mid new does told) (does.opens.opened (opened_not v failure.Disk) told));
+  stops = λ told. inr (opened_then old mid new _ _ does.opens.reads.time does.writes.time (λ c same. may_stay adds keeps old.files c same) (adds_during reading adds keeps tells v r fault old mid new does told) (does.opens.opened (opened_not v failure.Disk) told));
   opened = λ differs. absurd (differs refl);
-  reads = adds_reads reading adds tells v r fault old mid new does;
+  reads = adds_reads reading adds keeps tells v r fault old mid new does;
   long = adds_long reading adds tells v r fault old mid new does;
   in_room = λ told ready fits. absurd (((commit_frame adds tells v r fault old mid new does).sure told ready fits).0 failed);
 }
-
--- what the ledger records, it records with the record after it
-abbrev pub KeepsRecorded : (List Record → Record) → Type 0
-KeepsRecorded adds =
-    (shape : Shape) (records : List Record) (datas : List (List ℕ)) → AreRecords shape (records ++ adds records ∷ []) → AreRecordsOf shape records datas → AreRecordsOf shape (records ++ adds records ∷ []) datas
 
 -- the record was committed
 pub adds_done : {T : Type 0} → HasOneReading → (adds : List Record → Record) → KeepsRecorded adds → (tells : Type 0) (v w : Opened) (r : Record) (fault : Type 0) (old mid new : State) (value : T) → IsCommitting adds tells v r fault old mid new → HasCommitted tells v w r mid new
@@ -237,9 +230,9 @@ adds_done {T} reading adds keeps tells v w r fault old mid new value does done =
       );
   refused = λ why is. let h : Ok value ≡ Err (failure.Refused why) = is in cc;
   wanting = λ is. let h : Ok value ≡ Err failure.Memory = is in cc;
-  stops = λ told. inr (opened_then old mid new _ _ does.opens.reads.time does.writes.time (λ c same. may_stay adds old.files c same) (adds_during reading adds tells v r fault old mid new does told) (does.opens.opened (opened_not v failure.Disk) told));
-  opened = λ differs told. opened_then old mid new _ _ does.opens.reads.time does.writes.time (λ c same. may_stay adds old.files c same) (adds_during reading adds tells v r fault old mid new does told) (does.opens.opened (opened_not v failure.Disk) told);
-  reads = adds_reads reading adds tells v r fault old mid new does;
+  stops = λ told. inr (opened_then old mid new _ _ does.opens.reads.time does.writes.time (λ c same. may_stay adds keeps old.files c same) (adds_during reading adds keeps tells v r fault old mid new does told) (does.opens.opened (opened_not v failure.Disk) told));
+  opened = λ differs told. opened_then old mid new _ _ does.opens.reads.time does.writes.time (λ c same. may_stay adds keeps old.files c same) (adds_during reading adds keeps tells v r fault old mid new does told) (does.opens.opened (opened_not v failure.Disk) told);
+  reads = adds_reads reading adds keeps tells v r fault old mid new does;
   long = adds_long reading adds tells v r fault old mid new does;
   in_room = λ told ready fits. (λ is. let h : Ok value ≡ Err failure.Disk = is in cc, ((commit_frame adds tells v r fault old mid new does).sure told ready fits).1);
 }

@@ -194,15 +194,15 @@ refused_same : (why : Refusal) → failure.Refused why ≡ failure.Disk → ⊥
 refused_same why e = cc
 
 -- where the call that adds a fence failed, with the failure of that fault what holds of a run that adds one holds
-pub unfenced_adds : {T : Type 0} → HasOneReading → FencesMayFollow → (tells : Type 0) (v : Opened) (fault : FenceFault) (old mid new : State) → IsUnfenced tells v fault old mid new → AddsRecord {T = T} next_fence tells old new (Err (fence_failure fault))
-unfenced_adds {T} reading follow tells v (fencing.AlreadyFenced n) old mid new gave =
+pub unfenced_adds : {T : Type 0} → HasOneReading → FencesMayFollow → BlocksAreInside → RecordsAreFew → (tells : Type 0) (v : Opened) (fault : FenceFault) (old mid new : State) → IsUnfenced tells v fault old mid new → AddsRecord {T = T} next_fence tells old new (Err (fence_failure fault))
+unfenced_adds {T} reading follow inside few tells v (fencing.AlreadyFenced n) old mid new gave =
     subst (λ (s : State). AddsRecord {T = T} next_fence tells old s (Err (failure.Refused (AlreadyFenced n)))) (sym (gave.unchanged (λ e. cc)))
-    (adds_read next_fence tells old mid (Ok v) (failure.Refused (AlreadyFenced n)) gave.opens (λ e. cc) (λ e. absurd (refused_same (AlreadyFenced n) e)) (λ e. absurd (opened_not_disk v e)))
-unfenced_adds {T} reading follow tells v fencing.TooManyFences old mid new gave =
+    (adds_read next_fence (fence_records inside few) tells old mid (Ok v) (failure.Refused (AlreadyFenced n)) gave.opens (λ e. cc) (λ e. absurd (refused_same (AlreadyFenced n) e)) (λ e. absurd (opened_not_disk v e)))
+unfenced_adds {T} reading follow inside few tells v fencing.TooManyFences old mid new gave =
     subst (λ (s : State). AddsRecord {T = T} next_fence tells old s (Err (failure.Refused TooManyFences))) (sym (gave.unchanged (λ e. cc)))
-    (adds_read next_fence tells old mid (Ok v) (failure.Refused TooManyFences) gave.opens (λ e. cc) (λ e. absurd (refused_same TooManyFences e)) (λ e. absurd (opened_not_disk v e)))
-unfenced_adds {T} reading follow tells v fencing.DiskFault old mid new gave =
-    adds_failed reading next_fence tells v (Fence v.lattice.n) _ old mid new (unfenced_committing follow tells v old mid new gave) refl
+    (adds_read next_fence (fence_records inside few) tells old mid (Ok v) (failure.Refused TooManyFences) gave.opens (λ e. cc) (λ e. absurd (refused_same TooManyFences e)) (λ e. absurd (opened_not_disk v e)))
+unfenced_adds {T} reading follow inside few tells v fencing.DiskFault old mid new gave =
+    adds_failed reading next_fence (fence_records inside few) tells v (Fence v.lattice.n) _ old mid new (unfenced_committing follow tells v old mid new gave) refl
 
 -- where the call that adds a fence to the opened ledger failed, the failure shows each refusal
 pub unfenced_refuses : {T : Type 0} → HasOneReading → (tells : Type 0) (v : Opened) (fault : FenceFault) (old mid new : State) → IsUnfenced tells v fault old mid new → Refuses {T = T} tells (FenceCauses (old.files 0)) (Err (fence_failure fault))

@@ -1,126 +1,264 @@
--- What stops leave of puts that go on from them.
-use Rattle.std.proofs.Common.{◌≡◌, ◌⊎◌, inl, inr, ⊎_elim, ℕ, zero, suc, ◌≤◌, List, [], ◌∷◌, ◌++◌, length, take, refl, sym, ◌∙◌, ap, subst, arith, Option, None, Some, length-append, append_assoc}
+-- What stops leave of runs that go on from them.
+use Rattle.std.proofs.Common.{◌≡◌, ◌⊎◌, inl, inr, ⊎_elim, ℕ, zero, suc, ◌≤◌, List, [], ◌∷◌, ◌++◌, length, take, drop, refl, sym, ◌∙◌, ap, subst, arith, length-append, append_assoc}
 use Rattle.std.proofs.lemmas.Bool.{cases_lt}
-use Rattle.std.proofs.lemmas.List.{append-nil}
+use Rattle.std.proofs.lemmas.List.{append-nil, take-append-drop, length-take-le}
 use Rattle.aea_lattice.specs.declared.blocks.BlockId.{BlockId}
 use Rattle.aea_lattice.specs.declared.grid.Lattice.{Lattice}
 use Rattle.aea_lattice.specs.declared.shape.Shape.{Shape}
 use Rattle.aea_disk.specs.Files.{Files}
-use Rattle.aea_disk.specs.State.{State, IsFixed}
+use Rattle.aea_disk.specs.State.{State, IsFixed, KeepsImages}
 use Rattle.aea_records.specs.Format.{Record, spelled}
 use Rattle.aea_records.specs.Laws.{HasOneReading}
 use Rattle.aea_ledger.specs.Stops.{HasLedger, HasOpening}
 use Rattle.aea_archive.specs.Next.{NewObject, AreNextRecords}
 use Rattle.aea_archive.specs.Stretches.{HasPrefix}
-use Rattle.aea_command_store.specs.GoingOn.{PutRun, StoppedRun, IsAcknowledged, IsPutOf, IsRecordOf, StopsKeepPuts}
-use Rattle.aea_command.specs.Openings.{OpensOr}
+use Rattle.aea_command.specs.Failures.{Answer}
+use Rattle.aea_command.specs.Openings.{OpensOr, OpensThen}
+use Rattle.aea_command.proofs.OpeningCases.{opening_more}
+use Rattle.aea_command_store.specs.Adding.{AddsRecord}
+use Rattle.aea_command_store.specs.Fence.{next_fence}
+use Rattle.aea_command_store.specs.GoingOn.{PutRun, IngestRun, RunKind, Putting, Ingesting, Fencing, Raising, Leaving, DoesRun, StoppedRun, IsPutOf, AreRecordsFor, IsUnadded, IsAdded, IsLeftBy, StopsKeepPuts}
 use Rattle.aea_command_store.specs.Growing.{Grows}
-use Rattle.aea_command_store.specs.Put.{MayHavePut, Stores}
+use Rattle.aea_command_store.specs.Ingest.{MayBeLast, StoresFrames, GrowsSurely}
+use Rattle.aea_command_store.specs.Put.{EndsStored, MayHavePut, Stores}
+use Rattle.aea_command_store.specs.Upgrade.{next_raise}
 
--- ---- the records of one object, and of none
+-- ---- the records of the first objects
 
-one_record : (shape : Shape) (l m : Lattice) (payload : BlockId → List ℕ) (o : NewObject) (added : List Record) → AreNextRecords shape l m payload (o ∷ []) added → (q : Record) × (added ≡ q ∷ []) × IsRecordOf o q
-one_record shape l m payload o [] none = absurd none
-one_record shape l m payload o (r ∷ []) are = (r, refl, (are.1, are.2, are.3.name_is, are.3.size, are.3.digest))
-one_record shape l m payload o (r ∷ q ∷ added) are = absurd are.4
+first_records : (shape : Shape) (l m : Lattice) (payload : BlockId → List ℕ) (objects : List NewObject) (added : List Record) (count : ℕ) → AreNextRecords shape l m payload objects added → AreRecordsFor (take count objects) (take count added)
+first_records shape l m payload [] [] zero are = tt
+first_records shape l m payload [] [] (suc k) are = tt
+first_records shape l m payload [] (r ∷ added) count none = absurd none
+first_records shape l m payload (o ∷ objects) [] count none = absurd none
+first_records shape l m payload (o ∷ objects) (r ∷ added) zero are = tt
+first_records shape l m payload (o ∷ objects) (r ∷ added) (suc k) are =
+    ((are.1, are.2, are.3.name_is, are.3.size, are.3.digest), first_records shape are.0 m payload objects added k are.4)
 
-no_record : (shape : Shape) (l m : Lattice) (payload : BlockId → List ℕ) (added : List Record) → AreNextRecords shape l m payload [] added → added ≡ []
-no_record shape l m payload [] are = refl
-no_record shape l m payload (r ∷ added) none = absurd none
+as_many : (shape : Shape) (l m : Lattice) (payload : BlockId → List ℕ) (objects : List NewObject) (added : List Record) → AreNextRecords shape l m payload objects added → length objects ≡ length added
+as_many shape l m payload [] [] are = refl
+as_many shape l m payload [] (r ∷ added) none = absurd none
+as_many shape l m payload (o ∷ objects) [] none = absurd none
+as_many shape l m payload (o ∷ objects) (r ∷ added) are = ap suc (as_many shape are.0 m payload objects added are.4)
 
 -- the first of none, and of one
 first_of_none : (count : ℕ) → (let none : List Record = [] in take count none ≡ [])
 first_of_none zero = refl
 first_of_none (suc k) = refl
 
-first_of_one : (shape : Shape) (records : List Record) (q : Record) (bytes : List ℕ) (count : ℕ) → count ≤ 1 → HasLedger shape (records ++ take count (q ∷ [])) bytes → HasLedger shape records bytes ⊎ HasLedger shape (records ++ q ∷ []) bytes
-first_of_one shape records q bytes zero few has = inl (subst (λ (l : List Record). HasLedger shape l bytes) (append-nil records) has)
-first_of_one shape records q bytes (suc zero) few has = inr has
-first_of_one shape records q bytes (suc (suc k)) few has = absurd (omega (arith, few))
+none_after : (count : ℕ) → (let none : List NewObject = [] in take count none ≡ [])
+none_after zero = refl
+none_after (suc k) = refl
+
+no_record : (objects : List NewObject) (added : List Record) → objects ≡ [] → length objects ≡ length added → added ≡ []
+no_record objects [] none same = refl
+no_record objects (r ∷ added) none same = let h = ap length none in let s = same in absurd (omega (arith, h, s))
 
 -- ---- one run
 
--- what a stop of the run leaves: the records that were there, where it was no put that was acknowledged; or these and that
--- of the object of the put
-abbrev LeftBy : (D tells : Type 0) (state : D → State) → Shape → List Record → StoppedRun D tells state → Type 0
-LeftBy D tells state shape records r =
-    ((IsAcknowledged r.put r.moment (state r.new).moment → ⊥) × HasLedger shape records (r.files 0))
-    ⊎ ((o : NewObject) × IsPutOf r.put o × (q : Record) × IsRecordOf o q × HasLedger shape (records ++ q ∷ []) (r.files 0))
-
 module _ (reading : HasOneReading) (D tells : Type 0) (state : D → State) (told : tells) (shape : Shape) (records : List Record) (r : StoppedRun D tells state) (ledger : HasLedger shape records ((state r.old).files 0)) (fixed : IsFixed (state r.old) 0) where
+  abbrev Ended : Type 0
+  Ended = r.moment ≡ (state r.new).moment
+
+  -- what a stop of a run of this kind leaves
+  abbrev LeftAs : RunKind → Type 0
+  LeftAs kind = (one : List Record) × IsLeftBy records kind Ended one × HasLedger shape (records ++ one) (r.files 0)
+
   -- an image from the entry has the ledger as it read there
   at_entry : (state r.old).image (state r.old).moment r.files → HasLedger shape records (r.files 0)
   at_entry here = subst (HasLedger shape records) (sym (fixed r.files here)) ledger
 
+  kept_images : KeepsImages (state r.old) (state r.new) → HasLedger shape records (r.files 0)
+  kept_images keeps = at_entry (keeps r.moment r.files r.from r.to r.image)
+
+  and_none : HasLedger shape records (r.files 0) → HasLedger shape (records ++ []) (r.files 0)
+  and_none has = subst (λ (l : List Record). HasLedger shape l (r.files 0)) (sym (append-nil records)) has
+
+  -- two readings of the files have as many records
+  as_long : (other : Shape) (one two : List Record) → HasLedger shape one (r.files 0) → HasLedger other two (r.files 0) → length one ≡ length two
+  as_long other one two a b = ap length (reading (r.files 0) shape other one two (length (spelled shape one)) (length (spelled other two)) a b).1.0
+
   -- a run that leaves the ledger
   as_it_was : HasOpening (state r.old) (state r.new) (λ c. c 0 ≡ (state r.old).files 0) → HasLedger shape records (r.files 0)
-  as_it_was (inl keeps) = at_entry (keeps r.moment r.files r.from r.to r.image)
+  as_it_was (inl keeps) = kept_images keeps
   as_it_was (inr opened) = elim (cases_lt r.moment opened.moment) [
     | inl early ↦ at_entry (opened.before r.moment r.files r.from (omega (arith, early)) r.image)
     | inr late ↦ subst (HasLedger shape records) (sym (opened.later r.moment r.files late r.to r.image)) ledger
   ]
 
-  module _ (p : PutRun) (is : r.put ≡ Some p) (stores : Stores p.name tells (state r.old) (state r.new) p.left p.rest p.answer) where
+  -- the image of the end
+  at_end : Ended → (state r.new).image (state r.new).moment r.files
+  at_end ended = subst (λ (m : ℕ). (state r.new).image m r.files) ended r.image
+
+  -- ---- a put
+
+  module _ (p : PutRun) (stores : Stores p.name tells (state r.old) (state r.new) p.left p.rest p.answer) where
     -- where the record is not there, the put was not acknowledged
-    unacknowledged : HasLedger shape records (r.files 0) → IsAcknowledged r.put r.moment (state r.new).moment → ⊥
-    unacknowledged before said =
-        let ended : IsAcknowledged (Some p) r.moment (state r.new).moment = subst (λ (q : Option PutRun). IsAcknowledged q r.moment (state r.new).moment) is said in
-        let stands = stores.stands ended.0 told shape records ledger in
-        let grown = stands.2.rest in
-        let one = one_record shape grown.grows.lattice grown.grows.longer grown.grows.payload stands.0 grown.grows.added grown.grows.next in
-        let same : r.files 0 ≡ (state r.new).files 0 = grown.all.synced r.files (subst (λ (m : ℕ). (state r.new).image m r.files) ended.1 r.image) 0 in
-        let now : HasLedger shape (records ++ grown.grows.added) (r.files 0) = subst (HasLedger shape (records ++ grown.grows.added)) (sym same) grown.all.ledger in
-        let both = reading (r.files 0) shape shape records (records ++ grown.grows.added) (length (spelled shape records)) (length (spelled shape (records ++ grown.grows.added))) before now in
-        omega (arith, ap length both.1.0, length-append records grown.grows.added, ap length one.1)
+    unacknowledged : HasLedger shape records (r.files 0) → EndsStored p.answer → Ended → ⊥
+    unacknowledged before said ended =
+        let stands = stores.stands said told shape records ledger in
+        let grown = stands.2.rest.stays in
+        let many = as_many shape grown.grows.lattice grown.grows.longer grown.grows.payload (stands.0 ∷ []) grown.grows.added grown.grows.next in
+        let same : r.files 0 ≡ (state r.new).files 0 = stands.2.rest.synced r.files (at_end ended) 0 in
+        let now : HasLedger shape (records ++ grown.grows.added) (r.files 0) = subst (HasLedger shape (records ++ grown.grows.added)) (sym same) grown.ledger in
+        omega (arith, as_long shape records (records ++ grown.grows.added) before now, length-append records grown.grows.added, many)
 
-    none_left : HasLedger shape records (r.files 0) → LeftBy D tells state shape records r
-    none_left before = inl (unacknowledged before, before)
+    none_put : HasLedger shape records (r.files 0) → LeftAs (Putting p)
+    none_put before = ([], inl (unacknowledged before, refl), and_none before)
 
-    -- the archive has the first of the records that were added
-    some_left : (objects : List NewObject) → MayHavePut p.name p.left p.rest p.answer objects → (old : State) → (g : Grows shape records objects old (state r.new)) → HasPrefix shape records g.added (r.files 0) → LeftBy D tells state shape records r
+    -- the archive has none of the records that were added, or that of the object
+    one_put : (o : NewObject) → IsPutOf p o → (added : List Record) (count : ℕ) → AreRecordsFor (take count (o ∷ [])) (take count added) → HasLedger shape (records ++ take count added) (r.files 0) → LeftAs (Putting p)
+    one_put o is added zero are has = none_put (subst (λ (l : List Record). HasLedger shape l (r.files 0)) (append-nil records) has)
+    one_put o is added (suc k) are has = (take (suc k) added, inr (o, is, subst (λ (os : List NewObject). AreRecordsFor (o ∷ os) (take (suc k) added)) (none_after k) are), has)
+
+    some_left : (objects : List NewObject) → MayHavePut p.name p.left p.rest p.answer objects → (old : State) → (g : Grows shape records objects old (state r.new)) → HasPrefix shape records g.added (r.files 0) → LeftAs (Putting p)
     some_left objects (inl nil) old g prefix =
-        let no = no_record shape g.lattice g.longer g.payload g.added (subst (λ (os : List NewObject). AreNextRecords shape g.lattice g.longer g.payload os g.added) nil g.next) in
+        let no = no_record objects g.added nil (as_many shape g.lattice g.longer g.payload objects g.added g.next) in
         let first : take prefix.count g.added ≡ [] = ap (take prefix.count) no ∙ first_of_none prefix.count in
-        none_left (subst (λ (l : List Record). HasLedger shape l (r.files 0)) (ap (λ (l : List Record). records ++ l) first ∙ append-nil records) prefix.ledger)
+        none_put (subst (λ (l : List Record). HasLedger shape l (r.files 0)) (ap (λ (l : List Record). records ++ l) first ∙ append-nil records) prefix.ledger)
     some_left objects (inr some) old g prefix =
         let o = some.1.0 in
-        let one = one_record shape g.lattice g.longer g.payload o g.added (subst (λ (os : List NewObject). AreNextRecords shape g.lattice g.longer g.payload os g.added) some.1.2 g.next) in
-        let few : prefix.count ≤ 1 = (let within = prefix.within in omega (arith, within, ap length one.1)) in
-        ⊎_elim
-        (λ before. none_left before)
-        (λ after. inr (o, subst (λ (q : Option PutRun). IsPutOf q o) (sym is) (some.0, some.1.1), one.0, one.2, after))
-        (first_of_one shape records one.0 (r.files 0) prefix.count few (subst (λ (l : List Record). HasLedger shape (records ++ take prefix.count l) (r.files 0)) one.1 prefix.ledger))
+        let next = subst (λ (os : List NewObject). AreNextRecords shape g.lattice g.longer g.payload os g.added) some.1.2 g.next in
+        one_put o (some.0, some.1.1) g.added prefix.count (first_records shape g.lattice g.longer g.payload (o ∷ []) g.added prefix.count next) prefix.ledger
 
-    put_left : (objects : List NewObject) → MayHavePut p.name p.left p.rest p.answer objects → OpensOr (state r.old) (state r.new) (Grows shape records objects) → LeftBy D tells state shape records r
-    put_left objects may (inl keeps) = none_left (at_entry (keeps.0 r.moment r.files r.from r.to r.image))
+    put_left : (objects : List NewObject) → MayHavePut p.name p.left p.rest p.answer objects → OpensOr (state r.old) (state r.new) (Grows shape records objects) → LeftAs (Putting p)
+    put_left objects may (inl keeps) = none_put (kept_images keeps.0)
     put_left objects may (inr opened) = elim (cases_lt r.moment opened.moment) [
-      | inl early ↦ none_left (at_entry (opened.before r.moment r.files r.from (omega (arith, early)) r.image))
+      | inl early ↦ none_put (at_entry (opened.before r.moment r.files r.from (omega (arith, early)) r.image))
       | inr late ↦ some_left objects may _ opened.rest (opened.rest.adds.prefix r.moment r.files late r.to r.image)
     ]
 
-  left_as : (q : Option PutRun) → r.put ≡ q → LeftBy D tells state shape records r
-  left_as None is = inl (λ said. subst (λ (q : Option PutRun). IsAcknowledged q r.moment (state r.new).moment) is said, as_it_was (r.leaves is told))
-  left_as (Some p) is =
-      let stores = r.stores p is in
-      let stops = stores.stops told shape records ledger in
-      put_left p is stores stops.0 stops.1 stops.2
+  -- ---- an ingest
 
-  left_by : LeftBy D tells state shape records r
-  left_by = left_as r.put refl
+  module _ (i : IngestRun) (last : List NewObject) (may : MayBeLast i.left i.printed i.answer last) where
+    abbrev all : List NewObject
+    all = (i.printed ++ i.more) ++ last
+
+    -- no record is there, where the run did not end or stored none
+    none_ingested : (Ended → i.printed ++ i.more ≡ []) → HasLedger shape records (r.files 0) → LeftAs (Ingesting i)
+    none_ingested unless before = (
+      [],
+      record {
+        last = last;
+        may = may;
+        objects = [];
+        others = all;
+        first = refl;
+        records = tt;
+        acknowledged = λ ended. let h = ap length (unless ended) in omega (arith, h);
+      },
+      and_none before,
+    )
+
+    -- at the end there are at least those whose lines were printed
+    enough : (k : ℕ) (old : State) (g : GrowsSurely shape records all k old (state r.new)) (prefix : HasPrefix shape records g.grows.added (r.files 0)) → Ended → k ≤ prefix.count
+    enough k old g prefix ended =
+        let sure = g.first r.files (at_end ended) in
+        let added = g.grows.added in
+        let same = as_long shape (records ++ take prefix.count added) (records ++ take sure.count added) prefix.ledger sure.ledger in
+        let one = length-append records (take prefix.count added) in
+        let two = length-append records (take sure.count added) in
+        let a = length-take-le prefix.count added prefix.within in
+        let b = length-take-le sure.count added sure.within in
+        let least = sure.enough in
+        omega (arith, same, one, two, a, b, least)
+
+    some_ingested : (k : ℕ) → length (i.printed ++ i.more) ≡ k → (old : State) → (g : GrowsSurely shape records all k old (state r.new)) → HasPrefix shape records g.grows.added (r.files 0) → LeftAs (Ingesting i)
+    some_ingested k is old g prefix =
+        let count = prefix.count in
+        let added = g.grows.added in
+        let many = as_many shape g.grows.lattice g.grows.longer g.grows.payload all added g.grows.next in
+        let fits : count ≤ length all = (let within = prefix.within in omega (arith, within, many)) in
+        let long = length-take-le count all fits in (
+          take count added,
+          record {
+            last = last;
+            may = may;
+            objects = take count all;
+            others = drop count all;
+            first = take-append-drop count all;
+            records = first_records shape g.grows.lattice g.grows.longer g.grows.payload all added count g.grows.next;
+            acknowledged = λ ended. let most = enough k old g prefix ended in omega (arith, most, long, is);
+          },
+          prefix.ledger,
+        )
+
+    ingest_opened : OpensThen (state r.old) (state r.new) (GrowsSurely shape records all (length (i.printed ++ i.more))) → LeftAs (Ingesting i)
+    ingest_opened opened = elim (cases_lt r.moment opened.moment) [
+      | inl early ↦ none_ingested (λ ended. let to = opened.to in let e = ended in absurd (omega (arith, early, to, e)))
+          (at_entry (opened.before r.moment r.files r.from (omega (arith, early)) r.image))
+      | inr late ↦ some_ingested (length (i.printed ++ i.more)) refl _ opened.rest (opened.rest.grows.adds.prefix r.moment r.files late r.to r.image)
+    ]
+
+  ingest_left : (i : IngestRun) → StoresFrames tells (state r.old) (state r.new) i.left i.rest i.printed i.more i.answer → LeftAs (Ingesting i)
+  ingest_left i stores =
+      let stops = stores.stops told shape records ledger in
+      ⊎_elim
+      (λ unopened. none_ingested i stops.0 stops.1 (λ ended. unopened.none) (kept_images unopened.images))
+      (λ opened. ingest_opened i stops.0 stops.1 opened)
+      stops.2
+
+  -- ---- a record that is added by itself
+
+  module _ (adds : List Record → Record) (answer : Answer) (does : AddsRecord adds tells (state r.old) (state r.new) answer) where
+    abbrev LeftWith : Type 0
+    LeftWith = (one : List Record) × (IsUnadded answer Ended one ⊎ IsAdded answer (adds records) one) × HasLedger shape (records ++ one) (r.files 0)
+
+    unadded : HasLedger shape records (r.files 0) → EndsStored answer → Ended → ⊥
+    unadded before said ended =
+        let stands = does.stands said told in
+        let added = stands.0 in
+        let were = (reading ((state r.old).files 0) shape added.shape records added.records (length (spelled shape records)) (length (spelled added.shape added.records)) ledger added.before).1.0 in
+        let same : r.files 0 ≡ (state r.new).files 0 = stands.1 r.files (at_end ended) 0 in
+        let now = subst (HasLedger added.shape (added.records ++ adds added.records ∷ [])) (sym same) added.after in
+        let long = as_long added.shape records (added.records ++ adds added.records ∷ []) before now in
+        let more = length-append added.records (adds added.records ∷ []) in
+        let as_many_before = ap length were in
+        omega (arith, long, more, as_many_before)
+
+    none_added : HasLedger shape records (r.files 0) → LeftWith
+    none_added before = ([], inl (unadded before, refl), and_none before)
+
+    -- both the old records and the new ones are not there
+    not_both : HasLedger shape records (r.files 0) → HasLedger shape (records ++ adds records ∷ []) (r.files 0) → ⊥
+    not_both before after =
+        let long = as_long shape records (records ++ adds records ∷ []) before after in
+        let more = length-append records (adds records ∷ []) in
+        omega (arith, long, more)
+
+    one_added : HasLedger shape (records ++ adds records ∷ []) (r.files 0) → LeftWith
+    one_added after = (
+      adds records ∷ [],
+      inr (λ why is. not_both (kept_images (does.refused why is).images) after, λ is. not_both (kept_images (does.wanting is).images) after, refl),
+      after,
+    )
+
+    adds_left : HasOpening (state r.old) (state r.new) (λ c. HasLedger shape records (c 0) ⊎ HasLedger shape (records ++ adds records ∷ []) (c 0)) → LeftWith
+    adds_left (inl keeps) = none_added (kept_images keeps)
+    adds_left (inr opened) = elim (cases_lt r.moment opened.moment) [
+      | inl early ↦ none_added (at_entry (opened.before r.moment r.files r.from (omega (arith, early)) r.image))
+      | inr late ↦ ⊎_elim none_added one_added (opened.later r.moment r.files late r.to r.image)
+    ]
+
+    record_left : LeftWith
+    record_left = adds_left (opening_more (state r.old) (state r.new) _ _ (λ c may. may.ledger shape records ledger) (does.stops told))
+
+  -- ---- whatever it is
+
+  left_as : (kind : RunKind) → DoesRun kind tells (state r.old) (state r.new) → LeftAs kind
+  left_as (Putting p) does = let stops = does.stops told shape records ledger in put_left p does stops.0 stops.1 stops.2
+  left_as (Ingesting i) does = ingest_left i does
+  left_as (Fencing answer) does = record_left next_fence answer does
+  left_as (Raising answer) does = record_left next_raise answer does
+  left_as Leaving does = ([], refl, and_none (as_it_was (does told)))
 
 -- ---- all of them
 
 pub stops_keep : HasOneReading → (D tells : Type 0) (state : D → State) → StopsKeepPuts {D = D} tells state
 stops_keep reading D tells state told shape records [] first last ledger same =
     let there : HasLedger shape records (last 0) = subst (λ (c : Files). HasLedger shape records (c 0)) (sym same) ledger in
-    ([], [], tt, tt, subst (λ (l : List Record). HasLedger shape l (last 0)) (sym (append-nil records)) there)
+    ([], refl, subst (λ (l : List Record). HasLedger shape l (last 0)) (sym (append-nil records)) there)
 stops_keep reading D tells state told shape records (r ∷ runs) first last ledger goes =
     let here : HasLedger shape records ((state r.old).files 0) = subst (λ (c : Files). HasLedger shape records (c 0)) (sym goes.0) ledger in
-    ⊎_elim
-    (λ none.
-    let rest = stops_keep reading D tells state told shape records runs r.files last none.1 goes.2 in
-    (rest.0, rest.1, inl (none.0, rest.2), rest.3, rest.4))
-    (λ one.
-    let rest = stops_keep reading D tells state told shape (records ++ one.2 ∷ []) runs r.files last one.4 goes.2 in
-    (one.0 ∷ rest.0, one.2 ∷ rest.1, inr (one.0, rest.0, refl, one.1, rest.2), (one.3, rest.3), subst (λ (l : List Record). HasLedger shape l (last 0)) (append_assoc records (one.2 ∷ []) rest.1) rest.4))
-    (left_by reading D tells state told shape records r here goes.1)
+    let left = left_as reading D tells state told shape records r here goes.1 r.kind r.does in
+    let rest = stops_keep reading D tells state told shape (records ++ left.0) runs r.files last left.2 goes.2 in
+    (left.0 ++ rest.0, (left.0, rest.0, refl, left.1, rest.1), subst (λ (l : List Record). HasLedger shape l (last 0)) (append_assoc records left.0 rest.0) rest.2)

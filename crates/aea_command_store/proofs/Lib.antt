@@ -2,7 +2,10 @@ pub mod CreateLemmas
 pub mod Adding
 pub mod FenceLemmas
 pub mod UpgradeLemmas
+pub mod Committing
 pub mod Growing
 pub mod PutLemmas
+pub mod FromOpening
+pub mod Staying
 pub mod GoingOn
 pub mod IngestLemmas

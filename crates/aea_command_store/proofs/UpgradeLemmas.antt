@@ -111,9 +111,9 @@ unraised_committing tells v old mid new gave = record {
 pub unraised_adds : {T : Type 0} → HasOneReading → (tells : Type 0) (v : Opened) (fault : UpgradeFault) (old mid new : State) → IsUnraised tells v fault old mid new → AddsRecord {T = T} next_raise tells old new (Err (upgrade_failure fault))
 unraised_adds {T} reading tells v raising.AlreadyUpgraded old mid new gave =
     subst (λ (s : State). AddsRecord {T = T} next_raise tells old s (Err (failure.Refused AlreadyUpgraded))) (sym (gave.unchanged refl))
-    (adds_read next_raise tells old mid (Ok v) (failure.Refused AlreadyUpgraded) gave.opens (λ e. cc) (λ e. let h : failure.Refused AlreadyUpgraded ≡ failure.Disk = e in cc) (λ e. absurd (opened_not_disk v e)))
+    (adds_read next_raise raise_records tells old mid (Ok v) (failure.Refused AlreadyUpgraded) gave.opens (λ e. cc) (λ e. let h : failure.Refused AlreadyUpgraded ≡ failure.Disk = e in cc) (λ e. absurd (opened_not_disk v e)))
 unraised_adds {T} reading tells v raising.DiskFault old mid new gave =
-    adds_failed reading next_raise tells v Raise _ old mid new (unraised_committing tells v old mid new gave) refl
+    adds_failed reading next_raise raise_records tells v Raise _ old mid new (unraised_committing tells v old mid new gave) refl
 
 -- where the call that raises the limit of the opened ledger failed, the failure shows each refusal
 pub unraised_refuses : {T : Type 0} → HasOneReading → (tells : Type 0) (v : Opened) (fault : UpgradeFault) (old mid new : State) → IsUnraised tells v fault old mid new → Refuses {T = T} tells (UpgradeCauses (old.files 0)) (Err (upgrade_failure fault))

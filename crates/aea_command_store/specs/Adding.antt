@@ -27,9 +27,11 @@ pub record HasAddedRecord (adds : List Record → Record) (old new : List ℕ) :
   pub recorded : (datas : List (List ℕ)) → AreRecordsOf shape records datas → AreRecordsOf shape (records ++ adds records ∷ []) datas
 
 -- The record was added or not: what was a ledger is that one, or the one with the record after its own; what was none is
--- as it was, and so is every other file.
+-- as it was, and so is every other file. Where the record is there, what data the records before it record is recorded with it.
 pub record MayHaveAdded (adds : List Record → Record) (old new : Files) : Type 0 where
   pub ledger : (shape : Shape) (records : List Record) → HasLedger shape records (old 0) → HasOldOrNew shape records (adds records) (new 0)
+  pub recorded : (shape : Shape) (records : List Record) (datas : List (List ℕ)) → HasLedger shape (records ++ adds records ∷ []) (new 0)
+      → AreRecordsOf shape records datas → AreRecordsOf shape (records ++ adds records ∷ []) datas
   pub none : (IsSomeLedger (old 0) → ⊥) → new 0 ≡ old 0
   pub others : ChangesOnly 0 old new
 

@@ -1,5 +1,5 @@
 -- Runs that a stop may cut off, and runs that go on from what a stop left.
-use Rattle.std.specs.Prelude.{◌≡◌, ◌⊎◌, ◌≤◌, ℕ, List, [], ◌∷◌, ◌++◌, length, Option, None, Some, Err}
+use Rattle.std.specs.Prelude.{◌≡◌, ◌≢◌, ◌⊎◌, ◌≤◌, ℕ, List, [], ◌∷◌, ◌++◌, length, Option, Err}
 use Rattle.sha2.specs.Sha256.{sha256}
 use Rattle.aea_lattice.specs.declared.shape.Shape.{Shape}
 use Rattle.aea_disk.specs.Files.{Files}
@@ -8,9 +8,14 @@ use Rattle.aea_records.specs.Format.{Record, Stored, Object}
 use Rattle.aea_ledger.specs.Stops.{HasLedger, HasOpening}
 use Rattle.aea_archive.specs.Next.{NewObject}
 use Rattle.aea_append.specs.Puts.{IsWhole}
+use Rattle.aea_command.specs.declared.refusal.Refusal.{Refusal}
 use Rattle.aea_command.specs.declared.refusal.Failure.TheVariants as failure
 use Rattle.aea_command.specs.Failures.{Answer}
+use Rattle.aea_command_store.specs.Adding.{AddsRecord}
+use Rattle.aea_command_store.specs.Fence.{next_fence}
+use Rattle.aea_command_store.specs.Ingest.{MayBeLast, StoresFrames}
 use Rattle.aea_command_store.specs.Put.{EndsStored, Stores}
+use Rattle.aea_command_store.specs.Upgrade.{next_raise}
 
 -- A run of `put`: the name, what the input had before and after it, and its answer.
 pub record PutRun : Type 0 where
@@ -19,45 +24,43 @@ pub record PutRun : Type 0 where
   pub rest : Option (List ℕ)
   pub answer : Answer
 
+-- A run of `ingest`: what the input had before and after it, the objects whose lines were printed, the one whose line was
+-- begun, and its answer.
+pub record IngestRun : Type 0 where
+  pub left : Option (List ℕ)
+  pub rest : Option (List ℕ)
+  pub printed : List NewObject
+  pub more : List NewObject
+  pub answer : Answer
+
+-- What a run is: one of `put`, of `ingest`, of `fence` or of `upgrade`, or one of a command that leaves the ledger as it is.
+pub data RunKind : Type 0 where
+  Putting : PutRun → RunKind
+  Ingesting : IngestRun → RunKind
+  Fencing : Answer → RunKind
+  Raising : Answer → RunKind
+  Leaving : RunKind
+
+-- what a run does to a disk whose contents are known
+abbrev pub DoesRun : RunKind → Type 0 → State → State → Type 0
+DoesRun (Putting p) tells old new = Stores p.name tells old new p.left p.rest p.answer
+DoesRun (Ingesting i) tells old new = StoresFrames tells old new i.left i.rest i.printed i.more i.answer
+DoesRun (Fencing answer) tells old new = AddsRecord next_fence tells old new answer
+DoesRun (Raising answer) tells old new = AddsRecord next_raise tells old new answer
+DoesRun Leaving tells old new = tells → HasOpening old new (λ c. c 0 ≡ old.files 0)
+
 -- A run over a disk of a type whose values have these states: the disk before it, and after it had it gone on to its end; and
--- the files that a stop left, an image of some moment of it. It is one of `put`, or of a command that leaves the ledger as it
--- is.
+-- the files that a stop left, an image of some moment of it.
 pub record StoppedRun (D tells : Type 0) (state : D → State) : Type 0 where
   pub old : D
   pub new : D
-  pub put : Option PutRun
-  pub stores : (p : PutRun) → put ≡ Some p → Stores p.name tells (state old) (state new) p.left p.rest p.answer
-  pub leaves : put ≡ None → tells → HasOpening (state old) (state new) (λ c. c 0 ≡ (state old).files 0)
+  pub kind : RunKind
+  pub does : DoesRun kind tells (state old) (state new)
   pub moment : ℕ
   pub from : (state old).moment ≤ moment
   pub to : moment ≤ (state new).moment
   pub files : Files
   pub image : (state new).image moment files
-
--- a put that ended before the stop, and said that its object is stored
-abbrev pub IsAcknowledged : Option PutRun → ℕ → ℕ → Type 0
-IsAcknowledged None moment last = ⊥
-IsAcknowledged (Some p) moment last = EndsStored p.answer × (moment ≡ last)
-
--- the object is that of the put, all that the input had, under the name; and the put said that it is stored, or the disk
--- failed in it
-abbrev pub IsPutOf : Option PutRun → NewObject → Type 0
-IsPutOf None o = ⊥
-IsPutOf (Some p) o = (EndsStored p.answer ⊎ (p.answer ≡ Err failure.Disk)) × IsWhole p.name p.left p.rest o
-
--- The runs went on one after the other, from these files to those that the last stop left: each began over a disk that
--- reads as what the stop before it had left, and with nothing pending on its ledger.
-abbrev pub GoOn : (D tells : Type 0) (state : D → State) → Files → List (StoppedRun D tells state) → Files → Type 0
-GoOn D tells state first [] last = last ≡ first
-GoOn D tells state first (r ∷ runs) last = ((state r.old).files ≡ first) × IsFixed (state r.old) 0 × GoOn D tells state r.files runs last
-
--- the objects are those of the puts, in order, but for some that were not acknowledged
-abbrev pub AreKept : (D tells : Type 0) (state : D → State) → List (StoppedRun D tells state) → List NewObject → Type 0
-AreKept D tells state [] [] = Unit {0}
-AreKept D tells state [] (o ∷ objects) = ⊥
-AreKept D tells state (r ∷ runs) objects =
-    ((IsAcknowledged r.put r.moment (state r.new).moment → ⊥) × AreKept D tells state runs objects)
-    ⊎ ((o : NewObject) × (others : List NewObject) × (objects ≡ o ∷ others) × IsPutOf r.put o × AreKept D tells state runs others)
 
 -- the record has the object's name, length and SHA-256
 abbrev pub IsRecordOf : NewObject → Record → Type 0
@@ -70,9 +73,54 @@ AreRecordsFor [] (r ∷ records) = ⊥
 AreRecordsFor (o ∷ objects) [] = ⊥
 AreRecordsFor (o ∷ objects) (r ∷ records) = IsRecordOf o r × AreRecordsFor objects records
 
+-- the object is that of the put, all that the input had, under the name; and the put said that it is stored, or the disk
+-- failed in it
+abbrev pub IsPutOf : PutRun → NewObject → Type 0
+IsPutOf p o = (EndsStored p.answer ⊎ (p.answer ≡ Err failure.Disk)) × IsWhole p.name p.left p.rest o
+
+-- The records are those of the first objects of the ingest: of those whose lines were printed, of the one whose line was begun,
+-- and of the one whose commit was under way where the disk failed. Where the run ended before the stop, each object whose
+-- line was printed, or begun, has its record.
+pub record AreIngested (i : IngestRun) (ended : Type 0) (added : List Record) : Type 0 where
+  pub last : List NewObject
+  pub may : MayBeLast i.left i.printed i.answer last
+  pub objects : List NewObject
+  pub others : List NewObject
+  pub first : objects ++ others ≡ (i.printed ++ i.more) ++ last
+  pub records : AreRecordsFor objects added
+  pub acknowledged : ended → length (i.printed ++ i.more) ≤ length objects
+
+-- no record: the run did not end before the stop with an answer that says that something was added
+abbrev pub IsUnadded : Answer → Type 0 → List Record → Type 0
+IsUnadded answer ended added = (EndsStored answer → ended → ⊥) × (added ≡ [])
+
+-- the record alone; and the run was not refused, and memory did not run out
+abbrev pub IsAdded : Answer → Record → List Record → Type 0
+IsAdded answer r added = ((why : Refusal) → answer ≢ Err (failure.Refused why)) × (answer ≢ Err failure.Memory) × (added ≡ r ∷ [])
+
+-- the records are what a stop of the run leaves after these that were there
+abbrev pub IsLeftBy : List Record → RunKind → Type 0 → List Record → Type 0
+IsLeftBy records (Putting p) ended added = IsUnadded p.answer ended added ⊎ ((o : NewObject) × IsPutOf p o × AreRecordsFor (o ∷ []) added)
+IsLeftBy records (Ingesting i) ended added = AreIngested i ended added
+IsLeftBy records (Fencing answer) ended added = IsUnadded answer ended added ⊎ IsAdded answer (next_fence records) added
+IsLeftBy records (Raising answer) ended added = IsUnadded answer ended added ⊎ IsAdded answer (next_raise records) added
+IsLeftBy records Leaving ended added = added ≡ []
+
+-- The runs went on one after the other, from these files to those that the last stop left: each began over a disk that
+-- reads as what the stop before it had left, and with nothing pending on its ledger.
+abbrev pub GoOn : (D tells : Type 0) (state : D → State) → Files → List (StoppedRun D tells state) → Files → Type 0
+GoOn D tells state first [] last = last ≡ first
+GoOn D tells state first (r ∷ runs) last = ((state r.old).files ≡ first) × IsFixed (state r.old) 0 × GoOn D tells state r.files runs last
+
+-- the records are those that the runs left after these, in order
+abbrev pub AreKept : (D tells : Type 0) (state : D → State) → List Record → List (StoppedRun D tells state) → List Record → Type 0
+AreKept D tells state records [] added = added ≡ []
+AreKept D tells state records (r ∷ runs) added =
+    (one : List Record) × (rest : List Record) × (added ≡ one ++ rest) × IsLeftBy records r.kind (r.moment ≡ (state r.new).moment) one × AreKept D tells state (records ++ one) runs rest
+
 -- However many runs there are, and wherever each was stopped: the ledger that the last stop left has the records that were
--- there before the first, and after them those of the puts, in order, of each that was acknowledged.
+-- there before the first, and after them, in order, those that the runs added, of each that was acknowledged.
 abbrev pub StopsKeepPuts : {D : Type 0} → Type 0 → (D → State) → Type 0
 StopsKeepPuts {D} tells state =
     tells → (shape : Shape) (records : List Record) (runs : List (StoppedRun D tells state)) (first last : Files) → HasLedger shape records (first 0) → GoOn D tells state first runs last
-    → (objects : List NewObject) × (added : List Record) × AreKept D tells state runs objects × AreRecordsFor objects added × HasLedger shape (records ++ added) (last 0)
+    → (added : List Record) × AreKept D tells state records runs added × HasLedger shape (records ++ added) (last 0)

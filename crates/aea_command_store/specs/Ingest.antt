@@ -8,18 +8,21 @@ use Rattle.aea_lattice.specs.declared.shape.Shape.{Shape}
 use Rattle.aea_disk.specs.Files.{Files}
 use Rattle.aea_disk.specs.State.{State, EveryImage, KeepsImages, IsReady, IsRoomy, NeverFails}
 use Rattle.aea_catalog.specs.Names.{IsName}
+use Rattle.aea_shelf.specs.Writes.{KeepsPadded}
 use Rattle.aea_records.specs.Faults.{IsNoArchive, IsBadAt}
 use Rattle.aea_records.specs.Format.{Record, Stored, Object, greatest_objects, nodes_for, nodes_of, stored_of, limit_of, limit_when, spelled}
 use Rattle.aea_records.specs.Laws.{IsSomeLedger}
 use Rattle.aea_ledger.specs.Taking.{FitsAdding}
-use Rattle.aea_ledger.specs.Stops.{HasLedger}
+use Rattle.aea_ledger.specs.Stops.{HasLedger, IsOpened, StaysAll}
 use Rattle.aea_ledger.specs.Next.{AreItsRecords}
-use Rattle.aea_ledger.specs.Values.{Opened, HasRecords}
+use Rattle.aea_ledger.specs.Values.{Opened}
+use Rattle.aea_archive.specs.Blocks.{IsBlockIn}
 use Rattle.aea_archive.specs.Cells.{HaveSitesRoom, FitsRows}
+use Rattle.aea_archive.specs.Lasts.{AreLastsIntact}
 use Rattle.aea_archive.specs.Next.{NewObject}
 use Rattle.aea_archive.specs.Stretches.{HasAtLeast}
 use Rattle.aea_append.specs.Causes.{next_end}
-use Rattle.aea_append.specs.Frames.{frame_head, frame_of, HasHead, HasBadName, EndsInHead, frame_name, object_length, frame_length}
+use Rattle.aea_append.specs.Frames.{frame_of, HasHead, HasBadName, EndsInHead, frame_name, object_length, frame_length}
 use Rattle.aea_command.specs.declared.refusal.Refusal.{Refusal}
 use Rattle.aea_command.specs.declared.refusal.Refusal.TheVariants.{NoArchive, LedgerBad, BadName, NameTaken, CatalogFull, HeadDamaged, Full, BadStream, Occupied}
 use Rattle.aea_command.specs.declared.refusal.Failure.{Failure}
@@ -28,8 +31,9 @@ use Rattle.aea_command.specs.declared.status.Status.TheVariants.{Done}
 use Rattle.aea_command.specs.Causes.{place_of}
 use Rattle.aea_command.specs.Failures.{Answer}
 use Rattle.aea_command.specs.Openings.{OpensThen}
-use Rattle.aea_command_store.specs.Growing.{Grows, HasGrown}
+use Rattle.aea_command_store.specs.Growing.{Grows, StaysGrown, HasGrown}
 use Rattle.aea_command.specs.Lines.{newline}
+use Rattle.aea_command.specs.Printed.{FitsText}
 use Rattle.aea_command_store.specs.Put.{EndsStored, HasDamagedHead, HasLimit, stored_line}
 
 -- ---- the texts
@@ -178,37 +182,54 @@ AreOfObjects shape [] (r ∷ records) = ⊥
 AreOfObjects shape (o ∷ objects) [] = ⊥
 AreOfObjects shape (o ∷ objects) (r ∷ records) = IsOfObject shape o r × AreOfObjects shape objects records
 
--- the bytes are a ledger; and with the records of objects that the source can begin with, and that of one more, whose head
--- it can have after them and whose nodes fit, it has so many records more and its ending gate at this place
-pub record WouldReach (left : Option (List ℕ)) (bytes : List ℕ) (more end : ℕ) : Type 0 where
+-- where a ledger that ends at this place ends with the records of these objects after its own
+abbrev pub end_with : Shape → ℕ → List NewObject → ℕ
+end_with shape end [] = end
+end_with shape end (o ∷ objects) = end_with shape (next_end end (length o.name) (nodes_for shape (length o.bytes) * (1 + shape.alpha))) objects
+
+-- The files are an archive without a damaged last parity; and with the objects of some first frames of the source, each of which
+-- may be stored after those before it, its ledger has so many records more and its ending gate at this place.
+pub record WouldReach (left : Option (List ℕ)) (files : Files) (more end : ℕ) : Type 0 where
   pub shape : Shape
   pub records : List Record
-  pub ledger : HasLedger shape records bytes
+  pub ledger : HasLedger shape records (files 0)
+  pub intact : (block : BlockId) → HasDamagedHead files block → ⊥
   pub objects : List NewObject
-  pub added : List Record
-  pub are : AreOfObjects shape objects added
-  pub name : List ℕ
-  pub size : ℕ
+  pub some : objects ≢ []
   pub rest : Option (List ℕ)
-  pub framed : Consumes left rest (frames_of objects ++ frame_head name size)
-  pub fits : nodes_of (records ++ added) + nodes_for shape size ≤ limit_of records
-  pub count : more ≡ length added + 1
-  pub place : end ≡ next_end (length (spelled shape (records ++ added))) (length name) (nodes_for shape size * (1 + shape.alpha))
+  pub framed : Consumes left rest (frames_of objects)
+  pub taken : MayAllBeTaken shape (filled_by records) objects
+  pub count : more ≡ length objects
+  pub place : end ≡ end_with shape (length (spelled shape records)) objects
 
 -- The disk has some space, and to sync; and where it has an archive, space for the rows that its sites may have, and for the
 -- records up to each place at which its ledger may end in such a run, of a disk on which the file is not known wherever that is.
 pub record FitsIngest (tells : Type 0) (left : Option (List ℕ)) (s : State) : Type 0 where
   pub some : IsRoomy s
   pub sites : (shape : Shape) (limit : ℕ) → (tells → HasLimit shape limit (s.files 0)) → HaveSitesRoom shape limit s
-  pub behind : (more end : ℕ) → (tells → WouldReach left (s.files 0) more end) → FitsAdding s more end
+  pub behind : (more end : ℕ) → (tells → WouldReach left s.files more end) → FitsAdding s more end
 
 -- the disk has space for all that a run may write that stores the frames of the source into an opened archive
 pub record FitsFrames (v : Opened) (left : Option (List ℕ)) (s : State) : Type 0 where
   pub sites : FitsRows v.shape (limit_when v.raised) s
-  pub ledger : (records : List Record) → HasRecords v records → (objects : List NewObject) (added : List Record) (name : List ℕ) (size : ℕ) (rest : Option (List ℕ))
-      → AreOfObjects v.shape objects added → Consumes left rest (frames_of objects ++ frame_head name size)
-      → nodes_of (records ++ added) + nodes_for v.shape size ≤ limit_of records
-      → FitsAdding s (length added + 1) (next_end (length (spelled v.shape (records ++ added))) (length name) (nodes_for v.shape size * (1 + v.shape.alpha)))
+  pub ledger : (records : List Record) → AreItsRecords v records (s.files 0) → AreLastsIntact v.shape v.lattice v.digests s.files → (objects : List NewObject) (rest : Option (List ℕ)) → objects ≢ []
+      → Consumes left rest (frames_of objects) → MayAllBeTaken v.shape (filled_by records) objects
+      → FitsAdding s (length objects) (end_with v.shape v.end objects)
+
+-- The archive in these files would store these objects, those of the first frames of the input, and then come to the rest of it.
+pub record WouldStore (files : Files) (input : List ℕ) (shape : Shape) (objects : List NewObject) (rest : List ℕ) : Type 0 where
+  pub records : List Record
+  pub ledger : HasLedger shape records (files 0)
+  pub framed : input ≡ frames_of objects ++ rest
+  pub taken : MayAllBeTaken shape (filled_by records) objects
+  -- and none is stored where a last parity is damaged
+  pub intact : objects ≢ [] → (block : BlockId) → HasDamagedHead files block → ⊥
+
+-- The output has space for the lines of the objects that a run would store, and, where these are all that the input has, for the
+-- last line after them.
+pub record FitsLines (files : Files) (input : List ℕ) (out : SinkState) : Type 0 where
+  pub lines : (shape : Shape) (objects : List NewObject) (rest : List ℕ) → WouldStore files input shape objects rest → FitsText out (stored_lines shape objects)
+  pub end : (shape : Shape) (objects : List NewObject) → WouldStore files input shape objects [] → FitsText out (stored_lines shape objects ++ end_line (length objects))
 
 -- ---- what a run leaves
 
@@ -234,6 +255,8 @@ pub record IsNotOpened {T : Type 0} (old new : State) (objects : List NewObject)
   pub none : objects ≡ []
   pub images : KeepsImages old new
   pub reads : new.files ≡ old.files
+  -- but after a fault of the disk its first sync has succeeded
+  pub sure : answer ≢ Err failure.Disk → IsOpened old new (StaysAll old.files)
 
 -- Of a run that stores the frames of the input, with the disk and the rest of the input before and after it, and what it
 -- returns: the objects whose lines were printed, and the one whose line was begun.
@@ -252,8 +275,16 @@ pub record StoresFrames {T : Type 0} (tells : Type 0) (old new : State) (left re
   pub stops : tells → (shape : Shape) (records : List Record) → HasLedger shape records (old.files 0)
       → (last : List NewObject) × MayBeLast left printed answer last
       × (IsNotOpened old new (printed ++ more) answer ⊎ OpensThen old new (GrowsSurely shape records ((printed ++ more) ++ last) (length (printed ++ more))))
-  -- where there is no ledger, nothing is stored
+  -- but after a fault of the disk, all of them are in every image and as the disk reads, and no other is; their blocks are
+  -- held, and survivors that were honest, in plain damage, are so
+  pub stays : answer ≢ Err failure.Disk → tells → (shape : Shape) (records : List Record) → HasLedger shape records (old.files 0)
+      → IsNotOpened old new (printed ++ more) answer ⊎ OpensThen old new (StaysGrown shape records (printed ++ more))
+  -- where there is no ledger, nothing is stored, and but after a fault of the disk the first sync has succeeded
   pub none : tells → (IsSomeLedger (old.files 0) → ⊥) → KeepsImages old new × (new.files ≡ old.files)
+  pub unopened : answer ≢ Err failure.Disk → tells → (IsSomeLedger (old.files 0) → ⊥) → IsOpened old new (StaysAll old.files)
+  -- but after a fault of the disk the homes of the blocks that there were read as they did, with zeros past the ends of files
+  pub padded : answer ≢ Err failure.Disk → tells → (shape : Shape) (records : List Record) → HasLedger shape records (old.files 0)
+      → KeepsPadded shape (IsBlockIn shape (nodes_of records)) old.files new.files
   -- where the disk is ready and has the space nothing fails
   pub in_room : tells → IsReady old → NeverFails (FitsIngest tells left old) (answer ≢ Err failure.Disk) old new
 
@@ -265,17 +296,19 @@ pub record StoresOpened {T : Type 0} (tells : Type 0) (v : Opened) (old new : St
   pub stands : EndsStored answer → tells → (records : List Record) → AreItsRecords v records (old.files 0) → HasGrown v.shape records (printed ++ more) old new
   pub stops : tells → (records : List Record) → AreItsRecords v records (old.files 0)
       → (last : List NewObject) × MayBeLast left printed answer last × GrowsSurely v.shape records ((printed ++ more) ++ last) (length (printed ++ more)) old new
+  pub stays : answer ≢ Err failure.Disk → tells → (records : List Record) → AreItsRecords v records (old.files 0) → StaysGrown v.shape records (printed ++ more) old new
+  pub padded : answer ≢ Err failure.Disk → tells → KeepsPadded v.shape (IsBlockIn v.shape v.lattice.n) old.files new.files
 
 -- What is on `out`: the lines of the objects that were printed; after them the last line where all was done, a first
--- part of the line that follows where the output failed, and nothing else where something else did. Within the capacity of the
--- sink nothing fails.
+-- part of the line that follows where the output failed, and nothing else where something else did. Where the sink has space for
+-- the lines and for the one that follows nothing fails.
 pub record PrintsLines (shape : Shape) (printed more : List NewObject) (before after : SinkState) (answer : Answer) : Type 0 where
   pub part : List ℕ
   pub appends : Appends before.written after.written (stored_lines shape printed ++ part)
   pub whole : OnOk answer (part ≡ end_line (length printed))
   pub cut : answer ≡ Err failure.Output → (k : ℕ) × (k ≤ length (next_line shape (length printed) more)) × (part ≡ take k (next_line shape (length printed) more))
   pub quiet : IfErr answer (λ f. f ≢ failure.Output → part ≡ [])
-  pub in_room : (room : ℕ) → before.room ≡ Some room → length (stored_lines shape (printed ++ more) ++ end_line (length (printed ++ more))) ≤ room
+  pub in_room : (room : ℕ) → before.room ≡ Some room → length (stored_lines shape printed ++ next_line shape (length printed) more) ≤ room
       → (answer ≢ Err failure.Output) × (after.faults ≡ before.faults)
 
 -- Of a run that stores the frames of the input into an opened archive, and its answer:
@@ -286,6 +319,7 @@ pub record IngestsOpened (tells : Type 0) (v : Opened) (old new : State) (left r
   pub stores : StoresOpened tells v old new left rest printed more answer
   pub early : EndsEarly tells old.files left rest printed answer
   pub prints : PrintsLines v.shape printed more before after answer
+  pub lines_in_room : tells → (input : List ℕ) → left ≡ Some input → FitsLines old.files input before → answer ≢ Err failure.Output
 
 -- Nothing was stored and nothing printed, since there was no archive to begin from.
 pub record PrintsNothing (printed more : List NewObject) (before after : SinkState) (answer : Answer) : Type 0 where
@@ -315,3 +349,5 @@ pub record Ingests (tells : Type 0) (old new : State) (left rest : Option (List 
   pub early : EndsEarly tells old.files left rest printed answer
   -- what is printed
   pub prints : PrintsNothing printed more before after answer ⊎ PrintsSome tells (old.files 0) printed more before after answer
+  -- and where the output has space for the lines of the objects that a run would store, it does not fail
+  pub lines_in_room : tells → (input : List ℕ) → left ≡ Some input → FitsLines old.files input before → answer ≢ Err failure.Output

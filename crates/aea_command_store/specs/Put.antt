@@ -1,6 +1,6 @@
 -- What `put` does: the line that it prints, why it is refused, and the effect on the archive.
 use Rattle.std.specs.Prelude.{◌≡◌, ◌≢◌, ◌⊎◌, ◌≤◌, ◌<◌, ℕ, ◌+◌, ◌-◌, ◌*◌, List, [], ◌∷◌, ◌++◌, length, codes, decimal, All, Option, Result, Err, IsOk, IfOk}
-use Rattle.std.specs.Io.KnownBytes.{Consumes}
+use Rattle.std.specs.Io.KnownBytes.{Consumes, IsAtEnd}
 use Rattle.hex.specs.Hex.{encode_lower}
 use Rattle.sha2.specs.Sha256.{sha256}
 use Rattle.aea_io.specs.Streams.{SinkState}
@@ -17,7 +17,7 @@ use Rattle.aea_records.specs.Format.{Record, greatest_objects, nodes_for, nodes_
 use Rattle.aea_records.specs.Laws.{IsSomeLedger}
 use Rattle.aea_ledger.specs.Taking.{FitsAdding}
 use Rattle.aea_ledger.specs.Recorded.{IsLatticeOf}
-use Rattle.aea_ledger.specs.Stops.{HasLedger, HasOpening}
+use Rattle.aea_ledger.specs.Stops.{HasLedger, IsOpened, HasOpening}
 use Rattle.aea_archive.specs.Blocks.{IsBlockIn}
 use Rattle.aea_archive.specs.Cells.{HaveSitesRoom}
 use Rattle.aea_archive.specs.Lasts.{IsFirstDamagedLast}
@@ -32,7 +32,7 @@ use Rattle.aea_command.specs.declared.status.Status.TheVariants.{Done}
 use Rattle.aea_command.specs.Openings.{IsUntouched, OpensThen, OpensOr, KeepsAllBut, greatest_sites}
 use Rattle.aea_command.specs.Causes.{place_of}
 use Rattle.aea_command.specs.Failures.{Answer}
-use Rattle.aea_command_store.specs.Growing.{Grows, HasGrown}
+use Rattle.aea_command_store.specs.Growing.{Grows, StaysGrown, HasGrown}
 use Rattle.aea_command.specs.Lines.{newline}
 use Rattle.aea_command.specs.Printed.{PrintsText}
 
@@ -91,14 +91,19 @@ PutCauses name files input (HeadDamaged block) = HasDamagedHead files block
 PutCauses name files input (Full nodes) = IsFull (files 0) input nodes
 PutCauses name files input why = ⊥
 
+-- a refusal that the input decides too: the object is too long
+abbrev pub IsByInput : Refusal → Type 0
+IsByInput (Full nodes) = Unit {0}
+IsByInput why = ⊥
+
 -- the bytes are a ledger of this shape with this limit on nodes
 pub record HasLimit (shape : Shape) (limit : ℕ) (bytes : List ℕ) : Type 0 where
   pub records : List Record
   pub ledger : HasLedger shape records bytes
   pub is : limit ≡ limit_of records
 
--- the bytes are a ledger, and the one with an object under this name, with some bytes that the source has and that fit the
--- limit, has its ending gate at this place
+-- the bytes are a ledger, and the one with an object under this name, which is one, with all the bytes that the source has, if
+-- they fit the limit, has its ending gate at this place
 pub record WouldEndAt (name : List ℕ) (left : Option (List ℕ)) (bytes : List ℕ) (end : ℕ) : Type 0 where
   pub shape : Shape
   pub records : List Record
@@ -106,6 +111,8 @@ pub record WouldEndAt (name : List ℕ) (left : Option (List ℕ)) (bytes : List
   pub rest : Option (List ℕ)
   pub taken : List ℕ
   pub takes : Consumes left rest taken
+  pub all : IsAtEnd rest
+  pub named : IsName name
   pub fits : nodes_of records + nodes_for shape (length taken) ≤ limit_of records
   pub place : end ≡ next_end (length (spelled shape records)) (length name) (nodes_for shape (length taken) * (1 + shape.alpha))
 
@@ -121,6 +128,12 @@ pub record FitsPut (name : List ℕ) (tells : Type 0) (left : Option (List ℕ))
 abbrev pub IsEarly : Refusal → Type 0
 IsEarly why = place_of why < place_of (Full 0)
 
+-- The disk has some space, and to sync; and unless there is a cause for a refusal before the input is read, space for all that a
+-- put writes, of a disk on which the files are not known in any case.
+pub record FitsPutUnlessRefused (name : List ℕ) (tells : Type 0) (left : Option (List ℕ)) (s : State) : Type 0 where
+  pub some : IsRoomy s
+  pub all : (tells → (why : Refusal) → IsEarly why → PutCauses name s.files [] why → ⊥) → FitsPut name tells left s
+
 -- an answer after which the object is stored
 abbrev pub EndsStored : {T : Type 0} → Result T Failure → Type 0
 EndsStored answer = IsOk answer ⊎ (answer ≡ Err failure.Output)
@@ -130,6 +143,12 @@ EndsStored answer = IsOk answer ⊎ (answer ≡ Err failure.Output)
 abbrev pub MayHavePut : {T : Type 0} → List ℕ → Option (List ℕ) → Option (List ℕ) → Result T Failure → List NewObject → Type 0
 MayHavePut name left rest answer objects =
     (objects ≡ []) ⊎ ((EndsStored answer ⊎ (answer ≡ Err failure.Disk)) × ((o : NewObject) × IsWhole name left rest o × (objects ≡ o ∷ [])))
+
+-- Memory ran out before the archive was opened: every image and every file is as it was.
+pub record IsWanting {T : Type 0} (old new : State) (answer : Result T Failure) : Type 0 where
+  pub by : answer ≡ Err failure.Memory
+  pub images : KeepsImages old new
+  pub reads : new.files ≡ old.files
 
 -- Of a run that stores what the input has under a name, with the disk and the rest of the input before and after it, and
 -- what it returns:
@@ -142,6 +161,11 @@ pub record Stores {T : Type 0} (name : List ℕ) (tells : Type 0) (old new : Sta
   -- what a stop at any moment leaves: from the first sync on the archive before, or the one with the object
   pub stops : tells → (shape : Shape) (records : List Record) → HasLedger shape records (old.files 0)
       → (objects : List NewObject) × MayHavePut name left rest answer objects × OpensOr old new (Grows shape records objects)
+  -- but after a fault of the disk what was stored is in every image and as the disk reads, with its blocks held, and nothing
+  -- else is; and survivors that were honest, in plain damage, are so
+  pub stays : answer ≢ Err failure.Disk → tells → (shape : Shape) (records : List Record) → HasLedger shape records (old.files 0)
+      → (objects : List NewObject) × MayHavePut name left rest answer objects
+      × (IsWanting old new answer ⊎ OpensThen old new (StaysGrown shape records objects))
   -- a refusal before the input is read leaves the disk and the input as they were
   pub untouched : (why : Refusal) → IsEarly why → answer ≡ Err (failure.Refused why) → IsUntouched tells old new × (rest ≡ left)
   -- any other, a fault of the input and lack of memory leave the ledger as it was, and so does any answer where there is
@@ -149,6 +173,9 @@ pub record Stores {T : Type 0} (name : List ℕ) (tells : Type 0) (old new : Sta
   pub leaves : (f : Failure) → f ≢ failure.Disk → f ≢ failure.Output → answer ≡ Err f → tells
       → HasOpening old new (λ c. c 0 ≡ old.files 0) × (new.files 0 ≡ old.files 0)
   pub none : tells → (IsSomeLedger (old.files 0) → ⊥) → KeepsImages old new × (new.files ≡ old.files)
+  -- and but after lack of memory, which may come before the first call, the first sync has succeeded
+  pub sure : (f : Failure) → f ≢ failure.Disk → f ≢ failure.Output → f ≢ failure.Memory → answer ≡ Err f → tells
+      → IsOpened old new (λ c. c 0 ≡ old.files 0)
   -- but after a fault of the disk the homes of the blocks that there were read as they did, with zeros past the ends of files
   pub padded : answer ≢ Err failure.Disk → tells → (shape : Shape) (records : List Record) → HasLedger shape records (old.files 0)
       → KeepsPadded shape (IsBlockIn shape (nodes_of records)) old.files new.files
@@ -157,6 +184,9 @@ pub record Stores {T : Type 0} (name : List ℕ) (tells : Type 0) (old new : Sta
       → TakesAtMost left rest ((limit_of records - nodes_of records) * shape.block + 1)
   -- where the disk is ready and has the space nothing fails
   pub in_room : tells → IsReady old → NeverFails (FitsPut name tells left old) (answer ≢ Err failure.Disk) old new
+  -- and where there is a cause for a refusal before the input is read, it needs no space but to sync
+  pub refused_in_room : tells → (why : Refusal) → IsEarly why → PutCauses name old.files [] why
+      → IsReady old → NeverFails (IsRoomy old) (answer ≢ Err failure.Disk) old new
 
 -- The text is the line of the object with all that the input had, under the name, in an archive of some shape, which is
 -- that of the ledger where the disk's contents are known.

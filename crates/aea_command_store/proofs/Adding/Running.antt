@@ -10,12 +10,12 @@ use Rattle.aea_command.specs.declared.refusal.Refusal.{Refusal}
 use Rattle.aea_command.specs.declared.refusal.Failure.{Failure}
 use Rattle.aea_command.specs.declared.status.Status.TheVariants.{Done}
 use Rattle.aea_command_store.specs.Adding.{AddsRecord, KeepsTheRest}
-use Rattle.aea_command.specs.Causes.{Refuses}
+use Rattle.aea_command.specs.Causes.{Refuses, RefusesBy}
 use Rattle.aea_command.specs.Failures.{Answer}
 use Rattle.aea_command_store.proofs.Adding.{Agrees}
 use Rattle.aea_command_store.proofs.CreateLemmas.{IsPrinting, printing_never}
 use Rattle.aea_command.proofs.OpeningCases.{opening_more}
-use Rattle.aea_command.proofs.Refusing.{refuses_done}
+use Rattle.aea_command.proofs.Refusing.{refuses_by_done}
 use Rattle.aea_command.specs.declared.refusal.Failure.TheVariants as failure
 
 -- the line was printed, or the output failed: the disk does not show which
@@ -43,5 +43,8 @@ pub adds_opens : {T : Type 0} (adds : List Record → Record) (tells : Type 0) (
 adds_opens adds tells old new answer does told = opening_more old new _ _ (λ c may k keep. may.others k keep) (does.stops told)
 
 -- what was done had no cause against it
+pub printing_refuses_by : {T : Type 0} (told : Refusal → Type 0) (causes : Refusal → Type 0) (v : T) (answer : Answer) → IsPrinting answer → RefusesBy {T = T} told causes (Ok v) → RefusesBy told causes answer
+printing_refuses_by told causes v answer printing refuses = refuses_by_done told causes v answer (λ why. printing_never answer (failure.Refused why) printing (λ d. cc)) refuses
+
 pub printing_refuses : {T : Type 0} (told : Type 0) (causes : Refusal → Type 0) (v : T) (answer : Answer) → IsPrinting answer → Refuses {T = T} told causes (Ok v) → Refuses told causes answer
-printing_refuses told causes v answer printing refuses = refuses_done told causes v answer (λ why. printing_never answer (failure.Refused why) printing (λ d. cc)) refuses
+printing_refuses told causes v answer printing refuses = printing_refuses_by (λ why. told) causes v answer printing refuses

@@ -1,5 +1,5 @@
 -- What a run leaves that stores the frames of a stream, its opening included.
-use Rattle.std.proofs.Common.{◌≡◌, ◌⊎◌, inl, inr, ℕ, ◌+◌, ◌*◌, ◌≤◌, List, [], ◌++◌, length, refl, sym, ◌∙◌, ap, subst, arith, Option, Some, Result, Ok, Err}
+use Rattle.std.proofs.Common.{◌≡◌, ◌≢◌, ◌⊎◌, inl, inr, ℕ, ◌≤◌, List, [], ◌++◌, length, refl, sym, ◌∙◌, ap, subst, arith, Option, Some, Result, Ok, Err}
 use Rattle.std.specs.Prelude.{IsSome, unwrap_or}
 use Rattle.std.specs.Io.KnownBytes.{Consumes}
 use Rattle.std.proofs.KnownBytes.{Consumes-nil}
@@ -11,88 +11,40 @@ use Rattle.aea_disk.specs.Frames.{OnlyWrites}
 use Rattle.aea_disk.specs.State.{State, IsReady}
 use Rattle.aea_disk.proofs.Frames.{ready_later, reads_then_writes, writes_where}
 use Rattle.aea_disk.proofs.Moments.{passes_none, where_both, where_kept, where_none}
-use Rattle.aea_shelf.specs.Places.{site_bytes}
-use Rattle.aea_records.specs.Format.{Record, limit_when, limit_of, nodes_for, nodes_of, spelled, digests_of}
+use Rattle.aea_shelf.specs.Places.{site_bytes, padded_home}
+use Rattle.aea_shelf.specs.Writes.{KeepsPadded}
+use Rattle.aea_records.specs.Format.{Record, limit_when, nodes_of}
+use Rattle.aea_records.specs.Grammar.{IsLedger}
 use Rattle.aea_records.specs.Laws.{HasOneReading, IsSomeLedger}
-use Rattle.aea_ledger.specs.Stops.{HasLedger}
-use Rattle.aea_ledger.specs.Values.{Opened, HasRecords}
+use Rattle.aea_ledger.specs.Stops.{HasLedger, IsOpened, StaysAll}
+use Rattle.aea_ledger.specs.Values.{Opened}
 use Rattle.aea_ledger.proofs.Readying.{adding_later}
-use Rattle.aea_archive.specs.Blocks.{IsBlockIn}
+use Rattle.aea_archive.specs.Blocks.{IsBlockIn, IsIntactBy}
 use Rattle.aea_archive.specs.Cells.{IsBesides}
-use Rattle.aea_archive.specs.Data.{AreSurvivorsHonest, IsDamagePlain}
-use Rattle.aea_archive.specs.Lasts.{AreLastsAtHome, AreLastsHonest}
 use Rattle.aea_archive.specs.Next.{NewObject}
 use Rattle.aea_archive.proofs.Cells.{changes_none}
-use Rattle.aea_records.proofs.OneMore.{nodes_of-append}
-use Rattle.aea_append.specs.Causes.{next_end}
 use Rattle.aea_command.specs.declared.refusal.Refusal.{Refusal}
 use Rattle.aea_command.specs.declared.refusal.Refusal.TheVariants.{NoArchive, LedgerBad, BadName, NameTaken, CatalogFull, HeadDamaged, Full, BadStream, Occupied}
 use Rattle.aea_command.specs.declared.refusal.Failure.{Failure}
 use Rattle.aea_command.specs.declared.refusal.Failure.TheVariants as failure
-use Rattle.aea_command.specs.Causes.{Refuses, IsFirst, place_of}
+use Rattle.aea_command.specs.Causes.{Refuses, RefusesBy, IsDecided, IsFirst, place_of}
 use Rattle.aea_command.specs.declared.status.Status.{Status}
 use Rattle.aea_command.specs.Failures.{Answer}
-use Rattle.aea_command.specs.Openings.{opened_at, OpensThen, OpeningCauses, Opens, greatest_sites}
-use Rattle.aea_command_store.specs.Growing.{LeavesArchive, Grows, HasGrown}
-use Rattle.aea_command_store.specs.Ingest.{OpenedCauses, IngestCauses, IsRefusedAt, EndCauses, IsNotOpened, FitsIngest, FitsFrames, GrowsSurely, MayBeLast, IngestsOpened, Ingests}
+use Rattle.aea_command.specs.Openings.{OpensThen, OpeningCauses, IsAfterOpening, Opens, greatest_sites}
+use Rattle.aea_command_store.specs.Growing.{StaysGrown, HasGrown}
+use Rattle.aea_command_store.specs.Ingest.{filled_by, MayAllBeTaken, end_with, FitsLines, OpenedCauses, IngestCauses, IsRefusedAt, EndCauses, IsNotOpened, FitsIngest, FitsFrames, GrowsSurely, MayBeLast, IngestsOpened, Ingests}
 use Rattle.aea_command_store.specs.Put.{EndsStored, KeepsOtherFiles}
 use Rattle.aea_command_store.proofs.Adding.{its_records}
 use Rattle.aea_command.proofs.Behind.{AreBehindOpening, some_ledger, unopened_refuses, opened_no_opening}
-use Rattle.aea_command_store.proofs.PutLemmas.Opening.{changes, adds_at, changed}
+use Rattle.aea_command_store.proofs.FromOpening.{stays_at, grown_at, surely_at}
+use Rattle.aea_command_store.proofs.PutLemmas.Reading.{head_there}
+use Rattle.aea_command_store.proofs.PutLemmas.Opening.{changes, changed}
 use Rattle.aea_command.proofs.Opened.{opens_then, opening_then}
 use Rattle.aea_command.proofs.Reading.{has_ledger_of, by_reading}
-use Rattle.aea_command_store.proofs.IngestLemmas.Rooming.{spelled_long}
 use Rattle.aea_command_store.proofs.PutLemmas.Running.{unopened_not_output}
 use Rattle.aea_command_store.proofs.PutLemmas.Storing.{sites_most}
-use Rattle.aea_command.proofs.Refusing.{refuses_told}
+use Rattle.aea_command.proofs.Refusing.{refuses_by_told}
 use Rattle.aea_command.proofs.OpeningCases.{opening_not_input, opened_never}
-
--- ---- a stretch from the end of the opening, as one of the whole run
-
-grows_at : (shape : Shape) (records : List Record) (objects : List NewObject) (old mid new : State) → mid.files ≡ old.files → Grows shape records objects mid new → Grows shape records objects (opened_at old new mid.moment) new
-grows_at shape records objects old mid new same grows = record {
-  lattice = grows.lattice;
-  is_lattice = grows.is_lattice;
-  longer = grows.longer;
-  payload = grows.payload;
-  homes = λ some. subst (λ (c : Files). AreLastsAtHome shape grows.lattice grows.payload c) same (grows.homes some);
-  lasts_wide = grows.lasts_wide;
-  bytes = grows.bytes;
-  added = grows.added;
-  next = grows.next;
-  adds = adds_at shape records grows.added grows.payload old mid new grows.adds;
-  leaves = λ t c from to here. subst (λ (d : Files). LeavesArchive shape records d c) same (grows.leaves t c from to here);
-  reads = subst (λ (d : Files). LeavesArchive shape records d new.files) same grows.reads;
-  records_more = λ datas valid recorded honest. grows.records_more datas valid recorded (subst (λ (c : Files). AreLastsHonest shape grows.lattice (digests_of records) datas c) (sym same) honest);
-}
-
-grown_at : (shape : Shape) (records : List Record) (objects : List NewObject) (old mid new : State) → mid.files ≡ old.files → HasGrown shape records objects mid new → HasGrown shape records objects (opened_at old new mid.moment) new
-unfolding grows_at
-grown_at shape records objects old mid new same grown = record {
-  grows = grows_at shape records objects old mid new same grown.grows;
-  all = grown.all;
-  lasts = grown.lasts;
-  wide = grown.wide;
-  cells = grown.cells;
-  honest = λ datas recorded honest plain.
-      grown.honest datas recorded
-      (subst (λ (c : Files). AreSurvivorsHonest shape grown.grows.lattice (digests_of records) datas c) (sym same) honest)
-      (subst (λ (c : Files). IsDamagePlain shape grown.grows.lattice (digests_of records) c) (sym same) plain);
-}
-
-surely_at : (shape : Shape) (records : List Record) (objects : List NewObject) (k : ℕ) (old mid new : State) → mid.files ≡ old.files → GrowsSurely shape records objects k mid new → GrowsSurely shape records objects k (opened_at old new mid.moment) new
-unfolding grows_at
-surely_at shape records objects k old mid new same surely = record { grows = grows_at shape records objects old mid new same surely.grows; first = surely.first; reads = surely.reads }
-
--- ---- two lists of records that an opened ledger has
-
--- they have as many nodes, and are as long, with others after them
-same_nodes : (v : Opened) (one two added : List Record) → HasRecords v one → HasRecords v two → (size : ℕ) → nodes_of (two ++ added) + nodes_for v.shape size ≤ limit_of two → nodes_of (one ++ added) + nodes_for v.shape size ≤ limit_of one
-same_nodes v one two added has other size few =
-    omega (arith, few, nodes_of-append one added, nodes_of-append two added, has.lattice.n, other.lattice.n, ap limit_when (sym has.raised ∙ other.raised))
-
-same_length : (v : Opened) (one two added : List Record) → HasRecords v one → HasRecords v two → length (spelled v.shape (two ++ added)) ≡ length (spelled v.shape (one ++ added))
-same_length v one two added has other = omega (arith, has.end, other.end, spelled_long v.shape one added, spelled_long v.shape two added)
 
 -- ---- after the opening
 
@@ -110,22 +62,22 @@ module _ (reading : HasOneReading) (tells : Type 0) (v : Opened) (left rest : Op
               (λ told. record { records = one.records; ledger = has_ledger_of reading v (old.files 0) one; is = ap limit_when one.has.raised }) f some within);
           sync = subst (λ (l : List ℕ). mid.keeps l) (sym same) (opens.reads.time.syncs (old.files 0) fits.some.sync);
         };
-        ledger = λ records has objects added name size rest' are framed few.
-            let end : ℕ = next_end (length (spelled v.shape (records ++ added))) (length name) (nodes_for v.shape size * (1 + v.shape.alpha)) in
-            adding_later old mid (length added + 1) end same opens.reads.time (fits.behind (length added + 1) end (λ told. record {
+        ledger = λ records its intact objects rest' some framed taken.
+            let is : records ≡ one.records = (reading (old.files 0) v.shape v.shape records one.records v.end v.end (subst (λ (l : List ℕ). IsLedger l v.shape records v.end) same its.ledger) one.ledger).1.0 in
+            adding_later old mid (length objects) (end_with v.shape v.end objects) same opens.reads.time (fits.behind (length objects) (end_with v.shape v.end objects) (λ told. record {
               shape = v.shape;
               records = one.records;
               ledger = has_ledger_of reading v (old.files 0) one;
+              intact = λ b damaged.
+                  let first = head_there reading v old.files one b damaged in
+                  first.damaged.damaged (subst (λ (c : Files). IsIntactBy v.shape v.digests c b) (opens.reads.contents told) (intact b first.damaged.last));
               objects = objects;
-              added = added;
-              are = are;
-              name = name;
-              size = size;
+              some = some;
               rest = rest';
               framed = framed;
-              fits = same_nodes v one.records records added one.has has size few;
+              taken = subst (λ (rs : List Record). MayAllBeTaken v.shape (filled_by rs) objects) is taken;
               count = refl;
-              place = ap (λ (n : ℕ). next_end n (length name) (nodes_for v.shape size * (1 + v.shape.alpha))) (same_length v one.records records added one.has has);
+              place = ap (λ (n : ℕ). end_with v.shape n objects) one.has.end;
             }));
       }
 
@@ -165,7 +117,18 @@ module _ (reading : HasOneReading) (tells : Type 0) (v : Opened) (left rest : Op
             inr (opens_then tells v old mid new opens told (GrowsSurely v.shape one.records ((does.printed ++ does.more) ++ stops.0) (length (does.printed ++ does.more))) writes.time
                 (surely_at v.shape one.records ((does.printed ++ does.more) ++ stops.0) (length (does.printed ++ does.more)) old mid new (opens.reads.contents told) stops.2)),
           ));
+      stays = λ differs told.
+          let one = opens.this_one told in
+          by_reading reading v (old.files 0) one (λ shape records. IsNotOpened old new (does.printed ++ does.more) answer ⊎ OpensThen old new (StaysGrown shape records (does.printed ++ does.more)))
+          (inr (opens_then tells v old mid new opens told (StaysGrown v.shape one.records (does.printed ++ does.more)) writes.time
+          (stays_at v.shape one.records (does.printed ++ does.more) old mid new (opens.reads.contents told) (does.stores.stays differs told one.records (its_records tells old mid v opens told one)))));
       none = λ told never. let one = opens.this_one told in absurd (never (record { shape = v.shape; records = one.records; end = v.end; ledger = one.ledger }));
+      unopened = λ differs told never. let one = opens.this_one told in absurd (never (record { shape = v.shape; records = one.records; end = v.end; ledger = one.ledger }));
+      padded = λ differs told.
+          let one = opens.this_one told in
+          by_reading reading v (old.files 0) one (λ shape records. KeepsPadded shape (IsBlockIn shape (nodes_of records)) old.files new.files)
+          (subst (λ (n : ℕ). KeepsPadded v.shape (IsBlockIn v.shape n) old.files new.files) one.has.lattice.n
+          (subst (λ (c : Files). KeepsPadded v.shape (IsBlockIn v.shape v.lattice.n) c new.files) (opens.reads.contents told) (does.stores.padded differs told)));
       in_room = frame.sure;
     };
     early = record {
@@ -174,6 +137,7 @@ module _ (reading : HasOneReading) (tells : Type 0) (v : Opened) (left rest : Op
       closed = does.early.closed;
     };
     prints = inr (v.shape, (λ told. by_reading reading v (old.files 0) (opens.this_one told) (λ shape list. v.shape ≡ shape) refl), does.prints);
+    lines_in_room = λ told input is fits. does.lines_in_room told input is (subst (λ (c : Files). FitsLines c input before) (sym (opens.reads.contents told)) fits);
   }
 
   -- the other files stay
@@ -196,18 +160,25 @@ module _ (reading : HasOneReading) (tells : Type 0) (v : Opened) (left rest : Op
   }
 
   -- the causes of its refusals are those after the opening
-  pub ingests_refuse : Refuses (tells × IsSome left) (OpenedCauses mid.files (unwrap_or left [])) answer → Refuses (tells × IsSome left) (IngestCauses old.files (unwrap_or left [])) answer
-  ingests_refuse refuses = record {
+  pub ingests_refuse : Refuses (tells × IsSome left) (OpenedCauses mid.files (unwrap_or left [])) answer → ((why : Refusal) → answer ≡ Err (failure.Refused why) → IsAfterOpening why)
+      → RefusesBy (IsDecided tells (IsSome left) IsAfterOpening) (IngestCauses old.files (unwrap_or left [])) answer
+  ingests_refuse refuses after_opening = record {
     only = λ why is told.
-        let first = subst (λ (c : Files). IsFirst (OpenedCauses c (unwrap_or left [])) why) (opens.reads.contents told.0) (refuses.only why is told) in record {
+        let first = subst (λ (c : Files). IsFirst (OpenedCauses c (unwrap_or left [])) why) (opens.reads.contents told.0) (refuses.only why is (told.0, told.1 (after_opening why is))) in record {
           stands = wider why first.stands;
           none = λ other earlier cause. first.none other earlier (narrower told.0 other cause);
         };
     always = λ why told first.
-        refuses.always why told (subst (λ (c : Files). IsFirst (OpenedCauses c (unwrap_or left [])) why) (sym (opens.reads.contents told.0))
+        refuses.always why (told.0, by_input told.0 why told.1 first.stands) (subst (λ (c : Files). IsFirst (OpenedCauses c (unwrap_or left [])) why) (sym (opens.reads.contents told.0))
         (record { stands = narrower told.0 why first.stands; none = λ other earlier cause. first.none other earlier (wider other cause) }));
   }
     where
+      -- no cause of the opening holds, and each other is decided by the input too
+      by_input : tells → (why : Refusal) → (IsAfterOpening why → IsSome left) → IngestCauses old.files (unwrap_or left []) why → IsSome left
+      by_input told NoArchive some cause = absurd (opened_no_opening tells old mid v opens told NoArchive cause)
+      by_input told (LedgerBad at) some cause = absurd (opened_no_opening tells old mid v opens told (LedgerBad at) cause)
+      by_input told why some cause = some tt
+
       wider : (why : Refusal) → OpenedCauses old.files (unwrap_or left []) why → IngestCauses old.files (unwrap_or left []) why
       wider NoArchive cause = absurd cause
       wider (LedgerBad at) cause = absurd cause
@@ -231,8 +202,11 @@ ingests_unopened tells old new left out f opens = record {
     whole = λ ok. absurd (false≢true ok);
     archive = λ stored. absurd (not_stored stored);
     stands = λ stored. absurd (not_stored stored);
-    stops = λ told shape records ledger. ([], inl refl, inl (record { by = not_opened told shape records ledger; none = refl; images = opens.reads.crash; reads = opens.reads.contents told }));
+    stops = λ told shape records ledger. ([], inl refl, inl (unopened_is told shape records ledger));
+    stays = λ differs told shape records ledger. inl (unopened_is told shape records ledger);
     none = λ told never. (opens.reads.crash, opens.reads.contents told);
+    unopened = λ differs told never. first_sync differs told;
+    padded = λ differs told shape records ledger a on keep. ap (λ (c : Files). padded_home shape a c) (opens.reads.contents told);
     in_room = λ told ready fits. let sure = opens.reads.sure told ready fits.some in (λ is. sure.0 (let same = same_failure failure.Disk is in ap Err same), sure.1);
   };
   early = record {
@@ -247,6 +221,7 @@ ingests_unopened tells old new left out f opens = record {
     closed = λ why opening e. refl;
   };
   prints = inl (record { failed = refl; by = λ is. unopened_not_output tells old new f opens (same_failure failure.Output is); no_lines = refl; no_more = refl; unused = refl });
+  lines_in_room = λ told input is fits e. unopened_not_output tells old new f opens (same_failure failure.Output e);
 }
   where
     same_failure : (g : Failure) → (let one : Answer = Err f in one ≡ Err g) → f ≡ g
@@ -263,6 +238,19 @@ ingests_unopened tells old new left out f opens = record {
       | inr (inr (inl e)) ↦ absurd (let kind = opens.kinds in opening_not_input kind.0 (sym kind.1 ∙ fault_is failure.Input e))
       | inr (inr (inr e)) ↦ inr (ap Err (fault_is failure.Memory e))
     ]
+
+    -- but after a fault of the disk the first sync has succeeded
+    first_sync : (let one : Answer = Err f in one ≢ Err failure.Disk) → tells → IsOpened old new (StaysAll old.files)
+    first_sync differs told = opens.opened (λ e. differs (ap Err (fault_is failure.Disk e))) told
+
+    unopened_is : tells → (shape : Shape) (records : List Record) → HasLedger shape records (old.files 0) → IsNotOpened {T = Status} old new [] (Err f)
+    unopened_is told shape records ledger = record {
+      by = not_opened told shape records ledger;
+      none = refl;
+      images = opens.reads.crash;
+      reads = opens.reads.contents told;
+      sure = λ differs. first_sync differs told;
+    }
 
     at_opening : (input : List ℕ) (why : Refusal) → OpeningCauses (old.files 0) why → EndCauses old.files input [] why
     at_opening input NoArchive cause = cause
@@ -296,7 +284,7 @@ ingest_behind_opening files input = record { from = λ why cause. from_opening w
     back_to (BadStream at) cause = inr (later (BadStream at) cause, omega arith)
     back_to why cause = absurd cause.1.cause
 
-pub unopened_ingest : (tells : Type 0) (old new : State) (left : Option (List ℕ)) (f : Failure) → Opens tells old new (Err f) → Refuses {T = Status} (tells × IsSome left) (IngestCauses old.files (unwrap_or left [])) (Err f)
+pub unopened_ingest : (tells : Type 0) (old new : State) (left : Option (List ℕ)) (f : Failure) → Opens tells old new (Err f) → RefusesBy {T = Status} (IsDecided tells (IsSome left) IsAfterOpening) (IngestCauses old.files (unwrap_or left [])) (Err f)
 unopened_ingest tells old new left f opens =
-    refuses_told {T = Status} tells (tells × IsSome left) (IngestCauses old.files (unwrap_or left [])) (Err f) (λ told. told.0)
+    refuses_by_told {T = Status} (λ why. tells) (IsDecided tells (IsSome left) IsAfterOpening) (IngestCauses old.files (unwrap_or left [])) (Err f) (λ why told. told.0)
     (unopened_refuses tells old new f (IngestCauses old.files (unwrap_or left [])) (ingest_behind_opening old.files (unwrap_or left [])) opens)

@@ -15,7 +15,7 @@ use Rattle.aea_archive.specs.Blocks.{IsIntactBy}
 use Rattle.aea_archive.specs.Lasts.{IsLastParity, IsFirstDamagedLast}
 use Rattle.aea_archive.specs.Next.{NewObject}
 use Rattle.aea_archive.proofs.Records.{one_lattice}
-use Rattle.aea_command_store.specs.Growing.{HasGrown}
+use Rattle.aea_command_store.specs.Growing.{StaysGrown}
 use Rattle.aea_command_store.specs.Put.{HasDamagedHead}
 use Rattle.aea_command_store.proofs.Growing.{grown_lattice}
 use Rattle.aea_command_store.proofs.IngestLemmas.Going.{HasGone}
@@ -39,7 +39,7 @@ module _ (reading : HasOneReading) (lengths : CellsHaveLengths) (parts : CellsHa
   damaged_here b first = ⊎_elim
       (λ none. (none.0, subst (λ (s : State). HasDamagedHead s.files b) (still none.2) (head_here reading w now.files one_now b first)))
       (λ some.
-      let g : HasGrown v.shape one.records objects old now = some.1.0 in
+      let g : StaysGrown v.shape one.records objects old now = some.1.0.stays in
       let longer = grown_lattice v.shape one.records g.grows.lattice g.grows.longer g.grows.payload objects g.grows.added g.grows.is_lattice g.grows.next in
       let mine : IsLatticeOf v.shape (nodes_of (one.records ++ g.grows.added)) (fences_of (one.records ++ g.grows.added)) w.lattice =
       subst (λ (l : List Record). IsLatticeOf v.shape (nodes_of (one.records ++ l)) (fences_of (one.records ++ l)) w.lattice) (sym some.1.1)
@@ -56,7 +56,7 @@ module _ (reading : HasOneReading) (lengths : CellsHaveLengths) (parts : CellsHa
   damaged_there b damaged = ⊎_elim
       (λ none. (none.0, head_there reading w now.files one_now b (subst (λ (s : State). HasDamagedHead s.files b) (sym (still none.2)) damaged)))
       (λ some.
-      let g : HasGrown v.shape one.records objects old now = some.1.0 in
+      let g : StaysGrown v.shape one.records objects old now = some.1.0.stays in
       let first = head_there reading v old.files one b damaged in
       let lattice : g.grows.lattice ≡ v.lattice = one_lattice v.shape (nodes_of one.records) (fences_of one.records) g.grows.lattice v.lattice g.grows.is_lattice one.has.lattice in
       let last : IsLastParity g.grows.lattice b = subst (λ (l : Lattice). IsLastParity l b) (sym lattice) first.damaged.last in

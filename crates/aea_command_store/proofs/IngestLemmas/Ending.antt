@@ -5,7 +5,6 @@ use Rattle.std.specs.Io.KnownBytes.{Consumes, Appends, IsAtEnd}
 use Rattle.std.proofs.KnownBytes.{Consumes-trans, Appends-trans}
 use Rattle.std.proofs.lemmas.Bool.{false≢true}
 use Rattle.std.proofs.lemmas.List.{append-nil}
-use Rattle.std.proofs.lemmas.List.Concat.{flat_map-append}
 use Rattle.aea_io.specs.declared.traits.WriteFault.{WriteFault}
 use Rattle.aea_io.specs.Pages.{Prints}
 use Rattle.aea_io.specs.Streams.{SinkState}
@@ -18,6 +17,7 @@ use Rattle.aea_disk.specs.Frames.{OnlyWrites}
 use Rattle.aea_disk.specs.State.{State, IsReady, IsSynced}
 use Rattle.aea_disk.proofs.Frames.{writes_none}
 use Rattle.aea_disk.proofs.Moments.{during_none}
+use Rattle.aea_shelf.specs.Writes.{KeepsPadded}
 use Rattle.aea_records.specs.Format.{Record, Object, digests_of, limit_when}
 use Rattle.aea_records.specs.Laws.{HasOneReading, DigestsAreCounted}
 use Rattle.aea_ledger.specs.Next.{AreItsRecords}
@@ -26,7 +26,7 @@ use Rattle.aea_ledger.specs.Values.{Opened, HasSomeRecords, IsThisOne}
 use Rattle.aea_archive.specs.Blocks.{IsBlockIn}
 use Rattle.aea_archive.specs.Cells.{IsBesides}
 use Rattle.aea_archive.specs.Data.{AreSurvivorsHonest, IsDamagePlain}
-use Rattle.aea_archive.specs.Laws.{LastsAreValues, ObjectsRecordMore}
+use Rattle.aea_archive.specs.Laws.{LastsAreValues, ObjectsRecordMore, SurvivorsStayHonest}
 use Rattle.aea_archive.specs.Next.{NewObject}
 use Rattle.aea_archive.proofs.Cells.{changes_none}
 use Rattle.aea_records.proofs.OneMore.{nodes_of-append}
@@ -43,13 +43,15 @@ use Rattle.aea_command.specs.declared.refusal.Refusal.TheVariants as refusal
 use Rattle.aea_command.specs.declared.status.Status.{Status}
 use Rattle.aea_command.specs.declared.status.Status.TheVariants.{Done}
 use Rattle.aea_command.specs.Failures.{Answer, ingest_failure}
-use Rattle.aea_command_store.specs.Growing.{HasGrown}
+use Rattle.aea_command_store.specs.Growing.{StaysGrown, HasGrown}
 use Rattle.aea_command_store.specs.Ingest.{GrowsSurely, EndsEarly, StoresOpened, PrintsLines, IngestsOpened, frames_of, stored_lines, end_line}
 use Rattle.aea_command_store.specs.Put.{EndsStored, stored_line}
 use Rattle.aea_command_store.proofs.PutLemmas.Opening.{changes}
 use Rattle.aea_command.proofs.Texts.{printed_all}
 use Rattle.aea_command_store.proofs.IngestLemmas.One.{grows_no_more, grows_maybe}
-use Rattle.aea_command_store.proofs.IngestLemmas.Going.{HasGone, frames_more, are_many, surely, grew_more}
+use Rattle.aea_command_store.proofs.IngestLemmas.Going.{HasGone, frames_more, lines_more, are_many, padded_more, surely, stays_more, grew_more}
+use Rattle.aea_command_store.proofs.IngestLemmas.Output.{fits_lines, fits_end}
+use Rattle.aea_command_store.proofs.Staying.{stays_none}
 
 -- ---- answers
 
@@ -81,13 +83,11 @@ grown_none tells told v list s reading its synced =
     let leaves : LeavesLedger s s = record { images = during_none s (λ c. c 0 ≡ s.files 0) (λ c here. synced c here 0); reads = refl } in
     let ledger : HasLedger v.shape list (s.files 0) = has_ledger v list (s.files 0) its in
     let nil : list ≡ list ++ [] = sym (append-nil list) in
-    record {
+    let stays : StaysGrown v.shape list [] s s = record {
       grows = grows_no_more tells told v list s s its synced (IsReady s) ⊥ ⊥ writes reading leaves;
-      all = record {
-        ledger = subst (λ (l : List Record). HasLedger v.shape l (s.files 0)) nil ledger;
-        synced = synced;
-        blocks = λ b on. absurd (let a = on.after in let m = on.most in omega (arith, a, m, nodes_of-append list []));
-      };
+      images = λ c here. subst (λ (l : List Record). HasLedger v.shape l (c 0)) nil (subst (HasLedger v.shape list) (sym (synced c here 0)) ledger);
+      ledger = subst (λ (l : List Record). HasLedger v.shape l (s.files 0)) nil ledger;
+      blocks = λ b on. absurd (let a = on.after in let m = on.most in omega (arith, a, m, nodes_of-append list []));
       lasts = λ some. absurd (some refl);
       wide = λ b on. absurd (let a = on.after in let m = on.most in omega (arith, a, m));
       cells = λ b on. absurd (let a = on.after in let m = on.most in omega (arith, a, m));
@@ -95,34 +95,22 @@ grown_none tells told v list s reading its synced =
           let alone : datas ≡ datas ++ [] = sym (append-nil datas) in
           subst (λ (ds : List (List ℕ)). AreSurvivorsHonest v.shape v.lattice (digests_of (list ++ [])) ds s.files × IsDamagePlain v.shape v.lattice (digests_of (list ++ [])) s.files) alone
           (subst (λ (l : List Record). AreSurvivorsHonest v.shape v.lattice (digests_of l) datas s.files × IsDamagePlain v.shape v.lattice (digests_of l) s.files) nil (honest, plain));
-    }
+    } in
+    record { stays = stays; exactly = refl; synced = synced }
 
 -- all that grew is in every image
-surely_all : (shape : Shape) (list : List Record) (objects : List NewObject) (old new : State) → (g : HasGrown shape list objects old new) → length g.grows.added ≡ length objects → GrowsSurely shape list objects (length objects) old new
+surely_all : (shape : Shape) (list : List Record) (objects : List NewObject) (old new : State) → (g : StaysGrown shape list objects old new) → length g.grows.added ≡ length objects → GrowsSurely shape list objects (length objects) old new
 surely_all shape list objects old new g long = record {
   grows = g.grows;
-  first = λ c here. at_all shape list g.grows.added (length objects) (c 0) (omega (arith, long)) (subst (HasLedger shape (list ++ g.grows.added)) (sym (g.all.synced c here 0)) g.all.ledger);
-  reads = at_all shape list g.grows.added (length objects) (new.files 0) (omega (arith, long)) g.all.ledger;
+  first = λ c here. at_all shape list g.grows.added (length objects) (c 0) (omega (arith, long)) (g.images c here);
+  reads = at_all shape list g.grows.added (length objects) (new.files 0) (omega (arith, long)) g.ledger;
 }
 
 -- ---- what was printed
 
--- the lines of some objects are within those of all, with the last line
-lines_within : (shape : Shape) (xs ys : List NewObject) (k : ℕ) → length (stored_lines shape xs) ≤ length (stored_lines shape (xs ++ ys) ++ end_line k)
-lines_within shape xs ys k =
-    omega (arith, length-append (stored_lines shape (xs ++ ys)) (end_line k), ap length (flat_map-append (stored_line shape) xs ys), length-append (stored_lines shape xs) (stored_lines shape ys))
-
--- the lines of some objects, and of one more, too
-line_within : (shape : Shape) (xs : List NewObject) (o : NewObject) (k : ℕ) → length (stored_lines shape xs ++ stored_line shape o) ≤ length (stored_lines shape (xs ++ o ∷ []) ++ end_line k)
-line_within shape xs o k =
-    omega (
-      arith,
-      length-append (stored_lines shape (xs ++ o ∷ [])) (end_line k),
-      ap length (flat_map-append (stored_line shape) xs (o ∷ [])),
-      length-append (stored_lines shape xs) (stored_lines shape (o ∷ [])),
-      length-append (stored_lines shape xs) (stored_line shape o),
-      ap length (append-nil (stored_line shape o)),
-    )
+-- the lines of some objects are within those with the line that follows
+lines_within : (shape : Shape) (xs : List NewObject) (line : List ℕ) → length (stored_lines shape xs) ≤ length (stored_lines shape xs ++ line)
+lines_within shape xs line = omega (arith, length-append (stored_lines shape xs) line)
 
 module _ (shape : Shape) (objects : List NewObject) (before after : SinkState) (lines : Prints {T = Unit {0}} {E = WriteFault} before [] after [] (Ok tt) (stored_lines shape objects)) where
   -- something else failed than the output
@@ -133,7 +121,7 @@ module _ (shape : Shape) (objects : List NewObject) (before after : SinkState) (
     whole = tt;
     cut = λ e. absurd (output (same_failure {T = Status} f failure.Output e));
     quiet = λ differs. refl;
-    in_room = λ room told enough. (λ e. output (same_failure {T = Status} f failure.Output e), lines.steady room told (let w = lines_within shape objects [] (length (objects ++ [])) in omega (arith, w, enough)));
+    in_room = λ room told enough. (λ e. output (same_failure {T = Status} f failure.Output e), lines.steady room told (let w = lines_within shape objects (end_line (length objects)) in omega (arith, w, enough)));
   }
 
   -- a first part of what was printed after the lines
@@ -156,7 +144,7 @@ module _ (shape : Shape) (objects : List NewObject) (before after : SinkState) (
         quiet = λ differs. absurd (differs refl);
         in_room = λ room told enough.
             let all = prints_then lines line in
-            let fits = all.fits room told (let w = line_within shape objects o (length (objects ++ o ∷ [])) in omega (arith, w, enough)) in
+            let fits = all.fits room told enough in
             absurd (false≢true fits);
       }
 
@@ -172,8 +160,7 @@ module _ (shape : Shape) (objects : List NewObject) (before after : SinkState) (
         quiet = λ differs. absurd (differs refl);
         in_room = λ room told enough.
             let all = prints_then lines line in
-            let same : stored_lines shape (objects ++ []) ++ end_line (length (objects ++ [])) ≡ stored_lines shape objects ++ end_line (length objects) = ap (λ (xs : List NewObject). stored_lines shape xs ++ end_line (length xs)) (append-nil objects) in
-            let fits = all.fits room told (omega (arith, ap length same, enough)) in
+            let fits = all.fits room told enough in
             absurd (false≢true fits);
       }
 
@@ -187,9 +174,7 @@ module _ (shape : Shape) (objects : List NewObject) (before after : SinkState) (
         whole = refl;
         cut = λ e. let h : (let a : Answer = Ok Done in a ≡ Err failure.Output) = e in cc;
         quiet = tt;
-        in_room = λ room told enough.
-            let same : stored_lines shape (objects ++ []) ++ end_line (length (objects ++ [])) ≡ stored_lines shape objects ++ end_line (length objects) = ap (λ (xs : List NewObject). stored_lines shape xs ++ end_line (length xs)) (append-nil objects) in
-            (λ e. (let h : (let a : Answer = Ok Done in a ≡ Err failure.Output) = e in cc), all.steady room told (omega (arith, ap length same, enough)));
+        in_room = λ room told enough. (λ e. (let h : (let a : Answer = Ok Done in a ≡ Err failure.Output) = e in cc), all.steady room told enough);
       }
 
 -- ---- the frame that is not stored
@@ -216,10 +201,10 @@ module _ (reading : HasOneReading) (lengths : CellsHaveLengths) (parts : CellsHa
   surely_none next list ys has = subst (λ (xs : List NewObject). GrowsSurely v.shape list (xs ++ ys) (length xs) old next) (sym (append-nil objects)) has
 
   -- a frame was not taken, for another reason than the disk
-  pub refused_opened : (fault : IngestFault) (next : State) (rest2 : Option (List ℕ)) (bad : Type 0) → OnlyWrites tells (IsReady now) (HasFrameRoom w rest now) bad (changes w) now next → (tells → LeavesLedger now next)
+  pub refused_opened : (fault : IngestFault) (next : State) (rest2 : Option (List ℕ)) (bad : Type 0) → SurvivorsStayHonest → OnlyWrites tells (IsReady now) (HasFrameRoom w rest now) bad (changes w) now next → (tells → LeavesLedger now next) → (tells → KeepsPadded w.shape (IsBlockIn w.shape w.lattice.n) now.files next.files)
       → EndsEarly {T = Status} tells old.files left rest2 objects (Err (ingest_failure fault))
       → IngestsOpened tells v old next left rest2 before after (Err (ingest_failure fault))
-  refused_opened fault next rest2 bad writes leaves early = record {
+  refused_opened fault next rest2 bad survivors writes leaves keeps early = record {
     done = tt;
     printed = objects;
     more = [];
@@ -235,9 +220,14 @@ module _ (reading : HasOneReading) (lengths : CellsHaveLengths) (parts : CellsHa
             (surely tells same v w some left rest old now before after objects gone still is_this reading lengths parts values record_more counts next bad writes told list its []
             (grows_no_more tells told w (list ++ gone.added) now next (gone.its told list its) (gone.synced told) (IsReady now) (HasFrameRoom w rest now) bad writes reading (leaves told))),
       );
+      stays = λ differs told list its.
+          stays_more tells same v w some left rest old now before after objects gone still is_this reading lengths parts values record_more counts next bad writes told list its
+          (stays_none reading counts survivors tells told w (list ++ gone.added) now next (gone.its told list its) (gone.synced told) (IsReady now) (HasFrameRoom w rest now) bad writes (leaves told) (keeps told));
+      padded = λ differs. padded_more tells same v w some left rest old now before after objects gone still is_this next keeps;
     };
     early = early;
     prints = prints_quiet v.shape objects before after gone.printed (ingest_failure fault) (ingest_not_output fault);
+    lines_in_room = λ told input is fits e. ingest_not_output fault (same_failure {T = Status} (ingest_failure fault) failure.Output e);
   }
 
   -- the disk failed
@@ -261,43 +251,54 @@ module _ (reading : HasOneReading) (lengths : CellsHaveLengths) (parts : CellsHa
             (surely tells same v w some left rest old now before after objects gone still is_this reading lengths parts values record_more counts next bad writes told list its (may told).objects
             (grows_maybe tells told w (list ++ gone.added) now next (gone.its told list its) (gone.synced told) (IsReady now) (HasFrameRoom w rest now) bad writes (IsFramed rest rest2) (may told))),
       );
+      stays = λ differs. absurd (differs refl);
+      padded = λ differs. absurd (differs refl);
     };
     early = early_failed tells old.files left rest2 objects failure.Disk (λ why e. let h : failure.Disk ≡ failure.Refused why = e in cc) (λ e. cc);
     prints = prints_quiet v.shape objects before after gone.printed failure.Disk (λ e. cc);
+    lines_in_room = λ told input is fits e. let h : (let a : Answer = Err failure.Disk in a ≡ Err failure.Output) = e in cc;
   }
 
   -- the output failed in the line of an object that was stored
   pub unprinted_opened : (w2 : Opened) (o : NewObject) (next : State) (stored : Stored) (has : HasStored tells w w2 o now next stored) (bad : Type 0) (rest2 : Option (List ℕ)) (last : SinkState) (fault : WriteFault)
-      → OnlyWrites tells (IsReady now) (HasFrameRoom w rest now) bad (changes w) now next → IsFramed rest rest2 o
+      → OnlyWrites tells (IsReady now) (HasFrameRoom w rest now) bad (changes w) now next → IsFramed rest rest2 o → (tells → KeepsPadded w.shape (IsBlockIn w.shape w.lattice.n) now.files next.files)
       → Prints {T = Unit {0}} {E = WriteFault} after [] last [] (Err fault) (stored_line v.shape o)
       → IngestsOpened tells v old next left rest2 before last (Err failure.Output)
-  unprinted_opened w2 o next stored has bad rest2 last fault writes framed line =
-      let grew = grew_more tells same v w some left rest old now before after objects gone still is_this reading lengths parts values record_more counts w2 o next stored has bad writes in
+  unprinted_opened w2 o next stored_here has bad rest2 last fault writes framed keeps line =
+      let grew = grew_more tells same v w some left rest old now before after objects gone still is_this reading lengths parts values record_more counts w2 o next stored_here has bad writes in
+      let whole : Consumes left rest2 (frames_of (objects ++ o ∷ [])) = subst (Consumes left rest2) (frames_more objects o) (Consumes-trans left rest rest2 (frames_of objects) (frame_of o) gone.framed framed) in
+      let cut = prints_cut v.shape objects before after gone.printed last o fault line in
       record {
         done = tt;
         printed = objects;
         more = o ∷ [];
         stores = record {
-          framed = (rest2, subst (Consumes left rest2) (frames_more objects o) (Consumes-trans left rest rest2 (frames_of objects) (frame_of o) gone.framed framed));
+          framed = (rest2, whole);
           most = inr (refl, (o, refl));
           whole = λ ok. absurd (false≢true ok);
           stands = λ stored told list its. (grew told list its).0;
+          stays = λ differs told list its. (grew told list its).0.stays;
           stops = λ told list its.
               let all = grew told list its in
-              let many : length all.0.grows.added ≡ length (objects ++ o ∷ []) =
+              let many : length all.0.stays.grows.added ≡ length (objects ++ o ∷ []) =
               (let n = are_many v.shape objects gone.added gone.are in omega (arith, ap length all.1, length-append gone.added (Object has.r ∷ []), length-append objects (o ∷ []), n)) in (
                 [],
                 inl refl,
                 subst (λ (xs : List NewObject). GrowsSurely v.shape list xs (length (objects ++ o ∷ [])) old next) (sym (append-nil (objects ++ o ∷ [])))
-                    (surely_all v.shape list (objects ++ o ∷ []) old next all.0 many),
+                    (surely_all v.shape list (objects ++ o ∷ []) old next all.0.stays many),
               );
+          padded = λ differs. padded_more tells same v w some left rest old now before after objects gone still is_this next keeps;
         };
         early = early_failed tells old.files left rest2 objects failure.Output (λ why e. let h : failure.Output ≡ failure.Refused why = e in cc) (λ e. cc);
-        prints = prints_cut v.shape objects before after gone.printed last o fault line;
+        prints = cut;
+        lines_in_room = λ told input is fits e.
+            let one = is_this told in
+            let room = fits_lines reading lengths parts counts v old next one (objects ++ o ∷ []) (grew told one.records (record { has = one.has; ledger = one.ledger })).0.stays left rest2 input before is whole fits in
+            (cut.in_room room.0 room.1 (let all = ap length (lines_more v.shape objects o) in omega (arith, all, room.2))).0 e;
       }
 
   -- all that was stored is there
-  pub stands_now : (told : tells) (list : List Record) → AreItsRecords v list (old.files 0) → HasGrown v.shape list objects old now
+  stands_now : (told : tells) (list : List Record) → AreItsRecords v list (old.files 0) → HasGrown v.shape list objects old now
   stands_now told list its = ⊎_elim
       (λ none.
       let start : IsSynced old = subst IsSynced (still none.2) (gone.synced told) in
@@ -316,7 +317,7 @@ module _ (reading : HasOneReading) (lengths : CellsHaveLengths) (parts : CellsHa
       subst (λ (xs : List NewObject). GrowsSurely v.shape list xs (length xs) old now) (sym none.0)
       (subst (λ (s : State). GrowsSurely v.shape list [] 0 old s) (sym (still none.2))
       (record { grows = grows; first = λ c here. grows.adds.prefix old.moment c (omega arith) (omega arith) here; reads = grows.adds.reads })))
-      (λ some_more. surely_all v.shape list objects old now some_more.1.0 (ap length some_more.1.1 ∙ are_many v.shape objects gone.added gone.are))
+      (λ some_more. surely_all v.shape list objects old now some_more.1.0.stays (ap length some_more.1.1 ∙ are_many v.shape objects gone.added gone.are))
       (gone.grew told list its)
 
   -- the stream was at its end: all was done, but for the last line
@@ -326,12 +327,14 @@ module _ (reading : HasOneReading) (lengths : CellsHaveLengths) (parts : CellsHa
     most = inl refl;
     whole = λ ok. (subst (Consumes left rest2) (append-nil (frames_of objects)) (Consumes-trans left rest rest2 (frames_of objects) [] gone.framed (end ok).0), (end ok).1);
     stands = λ stored told list its. subst (λ (xs : List NewObject). HasGrown v.shape list xs old now) (sym (append-nil objects)) (stands_now told list its);
+    stays = λ differs told list its. subst (λ (xs : List NewObject). StaysGrown v.shape list xs old now) (sym (append-nil objects)) (stands_now told list its).stays;
     stops = λ told list its. (
       [],
       inl refl,
       subst (λ (xs : List NewObject). GrowsSurely v.shape list xs (length (objects ++ [])) old now) (sym (append-nil (objects ++ [])))
           (subst (λ (xs : List NewObject). GrowsSurely v.shape list xs (length xs) old now) (sym (append-nil objects)) (stops_now told list its)),
     );
+    padded = λ differs. gone.padded;
   }
 
   pub ended_opened : (rest2 : Option (List ℕ)) (last : SinkState) → IsAtEnd rest2 → Consumes rest rest2 [] → Prints {T = Unit {0}} {E = WriteFault} after [] last [] (Ok tt) (end_line (length objects))
@@ -343,15 +346,20 @@ module _ (reading : HasOneReading) (lengths : CellsHaveLengths) (parts : CellsHa
     stores = stores_all rest2 (Ok Done) (λ ok. (none, end));
     early = early_none tells old.files left rest2 objects (Ok Done) (λ why e. let h : (let one : Answer = Ok Done in one ≡ Err (failure.Refused why)) = e in cc) (λ e. let h : (let one : Answer = Ok Done in one ≡ Err failure.Input) = e in cc);
     prints = prints_end v.shape objects before after gone.printed last line;
+    lines_in_room = λ told input is fits e. let h : (let a : Answer = Ok Done in a ≡ Err failure.Output) = e in cc;
   }
 
-  pub unended_opened : (rest2 : Option (List ℕ)) (last : SinkState) (fault : WriteFault) → Prints {T = Unit {0}} {E = WriteFault} after [] last [] (Err fault) (end_line (length objects))
+  pub unended_opened : IsAtEnd rest → (rest2 : Option (List ℕ)) (last : SinkState) (fault : WriteFault) → Prints {T = Unit {0}} {E = WriteFault} after [] last [] (Err fault) (end_line (length objects))
       → IngestsOpened tells v old now left rest2 before last (Err failure.Output)
-  unended_opened rest2 last fault line = record {
+  unended_opened end rest2 last fault line = record {
     done = tt;
     printed = objects;
     more = [];
     stores = stores_all rest2 (Err failure.Output) (λ ok. absurd (false≢true ok));
     early = early_failed tells old.files left rest2 objects failure.Output (λ why e. let h : failure.Output ≡ failure.Refused why = e in cc) (λ e. cc);
     prints = prints_cut_end v.shape objects before after gone.printed last fault line;
+    lines_in_room = λ told input is fits e.
+        let one = is_this told in
+        let room = fits_end reading lengths parts counts v old now one objects (stands_now told one.records (record { has = one.has; ledger = one.ledger })).stays left rest input before is gone.framed end fits in
+        ((prints_cut_end v.shape objects before after gone.printed last fault line).in_room room.0 room.1 room.2).0 e;
   }

@@ -9,39 +9,47 @@ use Rattle.aea_io.specs.declared.traits.WriteFault.{WriteFault}
 use Rattle.aea_io.specs.Pages.{Prints}
 use Rattle.aea_io.specs.Streams.{SinkState}
 use Rattle.aea_io.proofs.Printing.{prints_then, prints_none}
+use Rattle.aea_lattice.specs.declared.grid.Lattice.{Lattice}
 use Rattle.aea_lattice.specs.declared.shape.Shape.{Shape}
 use Rattle.aea_envelope.specs.Facts.{CellsHaveLengths, CellsHaveParts}
 use Rattle.aea_disk.specs.Files.{Files}
 use Rattle.aea_disk.specs.Frames.{OnlyWrites}
 use Rattle.aea_disk.specs.Ends.{EndsAt}
 use Rattle.aea_disk.specs.State.{State, Passes, KeepsTaking, IsReady, IsSynced}
-use Rattle.aea_shelf.specs.Writes.{KeepsShelf}
+use Rattle.aea_shelf.specs.Writes.{KeepsShelf, KeepsPadded}
+use Rattle.aea_shelf.proofs.Runs.{padded_none, padded_less, padded_both}
 use Rattle.aea_disk.proofs.Frames.{writes_none, writes_both, writes_as}
-use Rattle.aea_records.specs.Format.{Record, Object, nodes_for, nodes_of, limit_of, limit_when, spelled, is_raise}
+use Rattle.aea_records.specs.Format.{Record, Object, nodes_for, nodes_of, limit_when, spelled, is_raise, fences_of, digests_of}
 use Rattle.aea_records.specs.Grammar.{IsLedger, IsNext, MayFollow, MayBeStored}
-use Rattle.aea_records.specs.Laws.{HasOneReading, DigestsAreCounted}
+use Rattle.aea_records.specs.Laws.{HasOneReading, DigestsAreCounted, ObjectsAreCounted, NewNamesAreFree}
 use Rattle.aea_ledger.specs.Next.{AreItsRecords}
+use Rattle.aea_ledger.specs.Recorded.{IsLatticeOf}
 use Rattle.aea_ledger.specs.Stops.{HasLedger}
 use Rattle.aea_ledger.specs.Values.{Opened, HasRecords, HasSomeRecords, IsThisOne}
 use Rattle.aea_ledger.specs.Taking.{FitsAdding}
 use Rattle.aea_ledger.proofs.Readying.{ready_after}
 use Rattle.aea_records.proofs.OneMore.{raised_stays, nodes_of-append}
-use Rattle.aea_archive.specs.Blocks.{IsBlockIn}
+use Rattle.aea_archive.specs.Blocks.{IsBlockIn, recorded_in, IsIntactBy}
 use Rattle.aea_archive.specs.Cells.{IsBesides, ChangesArchive, FitsRows}
+use Rattle.aea_archive.specs.Lasts.{IsLastParity, AreLastsIntact}
 use Rattle.aea_archive.specs.Laws.{LastsAreValues, ObjectsRecordMore}
 use Rattle.aea_archive.specs.Next.{NewObject}
 use Rattle.aea_archive.proofs.Cells.{changes_none, changes_both, changes_less, changes_shelf, room_later}
 use Rattle.aea_append.specs.Causes.{next_end}
-use Rattle.aea_append.specs.Frames.{frame_head, frame_of, IsFramed, HasFrameRoom}
+use Rattle.aea_append.specs.Frames.{frame_of, IsFramed, HasFrameRoom}
 use Rattle.aea_append.specs.Puts.{HasStored}
 use Rattle.aea_append.specs.declared.store.Stored.{Stored}
-use Rattle.aea_command_store.specs.Growing.{Grows, HasGrown}
+use Rattle.aea_command_store.specs.Growing.{Grows, StaysGrown, HasGrown}
 use Rattle.aea_command_store.specs.Ingest.{GrowsSurely, frames_of, stored_lines, IsOfObject, AreOfObjects, FitsFrames}
 use Rattle.aea_command_store.specs.Put.{stored_line, stored_text}
-use Rattle.aea_command_store.proofs.Growing.{follow_behind, grows_both, first_of_both, grown_both, grown_added}
+use Rattle.aea_command_store.proofs.Growing.{follow_behind, grows_both, first_of_both, grown_both, all_both}
 use Rattle.aea_command_store.proofs.PutLemmas.Opening.{changes}
+use Rattle.aea_archive.proofs.Honest.{stands}
+use Rattle.aea_archive.proofs.Records.{one_lattice}
+use Rattle.aea_command_store.proofs.IngestLemmas.Heads.{lasts_were_intact}
 use Rattle.aea_command_store.proofs.IngestLemmas.One.{grown_by_one}
-use Rattle.aea_command_store.proofs.IngestLemmas.Rooming.{adding_after, kept_after, spelled_next, takes_front}
+use Rattle.aea_command_store.proofs.IngestLemmas.Rooming.{adding_after, kept_after, spelled_next}
+use Rattle.aea_command_store.proofs.IngestLemmas.Space.{some_more, entered_next, space_of_next}
 use Rattle.sha2.specs.Sha256.{sha256}
 
 -- ---- lists
@@ -50,7 +58,7 @@ use Rattle.sha2.specs.Sha256.{sha256}
 pub frames_more : (objects : List NewObject) (o : NewObject) → frames_of objects ++ frame_of o ≡ frames_of (objects ++ o ∷ [])
 frames_more objects o = ap (λ (l : List ℕ). frames_of objects ++ l) (sym (append-nil (frame_of o))) ∙ sym (flat_map-append frame_of objects (o ∷ []))
 
-lines_more : (shape : Shape) (objects : List NewObject) (o : NewObject) → stored_lines shape objects ++ stored_line shape o ≡ stored_lines shape (objects ++ o ∷ [])
+pub lines_more : (shape : Shape) (objects : List NewObject) (o : NewObject) → stored_lines shape objects ++ stored_line shape o ≡ stored_lines shape (objects ++ o ∷ [])
 lines_more shape objects o = ap (λ (l : List ℕ). stored_lines shape objects ++ l) (sym (append-nil (stored_line shape o))) ∙ sym (flat_map-append (stored_line shape) objects (o ∷ []))
 
 -- the records of objects, and of one more
@@ -80,7 +88,7 @@ no_raise shape records (x ∷ objects) (q ∷ added) are =
 -- the archive grew by the objects, by these records; or there is none, and the disk is the same
 abbrev pub IsGone : Type 0 → Shape → List Record → State → State → List NewObject → List Record → Type 0
 IsGone same shape records old now objects added =
-    ((objects ≡ []) × (added ≡ []) × same) ⊎ ((objects ≢ []) × ((g : HasGrown shape records objects old now) × (g.grows.added ≡ added)))
+    ((objects ≡ []) × (added ≡ []) × same) ⊎ ((objects ≢ []) × ((g : HasGrown shape records objects old now) × (g.stays.grows.added ≡ added)))
 
 -- Of a run that stored the objects of the first frames, one after the other, and printed their lines: the opened ledger at
 -- its beginning and now, the input, the disk and the output.
@@ -97,6 +105,7 @@ pub record HasGone (tells same : Type 0) (v w : Opened) (left rest : Option (Lis
   -- with the space for all there is space to sync the ledger that is there now
   pub kept : tells → FitsFrames v left old → now.keeps (now.files 0)
   pub grew : tells → (records : List Record) → AreItsRecords v records (old.files 0) → IsGone same v.shape records old now objects added
+  pub padded : tells → KeepsPadded v.shape (IsBlockIn v.shape v.lattice.n) old.files now.files
   pub printed : Prints {T = Unit {0}} {E = WriteFault} before [] after [] (Ok tt) (stored_lines v.shape objects)
 
 -- before the first frame
@@ -113,6 +122,7 @@ gone_none tells same is v left s out live synced = record {
   kept = λ told fits. fits.sites.sync;
   writes = writes_none tells (IsReady s) (FitsFrames v left s) (changes v) s (λ c. changes_none v.shape (limit_when v.raised) (IsBlockIn v.shape v.lattice.n) (IsBesides v.shape) c);
   grew = λ told records its. inl (refl, refl, is);
+  padded = λ told. padded_none v.shape (IsBlockIn v.shape v.lattice.n) s.files;
   printed = prints_none out [] tt;
 }
 
@@ -149,25 +159,43 @@ module _ (tells same : Type 0) (v w : Opened) (some : HasSomeRecords v) (left re
   its_now : (told : tells) → AreItsRecords w ((is_this told).records ++ gone.added) (now.files 0)
   its_now told = gone.its told (is_this told).records (its_start told)
 
+  -- where the last parities are intact now, they were at the beginning
+  were_intact : CellsHaveLengths → CellsHaveParts → DigestsAreCounted → tells → AreLastsIntact w.shape w.lattice w.digests now.files → AreLastsIntact v.shape v.lattice v.digests old.files
+  were_intact lengths parts counts told intact b last =
+      let one = is_this told in
+      let its = its_now told in
+      ⊎_elim
+      (λ none.
+      let all : one.records ++ gone.added ≡ one.records = ap (λ (l : List Record). one.records ++ l) none.1 ∙ append-nil one.records in
+      let mine : IsLatticeOf v.shape (nodes_of one.records) (fences_of one.records) w.lattice =
+      subst (λ (l : List Record). IsLatticeOf v.shape (nodes_of l) (fences_of l) w.lattice) all
+      (subst (λ (s : Shape). IsLatticeOf s (nodes_of (one.records ++ gone.added)) (fences_of (one.records ++ gone.added)) w.lattice) gone.same_shape its.has.lattice) in
+      let lattice : w.lattice ≡ v.lattice = one_lattice v.shape (nodes_of one.records) (fences_of one.records) w.lattice v.lattice mine one.has.lattice in
+      let digests : w.digests ≡ v.digests = its.has.digests ∙ ap digests_of all ∙ sym one.has.digests in
+      let here : IsIntactBy w.shape w.digests now.files b = intact b (subst (λ (l : Lattice). IsLastParity l b) (sym lattice) last) in
+      subst (λ (s : State). IsIntactBy v.shape v.digests s.files b) (still none.2)
+      (subst (λ (ds : List (List ℕ)). IsIntactBy v.shape ds now.files b) digests (subst (λ (s : Shape). IsIntactBy s w.digests now.files b) gone.same_shape here)))
+      (λ some.
+      let g : StaysGrown v.shape one.records objects old now = some.1.0.stays in
+      let lattice : g.grows.lattice ≡ v.lattice = one_lattice v.shape (nodes_of one.records) (fences_of one.records) g.grows.lattice v.lattice g.grows.is_lattice one.has.lattice in
+      let here = lasts_were_intact lengths parts counts v.shape one.records one.has.valid objects some.0 old now g b (subst (λ (l : Lattice). IsLastParity l b) (sym lattice) last) in
+      subst (λ (ds : List (List ℕ)). IsIntactBy v.shape ds old.files b) (sym one.has.digests) here)
+      (gone.grew told one.records (its_start told))
+
   -- the space of a frame is within that of all
-  room_of_frame : tells → FitsFrames v left old → HasFrameRoom w rest now
-  room_of_frame told fits =
+  room_of_frame : ObjectsAreCounted → NewNamesAreFree → CellsHaveLengths → CellsHaveParts → DigestsAreCounted → tells → FitsFrames v left old → HasFrameRoom w rest now
+  room_of_frame count free lengths parts counts told fits =
       let time = gone.writes.time in
       let one = is_this told in
       let its = its_now told in
       let rows : FitsRows v.shape (limit_when v.raised) now = record { sites = room_later v.shape (limit_when v.raised) old now time fits.sites.sites; sync = gone.kept told fits } in
       record {
         sites = subst (λ (b : Bool). FitsRows w.shape (limit_when b) now) (sym same_raised) (subst (λ (s : Shape). FitsRows s (limit_when v.raised) now) (sym gone.same_shape) rows);
-        ledger = λ name size begins.
-            subst (λ (s : Shape). w.lattice.n + nodes_for s size ≤ limit_when w.raised → FitsAdding now 1 (next_end w.end (length name) (nodes_for s size * (1 + s.alpha)))) (sym gone.same_shape)
-            (λ few.
-            let all : Consumes left begins.0 (frames_of objects ++ frame_head name size) = Consumes-trans left rest begins.0 (frames_of objects) (frame_head name size) gone.framed begins.1 in
-            let end : w.end ≡ length (spelled v.shape (one.records ++ gone.added)) = its.has.end ∙ ap (λ (s : Shape). length (spelled s (one.records ++ gone.added))) gone.same_shape in
-            let limit : limit_when w.raised ≡ limit_of one.records = ap limit_when (same_raised ∙ one.has.raised) in
-            let there = adding_after old now v.shape w.shape one.records v.end w.end one.ledger time gone.added its.ledger (gone.kept told fits)
-            (next_end (length (spelled v.shape (one.records ++ gone.added))) (length name) (nodes_for v.shape size * (1 + v.shape.alpha)))
-            (fits.ledger one.records one.has objects gone.added name size begins.0 gone.are all (omega (arith, few, limit, its.has.lattice.n))) in
-            subst (λ (e : ℕ). FitsAdding now 1 (next_end e (length name) (nodes_for v.shape size * (1 + v.shape.alpha)))) (sym end) there);
+        ledger = λ o rest2 framed may intact few.
+            let all : Consumes left rest2 (frames_of (objects ++ o ∷ [])) = subst (Consumes left rest2) (frames_more objects o) (Consumes-trans left rest rest2 (frames_of objects) (frame_of o) gone.framed framed) in
+            adding_after old now v.shape w.shape one.records v.end w.end one.ledger time gone.added its.ledger (gone.kept told fits)
+            (next_end w.end (length o.name) (nodes_for w.shape (length o.bytes) * (1 + w.shape.alpha)))
+            (space_of_next count free v w gone.same_shape old one.records gone.added (its_start told) (were_intact lengths parts counts told intact) its.has objects gone.are (are_many v.shape objects gone.added gone.are) left rest2 fits o all may few);
       }
 
   -- and the disk is ready for it
@@ -175,14 +203,22 @@ module _ (tells same : Type 0) (v w : Opened) (some : HasSomeRecords v) (left re
   ready_now ended told ready goes = ready_after old now w.shape ((is_this told).records ++ gone.added) w.end ended (its_now told).ledger goes ready
 
   -- all the writes up to the end of one more call
-  pub writes_more : ((b c : List ℕ) (m n : ℕ) → EndsAt c n → now.takes 0 b m → now.takes 0 c n) → (fault : Type 0) (next : State)
+  pub writes_more : ObjectsAreCounted → NewNamesAreFree → CellsHaveLengths → CellsHaveParts → DigestsAreCounted → ((b c : List ℕ) (m n : ℕ) → EndsAt c n → now.takes 0 b m → now.takes 0 c n) → (fault : Type 0) (next : State)
       → OnlyWrites tells (IsReady now) (HasFrameRoom w rest now) fault (changes w) now next → OnlyWrites tells (IsReady old) (FitsFrames v left old) fault (changes v) old next
-  writes_more ended fault next writes =
+  writes_more count free lengths parts counts ended fault next writes =
       writes_both tells (IsReady old) (IsReady old) (IsReady now) (FitsFrames v left old) (FitsFrames v left old) (HasFrameRoom w rest now) ⊥ fault (changes v) (changes w) (changes v) old now next (λ none. none)
       (λ c d step. step)
       (λ c d e one two. changes_both v.shape (limit_when v.raised) (IsBlockIn v.shape v.lattice.n) (IsBesides v.shape) c d e one (narrow d e two))
       (λ told ready. ready) (λ told ready step goes. ready_now ended told ready goes)
-      (λ told fits. fits) (λ told fits step time. room_of_frame told fits) gone.writes writes
+      (λ told fits. fits) (λ told fits step time. room_of_frame count free lengths parts counts told fits) gone.writes writes
+
+  -- the homes of the blocks at the beginning read so up to the end of one more call
+  pub padded_more : (next : State) → (tells → KeepsPadded w.shape (IsBlockIn w.shape w.lattice.n) now.files next.files) → tells → KeepsPadded v.shape (IsBlockIn v.shape v.lattice.n) old.files next.files
+  padded_more next keeps told =
+      let as_shape = subst (λ (s : Shape). KeepsPadded s (IsBlockIn s w.lattice.n) now.files next.files) gone.same_shape (keeps told) in
+      padded_both v.shape (IsBlockIn v.shape v.lattice.n) old.files now.files next.files (gone.padded told)
+      (padded_less v.shape (IsBlockIn v.shape w.lattice.n) (IsBlockIn v.shape v.lattice.n) now.files next.files
+      (λ a on. record { after = on.after; most = (let m = on.most in let n = no_fewer in omega (arith, m, n)); used = on.used }) as_shape)
 
   -- the line of what was stored
   pub line_of_stored : (w2 : Opened) (o : NewObject) (next : State) (stored : Stored) (name : List ℕ) → o.name ≡ name → HasStored tells w w2 o now next stored → stored_text stored.nodes stored.length stored.digest name ≡ stored_line v.shape o
@@ -213,7 +249,7 @@ module _ (tells same : Type 0) (v w : Opened) (some : HasSomeRecords v) (left re
           reads = late.adds.reads;
         }))
         (λ some.
-        let first = some.1.0 in
+        let first = some.1.0.stays in
         let is = some.1.1 in
         let late : Grows v.shape (list ++ first.grows.added) ys now next =
         subst (λ (l : List Record). Grows v.shape (list ++ l) ys now next) (sym is) (subst (λ (s : Shape). Grows s (list ++ gone.added) ys now next) gone.same_shape second) in
@@ -231,49 +267,62 @@ module _ (tells same : Type 0) (v w : Opened) (some : HasSomeRecords v) (left re
         })
         (gone.grew told list its)
 
+    -- a stretch in which none is added, whatever else is written: those that are there stay so
+    pub stays_more : (told : tells) (list : List Record) → AreItsRecords v list (old.files 0) → StaysGrown w.shape (list ++ gone.added) [] now next → StaysGrown v.shape list (objects ++ []) old next
+    stays_more told list its second = ⊎_elim
+        (λ none.
+        let nil : list ++ gone.added ≡ list = ap (λ (l : List Record). list ++ l) none.1 ∙ append-nil list in
+        subst (λ (xs : List NewObject). StaysGrown v.shape list (xs ++ []) old next) (sym none.0)
+        (subst (λ (s : State). StaysGrown v.shape list [] s next) (still none.2)
+        (subst (λ (rs : List Record). StaysGrown v.shape rs [] now next) nil (subst (λ (s : Shape). StaysGrown s (list ++ gone.added) [] now next) gone.same_shape second))))
+        (λ some.
+        let first = some.1.0.stays in
+        let is = some.1.1 in
+        let late : StaysGrown v.shape (list ++ first.grows.added) [] now next =
+        subst (λ (l : List Record). StaysGrown v.shape (list ++ l) [] now next) (sym is) (subst (λ (s : Shape). StaysGrown s (list ++ gone.added) [] now next) gone.same_shape second) in
+        let nodes : w.lattice.n ≡ nodes_of (list ++ first.grows.added) = (gone.its told list its).has.lattice.n ∙ ap (λ (l : List Record). nodes_of (list ++ l)) (sym is) in
+        let shelf = subst (λ (n : ℕ). KeepsShelf tells v.shape (IsBlockIn v.shape n) now next) nodes
+        (subst (λ (s : Shape). KeepsShelf tells s (IsBlockIn s w.lattice.n) now next) gone.same_shape (changes_shelf tells _ (HasFrameRoom w rest now) fault w.shape (limit_when w.raised) (IsBlockIn w.shape w.lattice.n) (IsBesides w.shape) now next writes)) in
+        grown_both reading lengths parts values record_more counts tells told v.shape list objects [] some.0 old now next gone.writes.time writes.time gone.writes.earlier first late shelf)
+        (gone.grew told list its)
+
   -- ---- one more object
 
   module _ (reading : HasOneReading) (lengths : CellsHaveLengths) (parts : CellsHaveParts) (values : LastsAreValues) (record_more : ObjectsRecordMore) (counts : DigestsAreCounted)
       (w2 : Opened) (o : NewObject) (next : State) (stored : Stored) (has : HasStored tells w w2 o now next stored) (fault : Type 0) (writes : OnlyWrites tells (IsReady now) (HasFrameRoom w rest now) fault (changes w) now next) where
     -- the stretch of this frame
-    second : (told : tells) (list : List Record) → AreItsRecords v list (old.files 0) → (g : HasGrown v.shape (list ++ gone.added) (o ∷ []) now next) × (g.grows.added ≡ Object has.r ∷ [])
+    second : (told : tells) (list : List Record) → AreItsRecords v list (old.files 0) → (g : HasGrown v.shape (list ++ gone.added) (o ∷ []) now next) × (g.stays.grows.added ≡ Object has.r ∷ [])
     second told list its =
-        subst (λ (s : Shape). (g : HasGrown s (list ++ gone.added) (o ∷ []) now next) × (g.grows.added ≡ Object has.r ∷ [])) gone.same_shape
+        subst (λ (s : Shape). (g : HasGrown s (list ++ gone.added) (o ∷ []) now next) × (g.stays.grows.added ≡ Object has.r ∷ [])) gone.same_shape
         (grown_by_one tells told w (list ++ gone.added) now next (gone.its told list its) (gone.synced told) (IsReady now) (HasFrameRoom w rest now) fault writes w2 o stored has)
 
-    pub grew_more : (told : tells) (list : List Record) → AreItsRecords v list (old.files 0) → (g : HasGrown v.shape list (objects ++ o ∷ []) old next) × (g.grows.added ≡ gone.added ++ Object has.r ∷ [])
+    pub grew_more : (told : tells) (list : List Record) → AreItsRecords v list (old.files 0) → (g : HasGrown v.shape list (objects ++ o ∷ []) old next) × (g.stays.grows.added ≡ gone.added ++ Object has.r ∷ [])
     grew_more told list its = ⊎_elim
         (λ none.
         let nil : list ++ gone.added ≡ list = ap (λ (l : List Record). list ++ l) none.1 ∙ append-nil list in
         let as_objects : o ∷ [] ≡ objects ++ o ∷ [] = ap (λ (l : List NewObject). l ++ o ∷ []) (sym none.0) in
         let as_added : Object has.r ∷ [] ≡ gone.added ++ Object has.r ∷ [] = ap (λ (l : List Record). l ++ Object has.r ∷ []) (sym none.1) in
-        subst (λ (l : List Record). (g : HasGrown v.shape list (objects ++ o ∷ []) old next) × (g.grows.added ≡ l)) as_added
-        (subst (λ (xs : List NewObject). (g : HasGrown v.shape list xs old next) × (g.grows.added ≡ Object has.r ∷ [])) as_objects
-        (subst (λ (s : State). (g : HasGrown v.shape list (o ∷ []) s next) × (g.grows.added ≡ Object has.r ∷ [])) (still none.2)
-        (subst (λ (rs : List Record). (g : HasGrown v.shape rs (o ∷ []) now next) × (g.grows.added ≡ Object has.r ∷ [])) nil (second told list its)))))
+        subst (λ (l : List Record). (g : HasGrown v.shape list (objects ++ o ∷ []) old next) × (g.stays.grows.added ≡ l)) as_added
+        (subst (λ (xs : List NewObject). (g : HasGrown v.shape list xs old next) × (g.stays.grows.added ≡ Object has.r ∷ [])) as_objects
+        (subst (λ (s : State). (g : HasGrown v.shape list (o ∷ []) s next) × (g.stays.grows.added ≡ Object has.r ∷ [])) (still none.2)
+        (subst (λ (rs : List Record). (g : HasGrown v.shape rs (o ∷ []) now next) × (g.stays.grows.added ≡ Object has.r ∷ [])) nil (second told list its)))))
         (λ some.
         let first = some.1.0 in
         let is = some.1.1 in
-        let late = subst (λ (l : List Record). (g : HasGrown v.shape (list ++ l) (o ∷ []) now next) × (g.grows.added ≡ Object has.r ∷ [])) (sym is) (second told list its) in
-        let nodes : w.lattice.n ≡ nodes_of (list ++ first.grows.added) = (gone.its told list its).has.lattice.n ∙ ap (λ (l : List Record). nodes_of (list ++ l)) (sym is) in
+        let late = subst (λ (l : List Record). (g : HasGrown v.shape (list ++ l) (o ∷ []) now next) × (g.stays.grows.added ≡ Object has.r ∷ [])) (sym is) (second told list its) in
+        let nodes : w.lattice.n ≡ nodes_of (list ++ first.stays.grows.added) = (gone.its told list its).has.lattice.n ∙ ap (λ (l : List Record). nodes_of (list ++ l)) (sym is) in
         let shelf = subst (λ (n : ℕ). KeepsShelf tells v.shape (IsBlockIn v.shape n) now next) nodes
-        (subst (λ (s : Shape). KeepsShelf tells s (IsBlockIn s w.lattice.n) now next) gone.same_shape (changes_shelf tells _ (HasFrameRoom w rest now) fault w.shape (limit_when w.raised) (IsBlockIn w.shape w.lattice.n) (IsBesides w.shape) now next writes)) in (
-          grown_both reading lengths parts values record_more counts tells told v.shape list objects (o ∷ []) some.0 old now next gone.writes.time writes.time gone.writes.earlier first late.0 shelf,
-          grown_added reading lengths parts values record_more counts tells told v.shape list objects (o ∷ []) some.0 old now next gone.writes.time writes.time gone.writes.earlier first late.0 shelf
-              ∙ ap (λ (l : List Record). first.grows.added ++ l) late.1 ∙ ap (λ (l : List Record). l ++ Object has.r ∷ []) is,
-        ))
+        (subst (λ (s : Shape). KeepsShelf tells s (IsBlockIn s w.lattice.n) now next) gone.same_shape (changes_shelf tells _ (HasFrameRoom w rest now) fault w.shape (limit_when w.raised) (IsBlockIn w.shape w.lattice.n) (IsBesides w.shape) now next writes)) in
+        let both = all_both reading lengths parts values record_more counts tells told v.shape list objects (o ∷ []) some.0 old now next gone.writes.time writes.time gone.writes.earlier first late.0 shelf in
+        (both.0, both.1 ∙ ap (λ (l : List Record). first.stays.grows.added ++ l) late.1 ∙ ap (λ (l : List Record). l ++ Object has.r ∷ []) is))
         (gone.grew told list its)
 
     synced_more : tells → IsSynced next
     synced_more told = (let one = is_this told in (has.added told (one.records ++ gone.added) (gone.its told one.records (record { has = one.has; ledger = one.ledger }))).synced)
 
-    some_more : (xs : List NewObject) → xs ++ o ∷ [] ≢ []
-    some_more [] e = let h : o ∷ [] ≡ [] = e in cc
-    some_more (x ∷ xs) e = let h : x ∷ (xs ++ o ∷ []) ≡ [] = e in cc
-
     -- there is space to sync the ledger with its record
-    kept_more : (rest2 : Option (List ℕ)) → IsFramed rest rest2 o → tells → FitsFrames v left old → next.keeps (next.files 0)
-    kept_more rest2 framed told fits =
+    kept_more : ObjectsAreCounted → NewNamesAreFree → (rest2 : Option (List ℕ)) → IsFramed rest rest2 o → tells → FitsFrames v left old → next.keeps (next.files 0)
+    kept_more count free rest2 framed told fits =
         let its = its_now told in
         let list : List Record = (is_this told).records ++ gone.added in
         let added = has.added told list its in
@@ -287,12 +336,14 @@ module _ (tells same : Type 0) (v w : Opened) (some : HasSomeRecords v) (left re
         ∙ sym (spelled_next w.shape list has.r may) in
         let few : w.lattice.n + nodes_for w.shape (length o.bytes) ≤ limit_when w.raised = omega (arith, may.fits, has.next.count, its.has.lattice.n, ap limit_when its.has.raised) in
         kept_after now next w.shape w.shape list w.end (length (spelled w.shape (list ++ Object has.r ∷ []))) its.ledger writes.time (Object has.r) added.ledger
-        (subst (FitsAdding now 1) size ((room_of_frame told fits).ledger o.name (length o.bytes) (takes_front rest rest2 (frame_head o.name (length o.bytes)) o.bytes framed) few))
+        (subst (FitsAdding now 1) size ((room_of_frame count free lengths parts counts told fits).ledger o rest2 framed
+        (entered_next count free w list its.has o (Object has.r) ((has.r, refl, has.next.name_is, has.next.size, has.next.count), tt) behind)
+        (λ b last. (stands lengths parts w.shape b (recorded_in w.shape w.digests b) (has.payload b) now.files (has.lasts_wide b last) (has.lasts b last) (has.homes told b last)).intact) few))
 
     -- with its line
-    pub gone_more : ((b c : List ℕ) (m n : ℕ) → EndsAt c n → now.takes 0 b m → now.takes 0 c n) → (other : Type 0) (rest2 : Option (List ℕ)) (after2 : SinkState) → IsFramed rest rest2 o → (fault → ⊥) → Prints {T = Unit {0}} {E = WriteFault} after [] after2 [] (Ok tt) (stored_line v.shape o)
+    pub gone_more : ObjectsAreCounted → NewNamesAreFree → ((b c : List ℕ) (m n : ℕ) → EndsAt c n → now.takes 0 b m → now.takes 0 c n) → (other : Type 0) (rest2 : Option (List ℕ)) (after2 : SinkState) → IsFramed rest rest2 o → (fault → ⊥) → (tells → KeepsPadded w.shape (IsBlockIn w.shape w.lattice.n) now.files next.files) → Prints {T = Unit {0}} {E = WriteFault} after [] after2 [] (Ok tt) (stored_line v.shape o)
         → HasGone tells other v w2 left rest2 old next before after2 (objects ++ o ∷ [])
-    gone_more ended other rest2 after2 framed fine line =
+    gone_more count free ended other rest2 after2 framed fine keeps line =
         let behind : (list : List Record) → (list ++ gone.added) ++ Object has.r ∷ [] ≡ list ++ (gone.added ++ Object has.r ∷ []) = λ list. append_assoc list gone.added (Object has.r ∷ []) in
         let now_has : (list : List Record) → HasRecords v list → HasRecords w2 (list ++ (gone.added ++ Object has.r ∷ [])) =
         λ list had. subst (HasRecords w2) (behind list) (has.value (list ++ gone.added) (gone.has list had)) in
@@ -310,8 +361,9 @@ module _ (tells same : Type 0) (v w : Opened) (some : HasSomeRecords v) (left re
               let as_shape = subst (λ (s : Shape). HasLedger s (list ++ (gone.added ++ Object has.r ∷ [])) (next.files 0)) (sym has.same_shape) as_records in
               record { has = all; ledger = subst (λ (n : ℕ). IsLedger (next.files 0) w2.shape (list ++ (gone.added ++ Object has.r ∷ [])) n) (sym all.end) as_shape };
           synced = λ told. synced_more told;
-          writes = writes_as tells (IsReady old) (FitsFrames v left old) fault ⊥ (changes v) old next (λ none. absurd none) fine (writes_more ended fault next writes);
-          kept = kept_more rest2 framed;
-          grew = λ told list its. inr (some_more objects, grew_more told list its);
+          writes = writes_as tells (IsReady old) (FitsFrames v left old) fault ⊥ (changes v) old next (λ none. absurd none) fine (writes_more count free lengths parts counts ended fault next writes);
+          kept = kept_more count free rest2 framed;
+          grew = λ told list its. inr (some_more objects o, grew_more told list its);
+          padded = padded_more next keeps;
           printed = subst (λ (l : List ℕ). Prints {T = Unit {0}} {E = WriteFault} before [] after2 [] (Ok tt) l) (lines_more v.shape objects o) (prints_then gone.printed line);
         }

@@ -12,10 +12,12 @@ use Rattle.aea_disk.specs.Frames.{OnlyWrites}
 use Rattle.aea_disk.specs.Ends.{EndsAt}
 use Rattle.aea_disk.specs.State.{State, IsReady, IsFixed}
 use Rattle.aea_disk.proofs.Frames.{writes_as}
+use Rattle.aea_shelf.specs.Writes.{KeepsPadded}
 use Rattle.aea_records.specs.Format.{Object, greatest_objects}
-use Rattle.aea_records.specs.Laws.{HasOneReading, DigestsAreCounted}
+use Rattle.aea_records.specs.Laws.{HasOneReading, DigestsAreCounted, ObjectsAreCounted, NewNamesAreFree}
 use Rattle.aea_ledger.specs.Values.{Opened, HasRecords, HasSomeRecords, IsThisOne}
-use Rattle.aea_archive.specs.Laws.{LastsAreValues, ObjectsRecordMore}
+use Rattle.aea_archive.specs.Blocks.{IsBlockIn}
+use Rattle.aea_archive.specs.Laws.{LastsAreValues, ObjectsRecordMore, SurvivorsStayHonest}
 use Rattle.aea_archive.specs.Next.{NewObject}
 use Rattle.aea_append.specs.Frames.{frame_head, frame_of, IsFramed, HasFrameRoom}
 use Rattle.aea_append.specs.Puts.{HasStored, MayHaveStored, LeavesLedger}
@@ -34,6 +36,7 @@ use Rattle.aea_command.specs.declared.status.Status.{Status}
 use Rattle.aea_command.specs.declared.status.Status.TheVariants.{Done}
 use Rattle.aea_command.specs.Causes.{place_of}
 use Rattle.aea_command.specs.Failures.{Answer, NeverClashes, ingest_failure}
+use Rattle.aea_command.specs.Openings.{IsAfterOpening}
 use Rattle.aea_command_store.specs.Ingest.{EndsEarly, IngestsOpened, FitsFrames, frames_of, end_line}
 use Rattle.aea_command_store.specs.Put.{stored_line, stored_text}
 use Rattle.aea_command_store.proofs.PutLemmas.Opening.{changes}
@@ -82,6 +85,24 @@ fault_not_clash ingest.NoMemory b told computed e = let h : failure.Memory ≡ f
 
 pub ingest_no_clash : (fault : IngestFault) → NeverClashes (let one : Answer = Err (ingest_failure fault) in one)
 ingest_no_clash fault b told computed e = fault_not_clash fault b told computed (same_answer (ingest_failure fault) (failure.Clash b told computed) e)
+
+-- and it is no refusal of the opening
+same_refusal : (one why : Refusal) → failure.Refused one ≡ failure.Refused why → one ≡ why
+same_refusal one why e = cc
+
+fault_after : (fault : IngestFault) (why : Refusal) → ingest_failure fault ≡ failure.Refused why → IsAfterOpening why
+fault_after ingest.BadName why e = subst IsAfterOpening (same_refusal refusal.BadName why e) tt
+fault_after ingest.NameTaken why e = subst IsAfterOpening (same_refusal refusal.NameTaken why e) tt
+fault_after ingest.CatalogFull why e = subst IsAfterOpening (same_refusal refusal.CatalogFull why e) tt
+fault_after (ingest.HeadDamaged b) why e = subst IsAfterOpening (same_refusal (refusal.HeadDamaged b) why e) tt
+fault_after (ingest.Full n) why e = subst IsAfterOpening (same_refusal (refusal.Full n) why e) tt
+fault_after (ingest.BadStream n) why e = subst IsAfterOpening (same_refusal (refusal.BadStream n) why e) tt
+fault_after ingest.ReadFault why e = let h : failure.Input ≡ failure.Refused why = e in cc
+fault_after ingest.DiskFault why e = let h : failure.Disk ≡ failure.Refused why = e in cc
+fault_after ingest.NoMemory why e = let h : failure.Memory ≡ failure.Refused why = e in cc
+
+pub ingest_after : (fault : IngestFault) (why : Refusal) → (let one : Answer = Err (ingest_failure fault) in one ≡ Err (failure.Refused why)) → IsAfterOpening why
+ingest_after fault why e = fault_after fault why (same_answer (ingest_failure fault) (failure.Refused why) e)
 
 -- it fails by the disk only where its disk failed, by the input only where its source did
 fault_disk : (fault : IngestFault) → ingest_failure fault ≡ failure.Disk → fault ≡ ingest.DiskFault
@@ -183,17 +204,17 @@ module _ (reading : HasOneReading) (lengths : CellsHaveLengths) (parts : CellsHa
     line_is = line_of_stored tells same v w some left rest old now before after objects gone still is_this w2 has.0 next stored name has.1 has.3
 
     -- the run goes on, with one object more
-    pub goes_on : ((b c : List ℕ) (m n : ℕ) → EndsAt c n → now.takes 0 b m → now.takes 0 c n) → (other : Type 0) (after2 : SinkState) → (fault → ⊥) → Prints {T = Unit {0}} {E = WriteFault} after [] after2 [] (Ok tt) (stored_text stored.nodes stored.length stored.digest name)
+    pub goes_on : ObjectsAreCounted → NewNamesAreFree → ((b c : List ℕ) (m n : ℕ) → EndsAt c n → now.takes 0 b m → now.takes 0 c n) → (other : Type 0) (after2 : SinkState) → (fault → ⊥) → (tells → KeepsPadded w.shape (IsBlockIn w.shape w.lattice.n) now.files next.files) → Prints {T = Unit {0}} {E = WriteFault} after [] after2 [] (Ok tt) (stored_text stored.nodes stored.length stored.digest name)
         → HasGone tells other v w2 left rest2 old next before after2 (objects ++ has.0 ∷ [])
-    goes_on ended other after2 fine line =
-        gone_more tells same v w some left rest old now before after objects gone still is_this reading lengths parts values record_more counts w2 has.0 next stored has.3 fault writes ended other rest2 after2 has.2 fine
+    goes_on count free ended other after2 fine keeps line =
+        gone_more tells same v w some left rest old now before after objects gone still is_this reading lengths parts values record_more counts w2 has.0 next stored has.3 fault writes count free ended other rest2 after2 has.2 fine keeps
         (subst (λ (l : List ℕ). Prints {T = Unit {0}} {E = WriteFault} after [] after2 [] (Ok tt) l) line_is line)
 
     -- the output failed in its line
-    pub breaks_off : (last : SinkState) (broken : WriteFault) → Prints {T = Unit {0}} {E = WriteFault} after [] last [] (Err broken) (stored_text stored.nodes stored.length stored.digest name)
+    pub breaks_off : (last : SinkState) (broken : WriteFault) → (tells → KeepsPadded w.shape (IsBlockIn w.shape w.lattice.n) now.files next.files) → Prints {T = Unit {0}} {E = WriteFault} after [] last [] (Err broken) (stored_text stored.nodes stored.length stored.digest name)
         → IngestsOpened tells v old next left rest2 before last (Err failure.Output)
-    breaks_off last broken line =
-        unprinted_opened reading lengths parts values record_more counts tells same v w some left rest old now before after objects gone still is_this w2 has.0 next stored has.3 fault rest2 last broken writes has.2
+    breaks_off last broken keeps line =
+        unprinted_opened reading lengths parts values record_more counts tells same v w some left rest old now before after objects gone still is_this w2 has.0 next stored has.3 fault rest2 last broken writes has.2 keeps
         (subst (λ (l : List ℕ). Prints {T = Unit {0}} {E = WriteFault} after [] last [] (Err broken) l) line_is line)
 
     -- one more is counted, and there are not more than the most
@@ -216,25 +237,27 @@ module _ (reading : HasOneReading) (lengths : CellsHaveLengths) (parts : CellsHa
     at_most_more at next_at count few taken = at_more w at (length taken.bytes) next_at count few taken.counted taken.most
 
   -- all its writes
-  pub writes_by : ((b c : List ℕ) (m n : ℕ) → EndsAt c n → now.takes 0 b m → now.takes 0 c n) → (next : State) (fault disk : Type 0) → (disk → fault) → (fault → disk) → OnlyWrites tells (IsReady now) (HasFrameRoom w rest now) fault (changes w) now next → OnlyWrites tells (IsReady old) (FitsFrames v left old) disk (changes v) old next
-  writes_by ended next fault disk so back writes =
+  pub writes_by : ObjectsAreCounted → NewNamesAreFree → ((b c : List ℕ) (m n : ℕ) → EndsAt c n → now.takes 0 b m → now.takes 0 c n) → (next : State) (fault disk : Type 0) → (disk → fault) → (fault → disk) → OnlyWrites tells (IsReady now) (HasFrameRoom w rest now) fault (changes w) now next → OnlyWrites tells (IsReady old) (FitsFrames v left old) disk (changes v) old next
+  writes_by count free ended next fault disk so back writes =
       writes_as tells (IsReady old) (FitsFrames v left old) fault disk (changes v) old next so back
-      (writes_more tells same v w some left rest old now before after objects gone still is_this ended fault next writes)
+      (writes_more tells same v w some left rest old now before after objects gone still is_this count free lengths parts counts ended fault next writes)
 
   -- ---- a frame that was not stored
 
-  pub fails_by : (fault : IngestFault) (next : State) (rest2 : Option (List ℕ)) (bad : Type 0) → OnlyWrites tells (IsReady now) (HasFrameRoom w rest now) bad (changes w) now next
+  pub fails_by : (fault : IngestFault) (next : State) (rest2 : Option (List ℕ)) (bad : Type 0) → SurvivorsStayHonest → OnlyWrites tells (IsReady now) (HasFrameRoom w rest now) bad (changes w) now next
       → ((let r : Result Ingest IngestFault = Err fault in r ≢ Err ingest.DiskFault) → ((name : List ℕ) (stored : Stored) → (let r : Result Ingest IngestFault = Err fault in r ≢ Ok (frame.Stored name stored))) → tells → LeavesLedger now next)
       → ((let r : Result Ingest IngestFault = Err fault in r ≡ Err ingest.DiskFault) → tells → MayHaveStored w (IsFramed rest rest2) now next)
+      → ((let r : Result Ingest IngestFault = Err fault in r ≢ Err ingest.DiskFault) → tells → KeepsPadded w.shape (IsBlockIn w.shape w.lattice.n) now.files next.files)
       → EndsEarly {T = Status} tells old.files left rest2 objects (Err (ingest_failure fault))
       → IngestsOpened tells v old next left rest2 before after (Err (ingest_failure fault))
-  fails_by fault next rest2 bad writes leaves stopped early = ⊎_elim
+  fails_by fault next rest2 bad survivors writes leaves stopped keeps early = ⊎_elim
       (λ disk.
       subst (λ (f : IngestFault). IngestsOpened tells v old next left rest2 before after (Err (ingest_failure f))) (sym disk)
       (failed_opened reading lengths parts values record_more counts tells same v w some left rest old now before after objects gone still is_this next rest2 bad writes (stopped (ap Err disk))))
       (λ other.
-      refused_opened reading lengths parts values record_more counts tells same v w some left rest old now before after objects gone still is_this fault next rest2 bad writes
-      (leaves (λ e. other (same_fault fault ingest.DiskFault e)) (λ name stored e. let h : (let r : Result Ingest IngestFault = Err fault in r ≡ Ok (frame.Stored name stored)) = e in cc)) early)
+      refused_opened reading lengths parts values record_more counts tells same v w some left rest old now before after objects gone still is_this fault next rest2 bad survivors writes
+      (leaves (λ e. other (same_fault fault ingest.DiskFault e)) (λ name stored e. let h : (let r : Result Ingest IngestFault = Err fault in r ≡ Ok (frame.Stored name stored)) = e in cc))
+      (keeps (λ e. other (same_fault fault ingest.DiskFault e))) early)
       (by_disk fault)
 
   -- ---- the end of the stream
@@ -246,11 +269,11 @@ module _ (reading : HasOneReading) (lengths : CellsHaveLengths) (parts : CellsHa
       (ended_opened reading lengths parts values record_more counts tells same v w some left rest old now before after objects gone still is_this rest2 last end none
       (subst (λ (k : ℕ). Prints {T = Unit {0}} {E = WriteFault} after [] last [] (Ok tt) (end_line k)) is line))
 
-  pub cut_by : (next : State) → next ≡ now → (rest2 : Option (List ℕ)) (last : SinkState) (count : ℕ) (broken : WriteFault) → count ≡ length objects → Prints {T = Unit {0}} {E = WriteFault} after [] last [] (Err broken) (end_line count)
+  pub cut_by : IsAtEnd rest → (next : State) → next ≡ now → (rest2 : Option (List ℕ)) (last : SinkState) (count : ℕ) (broken : WriteFault) → count ≡ length objects → Prints {T = Unit {0}} {E = WriteFault} after [] last [] (Err broken) (end_line count)
       → IngestsOpened tells v old next left rest2 before last (Err failure.Output)
-  cut_by next unchanged rest2 last count broken is line =
+  cut_by end next unchanged rest2 last count broken is line =
       subst (λ (s : State). IngestsOpened tells v old s left rest2 before last (Err failure.Output)) (sym unchanged)
-      (unended_opened reading lengths parts values record_more counts tells same v w some left rest old now before after objects gone still is_this rest2 last broken
+      (unended_opened reading lengths parts values record_more counts tells same v w some left rest old now before after objects gone still is_this end rest2 last broken
       (subst (λ (k : ℕ). Prints {T = Unit {0}} {E = WriteFault} after [] last [] (Err broken) (end_line k)) is line))
 
   -- the writes up to there

@@ -1,5 +1,5 @@
 -- One frame after others: what the call that takes it leaves of the archive, from where nothing is pending.
-use Rattle.std.proofs.Common.{◌≡◌, ℕ, List, [], ◌∷◌, ◌++◌, sym, subst, arith, refl}
+use Rattle.std.proofs.Common.{◌≡◌, ℕ, List, [], ◌∷◌, ◌++◌, sym, ◌∙◌, ap, subst, arith, refl}
 use Rattle.std.proofs.lemmas.List.{append-nil}
 use Rattle.std.proofs.lemmas.List.Elements.{All-cons}
 use Rattle.aea_lattice.specs.declared.shape.Shape.{Shape}
@@ -7,11 +7,11 @@ use Rattle.aea_disk.specs.Files.{Files}
 use Rattle.aea_disk.specs.Frames.{OnlyWrites}
 use Rattle.aea_disk.specs.State.{State, During, IsSynced}
 use Rattle.aea_disk.proofs.Moments.{during_more}
-use Rattle.aea_records.specs.Format.{Record, Object, digests_of}
+use Rattle.aea_records.specs.Format.{Record, Object, digests_of, body}
 use Rattle.aea_records.specs.Laws.{HasOneReading}
 use Rattle.aea_records.specs.TableLaws.{AreBytes}
 use Rattle.aea_ledger.specs.Next.{AreItsRecords}
-use Rattle.aea_ledger.specs.Stops.{HasLedger}
+use Rattle.aea_ledger.specs.Stops.{HasLedger, committed}
 use Rattle.aea_ledger.specs.Values.{Opened}
 use Rattle.aea_archive.specs.Data.{RecordsMore, AreSurvivorsHonest, IsDamagePlain}
 use Rattle.aea_archive.specs.Lasts.{AreLastsRecorded, AreLastsHonest}
@@ -19,7 +19,7 @@ use Rattle.aea_archive.specs.Next.{NewObject, object_blocks}
 use Rattle.aea_archive.proofs.Stretches.{has_ledger, adds_nothing}
 use Rattle.aea_append.specs.Puts.{HasStored, MayHaveStored, LeavesLedger}
 use Rattle.aea_append.specs.declared.store.Stored.{Stored}
-use Rattle.aea_command_store.specs.Growing.{LeavesArchive, Grows, HasGrown}
+use Rattle.aea_command_store.specs.Growing.{LeavesArchive, Grows, StaysGrown, HasGrown}
 use Rattle.aea_command_store.proofs.PutLemmas.Opening.{changes, leaves_is, none_more}
 
 module _ (tells : Type 0) (told : tells) (w : Opened) (rs : List Record) (now next : State) (its : AreItsRecords w rs (now.files 0)) (synced : IsSynced now)
@@ -78,40 +78,48 @@ module _ (tells : Type 0) (told : tells) (w : Opened) (rs : List Record) (now ne
   }
 
   -- it was
-  pub grown_by_one : (w2 : Opened) (o : NewObject) (stored : Stored) (has : HasStored tells w w2 o now next stored) → (g : HasGrown w.shape rs (o ∷ []) now next) × (g.grows.added ≡ Object has.r ∷ [])
+  pub grown_by_one : (w2 : Opened) (o : NewObject) (stored : Stored) (has : HasStored tells w w2 o now next stored) → (g : HasGrown w.shape rs (o ∷ []) now next) × (g.stays.grows.added ≡ Object has.r ∷ [])
   grown_by_one w2 o stored has =
       let blocks = object_blocks w.shape o.bytes in
       let alone : blocks ≡ blocks ++ [] = sym (append-nil blocks) in
-      let then = has.value rs its.has in (
+      let then = has.value rs its.has in
+      let added = has.added told rs its in
+      let stays : StaysGrown w.shape rs (o ∷ []) now next = record {
+        grows = record {
+          lattice = w.lattice;
+          is_lattice = its.has.lattice;
+          longer = w2.lattice;
+          payload = has.payload;
+          homes = λ some. has.homes told;
+          lasts_wide = λ some. has.lasts_wide;
+          bytes = All-cons (λ q. AreBytes q.bytes) o [] has.bytes (λ k d inside. absurd (omega (arith, inside)));
+          added = Object has.r ∷ [];
+          next = (w2.lattice, has.r, refl, has.next, refl);
+          adds = has.adds told rs its;
+          leaves = leaves_from;
+          reads = reads_from;
+          records_more = λ datas valid recorded honest.
+              subst (λ (more : List (List ℕ)). RecordsMore w.shape rs (Object has.r ∷ []) datas more w.lattice w2.lattice has.payload) alone
+              (has.records_more told rs datas its.has recorded (subst (λ (ds : List (List ℕ)). AreLastsHonest w.shape w.lattice ds datas now.files) (sym its.has.digests) honest));
+        };
+        images = λ c here. subst (HasLedger w.shape (rs ++ Object has.r ∷ [])) (sym (added.synced c here 0)) added.ledger;
+        ledger = added.ledger;
+        blocks = added.blocks;
+        lasts = λ some. subst (λ (ds : List (List ℕ)). AreLastsRecorded w.shape w.lattice ds has.payload) its.has.digests has.lasts;
+        wide = has.wide;
+        cells = has.cells told;
+        honest = λ datas recorded honest plain.
+            let early = subst (λ (ds : List (List ℕ)). AreSurvivorsHonest w.shape w.lattice ds datas now.files) (sym its.has.digests) honest in
+            let damage = subst (λ (ds : List (List ℕ)). IsDamagePlain w.shape w.lattice ds now.files) (sym its.has.digests) plain in
+            let late = has.honest told rs datas its.has recorded early damage in
+            let as_shape = subst (λ (s : Shape). AreSurvivorsHonest s w2.lattice w2.digests (datas ++ blocks) next.files × IsDamagePlain s w2.lattice w2.digests next.files) has.same_shape late in
+            let as_digests = subst (λ (ds : List (List ℕ)). AreSurvivorsHonest w.shape w2.lattice ds (datas ++ blocks) next.files × IsDamagePlain w.shape w2.lattice ds next.files) then.digests as_shape in
+            subst (λ (more : List (List ℕ)). AreSurvivorsHonest w.shape w2.lattice (digests_of (rs ++ Object has.r ∷ [])) (datas ++ more) next.files × IsDamagePlain w.shape w2.lattice (digests_of (rs ++ Object has.r ∷ [])) next.files) alone as_digests;
+      } in (
         record {
-          grows = record {
-            lattice = w.lattice;
-            is_lattice = its.has.lattice;
-            longer = w2.lattice;
-            payload = has.payload;
-            homes = λ some. has.homes told;
-            lasts_wide = λ some. has.lasts_wide;
-            bytes = All-cons (λ q. AreBytes q.bytes) o [] has.bytes (λ k d inside. absurd (omega (arith, inside)));
-            added = Object has.r ∷ [];
-            next = (w2.lattice, has.r, refl, has.next, refl);
-            adds = has.adds told rs its;
-            leaves = leaves_from;
-            reads = reads_from;
-            records_more = λ datas valid recorded honest.
-                subst (λ (more : List (List ℕ)). RecordsMore w.shape rs (Object has.r ∷ []) datas more w.lattice w2.lattice has.payload) alone
-                (has.records_more told rs datas its.has recorded (subst (λ (ds : List (List ℕ)). AreLastsHonest w.shape w.lattice ds datas now.files) (sym its.has.digests) honest));
-          };
-          all = has.added told rs its;
-          lasts = λ some. subst (λ (ds : List (List ℕ)). AreLastsRecorded w.shape w.lattice ds has.payload) its.has.digests has.lasts;
-          wide = has.wide;
-          cells = has.cells told;
-          honest = λ datas recorded honest plain.
-              let early = subst (λ (ds : List (List ℕ)). AreSurvivorsHonest w.shape w.lattice ds datas now.files) (sym its.has.digests) honest in
-              let damage = subst (λ (ds : List (List ℕ)). IsDamagePlain w.shape w.lattice ds now.files) (sym its.has.digests) plain in
-              let late = has.honest told rs datas its.has recorded early damage in
-              let as_shape = subst (λ (s : Shape). AreSurvivorsHonest s w2.lattice w2.digests (datas ++ blocks) next.files × IsDamagePlain s w2.lattice w2.digests next.files) has.same_shape late in
-              let as_digests = subst (λ (ds : List (List ℕ)). AreSurvivorsHonest w.shape w2.lattice ds (datas ++ blocks) next.files × IsDamagePlain w.shape w2.lattice ds next.files) then.digests as_shape in
-              subst (λ (more : List (List ℕ)). AreSurvivorsHonest w.shape w2.lattice (digests_of (rs ++ Object has.r ∷ [])) (datas ++ more) next.files × IsDamagePlain w.shape w2.lattice (digests_of (rs ++ Object has.r ∷ [])) next.files) alone as_digests;
+          stays = stays;
+          exactly = has.exactly told ∙ ap (λ (n : ℕ). committed (now.files 0) n (body (Object has.r) ++ 0 ∷ [])) its.has.end;
+          synced = added.synced;
         },
         refl,
       )

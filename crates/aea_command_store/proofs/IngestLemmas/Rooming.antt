@@ -1,8 +1,7 @@
 -- The space for one more frame, once some were stored: where the ledger that is then there ends, what is counted there, and
 -- that the disk has space to sync it.
-use Rattle.std.proofs.Common.{◌≡◌, ◌≢◌, ℕ, zero, suc, ◌+◌, ◌*◌, List, [], ◌∷◌, ◌++◌, length, get_or, All, refl, sym, ◌∙◌, ap, arith, Option, None, Some, length-append, append_assoc}
+use Rattle.std.proofs.Common.{◌≡◌, ◌≢◌, ℕ, zero, suc, ◌+◌, ◌*◌, List, [], ◌∷◌, ◌++◌, length, get_or, All, refl, sym, ◌∙◌, ap, arith, length-append}
 use Rattle.std.specs.Int.{w16, w32, w64, to_be_bytes}
-use Rattle.std.specs.Io.KnownBytes.{Consumes}
 use Rattle.std.specs.List.{flat_map}
 use Rattle.std.proofs.lemmas.List.Concat.{flat_map-append}
 use Rattle.std.proofs.lemmas.List.Elements.{All-head, All-tail}
@@ -84,11 +83,3 @@ pub spelled_next : (shape : Shape) (records : List Record) (o : Stored) → MayB
 spelled_next shape records o may =
     let one : length (flat_map entry (Object o ∷ [])) ≡ length (entry (Object o)) = length-append (entry (Object o)) [] ∙ omega arith in
     omega (arith, spelled_long shape records (Object o ∷ []), one, entry_long shape records o may)
-
--- ---- the source
-
--- what was taken begins with its front
-pub takes_front : (left rest : Option (List ℕ)) (xs ys : List ℕ) → Consumes left rest (xs ++ ys) → (mid : Option (List ℕ)) × Consumes left mid xs
-takes_front None rest xs ys taken = (None, tt)
-takes_front (Some l) None xs ys taken = absurd taken
-takes_front (Some l) (Some r) xs ys taken = (Some (ys ++ r), taken ∙ append_assoc xs ys r)

@@ -6,11 +6,11 @@ use Rattle.aea_disk.specs.State.{State}
 use Rattle.aea_command.specs.declared.refusal.Refusal.{Refusal}
 use Rattle.aea_command.specs.declared.refusal.Refusal.TheVariants.{NoArchive, LedgerBad, BadName, NameTaken, CatalogFull, HeadDamaged, Full, Occupied}
 use Rattle.aea_command.specs.declared.refusal.Failure.{Failure}
-use Rattle.aea_command.specs.Causes.{Refuses, place_of}
+use Rattle.aea_command.specs.Causes.{RefusesBy, IsDecided, place_of}
 use Rattle.aea_command.specs.Openings.{OpeningCauses, Opens}
-use Rattle.aea_command_store.specs.Put.{PutCauses}
+use Rattle.aea_command_store.specs.Put.{PutCauses, IsByInput}
 use Rattle.aea_command.proofs.Behind.{AreBehindOpening, some_ledger, unopened_refuses}
-use Rattle.aea_command.proofs.Refusing.{refuses_told}
+use Rattle.aea_command.proofs.Refusing.{refuses_by_told}
 use Rattle.aea_records.specs.Laws.{IsSomeLedger}
 
 -- the causes of a put are those of the opening, and others at what is a ledger
@@ -37,7 +37,7 @@ put_behind name files input = record {
 
 -- an archive that was not opened shows why
 pub unopened_put : {T : Type 0} (name : List ℕ) (tells : Type 0) (old new : State) (left : Option (List ℕ)) (f : Failure) → Opens tells old new (Err f)
-    → Refuses {T = T} (tells × IsSome left) (PutCauses name old.files (unwrap_or left [])) (Err f)
+    → RefusesBy {T = T} (IsDecided tells (IsSome left) IsByInput) (PutCauses name old.files (unwrap_or left [])) (Err f)
 unopened_put {T} name tells old new left f opens =
-    refuses_told {T = T} tells (tells × IsSome left) (PutCauses name old.files (unwrap_or left [])) (Err f) (λ told. told.0)
+    refuses_by_told {T = T} (λ why. tells) (IsDecided tells (IsSome left) IsByInput) (PutCauses name old.files (unwrap_or left [])) (Err f) (λ why told. told.0)
     (unopened_refuses tells old new f (PutCauses name old.files (unwrap_or left [])) (put_behind name old.files (unwrap_or left [])) opens)

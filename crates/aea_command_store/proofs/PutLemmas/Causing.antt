@@ -7,7 +7,7 @@ use Rattle.aea_lattice.specs.declared.blocks.BlockId.{BlockId}
 use Rattle.aea_lattice.specs.Facts.{NumbersTellBlocks}
 use Rattle.aea_disk.specs.Files.{Files}
 use Rattle.aea_disk.specs.Frames.{OnlyReads, OnlyWrites}
-use Rattle.aea_disk.specs.State.{State, IsReady}
+use Rattle.aea_disk.specs.State.{State, IsReady, IsRoomy, NeverFails}
 use Rattle.aea_catalog.specs.Names.{IsName, is_name}
 use Rattle.aea_shelf.specs.Writes.{KeepsPadded}
 use Rattle.aea_records.specs.Format.{greatest_objects, nodes_for, limit_when}
@@ -17,16 +17,16 @@ use Rattle.aea_archive.specs.Blocks.{IsBlockIn}
 use Rattle.aea_archive.specs.Lasts.{IsLastParity, IsDamagedLast, IsFirstDamagedLast}
 use Rattle.aea_append.specs.declared.fault.PutFault.{PutFault}
 use Rattle.aea_append.specs.declared.store.Stored.{Stored}
-use Rattle.aea_append.specs.Causes.{IsTaken, MayEnter, IsHeadRefused, HasPutRoom}
+use Rattle.aea_append.specs.Causes.{IsTaken, MayEnter, IsHeadRefused, HasEarlyReason, HasPutRoom}
 use Rattle.aea_append.specs.Puts.{IsWhole, HasPut, MayHaveStored, LeavesLedger}
 use Rattle.aea_append.specs.Taking.{HasPassedRoom, room_left}
 use Rattle.aea_command.specs.declared.refusal.Refusal.{Refusal}
 use Rattle.aea_command.specs.declared.refusal.Refusal.TheVariants.{NoArchive, LedgerBad, BadName, NameTaken, CatalogFull, HeadDamaged, Full, Occupied}
 use Rattle.aea_command.specs.declared.refusal.Failure.{Failure}
-use Rattle.aea_command.specs.Causes.{place_of, IsFirst, IsStopped, Refuses}
+use Rattle.aea_command.specs.Causes.{place_of, IsFirst, IsStopped, RefusesBy, IsDecided}
 use Rattle.aea_command.specs.Failures.{put_failure}
 use Rattle.aea_command.specs.Openings.{Opens}
-use Rattle.aea_command_store.specs.Put.{PutCauses, HasDamagedHead}
+use Rattle.aea_command_store.specs.Put.{PutCauses, IsByInput, HasDamagedHead}
 use Rattle.aea_command.proofs.Behind.{opened_no_opening, some_ledger}
 use Rattle.aea_command_store.proofs.PutLemmas.Opening.{changes}
 use Rattle.aea_command_store.proofs.PutLemmas.Reading.{taken_there, taken_here, many_there, many_here, full_there, full_here, head_there, head_here, one_head, passed_full}
@@ -54,6 +54,7 @@ pub record HasPutting (tells : Type 0) (v w : Opened) (name : List ℕ) (left re
   pub leaves : IsErr r → r ≢ Err put.DiskFault → tells → LeavesLedger mid new
   pub stopped : r ≡ Err put.DiskFault → tells → MayHaveStored v (IsWhole name left rest) mid new
   pub writes : OnlyWrites tells (IsReady mid) (HasPutRoom v name left rest mid) (r ≡ Err put.DiskFault) (changes v) mid new
+  pub refused_in_room : tells → HasEarlyReason v name mid.files → IsReady mid → NeverFails (IsRoomy mid) (r ≢ Err put.DiskFault) mid new
   pub padded : r ≢ Err put.DiskFault → tells → KeepsPadded v.shape (IsBlockIn v.shape v.lattice.n) mid.files new.files
   pub reads : TakesAtMost left rest (room_left v + 1)
 
@@ -70,6 +71,10 @@ name_or_not false = inr (λ e. let h : false ≡ true = e in cc)
 none_or_some : {A : Type 0} → (o : Option A) → (o ≡ None) ⊎ (o ≢ None)
 none_or_some None = inl refl
 none_or_some (Some x) = inr (λ e. let h : Some x ≡ None = e in cc)
+
+told_input : (l : Option (List ℕ)) → IsSome l → (xs : List ℕ) × (l ≡ Some xs)
+told_input None some = let h : false ≡ true = some in cc
+told_input (Some xs) some = (xs, refl)
 
 err_inside : (f g : PutFault) → (let one : Result Stored PutFault = Err f in one ≡ Err g) → f ≡ g
 err_inside f g e = cc
@@ -181,15 +186,15 @@ module _ (reading : HasOneReading) (count : ObjectsAreCounted) (free : NewNamesA
     outside (inr e) = inr (inr (ap answer_of e))
 
     -- where a cause is the first that holds it is the answer, but for faults and lack of memory
-    always_is : (xs : List ℕ) → left ≡ Some xs → (why : Refusal) → IsFirst told_causes why → (answer_of r ≡ Err (failure.Refused why)) ⊎ IsStopped (answer_of r)
-    always_is xs is NoArchive first = absurd (none_of_opening NoArchive (omega arith) first.stands)
-    always_is xs is (LedgerBad at) first = absurd (none_of_opening (LedgerBad at) (omega arith) first.stands)
-    always_is xs is BadName first = inl (ap answer_of (gave.bad_name.1 first.stands.1))
-    always_is xs is NameTaken first =
+    always_is : (why : Refusal) → (IsByInput why → IsSome left) → IsFirst told_causes why → (answer_of r ≡ Err (failure.Refused why)) ⊎ IsStopped (answer_of r)
+    always_is NoArchive never first = absurd (none_of_opening NoArchive (omega arith) first.stands)
+    always_is (LedgerBad at) never first = absurd (none_of_opening (LedgerBad at) (omega arith) first.stands)
+    always_is BadName never first = inl (ap answer_of (gave.bad_name.1 first.stands.1))
+    always_is NameTaken never first =
         inl (ap answer_of (gave.taken.1 (named_by NameTaken (omega arith) first, taken_there reading v (old.files 0) one free name first.stands)))
-    always_is xs is CatalogFull first =
+    always_is CatalogFull never first =
         inl (ap answer_of (gave.many.1 (named_by CatalogFull (omega arith) first, (λ some. some (absent_by CatalogFull (omega arith) first)), many_there reading v (old.files 0) one count first.stands)))
-    always_is xs is (HeadDamaged b) first =
+    always_is (HeadDamaged b) never first =
         let here = first_there b first.stands in
         elim (gave.head_refused told (enters_by (HeadDamaged b) (omega arith) first) b here.damaged) [
           | inl found ↦
@@ -197,7 +202,10 @@ module _ (reading : HasOneReading) (count : ObjectsAreCounted) (free : NewNamesA
               inl (ap answer_of (found.1 ∙ ap (λ (a : BlockId). Err (put.HeadDamaged a)) same))
           | inr out ↦ inr (outside out)
         ]
-    always_is xs is (Full n) first =
+    always_is (Full n) some first =
+        let input = told_input left (some tt) in
+        let xs = input.0 in
+        let is = input.1 in
         let given : unwrap_or left [] ≡ xs = ap (λ (l : Option (List ℕ)). unwrap_or l []) is in
         let there = full_there reading v (old.files 0) one (unwrap_or left []) n first.stands in
         let past : limit_when v.raised < v.lattice.n + nodes_for v.shape (length xs) = subst (λ (l : List ℕ). limit_when v.raised < v.lattice.n + nodes_for v.shape (length l)) given there.1 in
@@ -207,7 +215,7 @@ module _ (reading : HasOneReading) (count : ObjectsAreCounted) (free : NewNamesA
           | inr (inr (inl found)) ↦ absurd (first.none (HeadDamaged found.0) (omega arith) (first_here found.0 ((gave.head found.0 found.1).1 told)))
           | inr (inr (inr out)) ↦ inr (outside out)
         ]
-    always_is xs is why first = absurd first.stands
+    always_is why never first = absurd first.stands
 
     -- the causes of the refusals
     first_as : (one_why why : Refusal) → (let a : Result Stored Failure = Err (failure.Refused one_why) in a ≡ Err (failure.Refused why)) → IsFirst told_causes one_why → IsFirst told_causes why
@@ -216,9 +224,9 @@ module _ (reading : HasOneReading) (count : ObjectsAreCounted) (free : NewNamesA
     not_fault : (f g : PutFault) → r ≡ Err f → (f ≡ g → ⊥) → r ≢ Err g
     not_fault f g is differs e = differs (err_inside f g (sym is ∙ e))
 
-    only_is : (xs : List ℕ) → left ≡ Some xs → (q : Result Stored PutFault) → r ≡ q → (why : Refusal) → answer_of q ≡ Err (failure.Refused why) → IsFirst told_causes why
-    only_is xs is (Ok s) same why e = let h : Ok s ≡ Err (failure.Refused why) = e in cc
-    only_is xs is (Err put.BadName) same why e =
+    only_is : (q : Result Stored PutFault) → r ≡ q → (why : Refusal) → (IsByInput why → IsSome left) → answer_of q ≡ Err (failure.Refused why) → IsFirst told_causes why
+    only_is (Ok s) same why some e = let h : Ok s ≡ Err (failure.Refused why) = e in cc
+    only_is (Err put.BadName) same why some e =
         first_as BadName why e (record {
           stands = (some_ledger (old.files 0) v.shape one.records (has_ledger_of reading v (old.files 0) one), gave.bad_name.0 same);
           none = λ other before cause. none_of_bad other before cause;
@@ -233,35 +241,35 @@ module _ (reading : HasOneReading) (count : ObjectsAreCounted) (free : NewNamesA
         none_of_bad (HeadDamaged b) before cause = omega arith
         none_of_bad (Full n) before cause = omega arith
         none_of_bad other before cause = cause
-    only_is xs is (Err put.NameTaken) same why e =
+    only_is (Err put.NameTaken) same why some e =
         let both = gave.taken.0 same in
         first_as NameTaken why e (record { stands = taken_here reading v (old.files 0) one free name both.1; none = none_of_name both.0 })
-    only_is xs is (Err put.CatalogFull) same why e =
+    only_is (Err put.CatalogFull) same why some e =
         let all = gave.many.0 same in
         first_as CatalogFull why e (record { stands = many_here reading v (old.files 0) one count all.2; none = none_of_taken all.0 all.1 })
-    only_is xs is (Err (put.HeadDamaged b)) same why e =
+    only_is (Err (put.HeadDamaged b)) same why some e =
         let may = enters (not_fault (put.HeadDamaged b) put.BadName same (λ d. cc)) (not_fault (put.HeadDamaged b) put.NameTaken same (λ d. cc)) (not_fault (put.HeadDamaged b) put.CatalogFull same (λ d. cc)) in
         first_as (HeadDamaged b) why e (record { stands = first_here b ((gave.head b same).1 told); none = none_of_entry may })
-    only_is xs is (Err (put.Full n)) same why e =
+    only_is (Err (put.Full n)) same why some e =
         let may = enters (not_fault (put.Full n) put.BadName same (λ d. cc)) (not_fault (put.Full n) put.NameTaken same (λ d. cc)) (not_fault (put.Full n) put.CatalogFull same (λ d. cc)) in
         let full = gave.full n same in
+        let there : Full n ≡ why = (let h : (let a : Result Stored Failure = Err (failure.Refused (Full n)) in a ≡ Err (failure.Refused why)) = e in cc) in
+        let input = told_input left (some (subst IsByInput there tt)) in
+        let xs = input.0 in
+        let is = input.1 in
         let passed = passed_full v xs rest (subst (λ (l : Option (List ℕ)). HasPassedRoom v l rest) is full.1) in
         let given : xs ≡ unwrap_or left [] = sym (ap (λ (l : Option (List ℕ)). unwrap_or l []) is) in
         first_as (Full n) why e (record {
           stands = full_here reading v (old.files 0) one (unwrap_or left []) n full.0 (subst (λ (l : List ℕ). limit_when v.raised < v.lattice.n + nodes_for v.shape (length l)) given passed);
           none = none_of_heads may (gave.full_intact n same told);
         })
-    only_is xs is (Err put.ReadFault) same why e = let h : Err failure.Input ≡ Err (failure.Refused why) = e in cc
-    only_is xs is (Err put.DiskFault) same why e = let h : Err failure.Disk ≡ Err (failure.Refused why) = e in cc
-    only_is xs is (Err put.NoMemory) same why e = let h : Err failure.Memory ≡ Err (failure.Refused why) = e in cc
-
-  told_input : (l : Option (List ℕ)) → IsSome l → (xs : List ℕ) × (l ≡ Some xs)
-  told_input None some = let h : false ≡ true = some in cc
-  told_input (Some xs) some = (xs, refl)
+    only_is (Err put.ReadFault) same why some e = let h : Err failure.Input ≡ Err (failure.Refused why) = e in cc
+    only_is (Err put.DiskFault) same why some e = let h : Err failure.Disk ≡ Err (failure.Refused why) = e in cc
+    only_is (Err put.NoMemory) same why some e = let h : Err failure.Memory ≡ Err (failure.Refused why) = e in cc
 
   -- how the run shows why it is refused
-  pub putting_refuses : Refuses (tells × IsSome left) (PutCauses name old.files (unwrap_or left [])) (answer_of r)
+  pub putting_refuses : RefusesBy (IsDecided tells (IsSome left) IsByInput) (PutCauses name old.files (unwrap_or left [])) (answer_of r)
   putting_refuses = record {
-    only = λ why is told. let input = told_input left told.1 in only_is told.0 input.0 input.1 r refl why is;
-    always = λ why told first. let input = told_input left told.1 in always_is told.0 input.0 input.1 why first;
+    only = λ why is told. only_is told.0 r refl why told.1 is;
+    always = λ why told first. always_is told.0 why told.1 first;
   }

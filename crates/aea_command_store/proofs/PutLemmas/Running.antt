@@ -1,9 +1,13 @@
 -- What holds of a run of `put`, from what its calls ensure.
-use Rattle.std.proofs.Common.{◌≡◌, ◌≢◌, inl, inr, List, [], ◌++◌, refl, sym, ◌∙◌, ap, Option, Some, Result, Ok, Err, None, append-nil, arith, false, true, ℕ, ◌≤◌}
+use Rattle.std.proofs.Common.{◌≡◌, ◌≢◌, ◌⊎◌, inl, inr, List, [], ◌++◌, refl, sym, ◌∙◌, ap, Option, Some, Result, Ok, Err, None, append-nil, arith, false, true, ℕ, ◌≤◌}
 use Rattle.aea_io.specs.Streams.{SinkState}
 use Rattle.aea_disk.specs.State.{State}
-use Rattle.aea_command.specs.Openings.{greatest_sites, Opens}
-use Rattle.aea_command_store.specs.Put.{EndsStored, MayHavePut, Stores, IsStoredLine, KeepsOtherFiles, Puts}
+use Rattle.aea_command.specs.Openings.{greatest_sites, Opens, OpensThen}
+use Rattle.aea_command_store.specs.Growing.{StaysGrown}
+use Rattle.aea_lattice.specs.declared.shape.Shape.{Shape}
+use Rattle.aea_records.specs.Format.{Record}
+use Rattle.aea_archive.specs.Next.{NewObject}
+use Rattle.aea_command_store.specs.Put.{EndsStored, MayHavePut, IsWanting, Stores, IsStoredLine, KeepsOtherFiles, Puts}
 use Rattle.aea_command_store.proofs.Adding.{Agrees, agrees_failed}
 use Rattle.aea_command_store.proofs.Adding.Running.{agrees_printed}
 use Rattle.aea_command.specs.Failures.{Answer}
@@ -12,13 +16,14 @@ use Rattle.std.specs.Io.KnownBytes.{Consumes, IsAtEnd}
 use Rattle.aea_command.specs.declared.refusal.Failure.{Failure}
 use Rattle.aea_command.specs.declared.refusal.Failure.TheVariants as failure
 use Rattle.aea_disk.specs.Files.{Files, KeepsFiles}
-use Rattle.aea_ledger.specs.Stops.{StaysAll}
+use Rattle.aea_ledger.specs.Stops.{HasLedger, StaysAll}
 use Rattle.aea_ledger.specs.Values.{Opened}
 use Rattle.aea_command_store.proofs.CreateLemmas.{IsPrinting, printing_done}
 use Rattle.std.specs.Prelude.{IsSome, unwrap_or}
 use Rattle.aea_command.specs.Printed.{PrintsText}
 use Rattle.std.proofs.lemmas.Bool.{false≢true}
-use Rattle.aea_command.proofs.OpeningCases.{opening_more, images_same, opening_not_output}
+use Rattle.aea_command.proofs.OpeningCases.{opened_more, opening_more, images_same, opening_not_output, opening_not_input}
+use Rattle.aea_command.proofs.Behind.{some_ledger}
 use Rattle.aea_shelf.specs.Places.{padded_home}
 use Rattle.aea_disk.proofs.Moments.{passes_none, where_kept, where_none}
 use Rattle.aea_command.proofs.Texts.{text_unused}
@@ -43,11 +48,22 @@ module _ {T : Type 0} (name : List ℕ) (tells : Type 0) (old new : State) (left
   not_stored : EndsStored {T = T} (Err f) → ⊥
   not_stored = never_stored f (unopened_not_output tells old new f opens)
 
+  -- only a fault of the disk or lack of memory keeps a ledger from being opened
+  wanting : (let one : Result T Failure = Err f in one ≢ Err failure.Disk) → tells → (shape : Shape) (records : List Record) → HasLedger shape records (old.files 0) → (let one : Result T Failure = Err f in one ≡ Err failure.Memory)
+  wanting differs told shape records ledger = elim (opens.complete told (some_ledger (old.files 0) shape records ledger)) [
+    | inl ok ↦ absurd (false≢true ok)
+    | inr (inl e) ↦ absurd (differs (ap Err (opening_same f failure.Disk e)))
+    | inr (inr (inl e)) ↦ absurd (let kind = opens.kinds in opening_not_input kind.0 (sym kind.1 ∙ opening_same f failure.Input e))
+    | inr (inr (inr e)) ↦ ap Err (opening_same f failure.Memory e)
+  ]
+
   pub unopened_stores : Stores {T = T} name tells old new left left (Err f)
   unopened_stores = record {
     archive = λ stored. absurd (not_stored stored);
     stands = λ stored. absurd (not_stored stored);
     stops = λ told shape records ledger. ([], inl refl, inl (opens.reads.crash, opens.reads.contents told));
+    stays = λ differs told shape records ledger.
+        ([], inl refl, inl (record { by = wanting differs told shape records ledger; images = opens.reads.crash; reads = opens.reads.contents told }));
     untouched = λ why early is.
         let differs : f ≢ failure.Disk = λ d. (let h : failure.Refused why ≡ failure.Disk = sym (same_failure (failure.Refused why) is) ∙ d in cc) in (
           record {
@@ -59,10 +75,14 @@ module _ {T : Type 0} (name : List ℕ) (tells : Type 0) (old new : State) (left
           refl,
         );
     leaves = λ g disk output is told. (inl opens.reads.crash, ap (λ (c : Files). c 0) (opens.reads.contents told));
+    sure = λ g disk output memory is told.
+        opened_more old new (StaysAll old.files) (λ c. c 0 ≡ old.files 0) (λ c stays. stays 0)
+        (opens.opened (λ e. disk (sym (same_failure g is) ∙ opening_same f failure.Disk e)) told);
     none = λ told never. (opens.reads.crash, opens.reads.contents told);
     padded = λ differs told shape records ledger a on keep. ap (λ (c : Files). padded_home shape a c) (opens.reads.contents told);
     takes = λ told shape records ledger. ([], Consumes-nil left, omega arith);
     in_room = λ told ready fits. let sure = opens.reads.sure told ready fits.some in (λ is. sure.0 (let same = same_failure failure.Disk is in ap Err same), sure.1);
+    refused_in_room = λ told why early cause ready roomy. let sure = opens.reads.sure told ready roomy in (λ is. sure.0 (let same = same_failure failure.Disk is in ap Err same), sure.1);
   }
 
   pub unopened_rest : KeepsOtherFiles tells (let answer : Result T Failure = Err f in answer ≡ Err failure.Disk) old new
@@ -84,19 +104,30 @@ stores_as {T} {U} name tells old new left rest gave answer agrees does = record 
   stands = λ stored. does.stands (agrees.well stored);
   stops = λ told shape records ledger.
       let was = does.stops told shape records ledger in
-      let may : MayHavePut name left rest answer was.0 = elim was.1 [
-        | inl none ↦ inl none
-        | inr (inl stored, some) ↦ inr (inl (agrees.done stored), some)
-        | inr (inr disk, some) ↦ inr (inr (agrees.back failure.Disk (λ d. cc) disk), some)
+      (was.0, may_as was.0 was.1, was.2);
+  stays = λ differs told shape records ledger.
+      let was = does.stays (λ is. differs (agrees.back failure.Disk (λ d. cc) is)) told shape records ledger in
+      let may : MayHavePut name left rest answer was.0 = may_as was.0 was.1 in
+      let there : IsWanting old new answer ⊎ OpensThen old new (StaysGrown shape records was.0) = elim was.2 [
+        | inl w ↦ inl (record { by = agrees.back failure.Memory (λ d. cc) w.by; images = w.images; reads = w.reads })
+        | inr opened ↦ inr opened
       ] in
-      (was.0, may, was.2);
+      (was.0, may, there);
   untouched = λ why early is. does.untouched why early (agrees.there (failure.Refused why) (λ d. cc) is);
   leaves = λ f disk output is. does.leaves f disk output (agrees.there f output is);
+  sure = λ f disk output memory is. does.sure f disk output memory (agrees.there f output is);
   none = does.none;
   padded = λ differs. does.padded (λ is. differs (agrees.back failure.Disk (λ d. cc) is));
   takes = does.takes;
   in_room = λ told ready fits. (λ is. (does.in_room told ready fits).0 (agrees.there failure.Disk (λ d. cc) is), (does.in_room told ready fits).1);
+  refused_in_room = λ told why early cause ready roomy.
+      let sure = does.refused_in_room told why early cause ready roomy in (λ is. sure.0 (agrees.there failure.Disk (λ d. cc) is), sure.1);
 }
+  where
+    may_as : (objects : List NewObject) → MayHavePut name left rest gave objects → MayHavePut name left rest answer objects
+    may_as objects (inl none) = inl none
+    may_as objects (inr (inl stored, some)) = inr (inl (agrees.done stored), some)
+    may_as objects (inr (inr disk, some)) = inr (inr (agrees.back failure.Disk (λ d. cc) disk), some)
 
 -- nothing was stored
 pub puts_failed : {T : Type 0} (name : List ℕ) (tells : Type 0) (old new : State) (left rest : Option (List ℕ)) (out : SinkState) (f : Failure) → f ≢ failure.Output → Stores {T = T} name tells old new left rest (Err f) → Puts name tells old new left rest out out (Err f)
@@ -133,10 +164,13 @@ nothing_stores name tells s left = record {
   archive = λ stored. absurd (never_stored failure.Memory (λ e. cc) stored);
   stands = λ stored. absurd (never_stored failure.Memory (λ e. cc) stored);
   stops = λ told shape records ledger. ([], inl refl, inl (images_same s, refl));
+  stays = λ differs told shape records ledger. ([], inl refl, inl (record { by = refl; images = images_same s; reads = refl }));
   untouched = λ why early is. let h : Err failure.Memory ≡ Err (failure.Refused why) = is in cc;
   leaves = λ f disk output is told. (inl (images_same s), refl);
+  sure = λ f disk output memory is told. absurd (memory (let h : Err failure.Memory ≡ Err f = is in let same : f ≡ failure.Memory = cc in same));
   none = λ told never. (images_same s, refl);
   padded = λ differs told shape records ledger a on keep. refl;
   takes = λ told shape records ledger. ([], Consumes-nil left, omega arith);
   in_room = λ told ready fits. (λ is. let h : Err failure.Memory ≡ Err failure.Disk = is in cc, refl);
+  refused_in_room = λ told why early cause ready roomy. (λ is. let h : Err failure.Memory ≡ Err failure.Disk = is in cc, refl);
 }

@@ -1,20 +1,25 @@
 -- What becomes of the archive in a run that puts, by what its calls gave.
-use Rattle.std.proofs.Common.{◌≡◌, ◌≢◌, inl, inr, ℕ, ◌+◌, ◌-◌, ◌*◌, ◌≤◌, List, [], ◌∷◌, length, refl, sym, ◌∙◌, ap, subst, arith, Option, Result, Ok, Err, IfOk, IsErr}
-use Rattle.aea_command.specs.Openings.{greatest_sites, OpensThen, OpensOr, IsUntouched}
-use Rattle.aea_command_store.specs.Put.{stored_text, FitsPut, IsEarly, EndsStored, MayHavePut, Stores, IsStoredLine, KeepsOtherFiles}
+use Rattle.std.proofs.Common.{◌≡◌, ◌≢◌, ◌⊎◌, inl, inr, ℕ, ◌+◌, ◌-◌, ◌*◌, ◌≤◌, List, [], ◌∷◌, length, refl, sym, ◌∙◌, ap, subst, arith, Option, Result, Ok, Err, IfOk, IsErr}
+use Rattle.aea_command.specs.Openings.{greatest_sites, opened_at, OpensThen, OpensOr, IsUntouched}
+use Rattle.aea_command_store.specs.Put.{stored_text, FitsPut, IsEarly, EndsStored, MayHavePut, IsWanting, Stores, IsStoredLine, KeepsOtherFiles}
 use Rattle.aea_command.specs.declared.refusal.Refusal.TheVariants.{BadName, NameTaken, CatalogFull, HeadDamaged, Full}
 use Rattle.aea_command.specs.declared.refusal.Failure.{Failure}
 use Rattle.aea_command.specs.declared.refusal.Failure.TheVariants as failure
 use Rattle.aea_disk.specs.Files.{Files, KeepsFiles}
-use Rattle.aea_command_store.specs.Growing.{Grows, HasGrown}
-use Rattle.aea_ledger.specs.Stops.{HasLedger, HasOpening}
-use Rattle.aea_records.specs.Laws.{HasOneReading}
+use Rattle.aea_command_store.specs.Growing.{Grows, StaysGrown, HasGrown}
+use Rattle.aea_ledger.specs.Stops.{HasLedger, IsOpened}
+use Rattle.aea_records.specs.Laws.{HasOneReading, DigestsAreCounted, ObjectsAreCounted, NewNamesAreFree}
+use Rattle.aea_archive.specs.Laws.{SurvivorsStayHonest}
 use Rattle.aea_append.specs.Puts.{IsWhole, HasPut}
 use Rattle.aea_append.specs.Causes.{HasPutRoom, next_end}
 use Rattle.aea_append.specs.Causes as causes
+use Rattle.aea_command_store.proofs.PutLemmas.Refusing.{reason_of}
 use Rattle.aea_command_store.proofs.PutLemmas.Causing.{HasPutting, answer_of}
 use Rattle.aea_command_store.proofs.PutLemmas.Opening.{changes, ledger_left, changed, grows_none, grows_may, grows_stored}
-use Rattle.aea_command.proofs.Opened.{opens_then, opening_then, untouched_by}
+use Rattle.aea_command.proofs.Opened.{opens_then, opening_synced, opening_then, untouched_by}
+use Rattle.aea_command_store.proofs.Adding.{its_records}
+use Rattle.aea_command_store.proofs.FromOpening.{stays_at}
+use Rattle.aea_command_store.proofs.Staying.{stays_none}
 use Rattle.aea_append.specs.declared.fault.PutFault.TheVariants as put
 use Rattle.aea_archive.specs.Cells.{IsBesides}
 use Rattle.aea_archive.proofs.Cells.{changes_none, rows_later}
@@ -37,7 +42,7 @@ use Rattle.std.proofs.lemmas.Bool.{cases_lt, false≢true}
 use Rattle.aea_command.proofs.Reading.{has_ledger_of, by_reading}
 use Rattle.std.proofs.lemmas.Bool.Decides.{nat_tests}
 use Rattle.aea_command.specs.Failures.{put_failure}
-use Rattle.aea_disk.proofs.Frames.{ready_later, reads_none, reads_then_writes, writes_where}
+use Rattle.aea_disk.proofs.Frames.{ready_later, reads_none, reads_then_writes, writes_where, roomy_later}
 use Rattle.sha2.specs.Sha256.{sha256}
 
 same_fault : {T : Type 0} (f g : Failure) → (let one : Result T Failure = Err f in one ≡ Err g) → f ≡ g
@@ -106,7 +111,7 @@ sites_most shape = let h = shape.in_profile in grind (arith, nat_tests)
 not_early : (n : ℕ) → IsEarly (Full n) → ⊥
 not_early n early = omega (arith, early)
 
-module _ (reading : HasOneReading) (tells : Type 0) (v w : Opened) (name : List ℕ) (left rest : Option (List ℕ)) (old mid new : State) (r : Result Stored PutFault)
+module _ (reading : HasOneReading) (counts : DigestsAreCounted) (survivors : SurvivorsStayHonest) (tells : Type 0) (v w : Opened) (name : List ℕ) (left rest : Option (List ℕ)) (old mid new : State) (r : Result Stored PutFault)
     (gave : HasPutting tells v w name left rest old mid new r) where
   late : Passes mid new
   late = gave.writes.time
@@ -140,7 +145,7 @@ module _ (reading : HasOneReading) (tells : Type 0) (v w : Opened) (name : List 
         has.0 ∷ [],
         inr (inl (inl refl), (has.0, has.1, refl)),
         inr (opens_then tells v old mid new gave.opens told (Grows v.shape one.records (has.0 ∷ [])) late
-            (grows_stored tells v old mid new gave.opens told _ _ _ gave.writes w has.0 s one has.2).grows),
+            (grows_stored tells v old mid new gave.opens told _ _ _ gave.writes w has.0 s one has.2).stays.grows),
       )
   stops_by told (Err put.DiskFault) is =
       let may = gave.stopped is told in
@@ -161,6 +166,23 @@ module _ (reading : HasOneReading) (tells : Type 0) (v w : Opened) (name : List 
         inl refl,
         inr (opens_then tells v old mid new gave.opens told (Grows v.shape one.records []) late
             (grows_none tells v old mid new gave.opens told _ _ _ gave.writes reading one (gave.leaves (subst IsErr (sym is) refl) differs told))),
+      )
+
+  -- what is there but after a fault of the disk
+  stays_by : (told : tells) (q : Result Stored PutFault) → r ≡ q → answer_of q ≢ Err failure.Disk
+      → (objects : List NewObject) × MayHavePut name left rest (answer_of q) objects × StaysGrown v.shape (gave.opens.this_one told).records objects (opened_at old new mid.moment) new
+  stays_by told (Ok s) is fine =
+      let has = put_of s is in
+      let one = gave.opens.this_one told in
+      (has.0 ∷ [], inr (inl (inl refl), (has.0, has.1, refl)), (grows_stored tells v old mid new gave.opens told _ _ _ gave.writes w has.0 s one has.2).stays)
+  stays_by told (Err fault) is fine =
+      let one = gave.opens.this_one told in
+      let differs : r ≢ Err put.DiskFault = λ e. fine (ap answer_of (sym is ∙ e)) in (
+        [],
+        inl refl,
+        stays_at v.shape one.records [] old mid new (gave.opens.reads.contents told)
+            (stays_none reading counts survivors tells told v one.records mid new (its_records tells old mid v gave.opens told one) (opening_synced tells v old mid new gave.opens told) _ _ _ gave.writes
+            (gave.leaves (subst IsErr (sym is) refl) differs told) (gave.padded differs told)),
       )
 
   -- refusals before the input is read
@@ -187,7 +209,7 @@ module _ (reading : HasOneReading) (tells : Type 0) (v w : Opened) (name : List 
   untouched_is (Err put.NoMemory) is why early e = let h : Err failure.Memory ≡ Err (failure.Refused why) = e in cc
 
   -- other failures than of the disk leave the ledger
-  leaves_is_kept : (q : Result Stored PutFault) → r ≡ q → (f : Failure) → f ≢ failure.Disk → answer_of q ≡ Err f → tells → HasOpening old new (λ c. c 0 ≡ old.files 0) × (new.files 0 ≡ old.files 0)
+  leaves_is_kept : (q : Result Stored PutFault) → r ≡ q → (f : Failure) → f ≢ failure.Disk → answer_of q ≡ Err f → tells → IsOpened old new (λ c. c 0 ≡ old.files 0) × (new.files 0 ≡ old.files 0)
   leaves_is_kept (Ok s) is f differs e told = let h : Ok s ≡ Err f = e in cc
   leaves_is_kept (Err fault) is f differs e told =
       let apart : r ≢ Err put.DiskFault = λ d. (
@@ -206,7 +228,8 @@ module _ (reading : HasOneReading) (tells : Type 0) (v w : Opened) (name : List 
               (λ told. let one = gave.opens.this_one told in record { records = one.records; ledger = has_ledger_of reading v (old.files 0) one; is = ap limit_when one.has.raised });
           sync = fits.some.sync;
         });
-        ledger = λ bytes taken few.
+        ledger = λ o whole enters intact few.
+            let bytes = o.bytes in
             let end : ℕ = next_end v.end (length name) (nodes_for v.shape (length bytes) * (1 + v.shape.alpha)) in
             adding_later old mid 1 end ledger_same time (fits.behind end (λ told.
             let one = gave.opens.this_one told in
@@ -216,7 +239,9 @@ module _ (reading : HasOneReading) (tells : Type 0) (v w : Opened) (name : List 
               ledger = has_ledger_of reading v (old.files 0) one;
               rest = rest;
               taken = bytes;
-              takes = taken;
+              takes = whole.taken;
+              all = whole.end;
+              named = enters.named;
               fits = omega (arith, few, one.has.lattice.n, ap limit_when one.has.raised);
               place = omega (arith, one.has.end);
             }));
@@ -232,16 +257,22 @@ module _ (reading : HasOneReading) (tells : Type 0) (v w : Opened) (name : List 
       gave.opens.reads gave.writes
 
   -- the effect on the archive
-  pub putting_stores : Stores name tells old new left rest (answer_of r)
-  putting_stores = record {
+  pub putting_stores : ObjectsAreCounted → NewNamesAreFree → Stores name tells old new left rest (answer_of r)
+  putting_stores count free = record {
     archive = λ stored told. let one = gave.opens.this_one told in record { shape = v.shape; records = one.records; end = v.end; ledger = one.ledger };
     stands = has_stands;
     stops = λ told.
         by_reading reading v (old.files 0) (gave.opens.this_one told)
         (λ shape records. (objects : List NewObject) × MayHavePut name left rest (answer_of r) objects × OpensOr old new (Grows shape records objects))
         (stops_by told r refl);
+    stays = λ differs told.
+        by_reading reading v (old.files 0) (gave.opens.this_one told)
+        (λ shape records. (objects : List NewObject) × MayHavePut name left rest (answer_of r) objects × (IsWanting old new (answer_of r) ⊎ OpensThen old new (StaysGrown shape records objects)))
+        (let stays = stays_by told r refl differs in
+        (stays.0, stays.1, inr (opens_then tells v old mid new gave.opens told (StaysGrown v.shape (gave.opens.this_one told).records stays.0) late stays.2)));
     untouched = λ why early is. untouched_is r refl why early is;
-    leaves = λ f disk output is told. leaves_is_kept r refl f disk is told;
+    leaves = λ f disk output is told. let kept = leaves_is_kept r refl f disk is told in (inr kept.0, kept.1);
+    sure = λ f disk output memory is told. (leaves_is_kept r refl f disk is told).0;
     none = λ told never. let one = gave.opens.this_one told in absurd (never (record { shape = v.shape; records = one.records; end = v.end; ledger = one.ledger }));
     padded = λ differs told.
         let one = gave.opens.this_one told in
@@ -256,6 +287,12 @@ module _ (reading : HasOneReading) (tells : Type 0) (v w : Opened) (name : List 
     in_room = λ told ready fits.
         let sure = putting_frame.sure told ready fits in
         (λ is. sure.0 (answer_disk r is), sure.1);
+    refused_in_room = λ told why early cause ready roomy.
+        let first = gave.opens.reads.sure told ready roomy in
+        let same = gave.opens.reads.contents told in
+        let goes = gave.opens.reads.goes told ready (inl roomy) in
+        let put_sure = gave.refused_in_room told (reason_of reading count free tells v name old mid gave.opens told why early cause) (ready_later old mid same goes ready) (roomy_later old mid same gave.opens.reads.time roomy) in
+        (λ is. put_sure.0 (answer_disk r is), put_sure.1 ∙ first.1);
   }
 
   -- the other files stay

@@ -10,14 +10,16 @@ ghost use Rattle.aea_records.specs.Format.{limit_when};
 ghost use Rattle.aea_ledger.specs.Values.{HasSomeRecords, IsThisOne};
 ghost use Rattle.aea_archive.specs.Blocks.{IsBlockIn};
 ghost use Rattle.aea_archive.specs.Cells.{IsBesides, ChangesArchive};
-ghost use Rattle.aea_command.specs.Causes.{Refuses};
+ghost use Rattle.aea_command.specs.declared.refusal.Refusal.{Refusal};
+ghost use Rattle.aea_command.specs.Causes.{IsDecided, Refuses, RefusesBy};
 ghost use Rattle.aea_command.specs.Failures.{NeverClashes};
+ghost use Rattle.aea_command.specs.Openings.{IsAfterOpening};
 ghost use Rattle.aea_command_store.specs.Ingest.{OpenedCauses, IngestCauses, FitsFrames, IngestsOpened, Ingests, end_line};
 ghost use Rattle.aea_command_store.specs.Put.{KeepsOtherFiles};
 
 use crate::put::write_line;
 use aea_append::{Ingest, ingest_one};
-use aea_archive::{lasts_are_values, objects_record_more};
+use aea_archive::{lasts_are_values, objects_record_more, survivors_stay_honest};
 use aea_command::{Failure, Status, open};
 use aea_disk::Disk;
 use aea_envelope::{cells_have_lengths, cells_have_parts};
@@ -63,6 +65,7 @@ fn put_frames<D: Disk, S: Source, O: Sink>(
     requires synced { D.tells → IsSynced (D.state disk.old) }
     ensures ingests { IngestsOpened D.tells ledger.old (D.state disk.old) (D.state disk.new) (S.state input.old).left (S.state input.new).left (O.state out.old) (O.state out.new) result }
     ensures refuses { result ≢ Err Failure.Output → Refuses (D.tells × IsSome (S.state input.old).left) (OpenedCauses (D.state disk.old).files (unwrap_or (S.state input.old).left [])) result }
+    ensures after { (why : Refusal) → result ≡ Err (Failure.Refused why) → IsAfterOpening why }
     ensures words { result ≢ Err Failure.Words }
     ensures clash { NeverClashes result }
     ensures flushed { OnOk result (IsFlushed (O.state out.new)) }
@@ -85,6 +88,7 @@ fn put_frames<D: Disk, S: Source, O: Sink>(
     cells_have_parts();
     lasts_are_values();
     objects_record_more();
+    survivors_stay_honest();
     let mut at: u64 = 0;
     let mut count: u32 = 0;
     while let Ingest::Stored { name, stored } = ingest_one(alloc, ledger, disk, input, &mut at)? {
@@ -105,7 +109,7 @@ pub fn ingest<D: Disk, S: Source, O: Sink>(
     out: &mut O,
 ) -> Result<Status, Failure>
     ensures ingests { Ingests D.tells (D.state disk.old) (D.state disk.new) (S.state input.old).left (S.state input.new).left (O.state out.old) (O.state out.new) result }
-    ensures refuses { result ≢ Err Failure.Output → Refuses (D.tells × IsSome (S.state input.old).left) (IngestCauses (D.state disk.old).files (unwrap_or (S.state input.old).left [])) result }
+    ensures refuses { result ≢ Err Failure.Output → RefusesBy (IsDecided D.tells (IsSome (S.state input.old).left) IsAfterOpening) (IngestCauses (D.state disk.old).files (unwrap_or (S.state input.old).left [])) result }
     ensures words { result ≢ Err Failure.Words }
     ensures clash { NeverClashes result }
     ensures flushed { OnOk result (IsFlushed (O.state out.new)) }

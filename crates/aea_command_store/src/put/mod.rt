@@ -3,18 +3,21 @@
 ghost use Rattle.std.specs.Prelude.{◌≡◌, ◌≢◌, ◌≤◌, IfOk, IsSome, OnOk, unwrap_or, []};
 ghost use Rattle.aea_faults.specs.Faults.{Rose};
 ghost use Rattle.aea_io.specs.Written.{IsFlushed};
-ghost use Rattle.aea_command.specs.Causes.{Refuses};
+ghost use Rattle.aea_command.specs.Causes.{RefusesBy, IsDecided};
 ghost use Rattle.aea_command.specs.Failures.{NeverClashes};
-ghost use Rattle.aea_command_store.specs.Put.{stored_text, PutCauses, IsStoredLine, Stores, Puts, KeepsOtherFiles};
+ghost use Rattle.aea_command_store.specs.Put.{stored_text, PutCauses, IsByInput, IsStoredLine, Stores, Puts, KeepsOtherFiles};
 
 mod line;
 
 use aea_append::{Stored, put};
+use aea_archive::survivors_stay_honest;
 use aea_command::{Failure, Status, open};
 use aea_disk::Disk;
 use aea_io::{Sink, Source};
 use aea_lattice::numbers_tell_blocks;
-use aea_records::{ledgers_have_one_reading, new_names_are_free, objects_are_counted};
+use aea_records::{
+    digests_are_counted, ledgers_have_one_reading, new_names_are_free, objects_are_counted,
+};
 pub(crate) use line::write_line;
 use std::alloc::Global;
 
@@ -27,7 +30,7 @@ fn add_object<D: Disk, S: Source>(
 ) -> Result<Stored, Failure>
     ensures stores { Stores name.now D.tells (D.state disk.old) (D.state disk.new) (S.state input.old).left (S.state input.new).left result }
     ensures line { IfOk result (λ stored. IsStoredLine name.now D.tells ((D.state disk.old).files 0) (S.state input.old).left (S.state input.new).left (stored_text stored.nodes stored.length stored.digest name.now)) }
-    ensures refuses { Refuses (D.tells × IsSome (S.state input.old).left) (PutCauses name.now (D.state disk.old).files (unwrap_or (S.state input.old).left [])) result }
+    ensures refuses { RefusesBy (IsDecided D.tells (IsSome (S.state input.old).left) IsByInput) (PutCauses name.now (D.state disk.old).files (unwrap_or (S.state input.old).left [])) result }
     ensures words { result ≢ Err Failure.Words }
     ensures clash { NeverClashes result }
     ensures output { result ≢ Err Failure.Output }
@@ -40,6 +43,8 @@ fn add_object<D: Disk, S: Source>(
     objects_are_counted();
     new_names_are_free();
     numbers_tell_blocks();
+    digests_are_counted();
+    survivors_stay_honest();
     let mut ledger = open(alloc, disk)?;
     Ok(put(alloc, &mut ledger, disk, name, input)?)
 }
@@ -55,7 +60,7 @@ pub fn put_input<D: Disk, S: Source, O: Sink>(
     out: &mut O,
 ) -> Result<Status, Failure>
     ensures puts { Puts name.now D.tells (D.state disk.old) (D.state disk.new) (S.state input.old).left (S.state input.new).left (O.state out.old) (O.state out.new) result }
-    ensures refuses { Refuses (D.tells × IsSome (S.state input.old).left) (PutCauses name.now (D.state disk.old).files (unwrap_or (S.state input.old).left [])) result }
+    ensures refuses { RefusesBy (IsDecided D.tells (IsSome (S.state input.old).left) IsByInput) (PutCauses name.now (D.state disk.old).files (unwrap_or (S.state input.old).left [])) result }
     ensures words { result ≢ Err Failure.Words }
     ensures clash { NeverClashes result }
     ensures flushed { OnOk result (IsFlushed (O.state out.new)) }

@@ -6,6 +6,7 @@ use Rattle.aea_ledger.specs.declared.fences.FenceFault.{FenceFault}
 use Rattle.aea_ledger.specs.declared.fences.FenceFault.TheVariants as fencing
 use Rattle.aea_command.specs.Failures.{fence_failure}
 use Rattle.aea_command_store.specs.Fence.{next_fence, FenceCauses}
+use Rattle.aea_ledger.proofs.Recording.{fence_records}
 use Rattle.aea_command_store.proofs.Adding.{adds_opening}
 use Rattle.aea_command.proofs.Behind.{unopened_refuses}
 use Rattle.aea_command_store.proofs.FenceLemmas.{fence_behind, unfenced_of, unfenced_adds, unfenced_refuses, unfenced_rest, IsFencedNow, StandsFenced, fenced_adds, fenced_refuses, fenced_rest, fenced_nodes}
@@ -19,7 +20,7 @@ pub returns-in_err-ledger-clause-adds : goal.returns-in_err-ledger-clause-adds
 returns-in_err-ledger-clause-adds g c =
     let f = c.in_err-ledger.field-0.0 in
     rw (err_with c.from_residual.result f c.from_residual.ensures.1)
-    (adds_opening next_fence g.D.Disk.tells (g.D.Disk.state c.args.disk.now) (g.D.Disk.state c.open.new.disk) f c.in_err-ledger.ensures)
+    (adds_opening next_fence (fence_records c.blocks_are_inside.ensures c.records_are_few.ensures) g.D.Disk.tells (g.D.Disk.state c.args.disk.now) (g.D.Disk.state c.open.new.disk) f c.in_err-ledger.ensures)
 
 pub returns-in_err-ledger-clause-refuses : goal.returns-in_err-ledger-clause-refuses
 returns-in_err-ledger-clause-refuses g c =
@@ -38,7 +39,7 @@ returns-in_err-append_fence-clause-adds g c =
     let gave = c.in_err-append_fence.ensures in
     let unfenced = unfenced_of g.D.Disk.tells v fault old mid new c.in_ok-ledger.ensures gave.already gave.many (λ differs. ap g.D.Disk.state (gave.unchanged refl differs).1) gave.leaves gave.writes in
     rw (err_with c.from_residual-in_err-append_fence.result (fence_failure fault) c.from_residual-in_err-append_fence.ensures.1)
-    (unfenced_adds c.ledgers_have_one_reading.ensures c.fences_may_follow.ensures g.D.Disk.tells v fault old mid new unfenced)
+    (unfenced_adds c.ledgers_have_one_reading.ensures c.fences_may_follow.ensures c.blocks_are_inside.ensures c.records_are_few.ensures g.D.Disk.tells v fault old mid new unfenced)
 
 pub returns-in_err-append_fence-clause-refuses : goal.returns-in_err-append_fence-clause-refuses
 returns-in_err-append_fence-clause-refuses g c =

@@ -32,7 +32,7 @@ pub returns-clause-refuses : goal.returns-clause-refuses
 returns-clause-refuses g c output =
     ingests_refuse c.ledgers_have_one_reading.ensures g.D.Disk.tells c.in_ok-ledger.ledger (g.S.Source.state c.args.input.now).left (g.S.Source.state c.put_frames.new.input).left
     (g.D.Disk.state c.args.disk.now) (g.D.Disk.state c.open.new.disk) (g.D.Disk.state c.put_frames.new.disk) (g.O.Sink.state c.args.out.now) (g.O.Sink.state c.put_frames.new.out) c.put_frames.result
-    c.in_ok-ledger.ensures c.put_frames.ensures.writes (c.put_frames.ensures.refuses output)
+    c.in_ok-ledger.ensures c.put_frames.ensures.writes (c.put_frames.ensures.refuses output) c.put_frames.ensures.after
 
 pub returns-clause-rest : goal.returns-clause-rest
 returns-clause-rest g c =

@@ -11,7 +11,7 @@ use Rattle.aea_command.specs.Failures.{Answer, ingest_failure}
 use Rattle.aea_command.proofs.OpeningCases.{err_with}
 use Rattle.aea_command_store.proofs.IngestLemmas.Answering.{HasTried, done_refuses, fault_refuses, fault_ends}
 use Rattle.aea_command_store.proofs.IngestLemmas.Going.{gone_none}
-use Rattle.aea_command_store.proofs.IngestLemmas.Looping.{this_now, goes_on, breaks_off, count_more, few_more, exact_more, at_most_more, writes_by, fails_by, ends_by, cut_by, writes_then, ingest_not_words, ingest_no_clash, ingest_no_output, ingest_disk, disk_ingest, ingest_input, input_ingest, not_read}
+use Rattle.aea_command_store.proofs.IngestLemmas.Looping.{this_now, goes_on, breaks_off, count_more, few_more, exact_more, at_most_more, writes_by, fails_by, ends_by, cut_by, writes_then, ingest_after, ingest_not_words, ingest_no_clash, ingest_no_output, ingest_disk, disk_ingest, ingest_input, input_ingest, not_read}
 use Rattle.aea_command_store.proofs.IngestLemmas.Telling.{counted_none}
 use Rattle.aea_command_store.proofs.ingest.put_frames.Given.{Over}
 use Rattle.aea_command_store.proofs.ingest.put_frames.Goals.{After-from_residual}
@@ -95,7 +95,8 @@ loop-name-preserved g c =
       objects = inv.objects ++ has.0 ∷ [];
       gone = goes_on c.ledgers_have_one_reading.ensures c.cells_have_lengths.ensures c.cells_have_parts.ensures c.lasts_are_values.ensures c.objects_record_more.ensures c.digests_are_counted.ensures
           tells (c.loop-name.disk ≡ c.args.disk.now) v w c.requires.opened left rest old now before after inv.objects inv.gone (λ e. ap g.D.Disk.state e) c.requires.this
-          w2 rest2 next c.in-Stored.name c.in-Stored.stored (let r : Result Ingest IngestFault = Ok c.in_ok-name.field-0 in r ≡ Err ingest.DiskFault) has gave.writes (g.met.D.Disk.ended_taken c.loop-name.disk) (c.ingest_one.new.disk ≡ c.args.disk.now) (g.O.Sink.state c.write_line.new.out) (λ e. let h : (let r : Result Ingest IngestFault = Ok c.in_ok-name.field-0 in r ≡ Err ingest.DiskFault) = e in cc)
+          w2 rest2 next c.in-Stored.name c.in-Stored.stored (let r : Result Ingest IngestFault = Ok c.in_ok-name.field-0 in r ≡ Err ingest.DiskFault) has gave.writes c.objects_are_counted.ensures c.new_names_are_free.ensures (g.met.D.Disk.ended_taken c.loop-name.disk) (c.ingest_one.new.disk ≡ c.args.disk.now) (g.O.Sink.state c.write_line.new.out) (λ e. let h : (let r : Result Ingest IngestFault = Ok c.in_ok-name.field-0 in r ≡ Err ingest.DiskFault) = e in cc)
+          (gave.padded (λ e. let h : (let r : Result Ingest IngestFault = Ok c.in_ok-name.field-0 in r ≡ Err ingest.DiskFault) = e in cc))
           (prints_as tt (rw c.bytes.ensures at c.in_ok-write_line.ensures.prints));
       counted = count_more c.ledgers_have_one_reading.ensures c.cells_have_lengths.ensures c.cells_have_parts.ensures c.lasts_are_values.ensures c.objects_record_more.ensures c.digests_are_counted.ensures
           tells (c.loop-name.disk ≡ c.args.disk.now) v w c.requires.opened left rest old now before after inv.objects inv.gone (λ e. ap g.D.Disk.state e) c.requires.this
@@ -158,7 +159,7 @@ returns-in_err-name-clause-ingests g c =
     rw (err_with c.from_residual.result (ingest_failure c.in_err-name.field-0.0) c.from_residual.ensures.1)
     (fails_by c.ledgers_have_one_reading.ensures c.cells_have_lengths.ensures c.cells_have_parts.ensures c.lasts_are_values.ensures c.objects_record_more.ensures c.digests_are_counted.ensures
     tells (c.loop-name.disk ≡ c.args.disk.now) v w c.requires.opened left rest old now before after inv.objects inv.gone (λ e. ap g.D.Disk.state e) c.requires.this
-    fault next rest2 (let r : Result Ingest IngestFault = Err fault in r ≡ Err ingest.DiskFault) gave.writes gave.refused_leaves gave.stopped
+    fault next rest2 (let r : Result Ingest IngestFault = Err fault in r ≡ Err ingest.DiskFault) c.survivors_stay_honest.ensures gave.writes gave.refused_leaves gave.stopped gave.padded
     (fault_ends c.ledgers_have_one_reading.ensures c.objects_are_counted.ensures c.new_names_are_free.ensures c.numbers_tell_blocks.ensures c.cells_have_lengths.ensures c.cells_have_parts.ensures c.digests_are_counted.ensures
     tells (c.loop-name.disk ≡ c.args.disk.now) v w left rest old now before after inv.objects inv.gone (λ e. ap g.D.Disk.state e) c.requires.this rest2 c.loop-name.at c.ingest_one.new.at inv.exact fault (tried g c)))
 
@@ -184,6 +185,10 @@ pub returns-in_err-name-clause-clash : goal.returns-in_err-name-clause-clash
 returns-in_err-name-clause-clash g c =
     rw (err_with c.from_residual.result (ingest_failure c.in_err-name.field-0.0) c.from_residual.ensures.1) (ingest_no_clash c.in_err-name.field-0.0)
 
+pub returns-in_err-name-clause-after : goal.returns-in_err-name-clause-after
+returns-in_err-name-clause-after g c =
+    rw (err_with c.from_residual.result (ingest_failure c.in_err-name.field-0.0) c.from_residual.ensures.1) (ingest_after c.in_err-name.field-0.0)
+
 pub returns-in_err-name-clause-writes : goal.returns-in_err-name-clause-writes
 returns-in_err-name-clause-writes g c =
     let tells = g.D.Disk.tells in
@@ -199,7 +204,7 @@ returns-in_err-name-clause-writes g c =
     rw (err_with c.from_residual.result (ingest_failure c.in_err-name.field-0.0) c.from_residual.ensures.1)
     (writes_by c.ledgers_have_one_reading.ensures c.cells_have_lengths.ensures c.cells_have_parts.ensures c.lasts_are_values.ensures c.objects_record_more.ensures c.digests_are_counted.ensures
     tells (c.loop-name.disk ≡ c.args.disk.now) v w c.requires.opened left rest old now before after inv.objects inv.gone (λ e. ap g.D.Disk.state e) c.requires.this
-    (g.met.D.Disk.ended_taken c.loop-name.disk) (g.D.Disk.state c.ingest_one.new.disk) (let r : Result Ingest IngestFault = Err c.in_err-name.field-0.0 in r ≡ Err ingest.DiskFault) (let a : Answer = Err (ingest_failure c.in_err-name.field-0.0) in a ≡ Err failure.Disk)
+    c.objects_are_counted.ensures c.new_names_are_free.ensures (g.met.D.Disk.ended_taken c.loop-name.disk) (g.D.Disk.state c.ingest_one.new.disk) (let r : Result Ingest IngestFault = Err c.in_err-name.field-0.0 in r ≡ Err ingest.DiskFault) (let a : Answer = Err (ingest_failure c.in_err-name.field-0.0) in a ≡ Err failure.Disk)
     (ingest_disk c.in_err-name.field-0.0) (disk_ingest c.in_err-name.field-0.0) c.in_err-name.ensures.writes)
 
 pub returns-in_err-name-clause-input_cause : goal.returns-in_err-name-clause-input_cause
@@ -240,7 +245,8 @@ returns-in_err-write_line-clause-ingests g c =
     rw (err_with c.from_residual-in_err-write_line.result failure.Output c.from_residual-in_err-write_line.ensures.1)
     (breaks_off c.ledgers_have_one_reading.ensures c.cells_have_lengths.ensures c.cells_have_parts.ensures c.lasts_are_values.ensures c.objects_record_more.ensures c.digests_are_counted.ensures
     tells (c.loop-name.disk ≡ c.args.disk.now) v w c.requires.opened left rest old now before after inv.objects inv.gone (λ e. ap g.D.Disk.state e) c.requires.this
-    w2 rest2 next c.in-Stored.name c.in-Stored.stored (let r : Result Ingest IngestFault = Ok c.in_ok-name.field-0 in r ≡ Err ingest.DiskFault) has gave.writes (g.O.Sink.state c.write_line.new.out) c.in_err-write_line.field-0.0 (rw c.bytes.ensures at c.in_err-write_line.ensures.prints))
+    w2 rest2 next c.in-Stored.name c.in-Stored.stored (let r : Result Ingest IngestFault = Ok c.in_ok-name.field-0 in r ≡ Err ingest.DiskFault) has gave.writes (g.O.Sink.state c.write_line.new.out) c.in_err-write_line.field-0.0
+    (gave.padded (λ e. let h : (let r : Result Ingest IngestFault = Ok c.in_ok-name.field-0 in r ≡ Err ingest.DiskFault) = e in cc)) (rw c.bytes.ensures at c.in_err-write_line.ensures.prints))
 
 pub returns-in_err-write_line-clause-refuses : goal.returns-in_err-write_line-clause-refuses
 returns-in_err-write_line-clause-refuses g c output =
@@ -261,7 +267,7 @@ returns-in_err-write_line-clause-writes g c =
     rw (err_with c.from_residual-in_err-write_line.result failure.Output c.from_residual-in_err-write_line.ensures.1)
     (writes_by c.ledgers_have_one_reading.ensures c.cells_have_lengths.ensures c.cells_have_parts.ensures c.lasts_are_values.ensures c.objects_record_more.ensures c.digests_are_counted.ensures
     tells (c.loop-name.disk ≡ c.args.disk.now) v w c.requires.opened left rest old now before after inv.objects inv.gone (λ e. ap g.D.Disk.state e) c.requires.this
-    (g.met.D.Disk.ended_taken c.loop-name.disk) (g.D.Disk.state c.ingest_one.new.disk) (let r : Result Ingest IngestFault = Ok c.in_ok-name.field-0 in r ≡ Err ingest.DiskFault) (let a : Answer = Err failure.Output in a ≡ Err failure.Disk)
+    c.objects_are_counted.ensures c.new_names_are_free.ensures (g.met.D.Disk.ended_taken c.loop-name.disk) (g.D.Disk.state c.ingest_one.new.disk) (let r : Result Ingest IngestFault = Ok c.in_ok-name.field-0 in r ≡ Err ingest.DiskFault) (let a : Answer = Err failure.Output in a ≡ Err failure.Disk)
     (λ e. let h : (let a : Answer = Err failure.Output in a ≡ Err failure.Disk) = e in absurd (cc))
     (λ e. let h : (let r : Result Ingest IngestFault = Ok c.in_ok-name.field-0 in r ≡ Err ingest.DiskFault) = e in absurd (cc)) c.in_ok-name.ensures.writes)
 
@@ -296,7 +302,7 @@ returns-in_err-write_end-clause-ingests g c =
     rw (err_with c.from_residual-in_err-write_end.result failure.Output c.from_residual-in_err-write_end.ensures.1)
     (cut_by c.ledgers_have_one_reading.ensures c.cells_have_lengths.ensures c.cells_have_parts.ensures c.lasts_are_values.ensures c.objects_record_more.ensures c.digests_are_counted.ensures
     tells (c.loop-name.disk ≡ c.args.disk.now) v w c.requires.opened left rest old now before after inv.objects inv.gone (λ e. ap g.D.Disk.state e) c.requires.this
-    next unchanged rest2 (g.O.Sink.state c.write_end.new.out) c.loop-name.count c.in_err-write_end.field-0.0 inv.counted c.in_err-write_end.ensures.prints)
+    end.0 next unchanged rest2 (g.O.Sink.state c.write_end.new.out) c.loop-name.count c.in_err-write_end.field-0.0 inv.counted c.in_err-write_end.ensures.prints)
 
 pub returns-in_err-write_end-clause-writes : goal.returns-in_err-write_end-clause-writes
 returns-in_err-write_end-clause-writes g c =

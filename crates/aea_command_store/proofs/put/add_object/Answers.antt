@@ -54,11 +54,12 @@ returns-in_err-put-clause-stores g c =
       leaves = gave.refused_leaves;
       stopped = gave.stopped;
       writes = gave.writes;
+      refused_in_room = gave.refused_in_room;
       padded = gave.padded;
       reads = gave.reads;
     } in
     rw (err_with c.from_residual-in_err-put.result (put_failure fault) c.from_residual-in_err-put.ensures.1)
-    (putting_stores c.ledgers_have_one_reading.ensures g.D.Disk.tells v w c.args.name.now left rest old mid new (Err fault) putting)
+    (putting_stores c.ledgers_have_one_reading.ensures c.digests_are_counted.ensures c.survivors_stay_honest.ensures g.D.Disk.tells v w c.args.name.now left rest old mid new (Err fault) putting c.objects_are_counted.ensures c.new_names_are_free.ensures)
 
 pub returns-in_err-put-clause-refuses : goal.returns-in_err-put-clause-refuses
 returns-in_err-put-clause-refuses g c =
@@ -87,6 +88,7 @@ returns-in_err-put-clause-refuses g c =
       leaves = gave.refused_leaves;
       stopped = gave.stopped;
       writes = gave.writes;
+      refused_in_room = gave.refused_in_room;
       padded = gave.padded;
       reads = gave.reads;
     } in
@@ -120,11 +122,12 @@ returns-in_err-put-clause-rest g c =
       leaves = gave.refused_leaves;
       stopped = gave.stopped;
       writes = gave.writes;
+      refused_in_room = gave.refused_in_room;
       padded = gave.padded;
       reads = gave.reads;
     } in
     rw (err_with c.from_residual-in_err-put.result (put_failure fault) c.from_residual-in_err-put.ensures.1)
-    (putting_rest c.ledgers_have_one_reading.ensures g.D.Disk.tells v w c.args.name.now left rest old mid new (Err fault) putting)
+    (putting_rest c.ledgers_have_one_reading.ensures c.digests_are_counted.ensures c.survivors_stay_honest.ensures g.D.Disk.tells v w c.args.name.now left rest old mid new (Err fault) putting)
 
 pub returns-in_err-put-clause-input_still : goal.returns-in_err-put-clause-input_still
 returns-in_err-put-clause-input_still g c =
@@ -159,10 +162,11 @@ returns-clause-stores g c =
       leaves = gave.refused_leaves;
       stopped = gave.stopped;
       writes = gave.writes;
+      refused_in_room = gave.refused_in_room;
       padded = gave.padded;
       reads = gave.reads;
     } in
-    putting_stores c.ledgers_have_one_reading.ensures g.D.Disk.tells v w c.args.name.now left rest old mid new (Ok value) putting
+    putting_stores c.ledgers_have_one_reading.ensures c.digests_are_counted.ensures c.survivors_stay_honest.ensures g.D.Disk.tells v w c.args.name.now left rest old mid new (Ok value) putting c.objects_are_counted.ensures c.new_names_are_free.ensures
 
 pub returns-clause-line : goal.returns-clause-line
 returns-clause-line g c =
@@ -191,10 +195,11 @@ returns-clause-line g c =
       leaves = gave.refused_leaves;
       stopped = gave.stopped;
       writes = gave.writes;
+      refused_in_room = gave.refused_in_room;
       padded = gave.padded;
       reads = gave.reads;
     } in
-    putting_line c.ledgers_have_one_reading.ensures g.D.Disk.tells v w c.args.name.now left rest old mid new (Ok value) putting value refl
+    putting_line c.ledgers_have_one_reading.ensures c.digests_are_counted.ensures c.survivors_stay_honest.ensures g.D.Disk.tells v w c.args.name.now left rest old mid new (Ok value) putting value refl
 
 pub returns-clause-refuses : goal.returns-clause-refuses
 returns-clause-refuses g c =
@@ -223,6 +228,7 @@ returns-clause-refuses g c =
       leaves = gave.refused_leaves;
       stopped = gave.stopped;
       writes = gave.writes;
+      refused_in_room = gave.refused_in_room;
       padded = gave.padded;
       reads = gave.reads;
     } in
@@ -255,7 +261,8 @@ returns-clause-rest g c =
       leaves = gave.refused_leaves;
       stopped = gave.stopped;
       writes = gave.writes;
+      refused_in_room = gave.refused_in_room;
       padded = gave.padded;
       reads = gave.reads;
     } in
-    putting_rest c.ledgers_have_one_reading.ensures g.D.Disk.tells v w c.args.name.now left rest old mid new (Ok value) putting
+    putting_rest c.ledgers_have_one_reading.ensures c.digests_are_counted.ensures c.survivors_stay_honest.ensures g.D.Disk.tells v w c.args.name.now left rest old mid new (Ok value) putting

@@ -4,10 +4,10 @@ use Rattle.aea_command.specs.declared.refusal.Failure.{Failure}
 use Rattle.aea_command.specs.declared.refusal.Failure.TheVariants as failure
 use Rattle.aea_command.specs.declared.status.Status.TheVariants.{Done}
 use Rattle.aea_command_store.specs.Put.{stored_text}
-use Rattle.aea_command_store.proofs.Adding.Running.{printing_refuses}
+use Rattle.aea_command_store.proofs.Adding.Running.{printing_refuses_by}
 use Rattle.aea_command.proofs.OpeningCases.{err_with}
 use Rattle.aea_command_store.proofs.PutLemmas.Running.{puts_failed, puts_stored}
-use Rattle.aea_command.proofs.Refusing.{refuses_as}
+use Rattle.aea_command.proofs.Refusing.{refuses_by_as}
 use Rattle.aea_command.proofs.Texts.{text_printed, text_broken}
 use Rattle.aea_command_store.proofs.put.put_input.Goals as goal
 
@@ -25,7 +25,7 @@ pub returns-in_err-stored-clause-refuses : goal.returns-in_err-stored-clause-ref
 returns-in_err-stored-clause-refuses g c =
     let f = c.in_err-stored.field-0.0 in
     rw (err_with c.from_residual.result f c.from_residual.ensures.1)
-    (refuses_as _ _ f (Err f) refl c.in_err-stored.ensures.refuses)
+    (refuses_by_as _ _ f (Err f) refl c.in_err-stored.ensures.refuses)
 
 pub returns-in_err-write_line-clause-puts : goal.returns-in_err-write_line-clause-puts
 returns-in_err-write_line-clause-puts g c =
@@ -38,7 +38,7 @@ returns-in_err-write_line-clause-puts g c =
 pub returns-in_err-write_line-clause-refuses : goal.returns-in_err-write_line-clause-refuses
 returns-in_err-write_line-clause-refuses g c =
     rw (err_with c.from_residual-in_err-write_line.result failure.Output c.from_residual-in_err-write_line.ensures.1)
-    (printing_refuses _ _ c.in_ok-stored.stored (Err failure.Output) (inr refl) c.in_ok-stored.ensures.refuses)
+    (printing_refuses_by _ _ c.in_ok-stored.stored (Err failure.Output) (inr refl) c.in_ok-stored.ensures.refuses)
 
 pub returns-clause-puts : goal.returns-clause-puts
 returns-clause-puts g c =
@@ -49,4 +49,4 @@ returns-clause-puts g c =
 
 pub returns-clause-refuses : goal.returns-clause-refuses
 returns-clause-refuses g c =
-    printing_refuses _ _ c.in_ok-stored.stored (Ok Done) (inl refl) c.in_ok-stored.ensures.refuses
+    printing_refuses_by _ _ c.in_ok-stored.stored (Ok Done) (inl refl) c.in_ok-stored.ensures.refuses

@@ -6,6 +6,7 @@ use Rattle.aea_ledger.specs.declared.raise.UpgradeFault.{UpgradeFault}
 use Rattle.aea_ledger.specs.declared.raise.UpgradeFault.TheVariants as raising
 use Rattle.aea_command.specs.Failures.{upgrade_failure}
 use Rattle.aea_command_store.specs.Upgrade.{next_raise, UpgradeCauses}
+use Rattle.aea_ledger.proofs.Recording.{raise_records}
 use Rattle.aea_command_store.proofs.Adding.{adds_opening}
 use Rattle.aea_command.proofs.Behind.{unopened_refuses}
 use Rattle.aea_command_store.proofs.UpgradeLemmas.{upgrade_behind, IsUnraised, unraised_adds, unraised_refuses, unraised_rest, IsRaisedNow, raised_adds, raised_refuses, raised_rest}
@@ -25,7 +26,7 @@ pub returns-in_err-ledger-clause-adds : goal.returns-in_err-ledger-clause-adds
 returns-in_err-ledger-clause-adds g c =
     let f = c.in_err-ledger.field-0.0 in
     rw (err_with c.from_residual.result f c.from_residual.ensures.1)
-    (adds_opening next_raise g.D.Disk.tells (g.D.Disk.state c.args.disk.now) (g.D.Disk.state c.open.new.disk) f c.in_err-ledger.ensures)
+    (adds_opening next_raise raise_records g.D.Disk.tells (g.D.Disk.state c.args.disk.now) (g.D.Disk.state c.open.new.disk) f c.in_err-ledger.ensures)
 
 pub returns-in_err-ledger-clause-refuses : goal.returns-in_err-ledger-clause-refuses
 returns-in_err-ledger-clause-refuses g c =

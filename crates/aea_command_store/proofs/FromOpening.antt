@@ -1,0 +1,58 @@
+-- A stretch from the end of the opening, as one of the whole run.
+use Rattle.std.proofs.Common.{◌≡◌, ℕ, List, sym, ◌∙◌, ap, subst}
+use Rattle.aea_lattice.specs.declared.shape.Shape.{Shape}
+use Rattle.aea_disk.specs.Files.{Files}
+use Rattle.aea_disk.specs.State.{State}
+use Rattle.aea_records.specs.Format.{Record, digests_of}
+use Rattle.aea_archive.specs.Data.{AreSurvivorsHonest, IsDamagePlain}
+use Rattle.aea_archive.specs.Lasts.{AreLastsAtHome, AreLastsHonest}
+use Rattle.aea_archive.specs.Next.{NewObject}
+use Rattle.aea_command.specs.Openings.{opened_at}
+use Rattle.aea_command_store.specs.Growing.{LeavesArchive, committed_all, Grows, StaysGrown, HasGrown}
+use Rattle.aea_command_store.specs.Ingest.{GrowsSurely}
+use Rattle.aea_command_store.proofs.PutLemmas.Opening.{adds_at}
+
+pub grows_at : (shape : Shape) (records : List Record) (objects : List NewObject) (old mid new : State) → mid.files ≡ old.files → Grows shape records objects mid new → Grows shape records objects (opened_at old new mid.moment) new
+grows_at shape records objects old mid new same grows = record {
+  lattice = grows.lattice;
+  is_lattice = grows.is_lattice;
+  longer = grows.longer;
+  payload = grows.payload;
+  homes = λ some. subst (λ (c : Files). AreLastsAtHome shape grows.lattice grows.payload c) same (grows.homes some);
+  lasts_wide = grows.lasts_wide;
+  bytes = grows.bytes;
+  added = grows.added;
+  next = grows.next;
+  adds = adds_at shape records grows.added grows.payload old mid new grows.adds;
+  leaves = λ t c from to here. subst (λ (d : Files). LeavesArchive shape records d c) same (grows.leaves t c from to here);
+  reads = subst (λ (d : Files). LeavesArchive shape records d new.files) same grows.reads;
+  records_more = λ datas valid recorded honest. grows.records_more datas valid recorded (subst (λ (c : Files). AreLastsHonest shape grows.lattice (digests_of records) datas c) (sym same) honest);
+}
+
+pub stays_at : (shape : Shape) (records : List Record) (objects : List NewObject) (old mid new : State) → mid.files ≡ old.files → StaysGrown shape records objects mid new → StaysGrown shape records objects (opened_at old new mid.moment) new
+unfolding grows_at
+stays_at shape records objects old mid new same grown = record {
+  grows = grows_at shape records objects old mid new same grown.grows;
+  images = grown.images;
+  ledger = grown.ledger;
+  blocks = grown.blocks;
+  lasts = grown.lasts;
+  wide = grown.wide;
+  cells = grown.cells;
+  honest = λ datas recorded honest plain.
+      grown.honest datas recorded
+      (subst (λ (c : Files). AreSurvivorsHonest shape grown.grows.lattice (digests_of records) datas c) (sym same) honest)
+      (subst (λ (c : Files). IsDamagePlain shape grown.grows.lattice (digests_of records) c) (sym same) plain);
+}
+
+pub grown_at : (shape : Shape) (records : List Record) (objects : List NewObject) (old mid new : State) → mid.files ≡ old.files → HasGrown shape records objects mid new → HasGrown shape records objects (opened_at old new mid.moment) new
+unfolding stays_at grows_at
+grown_at shape records objects old mid new same grown = record {
+  stays = stays_at shape records objects old mid new same grown.stays;
+  exactly = grown.exactly ∙ ap (λ (c : Files). committed_all shape records (c 0) grown.stays.grows.added) same;
+  synced = grown.synced;
+}
+
+pub surely_at : (shape : Shape) (records : List Record) (objects : List NewObject) (k : ℕ) (old mid new : State) → mid.files ≡ old.files → GrowsSurely shape records objects k mid new → GrowsSurely shape records objects k (opened_at old new mid.moment) new
+unfolding grows_at
+surely_at shape records objects k old mid new same surely = record { grows = grows_at shape records objects old mid new same surely.grows; first = surely.first; reads = surely.reads }

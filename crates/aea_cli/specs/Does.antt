@@ -1,5 +1,5 @@
 -- The table of the commands: what each touches, why it is refused, and what a run of it does.
-use Rattle.std.specs.Prelude.{◌≡◌, ◌≢◌, ◌≤◌, ℕ, Bool, List, [], ◌++◌, length, Err, IsSome, unwrap_or}
+use Rattle.std.specs.Prelude.{◌≡◌, ◌≢◌, ◌≤◌, ℕ, Bool, List, [], Err, IsSome, unwrap_or}
 use Rattle.aea_disk.specs.Files.{KeepsFiles}
 use Rattle.aea_disk.specs.State.{IsReady, IsRoomy, KeepsWhere}
 use Rattle.aea_lattice.specs.declared.blocks.BlockId.{BlockId}
@@ -21,10 +21,10 @@ use Rattle.aea_command_read.specs.Scrub.{Scrubs, TellsIntact, scrub_text}
 use Rattle.aea_command_store.specs.Adding.{FitsRecord}
 use Rattle.aea_command_store.specs.Fence.{Fences, FenceCauses, next_fence, fence_line}
 use Rattle.aea_command_store.specs.Upgrade.{Upgrades, UpgradeCauses, next_raise, upgraded_line}
-use Rattle.aea_command.specs.Openings.{greatest_sites, OpeningCauses}
-use Rattle.aea_command_store.specs.Put.{Puts, PutCauses, FitsPut, stored_line, object_of}
-use Rattle.aea_command_store.specs.Ingest.{Ingests, IngestCauses, FitsIngest, frames_of, stored_lines, end_line}
-use Rattle.aea_archive.specs.Next.{NewObject}
+use Rattle.aea_command.specs.Openings.{greatest_sites, OpeningCauses, IsAfterOpening}
+use Rattle.aea_command_store.specs.Put as put
+use Rattle.aea_command_store.specs.Put.{Puts, PutCauses, FitsPutUnlessRefused, stored_line, object_of}
+use Rattle.aea_command_store.specs.Ingest.{Ingests, IngestCauses, FitsIngest, FitsLines}
 use Rattle.aea_catalog.specs.Catalogs.{Placed}
 use Rattle.aea_command_read.specs.Get.{GetsNamed, GetCauses, HasObject, FitsBytes}
 use Rattle.aea_command_read.specs.List.{ListsObjects, IsListOf}
@@ -33,7 +33,7 @@ use Rattle.aea_command_loss.specs.Explain.{ExplainsOrNot, ExplainCauses, IsExpla
 use Rattle.aea_command_loss.specs.Verify.{Verifies, VerifyCauses, IsVerdictText}
 use Rattle.aea_rehearse.specs.declared.rehearsal.Rehearsal.{Rehearsal}
 use Rattle.aea_command_loss.specs.Rehearse.{Rehearses, IsRehearsalOf, rehearsal_line}
-use Rattle.aea_command.specs.Causes.{Refuses}
+use Rattle.aea_command.specs.Causes.{RefusesBy, IsDecided}
 use Rattle.aea_command.specs.Failures.{Answer, NeverClashes}
 use Rattle.aea_command.specs.Printed.{FitsText}
 use Rattle.aea_command.specs.Worlds.{World}
@@ -89,6 +89,23 @@ MayChange (Explain word) file = ⊥
 MayChange Verify file = ⊥
 MayChange (Rehearse number nodes permille) file = ⊥
 
+-- the input is a part of what decides this refusal of the command
+abbrev pub IsByInput : Command → Refusal → Type 0
+IsByInput (Drill l) why = Unit {0}
+IsByInput (Create shape) why = ⊥
+IsByInput Stat why = ⊥
+IsByInput command.List why = ⊥
+IsByInput (Put name) why = put.IsByInput why
+IsByInput Ingest why = IsAfterOpening why
+IsByInput (Get name) why = ⊥
+IsByInput Fence why = ⊥
+IsByInput Upgrade why = ⊥
+IsByInput Scrub why = ⊥
+IsByInput Repair why = ⊥
+IsByInput (Explain word) why = ⊥
+IsByInput Verify why = IsAfterOpening why
+IsByInput (Rehearse number nodes permille) why = ⊥
+
 -- it leaves the file
 abbrev pub Keeps : Command → ℕ → Type 0
 Keeps command file = MayChange command file → ⊥
@@ -124,7 +141,7 @@ FitsDisk (Drill l) w = Unit {0}
 FitsDisk (Create shape) w = FitsMaking w.disk shape
 FitsDisk Stat w = IsRoomy w.disk
 FitsDisk command.List w = IsRoomy w.disk
-FitsDisk (Put name) w = FitsPut name w.tells w.input.left w.disk
+FitsDisk (Put name) w = FitsPutUnlessRefused name w.tells w.input.left w.disk
 FitsDisk Ingest w = FitsIngest w.tells w.input.left w.disk
 FitsDisk (Get name) w = IsRoomy w.disk
 FitsDisk Fence w = FitsRecord next_fence w.tells w.disk
@@ -142,7 +159,7 @@ FitsOutput (Create shape) w = FitsText w.out (created_line shape)
 FitsOutput Stat w = (text : List ℕ) → IsStatOf (w.disk.files 0) text → FitsText w.out text
 FitsOutput command.List w = (text : List ℕ) → IsListOf (w.disk.files 0) text → FitsText w.out text
 FitsOutput (Put name) w = (shape : Shape) (records : List Record) → HasLedger shape records (w.disk.files 0) → FitsText w.out (stored_line shape (object_of name (input_of w)))
-FitsOutput Ingest w = (shape : Shape) (records : List Record) (objects : List NewObject) (rest : List ℕ) → HasLedger shape records (w.disk.files 0) → input_of w ≡ frames_of objects ++ rest → FitsText w.out (stored_lines shape objects ++ end_line (length objects))
+FitsOutput Ingest w = FitsLines w.disk.files (input_of w) w.out
 FitsOutput (Get name) w = (shape : Shape) (records : List Record) (p : Placed) → HasObject w.disk.files name shape records p → FitsBytes w.out p.object.length
 FitsOutput Fence w = (shape : Shape) (records : List Record) → HasLedger shape records (w.disk.files 0) → FitsText w.out (fence_line (nodes_of records))
 FitsOutput Upgrade w = FitsText w.out upgraded_line
@@ -180,6 +197,10 @@ abbrev pub PrintsEarly : Command → Type 0
 PrintsEarly Ingest = Unit {0}
 PrintsEarly command = ⊥
 
+-- what decides this refusal of the command is known: of the disk, if it uses it, and of the input, if that is a part of it
+abbrev pub IsToldFor : Command → World → Refusal → Type 0
+IsToldFor command w why = IsDecided (UsesDisk command → w.tells) (IsSome w.input.left) (IsByInput command) why
+
 -- the contents of what the command uses of the disk and of the input are known
 pub record IsTold (command : Command) (w : World) : Type 0 where
   pub disk : UsesDisk command → w.tells
@@ -190,12 +211,12 @@ pub record Runs (command : Command) (old new : World) (answer : Answer) : Type 0
   -- what it did
   pub does : Does command old new answer
   -- when it is refused
-  pub refuses : (PrintsEarly command → answer ≢ Err failure.Output) → Refuses (IsTold command old) (Causes command old) answer
+  pub refuses : (PrintsEarly command → answer ≢ Err failure.Output) → RefusesBy (IsToldFor command old) (Causes command old) answer
   -- it does not fail where there is space, on a disk that is ready and whose contents are known
   pub disk_fits : old.tells → IsReady old.disk → FitsDisk command old → answer ≢ Err failure.Disk
   pub output_fits : IsTold command old → FitsOutput command old → answer ≢ Err failure.Output
   -- no digests clash where the intact blocks are honest
-  pub honest : IsTold command old → IsHonest command old → NeverClashes answer
+  pub honest : (UsesDisk command → old.tells) → IsHonest command old → NeverClashes answer
   -- the files that it may not change stay; and from the moment at which its first sync has succeeded every image has each
   -- of them as it read before
   pub stays : KeepsWhere old.tells (Keeps command) old.disk new.disk

@@ -7,8 +7,8 @@ ghost use Rattle.aea_disk.specs.State.{Passes, IsReady};
 ghost use Rattle.aea_cli.specs.declared.command.Command.{Command};
 ghost use Rattle.aea_command.specs.declared.refusal.Refusal.{Refusal};
 ghost use Rattle.aea_command.specs.Causes.{IsFirst};
-ghost use Rattle.aea_cli.specs.Does.{ReadsInput, UsesDisk, Causes, IsHonest, IsTold, Runs};
-ghost use Rattle.aea_cli.specs.Ends.{IsSound, Ends};
+ghost use Rattle.aea_cli.specs.Does.{ReadsInput, UsesDisk, Causes, IsHonest, IsToldFor, Runs};
+ghost use Rattle.aea_cli.specs.Ends.{IsRefusedUnknown, IsSound, Ends};
 ghost use Rattle.aea_command.specs.Failures.{IsWell};
 ghost use Rattle.aea_cli.specs.Words.{AreNoCommand, IsSane, Means};
 ghost use Rattle.aea_command.specs.Worlds.{world};
@@ -133,16 +133,18 @@ pub fn run<D: Disk, S: Source, O: Sink, E: Sink>(
     ensures flushed { IsWell result → IsFlushed (O.state out.new) }
     ensures err_unused { IsWell result → err.new ≡ err.old }
 
-    // Where no reason for refusal holds and no count rises, of a ready disk not the one beneath, all work is done, unless memory
-    // runs out; of a repair where the intact blocks are honest.
+    // Where no reason for refusal holds, of those that are decided by what is known, and no count rises, of a ready disk not the
+    // one beneath, all work is done, unless memory runs out, or the run is refused for a reason that is decided by what is not
+    // known; of a repair where the intact blocks are honest.
     ensures complete { (command : Command) → Means (map string_bytes words.now) command
-        → IsTold command (world D.tells (D.state disk.old) (S.state input.old) (O.state out.old))
-        → ((why : Refusal) → IsFirst (Causes command (world D.tells (D.state disk.old) (S.state input.old) (O.state out.old))) why → ⊥)
+        → ((why : Refusal) → IsToldFor command (world D.tells (D.state disk.old) (S.state input.old) (O.state out.old)) why
+        → IsFirst (Causes command (world D.tells (D.state disk.old) (S.state input.old) (O.state out.old))) why → ⊥)
+        → (UsesDisk command → D.tells)
         → IsHonest command (world D.tells (D.state disk.old) (S.state input.old) (O.state out.old))
         → (Rose (D.state disk.old).faults (D.state disk.new).faults → ⊥) ⊎ (IsReady (D.state disk.old) × (Rose (D.state disk.old).beneath (D.state disk.new).beneath → ⊥))
         → (Rose (S.state input.old).faults (S.state input.new).faults → ⊥)
         → (Rose (O.state out.old).faults (O.state out.new).faults → ⊥)
-        → IsWell result ⊎ (result ≡ Status.Memory) }
+        → IsWell result ⊎ ((result ≡ Status.Memory) ⊎ IsRefusedUnknown command (world D.tells (D.state disk.old) (S.state input.old) (O.state out.old)) result) }
 
     // Where something failed: what did not, has the count that it had; so has each where memory ran out.
     ensures disk_cause { result ≡ Status.Disk → Rose (D.state disk.old).faults (D.state disk.new).faults }

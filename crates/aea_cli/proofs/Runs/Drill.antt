@@ -13,7 +13,7 @@ use Rattle.aea_command_loss.specs.Drill.{DamageCauses, Drills}
 use Rattle.aea_cli.specs.Does.{Runs}
 use Rattle.aea_command.specs.Worlds.{world}
 use Rattle.aea_command.proofs.OpeningCases.{images_same}
-use Rattle.aea_command.proofs.Refusing.{refuses_told}
+use Rattle.aea_command.proofs.Refusing.{refuses_by_told}
 use Rattle.aea_command_loss.proofs.DrillLemmas.Refused.{told_is}
 
 -- what `drill` did, when it is refused, and that no fault of the disk is returned give what holds of its run
@@ -23,7 +23,7 @@ pub drill_runs : (l : Lattice) (tells : Type 0) (disk : State) (old new : Source
     → Runs (Drill l) (world tells disk old before) (world tells disk new after) answer
 drill_runs l tells disk old new before after answer drills refuses never honest = record {
   does = drills;
-  refuses = λ early. refuses_told _ _ _ _ (λ told. told.input tt) refuses;
+  refuses = λ early. refuses_by_told _ _ _ _ (λ why told. told.1 tt) refuses;
   disk_fits = λ told ready fits. never;
   output_fits = λ told fits e.
       let is = told_is old.left (told.input tt) in

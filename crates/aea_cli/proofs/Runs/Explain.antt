@@ -21,7 +21,7 @@ use Rattle.aea_command.specs.Printed.{FitsText}
 use Rattle.aea_command.specs.Worlds.{world}
 use Rattle.aea_command.proofs.OpeningCases.{opening_more, images_same, opening_not_output}
 use Rattle.aea_command.proofs.Reading.{has_ledger_of}
-use Rattle.aea_command.proofs.Refusing.{refuses_told, refuses_stopped}
+use Rattle.aea_command.proofs.Refusing.{refuses_by_told, refuses_by_stopped}
 
 -- where the output has space for the explanation, it does not fail
 explain_fits : HasOneReading → (word : List ℕ) (tells : Type 0) (files : Files) (before after : SinkState) (answer : Answer) (gave : Result Opened Failure) → tells
@@ -60,7 +60,7 @@ explain_runs reading word tells old new input before after answer explains refus
     let opens = explains.opens in
     record {
       does = inr explains;
-      refuses = λ early. refuses_told _ _ _ _ (λ told. told.disk tt) refuses;
+      refuses = λ early. refuses_by_told _ _ _ _ (λ why told. told.0 tt) refuses;
       disk_fits = λ told ready room. (explains.reads.sure told ready room).0;
       output_fits = λ told fits. explain_fits reading word tells old.files before after answer explains.opening (told.disk tt) opens.this_one opens.kinds explains.unopened explains.explains fits;
       honest = λ told is. honest;
@@ -72,7 +72,7 @@ explain_runs reading word tells old new input before after answer explains refus
 pub unworded_runs : (word : List ℕ) (tells : Type 0) (s : State) (input : SourceState) (out : SinkState) → Runs (Explain word) (world tells s input out) (world tells s input out) (Err failure.Memory)
 unworded_runs word tells s input out = record {
   does = inl (record { is = refl; images = images_same s; files = refl; disk = refl; out = refl });
-  refuses = λ early. refuses_stopped _ _ (Err failure.Memory) (inr (inr refl));
+  refuses = λ early. refuses_by_stopped _ _ (Err failure.Memory) (inr (inr refl));
   disk_fits = λ told ready room e. let h : (let answer : Answer = Err failure.Memory in answer ≡ Err failure.Disk) = e in cc;
   output_fits = λ told fits e. let h : (let answer : Answer = Err failure.Memory in answer ≡ Err failure.Output) = e in cc;
   honest = λ told is b recorded computed e. let h : (let answer : Answer = Err failure.Memory in answer ≡ Err (failure.Clash b recorded computed)) = e in cc;

@@ -11,7 +11,7 @@ use Rattle.aea_command.specs.Failures.{Answer, NeverClashes}
 use Rattle.aea_command_store.specs.Fence.{next_fence, FenceCauses, Fences}
 use Rattle.aea_command.specs.Worlds.{world}
 use Rattle.aea_command_store.proofs.Adding.Running.{rest_stays, adds_opens}
-use Rattle.aea_command.proofs.Refusing.{refuses_told}
+use Rattle.aea_command.proofs.Refusing.{refuses_by_told}
 
 -- what `fence` did, when it is refused, and that it keeps each other file give what holds of its run
 pub fence_runs : (tells : Type 0) (old new : State) (input : SourceState) (before after : SinkState) (answer : Answer)
@@ -20,7 +20,7 @@ pub fence_runs : (tells : Type 0) (old new : State) (input : SourceState) (befor
     → Runs Fence (world tells old input before) (world tells new input after) answer
 fence_runs tells old new input before after answer fences refuses rest honest = record {
   does = fences;
-  refuses = λ early. refuses_told _ _ _ _ (λ told. told.disk tt) refuses;
+  refuses = λ early. refuses_by_told _ _ _ _ (λ why told. told.0 tt) refuses;
   disk_fits = λ told ready fits. (fences.adds.in_room told ready fits).0;
   output_fits = λ told fits e.
       let stands = fences.adds.stands (inr e) (told.disk tt) in

@@ -23,7 +23,7 @@ use Rattle.aea_command_read.specs.Get.{Gets, GetCauses, Fetches, HasObject, Fits
 use Rattle.aea_command.specs.Worlds.{world}
 use Rattle.aea_command_read.proofs.GetLemmas.Causing.{object_here}
 use Rattle.aea_command.proofs.OpeningCases.{opening_more, images_same, opening_not_output}
-use Rattle.aea_command.proofs.Refusing.{refuses_told, refuses_stopped}
+use Rattle.aea_command.proofs.Refusing.{refuses_by_told, refuses_by_stopped}
 
 -- something is there, or nothing
 some_or_none : (o : Option Placed) → ((p : Placed) × (o ≡ Some p)) ⊎ (o ≡ None)
@@ -61,7 +61,7 @@ get_runs reading name tells old new input before after answer gets refuses hones
     let opens = gets.opens in
     record {
       does = inr gets;
-      refuses = λ early. refuses_told _ _ _ _ (λ told. told.disk tt) refuses;
+      refuses = λ early. refuses_by_told _ _ _ _ (λ why told. told.0 tt) refuses;
       disk_fits = λ told ready room. (gets.reads.sure told ready room).0;
       output_fits = λ told fits. get_fits name tells old.files before after answer gets.opening reading (told.disk tt) opens.this_one opens.kinds gets.unopened gets.fetches fits;
       honest = λ told is. honest;
@@ -73,7 +73,7 @@ get_runs reading name tells old new input before after answer gets refuses hones
 pub unnamed_runs : (name : List ℕ) (tells : Type 0) (s : State) (input : SourceState) (out : SinkState) → Runs (Get name) (world tells s input out) (world tells s input out) (Err failure.Memory)
 unnamed_runs name tells s input out = record {
   does = inl (record { is = refl; images = images_same s; files = refl; disk = refl; out = refl });
-  refuses = λ early. refuses_stopped _ _ (Err failure.Memory) (inr (inr refl));
+  refuses = λ early. refuses_by_stopped _ _ (Err failure.Memory) (inr (inr refl));
   disk_fits = λ told ready room e. let h : (let answer : Answer = Err failure.Memory in answer ≡ Err failure.Disk) = e in cc;
   output_fits = λ told fits e. let h : (let answer : Answer = Err failure.Memory in answer ≡ Err failure.Output) = e in cc;
   honest = λ told is b recorded computed e. let h : (let answer : Answer = Err failure.Memory in answer ≡ Err (failure.Clash b recorded computed)) = e in cc;

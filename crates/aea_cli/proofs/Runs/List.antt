@@ -10,7 +10,7 @@ use Rattle.aea_command_read.specs.List.{ListsObjects}
 use Rattle.aea_command.specs.Openings.{OpeningCauses}
 use Rattle.aea_command.specs.Worlds.{world}
 use Rattle.aea_command.proofs.OpeningCases.{opening_more}
-use Rattle.aea_command.proofs.Refusing.{refuses_told}
+use Rattle.aea_command.proofs.Refusing.{refuses_by_told}
 use Rattle.aea_command_read.proofs.ListLemmas.{IsListing, list_fits, list_disk, ok_on}
 
 -- what `list` did and when it is refused give what holds of its run
@@ -22,7 +22,7 @@ list_runs tells old new input before after answer lists refuses honest =
     let opens = lists.opens in
     record {
       does = lists;
-      refuses = λ early. refuses_told _ _ _ _ (λ told. told.disk tt) refuses;
+      refuses = λ early. refuses_by_told _ _ _ _ (λ why told. told.0 tt) refuses;
       disk_fits = λ told ready room. list_disk answer before after lists.opening (opens.reads.sure told ready room).0 lists.unopened (ok_on lists.opening (IsListing answer) lists.kinds);
       output_fits = λ told fits. list_fits tells (old.files 0) before after answer lists.opening (told.disk tt) opens.this_one opens.kinds lists.unopened lists.prints fits;
       honest = λ told is. honest;

@@ -3,29 +3,32 @@ use Rattle.std.proofs.Common.{◌≡◌, inl, inr, List, [], length, refl, sym, 
 use Rattle.aea_io.specs.Streams.{SourceState, SinkState}
 use Rattle.aea_disk.specs.State.{State}
 use Rattle.aea_cli.specs.declared.command.Command.TheVariants.{Put}
-use Rattle.aea_command_store.specs.Put.{stored_line, object_of, PutCauses, KeepsOtherFiles, Puts}
+use Rattle.aea_command_store.specs.Put.{stored_line, object_of, IsByInput, IsEarly, PutCauses, KeepsOtherFiles, Puts}
+use Rattle.aea_command.specs.declared.refusal.Refusal.{Refusal}
 use Rattle.aea_command.specs.Failures.{Answer, NeverClashes}
 use Rattle.aea_command.specs.declared.refusal.Failure.TheVariants as failure
 use Rattle.aea_records.specs.Grammar.{IsLedger}
 use Rattle.std.specs.Prelude.{IsSome, unwrap_or}
-use Rattle.aea_command.specs.Causes.{Refuses}
+use Rattle.aea_command.specs.Causes.{RefusesBy, IsDecided}
 use Rattle.aea_cli.specs.Does.{Runs}
 use Rattle.aea_command.specs.Worlds.{world}
 use Rattle.aea_lattice.specs.declared.shape.Shape.{Shape}
 use Rattle.aea_command.proofs.OpeningCases.{images_same}
 use Rattle.aea_disk.proofs.Moments.{passes_none, where_none}
-use Rattle.aea_command.proofs.Refusing.{refuses_told, refuses_stopped}
+use Rattle.aea_command.proofs.Refusing.{refuses_by_told, refuses_by_stopped}
 use Rattle.aea_command_store.proofs.PutLemmas.Running.{puts_failed, whole_input, nothing_stores}
 
 pub put_runs : (name : List ℕ) (tells : Type 0) (old new : State) (input input_after : SourceState) (before after : SinkState) (answer : Answer)
-    → Puts name tells old new input.left input_after.left before after answer → Refuses (tells × IsSome input.left) (PutCauses name old.files (unwrap_or input.left [])) answer
+    → Puts name tells old new input.left input_after.left before after answer → RefusesBy (IsDecided tells (IsSome input.left) IsByInput) (PutCauses name old.files (unwrap_or input.left [])) answer
     → KeepsOtherFiles tells (answer ≡ Err failure.Disk) old new
     → NeverClashes answer
     → Runs (Put name) (world tells old input before) (world tells new input_after after) answer
 put_runs name tells old new input input_after before after answer puts refuses rest honest = record {
   does = puts;
-  refuses = λ early. refuses_told _ _ _ _ (λ told. (told.disk tt, told.input tt)) refuses;
-  disk_fits = λ told ready fits. (puts.stores.in_room told ready fits).0;
+  refuses = λ early. refuses_by_told _ _ _ _ (λ why told. (told.0 tt, told.1)) refuses;
+  disk_fits = λ told ready fits e.
+      let no_cause : (why : Refusal) → IsEarly why → PutCauses name old.files [] why → ⊥ = λ why early cause. (puts.stores.refused_in_room told why early cause ready fits.some).0 e in
+      (puts.stores.in_room told ready (fits.all (λ _. no_cause))).0 e;
   output_fits = λ told fits e.
       let line = puts.line (inr e) in
       let ledger = puts.stores.archive (inr e) (told.disk tt) in
@@ -49,7 +52,7 @@ pub unparsed_runs : (name : List ℕ) (tells : Type 0) (s : State) (input : Sour
 unparsed_runs name tells s input out =
     put_runs name tells s s input input out out (Err failure.Memory)
     (puts_failed name tells s s input.left input.left out failure.Memory (λ e. cc) (nothing_stores name tells s input.left))
-    (refuses_stopped _ _ (Err failure.Memory) (inr (inr refl)))
+    (refuses_by_stopped _ _ (Err failure.Memory) (inr (inr refl)))
     (record {
       others = where_none tells _ s;
       opens = λ told. inl (images_same s);

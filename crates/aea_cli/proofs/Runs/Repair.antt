@@ -26,7 +26,7 @@ use Rattle.aea_command.specs.Printed.{FitsText}
 use Rattle.aea_command_loss.specs.Repair.{RepairsThen, IsUnopened, IsSiteFile, IsRepairText, HasHonestSurvivors, RepairsArchive}
 use Rattle.aea_command.specs.Worlds.{world}
 use Rattle.aea_command.proofs.Reading.{has_ledger_of, from_reading}
-use Rattle.aea_command.proofs.Refusing.{refuses_told}
+use Rattle.aea_command.proofs.Refusing.{refuses_by_told}
 use Rattle.aea_command_loss.proofs.RepairLemmas.Answering.{from_output, from_clash}
 use Rattle.aea_command.proofs.OpeningCases.{opening_not_output}
 
@@ -94,10 +94,10 @@ pub repair_runs : HasOneReading → (tells : Type 0) (old new : State) (input : 
     → Runs Repair (world tells old input before) (world tells new input after) answer
 repair_runs reading tells old new input before after answer repairs refuses rest = record {
   does = repairs;
-  refuses = λ early. refuses_told _ _ _ _ (λ told. told.disk tt) refuses;
+  refuses = λ early. refuses_by_told _ _ _ _ (λ why told. told.0 tt) refuses;
   disk_fits = λ told ready fits. (repairs.in_room told ready fits).0;
   output_fits = λ told fits. repair_fits reading tells old new before after answer repairs.opening (told.disk tt) repairs.this_one repairs.unopened repairs.opened fits;
-  honest = λ told is. repair_honest reading tells old new before after answer repairs.opening (told.disk tt) repairs.this_one repairs.unopened repairs.opened is;
+  honest = λ told is. repair_honest reading tells old new before after answer repairs.opening (told tt) repairs.this_one repairs.unopened repairs.opened is;
   stays = rest.others;
   opens = rest.opens;
 }

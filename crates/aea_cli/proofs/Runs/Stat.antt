@@ -18,7 +18,7 @@ use Rattle.aea_command_read.specs.Stat.{stat_line, Stats, IsStatOf}
 use Rattle.aea_cli.specs.Does.{Runs}
 use Rattle.aea_command.specs.Worlds.{world}
 use Rattle.aea_command.proofs.OpeningCases.{opening_more, opening_not_output}
-use Rattle.aea_command.proofs.Refusing.{refuses_told}
+use Rattle.aea_command.proofs.Refusing.{refuses_by_told}
 use Rattle.aea_command_read.proofs.StatLemmas.{IsTelling, telling_never}
 
 same_failure : (answer : Answer) (f g : Failure) → answer ≡ Err f → answer ≡ Err g → f ≡ g
@@ -57,7 +57,7 @@ stat_runs tells old new input before after answer stats refuses honest =
     let answered = err_part stats.opening (λ f. (answer ≡ Err f) × (after ≡ before)) (λ f. answer ≡ Err f) (λ f h. h.0) stats.unopened in
     record {
       does = stats;
-      refuses = λ early. refuses_told _ _ _ _ (λ told. told.disk tt) refuses;
+      refuses = λ early. refuses_by_told _ _ _ _ (λ why told. told.0 tt) refuses;
       disk_fits = λ told ready room. no_disk answer stats.opening (opens.reads.sure told ready room).0 answered stats.kinds;
       output_fits = λ told fits. no_output answer stats.opening (old.files 0) before after (ok_told tells stats.opening (old.files 0) (told.disk tt) opens.this_one) opens.kinds answered stats.prints fits;
       honest = λ told is. honest;

@@ -11,7 +11,7 @@ use Rattle.aea_command.specs.Failures.{Answer, NeverClashes}
 use Rattle.aea_command_store.specs.Upgrade.{next_raise, UpgradeCauses, Upgrades}
 use Rattle.aea_command.specs.Worlds.{world}
 use Rattle.aea_command_store.proofs.Adding.Running.{rest_stays, adds_opens}
-use Rattle.aea_command.proofs.Refusing.{refuses_told}
+use Rattle.aea_command.proofs.Refusing.{refuses_by_told}
 
 -- what `upgrade` did, when it is refused, and that it keeps each other file give what holds of its run
 pub upgrade_runs : (tells : Type 0) (old new : State) (input : SourceState) (before after : SinkState) (answer : Answer)
@@ -20,7 +20,7 @@ pub upgrade_runs : (tells : Type 0) (old new : State) (input : SourceState) (bef
     → Runs Upgrade (world tells old input before) (world tells new input after) answer
 upgrade_runs tells old new input before after answer upgrades refuses rest honest = record {
   does = upgrades;
-  refuses = λ early. refuses_told _ _ _ _ (λ told. told.disk tt) refuses;
+  refuses = λ early. refuses_by_told _ _ _ _ (λ why told. told.0 tt) refuses;
   disk_fits = λ told ready fits. (upgrades.adds.in_room told ready fits).0;
   output_fits = λ told fits. (upgrades.prints.in_room fits.room fits.told fits.enough).0;
   honest = λ told is. honest;

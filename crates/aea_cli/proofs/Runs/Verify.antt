@@ -16,7 +16,8 @@ use Rattle.aea_verify.specs.Answers.{IsJudged}
 use Rattle.aea_cli.specs.declared.command.Command.TheVariants.{Verify}
 use Rattle.aea_command.specs.declared.refusal.Failure.{Failure}
 use Rattle.aea_command.specs.declared.refusal.Failure.TheVariants as failure
-use Rattle.aea_command.specs.Causes.{Refuses}
+use Rattle.aea_command.specs.Causes.{RefusesBy, IsDecided}
+use Rattle.aea_command.specs.Openings.{IsAfterOpening}
 use Rattle.aea_cli.specs.Does.{Runs}
 use Rattle.aea_command.specs.Failures.{Answer, opening_failure, verify_failure, NeverClashes}
 use Rattle.aea_command.specs.Printed.{FitsText}
@@ -25,7 +26,7 @@ use Rattle.aea_command.specs.Worlds.{world}
 use Rattle.aea_command_loss.proofs.DrillLemmas.Refused.{told_is}
 use Rattle.aea_command.proofs.OpeningCases.{opening_more, opening_not_output}
 use Rattle.aea_command.proofs.Reading.{has_ledger_of}
-use Rattle.aea_command.proofs.Refusing.{refuses_told}
+use Rattle.aea_command.proofs.Refusing.{refuses_by_told}
 use Rattle.aea_command_loss.proofs.VerifyLemmas.Answering.{never_output}
 
 -- the text of the verdict on the input is that of a verdict in the archive's words
@@ -75,14 +76,14 @@ verify_fits reading tells files input rest before after answer (Err f) told some
 
 -- what `verify` did and when it is refused give what holds of its run
 pub verify_runs : HasOneReading → (tells : Type 0) (old new : State) (input rest : SourceState) (before after : SinkState) (answer : Answer)
-    → Verifies tells old new input rest before after answer → Refuses (tells × IsSome input.left) (VerifyCauses (old.files 0) (unwrap_or input.left [])) answer
+    → Verifies tells old new input rest before after answer → RefusesBy (IsDecided tells (IsSome input.left) IsAfterOpening) (VerifyCauses (old.files 0) (unwrap_or input.left [])) answer
     → NeverClashes answer
     → Runs Verify (world tells old input before) (world tells new rest after) answer
 verify_runs reading tells old new input rest before after answer verifies refuses honest =
     let opens = verifies.opens in
     record {
       does = verifies;
-      refuses = λ early. refuses_told _ _ _ _ (λ told. (told.disk tt, told.input tt)) refuses;
+      refuses = λ early. refuses_by_told _ _ _ _ (λ why told. (told.0 tt, told.1)) refuses;
       disk_fits = λ told ready room. (verifies.reads.sure told ready room).0;
       output_fits = λ told fits. verify_fits reading tells old.files input rest before after answer verifies.opening (told.disk tt) (told.input tt) opens.this_one opens.kinds verifies.unopened verifies.judges fits;
       honest = λ told is. honest;

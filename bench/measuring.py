@@ -65,6 +65,13 @@ def compiled(room, name):
     return path
 
 
+def call_bench():
+    """The program of the crate aea_gauss_bench, which runs calls of lower crates by themselves; it is proved and compiled first."""
+    crate = TOP / "crates/aea_gauss_bench"
+    subprocess.run(["rt", "run", "--", "fill", "1", "64"], cwd=crate, stdout=subprocess.DEVNULL, check=True)
+    return str(crate / "out/aea_gauss_bench")
+
+
 def library(room, name):
     """Compiles a C file of bench/ into a library that is loaded before a program, and gives its path."""
     path = f"{room}/{name}.so"

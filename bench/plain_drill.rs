@@ -6,99 +6,15 @@
 //! nodes stands on it with a chance of PERMILLE in a thousand, by a linear congruential generator.
 
 mod plain_archive;
+mod plain_lists;
 
 use plain_archive::{LETTERS, Lattice};
-use std::io::{self, Read, Write};
-
-/// The first n nodes of a lattice.
-struct Prefix {
-    lattice: Lattice,
-    n: usize,
-}
-
-impl Prefix {
-    /// The node before `node` on its strand of the class, 0 where the strand begins here.
-    fn input(&self, node: usize, class: usize) -> usize {
-        node.saturating_sub(self.lattice.back(node, class))
-    }
-
-    /// The node behind `node` on its strand of the class, 0 where there is none.
-    fn next(&self, node: usize, class: usize) -> usize {
-        let next = node + self.lattice.ahead(node, class);
-        if next <= self.n { next } else { 0 }
-    }
-
-    fn number(&self, node: usize, class: usize) -> usize {
-        self.lattice.number(node, class)
-    }
-
-    /// How many blocks there are.
-    fn blocks(&self) -> usize {
-        self.n * self.lattice.classes()
-    }
-
-    /// The only block of the equation that is not there, if it is one.
-    fn forced(&self, there: &[bool], node: usize, class: usize) -> Option<usize> {
-        let datum = self.number(node, 0);
-        let output = self.number(node, class);
-        let before = self.input(node, class);
-        let input_there = before == 0 || there[self.number(before, class)];
-        match (input_there, there[datum], there[output]) {
-            (true, true, false) => Some(output),
-            (true, false, true) => Some(datum),
-            (false, true, true) => Some(self.number(before, class)),
-            _ => None,
-        }
-    }
-
-    fn peel(&self, there: &mut [bool]) {
-        let mut waiting = Vec::with_capacity(self.n * self.lattice.alpha);
-        for node in 1..=self.n {
-            for class in 1..=self.lattice.alpha {
-                waiting.push((node as u32, class as u8));
-            }
-        }
-        while let Some((node, class)) = waiting.pop() {
-            let Some(block) = self.forced(there, node as usize, class as usize) else {
-                continue;
-            };
-            there[block] = true;
-            let (node, class) = self.lattice.node_and_class(block);
-            if class == 0 {
-                for class in 1..=self.lattice.alpha {
-                    waiting.push((node as u32, class as u8));
-                }
-            } else {
-                waiting.push((node as u32, class as u8));
-                let next = self.next(node, class);
-                if next != 0 {
-                    waiting.push((next as u32, class as u8));
-                }
-            }
-        }
-    }
-}
-
-/// A damage list: for each block whether it is there, or nothing where a line names no block.
-fn read_list(prefix: &Prefix) -> io::Result<Option<Vec<bool>>> {
-    let mut list = Vec::new();
-    io::stdin().lock().take(4_194_305).read_to_end(&mut list)?;
-    let mut there = vec![true; prefix.blocks()];
-    let mut rest = &list[..];
-    while !rest.is_empty() {
-        let end = rest.iter().position(|x| *x == b'\n').unwrap_or(rest.len());
-        match prefix.lattice.block(&rest[..end], prefix.n) {
-            Some(block) => there[block] = false,
-            None => return Ok(None),
-        }
-        rest = &rest[(end + 1).min(rest.len())..];
-    }
-    Ok(Some(there))
-}
+use plain_lists::{Prefix, read_list, report};
+use std::io::{self, Write};
 
 /// What becomes of the blocks that are not there: for each, in number order, the nodes by which it is lost, or none where the
 /// others determine it. Rows of bits, one for each equation, are reduced until the first bit of each is in no other.
-fn solve(prefix: &Prefix, there: &[bool]) -> Vec<Option<Vec<usize>>> {
+fn solve(prefix: &Prefix, there: &[bool]) -> Vec<Option<Vec<u32>>> {
     let unknown: Vec<usize> = (0..there.len()).filter(|b| !there[*b]).collect();
     if unknown.is_empty() {
         return Vec::new();
@@ -142,7 +58,7 @@ fn solve(prefix: &Prefix, there: &[bool]) -> Vec<Option<Vec<usize>>> {
     let nodes_of = |end: usize| {
         let stands = |k: usize| leads[k].map_or(k == end, |r| has(&rows[r], end));
         let datum = |k: &usize| unknown[*k] % classes == 0 && stands(*k);
-        (0..unknown.len()).filter(datum).map(|k| unknown[k] / classes + 1).collect()
+        (0..unknown.len()).filter(datum).map(|k| (unknown[k] / classes + 1) as u32).collect()
     };
     (0..unknown.len())
         .map(|k| match leads[k] {
@@ -159,31 +75,7 @@ fn drill(prefix: &Prefix) -> io::Result<i32> {
     let mut there = known.clone();
     prefix.peel(&mut there);
     let fates = solve(prefix, &there);
-    let damaged = known.iter().filter(|x| !**x).count();
-    let lost = fates.iter().filter(|x| x.is_some()).count();
-    let mut out = io::BufWriter::with_capacity(8192, io::stdout().lock());
-    let (Lattice { alpha, s, p }, n) = (prefix.lattice, prefix.n);
-    writeln!(out, "aea-report 1\nlattice {alpha} {s} {p} {n}\nledger none")?;
-    writeln!(out, "counts {damaged} {} {} {lost}", damaged - fates.len(), fates.len() - lost)?;
-    let mut fates = fates.iter();
-    for block in (0..known.len()).filter(|b| !known[*b]) {
-        if there[block] {
-            writeln!(out, "peeled {}", prefix.lattice.text(block))?;
-            continue;
-        }
-        match fates.next().unwrap() {
-            None => writeln!(out, "solved {}", prefix.lattice.text(block))?,
-            Some(nodes) => {
-                write!(out, "lost {} by", prefix.lattice.text(block))?;
-                for node in nodes {
-                    write!(out, " {node}")?;
-                }
-                writeln!(out)?;
-            }
-        }
-    }
-    out.flush()?;
-    Ok(i32::from(lost > 0))
+    report(prefix, &known, &there, fates.iter().map(|nodes| nodes.as_deref()))
 }
 
 /// Prints the listed blocks that single equations do not give.

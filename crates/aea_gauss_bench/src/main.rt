@@ -1,12 +1,17 @@
-//! What `bench/gauss` runs: an elimination of random rows, the fates of lost blocks, and the XOR of blocks and words.
+//! What `bench/gauss` and `bench/sweep` run: an elimination of random rows, the fates of lost blocks, what is lost of random
+//! damage and of sites that are gone, and the XOR of blocks and words.
 //! The words are `eliminate ROWS COLUMNS` or `fill ROWS COLUMNS`, which leaves the elimination out; `solve ALPHA S P NODES`
-//! with the lost blocks on the input, a line each; `words COUNT ROUNDS` and `bytes COUNT ROUNDS`.
+//! with the lost blocks on the input, a line each; `losses ALPHA S P NODES PERMILLE SEED` or `marks` with the same numbers,
+//! which makes the marks alone; `sites ALPHA S P NODES SITES GONE`, where the first so many sites are gone, or `site_marks`
+//! with the same numbers; `words COUNT ROUNDS` and `bytes COUNT ROUNDS`.
 #![tactic(auto)]
 
 ghost use Rattle.std.specs.Prelude.{◌≡◌, IfOk};
 
+mod losing;
 mod rows;
 mod runs;
+mod shape;
 mod solving;
 
 use aea_io::StdSource;
@@ -32,6 +37,29 @@ fn number(words: &[String], k: usize) -> u32 {
     }
 }
 
+// The six numbers after the first word.
+fn six(words: &[String]) -> [u32; 6] {
+    [
+        number(words, 1),
+        number(words, 2),
+        number(words, 3),
+        number(words, 4),
+        number(words, 5),
+        number(words, 6),
+    ]
+}
+
+// The line of what is lost, where the words name it.
+fn loss_line(alloc: Global, name: &str, numbers: [u32; 6]) -> Result<String, AllocError> {
+    match name {
+        "losses" => losing::random_line(alloc, numbers, true),
+        "marks" => losing::random_line(alloc, numbers, false),
+        "sites" => losing::sites_line(alloc, numbers, true),
+        "site_marks" => losing::sites_line(alloc, numbers, false),
+        _ => String::from_str(alloc, "no such words"),
+    }
+}
+
 // The line of what the words name.
 fn line(rt: &HostRuntime, words: &[String]) -> Result<String, AllocError> {
     let alloc = rt.alloc();
@@ -54,7 +82,7 @@ fn line(rt: &HostRuntime, words: &[String]) -> Result<String, AllocError> {
                 [first, second, number(words, 3), number(words, 4)],
             )
         }
-        _ => String::from_str(alloc, "no such words"),
+        _ => loss_line(alloc, name, six(words)),
     }
 }
 

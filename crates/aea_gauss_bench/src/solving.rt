@@ -2,6 +2,7 @@
 
 ghost use Rattle.std.specs.Prelude.{◌≡◌, IfOk, OnOk};
 
+use crate::shape::lattice_of;
 use aea_gauss::{Fate, FateList, solve};
 use aea_io::{Source, read_whole};
 use aea_lattice::{Lattice, parse_block};
@@ -50,11 +51,6 @@ fn count(alloc: Global, fates: &FateList) -> Result<String, AllocError> {
     format!(in alloc; "sums {sums} words {words} items {items}")
 }
 
-// The number as a byte, or 0.
-fn small(number: u32) -> u8 {
-    u8::try_from(number).unwrap_or(0)
-}
-
 /// Reads the lost blocks of a lattice of these numbers, a line each, and counts their fates.
 pub fn line<S: Source>(
     alloc: Global,
@@ -62,7 +58,7 @@ pub fn line<S: Source>(
     numbers: [u32; 4],
 ) -> Result<String, AllocError> {
     let [alpha, s, p, n] = numbers;
-    let lattice = match Lattice::new(small(alpha), small(s), small(p), n) {
+    let lattice = match lattice_of(alpha, s, p, n) {
         Some(lattice) => lattice,
         None => return String::from_str(alloc, "no lattice"),
     };

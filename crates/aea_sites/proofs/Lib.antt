@@ -1,0 +1,6 @@
+mod Lists
+mod Turned
+mod Counting
+mod Losing
+mod Rows
+mod LossLaws

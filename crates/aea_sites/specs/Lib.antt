@@ -1,0 +1,4 @@
+pub mod Losses
+pub mod Sites
+pub mod Laws
+pub mod Counts

@@ -1,0 +1,77 @@
+//! Losses.
+
+ghost use Rattle.std.specs.Prelude.{◌≡◌, Bool, IfOk};
+ghost use Rattle.aea_lattice.specs.declared.blocks.BlockId.{BlockId};
+ghost use Rattle.aea_view.specs.Presence.{IsCallable, AnswersAs};
+ghost use Rattle.aea_view.specs.Marked.{AreMarks, is_marked};
+ghost use Rattle.aea_sites.specs.Losses.{IsLossOf};
+
+use crate::count::count_lost;
+use aea_fates::{determined_stay, words_are_open, words_stay};
+use aea_lattice::{BlockId, Lattice, NodeList, blocks_are_inside, reached_are_determined};
+use aea_peel::peel_marks;
+use aea_sweep::losses;
+use aea_view::{Marks, View};
+use std::alloc::{AllocError, Global};
+
+/// What is lost where some blocks are gone: how many blocks, and the first of them, where there is one.
+#[derive(Debug, Drop)]
+pub struct SiteLoss {
+    pub lost: u32,
+    pub first: Option<FirstLost>,
+}
+
+/// The first block that is lost, in number order, with the nodes of a codeword that contains it and no block that is left.
+#[derive(Debug, Drop)]
+pub struct FirstLost {
+    pub block: BlockId,
+    pub nodes: NodeList,
+}
+
+// What is lost where the marked blocks are known. Where all are marked, no block is looked at.
+fn loss_beyond(alloc: Global, reached: &Marks) -> Result<SiteLoss, AllocError>
+    ensures { IfOk result (IsLossOf reached.now.lattice (is_marked reached.now)) }
+{
+    blocks_are_inside();
+    reached_are_determined();
+    words_are_open();
+    let lattice = reached.lattice();
+    let open = reached.complement(alloc)?;
+    match open.next_marked(0) {
+        None => Ok(SiteLoss {
+            lost: 0,
+            first: None,
+        }),
+        Some(_) => {
+            let list = losses(alloc, lattice, reached)?;
+            count_lost(alloc, lattice, &list)
+        }
+    }
+}
+
+/// What is lost of a lattice where the marked blocks are left.
+pub(crate) fn loss_of(alloc: Global, left: Marks) -> Result<SiteLoss, AllocError>
+    ensures { IfOk result (λ loss. (known : BlockId → Bool) → AreMarks left known → IsLossOf left.lattice known loss) }
+{
+    reached_are_determined();
+    words_stay();
+    determined_stay();
+    let peeled = peel_marks(alloc, left)?;
+    loss_beyond(alloc, &peeled.marks)
+}
+
+/// What is lost of a lattice where the present blocks of the view are left: the blocks that these do not determine. It takes
+/// the time and memory of `peel_marks`; and those of `losses` too, where single equations leave a block. An error is a lack
+/// of memory.
+pub fn loss<F: Fn(BlockId) -> bool>(
+    alloc: Global,
+    lattice: &Lattice,
+    view: &View<F>,
+) -> Result<SiteLoss, AllocError>
+    requires lattice { view.now.lattice ≡ lattice.now }
+    requires callable { IsCallable F.pre lattice.now view.now.predicate }
+    ensures { IfOk result (λ loss. (known : BlockId → Bool) → AnswersAs F.post lattice.now view.now.predicate known
+        → IsLossOf lattice.now known loss) }
+{
+    loss_of(alloc, view.marks(alloc)?)
+}

@@ -1,0 +1,49 @@
+use crate::{SiteLoss, loss, without};
+use aea_lattice::{BlockId, Class, Lattice};
+use aea_view::View;
+use std::alloc::{AllocError, Global};
+use std::test::Fail;
+
+// Whether so many blocks are lost, and first the datum of this node, by it and the next one; node 0 where none is.
+fn is(loss: &SiteLoss, lost: u32, node: u32, next: Option<u32>) -> bool {
+    let first = match &loss.first {
+        None => node == 0,
+        Some(first) => {
+            first.block.class == Class::Datum
+                && first.block.node == node
+                && first.nodes.get(0) == Some(node)
+                && first.nodes.get(1) == next
+        }
+    };
+    first && loss.lost == lost
+}
+
+// What is lost without two of three sites.
+fn without_two(alloc: Global, lattice: &Lattice, a: u8, b: u8) -> Result<SiteLoss, AllocError> {
+    if a < 1 || a > 3 || b < 1 || b > 3 {
+        return Err(AllocError);
+    }
+    without(alloc, lattice, 3, a, b)
+}
+
+// Two nodes of one strand over three sites: d1 is on site 1, h1 and h2 are on site 2, and d2 is on site 3.
+#[test]
+fn two_nodes_over_three_sites(rt: HostRuntime) -> Result<(), Fail> {
+    let lattice = Lattice::new(1, 1, 0, 2).ok_or("no lattice")?;
+    let cases = [(2, 2, 0, 0), (1, 2, 3, 1), (1, 3, 0, 0), (2, 3, 2, 2)];
+    for (a, b, lost, node) in cases {
+        let loss = without_two(rt.alloc(), &lattice, a, b)?;
+        assert!(rt; is(&loss, lost, node, None));
+    }
+    Ok(())
+}
+
+// Where the view has no block of the lattice, all is lost.
+#[test]
+fn a_view_that_leaves_nothing(rt: HostRuntime) -> Result<(), Fail> {
+    let lattice = Lattice::new(1, 1, 0, 2).ok_or("no lattice")?;
+    let view = View::new(&lattice, |b: BlockId| b.node == 3);
+    let loss = loss(rt.alloc(), &lattice, &view)?;
+    assert!(rt; is(&loss, 4, 1, Some(2)));
+    Ok(())
+}

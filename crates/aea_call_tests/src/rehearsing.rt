@@ -6,7 +6,7 @@ use aea_archive::read_block;
 use aea_disk::{Disk, SureDisk};
 use aea_lattice::{BlockId, Class};
 use aea_ledger::open_ledger;
-use aea_rehearse::{NoMemory, Rehearsal, rehearse};
+use aea_rehearse::{Rehearsal, rehearse};
 use aea_scrub::scan;
 use std::alloc::{AllocError, Global};
 use std::test::Fail;
@@ -15,7 +15,7 @@ use std::test::Fail;
 #[derive(Drop)]
 struct Trial {
     disk: SureDisk,
-    answer: Result<Rehearsal, NoMemory>,
+    answer: Result<Rehearsal, AllocError>,
 }
 
 // A rehearsal on a disk that is made for it.
@@ -30,10 +30,10 @@ fn run_once(alloc: Global, number: u64, nodes: u32, permille: u32) -> Result<Tri
 }
 
 // The numbers, in their order.
-fn numbers_of(answer: Result<Rehearsal, NoMemory>) -> Option<[u32; 5]> {
+fn numbers_of(answer: Result<Rehearsal, AllocError>) -> Option<[u32; 5]> {
     match answer {
         Ok(r) => Some([r.blocks, r.damaged, r.peeled, r.solved, r.lost]),
-        Err(NoMemory) => None,
+        Err(_) => None,
     }
 }
 

@@ -4,3 +4,4 @@ pub mod Lowest
 pub mod Nexts
 pub mod Packed
 pub mod Marking
+mod Whole

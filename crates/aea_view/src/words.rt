@@ -1,6 +1,6 @@
 //! Bits of words of 64.
 
-ghost use Rattle.std.specs.Prelude.{◌≡◌, ◌≢◌, ℕ, ◌<◌, ◌≤◌, ◌*◌, ◌^◌, true, false, not, length, count_by, IfOk, IfSome, IfNone};
+ghost use Rattle.std.specs.Prelude.{◌≡◌, ◌≢◌, ℕ, List, ◌+◌, ◌<◌, ◌≤◌, ◌*◌, ◌^◌, true, false, not, length, get_or, count_by, IfOk, IfSome, IfNone};
 ghost use Rattle.aea_view.specs.Bits.{has_bit, is_bit, words_for, bits_of};
 
 use std::alloc::{AllocError, Global};
@@ -26,13 +26,37 @@ pub(crate) fn with_bit(word: u64, place: u32, value: bool) -> u64
     }
 }
 
-// How many of the first n truth values are false.
+// How many bits of the word are not set: so many truth values more are false where it comes behind other words.
+fn clear_in(word: u64) -> u32
+    ensures few { result ≤ 64 }
+    ensures counted { (words : List ℕ) (at : ℕ) → get_or words at 0 ≡ word
+        → count_by not (bits_of (64 * (at + 1)) words) ≡ count_by not (bits_of (64 * at) words) + result }
+{
+    word.count_zeros()
+}
+
+// How many truth values of the first words are false.
+fn count_clear_words(words: &[u64], whole: u32) -> u32
+    requires inside { whole ≤ length words.now }
+    requires few { 64 * whole < 2 ^ 32 }
+    ensures counted { result ≡ count_by not (bits_of (64 * whole) words.now) }
+    ensures few { result ≤ 64 * whole }
+{
+    let mut count = 0;
+    for at in 0..whole {
+        count += clear_in(words[at as usize]);
+    }
+    count
+}
+
+// How many of the first n truth values are false: those of whole words are counted word by word, and the others one by one.
 pub(crate) fn count_clear(words: &[u64], n: u32) -> u32
     requires { length words.now ≡ words_for n }
     ensures { result ≡ count_by not (bits_of n words.now) }
 {
-    let mut count = 0;
-    for k in 0..n {
+    let whole = n / 64;
+    let mut count = count_clear_words(words, whole);
+    for k in 64 * whole..n {
         if !bit(words[(k / 64) as usize], k % 64) {
             count += 1;
         }

@@ -110,17 +110,23 @@ fn add_around(
     }
 }
 
-// The equations that force an unmarked block at first, with space for all equations. Those of the first node are last, and so
-// are taken first.
+// The equations that force an unmarked block at first: they are around the unmarked blocks, and no other block is looked at.
+// Those of the first unmarked block are last, and so are taken first. There is space for all equations that have an unmarked
+// block: each block is in three at most.
 fn first_equations(alloc: Global, lattice: &Lattice, marks: &Marks) -> Result<Vec<EqId>, AllocError>
     requires { marks.now.lattice ≡ lattice.now }
     ensures { IfOk result (λ waiting. IsQueue lattice.now marks.now.marks waiting.items) }
 {
+    let open = marks.complement(alloc)?;
     let equations = lattice.n() * u32::from(lattice.alpha());
-    let mut waiting = Vec::with_capacity(alloc, equations as usize)?;
-    for k in 0..lattice.n() {
-        add_node(lattice, marks, &mut waiting, lattice.n() - k)?;
+    let most = (3 * u64::from(marks.unmarked())).min(u64::from(equations));
+    let mut waiting = Vec::with_capacity(alloc, most as usize)?;
+    let mut from: u32 = 0;
+    while let Some(k) = open.next_marked(from) {
+        add_around(lattice, marks, &mut waiting, lattice.block(k))?;
+        from = k + 1;
     }
+    waiting.reverse();
     Ok(waiting)
 }
 
@@ -155,8 +161,9 @@ fn take_step(
 
 /// What follows from marked blocks: the plan that gives, by single equations, every block that follows so from them,
 /// and the marks of all of these, which are those of the closure. The order of the steps is free but for what each
-/// needs; they go forward where that leaves the choice. The time is linear in the number of blocks. Beside the marks about 6 bytes a block are taken while it works,
-/// and 16 bytes a block that is not marked for the plan.
+/// needs; they go forward where that leaves the choice. The time is linear in the number of blocks that are not marked, and
+/// the words of the marks are gone over a few times. Beside the marks it takes a bit of memory a block; and for each block
+/// that is not marked 16 bytes for the plan, and up to 24 for the equations that wait, in all no more than about 6 a block.
 pub fn peel_marks(alloc: Global, mut marks: Marks) -> Result<Peeled, AllocError>
     ensures plan { IfOk result (λ p. (known : BlockId → Bool) → AreMarks marks known → IsPlan marks.lattice known p.plan.steps) }
     ensures lattice { IfOk result (λ p. p.marks.lattice ≡ marks.lattice) }

@@ -1,33 +1,52 @@
-use Rattle.std.proofs.Common.{◌≡◌, ◌+◌, length, inl, inr, ap, arith}
+use Rattle.std.proofs.Common.{◌≡◌, length, inl, inr, IsTrue, sym, ◌∙◌, ap, subst, arith}
 use Rattle.std.proofs.lemmas.Bool.{cases_lt}
+use Rattle.aea_lattice.specs.Blocks.{number_of}
+use Rattle.aea_lattice.specs.Equations.{is_in_equation}
+use Rattle.aea_lattice.proofs.Equations.{number_equal}
 use Rattle.aea_peel.proofs.Queues.{still}
+use Rattle.aea_peel.proofs.Around.{AreTurned, not_clear, around_all, IsQueue-turned}
 use Rattle.aea_peel.proofs.worklist.first_equations.Goals as goal
 
 pub loop-k-init : goal.loop-k-init
-loop-k-init c =
-    let none : length c.in_ok-waiting.waiting.items ≡ 0 = ap length c.in_ok-waiting.ensures.items in
-    record {
-      inside = λ e contains. absurd (omega (arith, contains.1));
-      rest = λ e has behind. absurd (let last = has.node.last in omega arith);
-    }
+loop-k-init c = record {
+  inside = λ e contains. absurd (let none = ap length c.in_ok-waiting.ensures.items in omega (arith, contains.1, none));
+  rest = λ b has below clear e has_e stands. absurd (omega (arith, below));
+}
 
 pub loop-k-preserved : goal.loop-k-preserved
-loop-k-preserved c = record {
-  inside = λ e contains. elim (c.in_ok-add_node.ensures.adds.inside e contains) [
-    | inl old ↦ c.loop-k.invariant.inside e old
-    | inr has ↦ has
-  ];
-  rest = λ e has behind. elim (cases_lt c.args.lattice.now.n (e.node + c.loop-k.k)) [
-    | inl later ↦
-        still c.args.lattice.now c.args.marks.now.marks 3 c.loop-k.waiting.items c.add_node.new.waiting.items e c.in_ok-add_node.ensures.adds
-        (c.loop-k.invariant.rest e has later)
-    | inr here ↦ c.in_ok-add_node.ensures.added e has (let n = c.n-in-loop-k.ensures in omega arith)
-  ];
-}
+loop-k-preserved c =
+    let l = c.args.lattice.now in
+    let m = c.args.marks.now in
+    let open' = c.in_ok-open.open in
+    let turned : AreTurned l m open' = record { same = c.requires; turned = c.in_ok-open.ensures.lattice; marks = c.in_ok-open.ensures.marks; whole = c.in_ok-open.ensures.whole } in
+    let next = c.in-Some.ensures.found in
+    record {
+      inside = λ e contains. elim (c.in_ok-add_around.ensures.adds.inside e contains) [
+        | inl old ↦ c.loop-k.invariant.inside e old
+        | inr has ↦ has
+      ];
+      rest = λ b has below clear e has_e stands. elim (cases_lt (number_of l b) c.loop-k.from) [
+        | inl earlier ↦
+            still l m.marks 3 c.loop-k.waiting.items c.add_around.new.waiting.items e c.in_ok-add_around.ensures.adds
+            (c.loop-k.invariant.rest b has earlier clear e has_e stands)
+        | inr past ↦ elim (cases_lt (number_of l b) c.in-Some.k) [
+          | inl between ↦ absurd (not_clear l m open' c.loop-k.from c.in-Some.k turned next.clear b has clear past between)
+          | inr at ↦
+              let number : number_of l b ≡ c.in-Some.k = omega (arith, below, at) in
+              let same = number_equal l b c.block.result has c.block.ensures.block (number ∙ sym c.block.ensures.number) in
+              c.in_ok-add_around.ensures.added e has_e (subst (λ d. IsTrue (is_in_equation l e d)) same stands)
+        ]
+      ];
+    }
 
 pub returns : goal.returns
-returns c = record {
-  inside = c.loop-k.invariant.inside;
-  rest = λ e has. c.loop-k.invariant.rest e has
-      (let first = has.node.first in let end = c.loop-k-test.false in let n = c.n-k-end.ensures in omega arith);
-}
+returns c =
+    let l = c.args.lattice.now in
+    let m = c.args.marks.now in
+    let open' = c.in_ok-open.open in
+    let turned : AreTurned l m open' = record { same = c.requires; turned = c.in_ok-open.ensures.lattice; marks = c.in_ok-open.ensures.marks; whole = c.in_ok-open.ensures.whole } in
+    IsQueue-turned l m.marks c.loop-k.waiting.items c.reverse.new.self.items c.reverse.ensures.permutation
+    (record {
+      inside = c.loop-k.invariant.inside;
+      rest = around_all l m open' c.loop-k.from c.loop-k.waiting.items turned c.in_default.ensures.none c.loop-k.invariant.rest;
+    })

@@ -4,3 +4,4 @@ mod Counting
 mod Losing
 mod Rows
 mod LossLaws
+mod Passing

@@ -2,3 +2,4 @@ pub mod Losses
 pub mod Sites
 pub mod Laws
 pub mod Counts
+pub mod Passes

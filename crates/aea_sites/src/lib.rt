@@ -8,14 +8,15 @@
 //! gone (`lost_are_on_sites`).
 //!
 //! Read `specs/Losses.antt` first, then `Sites` (which blocks the named sites leave) and `Laws`. How it is counted is in
-//! `Counts`. It rests on `peel_marks` of `aea_peel`, on `losses` of `aea_sweep` for what peeling leaves, on the laws of
-//! `aea_fates`, and on `aea_place`.
+//! `Counts`, and what the pass over the missing blocks keeps in `Passes`. It rests on `peel_marks` of `aea_peel` for what that
+//! pass leaves, on `losses` of `aea_sweep` for what peeling leaves, on the laws of `aea_fates`, and on `aea_place`.
 #![tactic(auto)]
 
 mod count;
 mod laws;
 mod lost;
 mod missing;
+mod pass;
 mod sites;
 
 pub use laws::{first_words_show, losses_are_one, lost_are_on_sites};

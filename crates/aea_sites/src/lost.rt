@@ -3,10 +3,11 @@
 ghost use Rattle.std.specs.Prelude.{◌≡◌, Bool, IfOk};
 ghost use Rattle.aea_lattice.specs.declared.blocks.BlockId.{BlockId};
 ghost use Rattle.aea_view.specs.Presence.{IsCallable, AnswersAs};
-ghost use Rattle.aea_view.specs.Marked.{AreMarks, is_marked};
+ghost use Rattle.aea_view.specs.Marked.{AreMarks, IsWhole, is_marked};
 ghost use Rattle.aea_sites.specs.Losses.{IsLossOf};
 
 use crate::count::count_lost;
+use crate::pass::mark_forced;
 use aea_fates::{determined_stay, words_are_open, words_stay};
 use aea_lattice::{BlockId, Lattice, NodeList, blocks_are_inside, reached_are_determined};
 use aea_peel::peel_marks;
@@ -49,20 +50,28 @@ fn loss_beyond(alloc: Global, reached: &Marks) -> Result<SiteLoss, AllocError>
     }
 }
 
-/// What is lost of a lattice where the marked blocks are left.
-pub(crate) fn loss_of(alloc: Global, left: Marks) -> Result<SiteLoss, AllocError>
+/// What is lost of a lattice where the marked blocks are left. Where one pass over the others marks them all, no plan is made.
+pub(crate) fn loss_of(alloc: Global, mut left: Marks) -> Result<SiteLoss, AllocError>
+    requires { IsWhole left }
     ensures { IfOk result (λ loss. (known : BlockId → Bool) → AreMarks left known → IsLossOf left.lattice known loss) }
 {
     reached_are_determined();
     words_stay();
     determined_stay();
+    mark_forced(alloc, &mut left)?;
+    if left.unmarked() == 0 {
+        return Ok(SiteLoss {
+            lost: 0,
+            first: None,
+        });
+    }
     let peeled = peel_marks(alloc, left)?;
     loss_beyond(alloc, &peeled.marks)
 }
 
-/// What is lost of a lattice where the present blocks of the view are left: the blocks that these do not determine. It takes
-/// the time and memory of `peel_marks`; and those of `losses` too, where single equations leave a block. An error is a lack
-/// of memory.
+/// What is lost of a lattice where the present blocks of the view are left: the blocks that these do not determine. The others
+/// are gone over once, with a bit of memory a block; it takes the time and memory of `peel_marks` too where that leaves a block,
+/// and those of `losses` where all single equations do. An error is a lack of memory.
 pub fn loss<F: Fn(BlockId) -> bool>(
     alloc: Global,
     lattice: &Lattice,

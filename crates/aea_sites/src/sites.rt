@@ -1,7 +1,7 @@
 //! The loss of one or two sites.
 
 ghost use Rattle.std.specs.Prelude.{◌≡◌, ◌≤◌, IfOk};
-ghost use Rattle.aea_view.specs.Marked.{AreMarks};
+ghost use Rattle.aea_view.specs.Marked.{AreMarks, IsWhole};
 ghost use Rattle.aea_sites.specs.Losses.{IsLossOf};
 ghost use Rattle.aea_sites.specs.Sites.{is_elsewhere};
 
@@ -27,6 +27,7 @@ fn marks_left(
     requires b_last { b ≤ sites }
     ensures lattice { IfOk result (λ m. m.lattice ≡ lattice.now) }
     ensures marks { IfOk result (λ m. AreMarks m (is_elsewhere lattice.now sites a b)) }
+    ensures whole { IfOk result IsWhole }
 {
     let mut missing = Marks::new(alloc, lattice)?;
     mark_site(&mut missing, sites, a);

@@ -1,14 +1,16 @@
-//! What `bench/gauss` and `bench/sweep` run: an elimination of random rows, the fates of lost blocks, what is lost of random
-//! damage and of sites that are gone, and the XOR of blocks and words.
+//! What `bench/gauss`, `bench/sweep` and `bench/sites` run: an elimination of random rows, the fates of lost blocks, what is lost
+//! of random damage and of sites that are gone, and the XOR of blocks and words.
 //! The words are `eliminate ROWS COLUMNS` or `fill ROWS COLUMNS`, which leaves the elimination out; `solve ALPHA S P NODES`
 //! with the lost blocks on the input, a line each; `losses ALPHA S P NODES PERMILLE SEED` or `marks` with the same numbers,
 //! which makes the marks alone; `sites ALPHA S P NODES SITES GONE`, where the first so many sites are gone, or `site_marks`
-//! with the same numbers; `words COUNT ROUNDS` and `bytes COUNT ROUNDS`.
+//! with the same numbers; `pairs ALPHA S P NODES SITES`, where each site and each pair of sites is gone once;
+//! `words COUNT ROUNDS` and `bytes COUNT ROUNDS`.
 #![tactic(auto)]
 
 ghost use Rattle.std.specs.Prelude.{◌≡◌, IfOk};
 
 mod losing;
+mod pairs;
 mod rows;
 mod runs;
 mod shape;
@@ -56,6 +58,7 @@ fn loss_line(alloc: Global, name: &str, numbers: [u32; 6]) -> Result<String, All
         "marks" => losing::random_line(alloc, numbers, false),
         "sites" => losing::sites_line(alloc, numbers, true),
         "site_marks" => losing::sites_line(alloc, numbers, false),
+        "pairs" => pairs::line(alloc, numbers),
         _ => String::from_str(alloc, "no such words"),
     }
 }

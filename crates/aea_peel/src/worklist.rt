@@ -110,23 +110,54 @@ fn add_around(
     }
 }
 
-// The equations that force an unmarked block at first: they are around the unmarked blocks, and no other block is looked at.
-// Those of the first unmarked block are last, and so are taken first. There is space for all equations that have an unmarked
-// block: each block is in three at most.
+// Adds the equations that force an unmarked block at first where none waits yet, node by node: those of the first node are last.
+fn add_of_nodes(lattice: &Lattice, marks: &Marks, waiting: &mut Vec<EqId>) -> Result<(), AllocError>
+    requires same { marks.now.lattice ≡ lattice.now }
+    requires none { waiting.old.items ≡ [] }
+    ensures { OnOk result (IsQueue lattice.now marks.now.marks waiting.new.items) }
+{
+    for k in 0..lattice.n() {
+        add_node(lattice, marks, waiting, lattice.n() - k)?;
+    }
+    Ok(())
+}
+
+// Adds the same by the unmarked blocks that they are around, and looks at no other block: those of the first block are last.
+fn add_of_unmarked(
+    alloc: Global,
+    lattice: &Lattice,
+    marks: &Marks,
+    waiting: &mut Vec<EqId>,
+) -> Result<(), AllocError>
+    requires same { marks.now.lattice ≡ lattice.now }
+    requires none { waiting.old.items ≡ [] }
+    ensures { OnOk result (IsQueue lattice.now marks.now.marks waiting.new.items) }
+{
+    let open = marks.complement(alloc)?;
+    let mut from: u32 = 0;
+    while let Some(k) = open.next_marked(from) {
+        add_around(lattice, marks, waiting, lattice.block(k))?;
+        from = k + 1;
+    }
+    waiting.reverse();
+    Ok(())
+}
+
+// The equations that force an unmarked block at first. Those of the first node or block are last, and so are taken first. Each
+// block is in three equations at most: where these are fewer than all of them, the unmarked blocks alone are looked at. There
+// is space for all equations that have an unmarked block.
 fn first_equations(alloc: Global, lattice: &Lattice, marks: &Marks) -> Result<Vec<EqId>, AllocError>
     requires { marks.now.lattice ≡ lattice.now }
     ensures { IfOk result (λ waiting. IsQueue lattice.now marks.now.marks waiting.items) }
 {
-    let open = marks.complement(alloc)?;
-    let equations = lattice.n() * u32::from(lattice.alpha());
-    let most = (3 * u64::from(marks.unmarked())).min(u64::from(equations));
-    let mut waiting = Vec::with_capacity(alloc, most as usize)?;
-    let mut from: u32 = 0;
-    while let Some(k) = open.next_marked(from) {
-        add_around(lattice, marks, &mut waiting, lattice.block(k))?;
-        from = k + 1;
+    let equations = u64::from(lattice.n() * u32::from(lattice.alpha()));
+    let around = 3 * u64::from(marks.unmarked());
+    let mut waiting = Vec::with_capacity(alloc, around.min(equations) as usize)?;
+    if around < equations {
+        add_of_unmarked(alloc, lattice, marks, &mut waiting)?;
+    } else {
+        add_of_nodes(lattice, marks, &mut waiting)?;
     }
-    waiting.reverse();
     Ok(waiting)
 }
 

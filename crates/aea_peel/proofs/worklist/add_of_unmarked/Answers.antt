@@ -5,11 +5,11 @@ use Rattle.aea_lattice.specs.Equations.{is_in_equation}
 use Rattle.aea_lattice.proofs.Equations.{number_equal}
 use Rattle.aea_peel.proofs.Queues.{still}
 use Rattle.aea_peel.proofs.Around.{AreTurned, not_clear, around_all, IsQueue-turned}
-use Rattle.aea_peel.proofs.worklist.first_equations.Goals as goal
+use Rattle.aea_peel.proofs.worklist.add_of_unmarked.Goals as goal
 
 pub loop-k-init : goal.loop-k-init
 loop-k-init c = record {
-  inside = λ e contains. absurd (let none = ap length c.in_ok-waiting.ensures.items in omega (arith, contains.1, none));
+  inside = λ e contains. absurd (let none = ap length c.requires.none in omega (arith, contains.1, none));
   rest = λ b has below clear e has_e stands. absurd (omega (arith, below));
 }
 
@@ -18,7 +18,7 @@ loop-k-preserved c =
     let l = c.args.lattice.now in
     let m = c.args.marks.now in
     let open' = c.in_ok-open.open in
-    let turned : AreTurned l m open' = record { same = c.requires; turned = c.in_ok-open.ensures.lattice; marks = c.in_ok-open.ensures.marks; whole = c.in_ok-open.ensures.whole } in
+    let turned : AreTurned l m open' = record { same = c.requires.same; turned = c.in_ok-open.ensures.lattice; marks = c.in_ok-open.ensures.marks; whole = c.in_ok-open.ensures.whole } in
     let next = c.in-Some.ensures.found in
     record {
       inside = λ e contains. elim (c.in_ok-add_around.ensures.adds.inside e contains) [
@@ -44,7 +44,7 @@ returns c =
     let l = c.args.lattice.now in
     let m = c.args.marks.now in
     let open' = c.in_ok-open.open in
-    let turned : AreTurned l m open' = record { same = c.requires; turned = c.in_ok-open.ensures.lattice; marks = c.in_ok-open.ensures.marks; whole = c.in_ok-open.ensures.whole } in
+    let turned : AreTurned l m open' = record { same = c.requires.same; turned = c.in_ok-open.ensures.lattice; marks = c.in_ok-open.ensures.marks; whole = c.in_ok-open.ensures.whole } in
     IsQueue-turned l m.marks c.loop-k.waiting.items c.reverse.new.self.items c.reverse.ensures.permutation
     (record {
       inside = c.loop-k.invariant.inside;

@@ -27,3 +27,4 @@ pub mod Labelling
 pub mod Stretching
 pub mod Taking
 pub mod Telling
+pub mod EndMarks

@@ -142,7 +142,7 @@ few_words l known words s =
     most n a hn ha = let m : n * (1 + a) ≤ 1048576 * (1 + a) = mul-le-mul_right (1 + a) hn in omega arith
 
 -- what no word has is determined
-determined_by : (l : Lattice) (known : BlockId → Bool) (b : BlockId) → HasBlock l b → ((nodes : ℕ → Bool) → Misses l known nodes → is_in_codeword l nodes b ≡ false) → Determines l known b
+pub determined_by : (l : Lattice) (known : BlockId → Bool) (b : BlockId) → HasBlock l b → ((nodes : ℕ → Bool) → Misses l known nodes → is_in_codeword l nodes b ≡ false) → Determines l known b
 determined_by l known b hb none = elim (cases_Bool (known b)) [
   | inl is_known ↦ λ w xs ys hx hy agree. agree b hb is_known
   | inr not_known ↦ elim (one_or_other l known b hb not_known) [

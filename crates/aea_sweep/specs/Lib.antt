@@ -9,3 +9,4 @@ pub mod Firsts
 pub mod Cuts
 pub mod Entries
 pub mod Losses
+pub mod Ends

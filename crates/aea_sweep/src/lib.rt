@@ -3,15 +3,18 @@
 //! memory grow with the lattice and with the words that come out, however large the damage is.
 //!
 //! Promises to the layers above that `losses` gives each block of the lattice its listed nodes, or that it is determined
-//! (`AreLosses`), which leaves no choice; and two laws of sums, that ends may be marked too (`ends_stand_aside`) and which
-//! equations are not spare (`not_spare`).
+//! (`AreLosses`), which leaves no choice; that `marked_losses` gives the same and marks of the known blocks and of the ends
+//! (`AddsEnds`); and two laws of sums, that ends may be marked too (`ends_stand_aside`) and which equations are not spare
+//! (`not_spare`).
 //!
-//! Read in `specs/`: `Losses`, and `Sweep` for the laws. How it is computed is in `States`, what the pass holds when it has come
-//! to a block (`AreOpen`, `AreHeads`, `AreClosed`); in `Labels` and `Stretches`, how each block gets the first word whose codeword
-//! contains it; and in `Words`, `Heads`, `Tables`, `Cuts`, `Firsts` and `Entries`, the forms of these. It rests on `aea_lattice`
-//! and `aea_view`, on the proofs of `aea_gauss_laws`, `aea_gauss_words` and `aea_readings`, and on `aea_fates` for what a sum is.
+//! Read in `specs/`: `Losses`, `Ends`, and `Sweep` for the laws. How it is computed is in `States`, what the pass holds when it
+//! has come to a block (`AreOpen`, `AreHeads`, `AreClosed`); in `Labels` and `Stretches`, how each block gets the first word
+//! whose codeword contains it; and in `Words`, `Heads`, `Tables`, `Cuts`, `Firsts` and `Entries`, the forms of these. It rests
+//! on `aea_lattice` and `aea_view`, on the proofs of `aea_gauss_laws`, `aea_gauss_words` and `aea_readings`, and on `aea_fates`
+//! for what a sum is.
 #![tactic(auto)]
 
+mod ends;
 mod heads;
 mod labels;
 mod laws;
@@ -23,7 +26,7 @@ mod word;
 mod word_list;
 
 pub use laws::{ends_stand_aside, not_spare};
-pub use listing::{LossList, losses};
+pub use listing::{LossList, MarkedLosses, losses, marked_losses};
 
 #[cfg(test)]
 mod chance;

@@ -1,7 +1,9 @@
 ghost use Rattle.std.specs.Prelude.{◌≡◌, ◌<◌, Some, None, length, slice_get, IfOk, MatchOption};
 ghost use Rattle.aea_view.specs.Marked.{is_marked};
 ghost use Rattle.aea_sweep.specs.Losses.{AreLosses};
+ghost use Rattle.aea_sweep.specs.Ends.{AddsEnds};
 
+use crate::ends::mark_ends;
 use crate::marking::first_words;
 use crate::sweep::sweep;
 use crate::word_list::WordList;
@@ -64,4 +66,31 @@ pub fn losses(alloc: Global, lattice: &Lattice, known: &Marks) -> Result<LossLis
     let words = sweep(alloc, lattice, known)?;
     let first = first_words(alloc, lattice, &words)?;
     Ok(LossList { words, first })
+}
+
+/// What happens to each block of a lattice, and marks of the known blocks and of the ends.
+#[derive(Drop)]
+pub struct MarkedLosses {
+    pub losses: LossList,
+    pub marks: Marks,
+}
+
+/// The same as `losses`, and marks of the known blocks and of the ends: with these each block is determined, and the equations
+/// that are listed for a block that the known ones determine are the same (`ends_stand_aside`). It takes a bit of memory a block
+/// more than `losses`. An error means that memory ran out.
+pub fn marked_losses(
+    alloc: Global,
+    lattice: &Lattice,
+    known: &Marks,
+) -> Result<MarkedLosses, AllocError>
+    requires { known.now.lattice ≡ lattice.now }
+    ensures losses { IfOk result (λ marked. AreLosses lattice.now (is_marked known.now) marked.losses) }
+    ensures lattice { IfOk result (λ marked. marked.marks.lattice ≡ lattice.now) }
+    ensures ends { IfOk result (λ marked. AddsEnds lattice.now (is_marked known.now) (is_marked marked.marks)) }
+{
+    let words = sweep(alloc, lattice, known)?;
+    let first = first_words(alloc, lattice, &words)?;
+    let marks = mark_ends(alloc, lattice, known, &words, first.as_slice())?;
+    let losses = LossList { words, first };
+    Ok(MarkedLosses { losses, marks })
 }

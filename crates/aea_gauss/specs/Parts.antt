@@ -11,7 +11,6 @@ use Rattle.aea_readings.specs.Small.{block_in, equation_in, unknown_blocks}
 use Rattle.aea_fates.specs.Laws.{IsPart, known_or_outside}
 use Rattle.aea_gauss.specs.declared.fates.Fate.{Fate}
 use Rattle.aea_gauss.specs.declared.fates.Fate.TheVariants.{Word}
-use Rattle.aea_gauss.specs.Fates.{IsFate}
 
 -- the items at the places that pass, in order
 abbrev pub items_at : {A : Type 0} → (ℕ → Bool) → List A → List A
@@ -69,8 +68,3 @@ StandsIn blocks b = (a : ℕ) × (a < length blocks) × (block_in blocks a ≡ b
 -- the fate at a place
 abbrev pub fate_in : List Fate → ℕ → Fate
 fate_in fates a = get_or fates a (Word (block_of 0 Datum) [])
-
--- The fates of the blocks of a part are right now, and those that were right still are.
-pub record Rights (l : Lattice) (known : BlockId → Bool) (blocks part : List BlockId) (old new : List Fate) : Type 0 where
-  pub kept : (a : ℕ) → a < length blocks → IsFate l known (fate_in old a) → IsFate l known (fate_in new a)
-  pub put : (a : ℕ) → a < length blocks → StandsIn part (block_in blocks a) → IsFate l known (fate_in new a)

@@ -8,7 +8,8 @@ use Rattle.aea_fates.specs.Live.{live_equations}
 use Rattle.aea_readings.specs.Readings.{IsFree}
 use Rattle.aea_readings.specs.Small.{unknown_blocks, TellSmall}
 use Rattle.aea_gauss.specs.declared.fates.Fate.{Fate}
-use Rattle.aea_gauss.specs.Fates.{IsFate}
+use Rattle.aea_gauss.specs.Fates.{block_of_fate, IsFate}
+use Rattle.aea_gauss.specs.Lost.{IsNotLost, IsRightFor}
 
 -- for each column of the table: the row among the first ones whose least column it is, if there is one
 abbrev pub AreLeads : ℕ → ℕ → (ℕ → ℕ → Bool) → List (Option ℕ) → Type 0
@@ -19,7 +20,12 @@ AreLeads rows cols m leads =
 abbrev pub IsTold : List BlockId → List EqId → (ℕ → ℕ → Bool) → Fate → Type 0
 IsTold blocks equations m fate = (l : Lattice) (known : BlockId → Bool) → TellSmall l known blocks equations m → IsFate l known fate
 
--- the fates are those of the lattice for every set of known blocks that leaves these blocks unknown, with these equations
-abbrev pub TellsFates : Lattice → List BlockId → List EqId → List Fate → Type 0
-TellsFates l blocks equations fates =
-    (known : BlockId → Bool) → blocks ≡ unknown_blocks l known → equations ≡ live_equations l known → All (IsFate l known) fates
+-- the same, where the list has no nodes for the fate's block
+abbrev pub IsToldFor : Lattice → List (Option (List ℕ)) → List BlockId → List EqId → (ℕ → ℕ → Bool) → Fate → Type 0
+IsToldFor l losses blocks equations m fate = IsNotLost l losses (block_of_fate fate) → IsTold blocks equations m fate
+
+-- the fates of blocks that the list has no nodes for are those of the lattice for every set of known blocks that leaves these
+-- blocks unknown, with these equations
+abbrev pub TellsFates : Lattice → List (Option (List ℕ)) → List BlockId → List EqId → List Fate → Type 0
+TellsFates l losses blocks equations fates =
+    (known : BlockId → Bool) → blocks ≡ unknown_blocks l known → equations ≡ live_equations l known → All (IsRightFor l known losses) fates

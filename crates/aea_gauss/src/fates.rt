@@ -4,12 +4,12 @@ ghost use Rattle.aea_view.specs.Marked.{is_marked};
 
 use crate::buckets::bucket_at;
 use crate::columns::set_columns;
-use crate::equations::{live_equations, unknown_blocks};
+use crate::equations::unknown_blocks;
 use crate::lost::lost_fates;
-use crate::parts::{parts_of, solve_part};
+use crate::parts::{solve_part, unknown_parts};
 use aea_lattice::{BlockId, EqList, Lattice, NodeList};
 use aea_readings::unknown_are_listed;
-use aea_sweep::losses;
+use aea_sweep::marked_losses;
 use aea_view::Marks;
 use std::alloc::{AllocError, Global};
 use std::marker::Model;
@@ -98,12 +98,13 @@ impl FateList {
     }
 }
 
-/// The fate of each block that is not marked, in number order. What is lost, and by which nodes, `losses` of `aea_sweep` says, in
-/// time that grows with the lattice. The sums are found part by part: blocks that an equation has together are in one part, and
-/// each part in which some block is determined has an elimination of its own. Beside the fates it takes what `losses` takes, 8
-/// bytes for each block of the lattice, some 150 bytes for each block that is not marked, some 16 bytes for each equation, and the
-/// rows of one such part at a time: of b blocks and e equations, (b + e) bits for each of the e equations. An error means that
-/// memory ran out.
+/// The fate of each block that is not marked, in number order. What is lost, and by which nodes, `marked_losses` of `aea_sweep`
+/// says, in time that grows with the lattice, and it marks the ends too: the sums stay the same, and less is unknown. The sums
+/// are found part by part: blocks that are not marked then and that an equation has together are in one part, and each part in
+/// which some block is determined by the known ones has an elimination of its own. Beside the fates it takes what `losses`
+/// takes, a bit and 8 bytes for each block of the lattice, some 150 bytes for each block that is not marked, some 16 bytes for
+/// each equation, and the rows of one such part at a time: of b blocks and e equations, (b + e) bits for each of the e
+/// equations. An error means that memory ran out.
 pub fn solve(alloc: Global, lattice: &Lattice, known: &Marks) -> Result<FateList, AllocError>
     requires same { known.now.lattice ≡ lattice.now }
     ensures { IfOk result (λ fates. AreFates lattice.now (is_marked known.now) fates) }
@@ -113,18 +114,17 @@ pub fn solve(alloc: Global, lattice: &Lattice, known: &Marks) -> Result<FateList
     if blocks.is_empty() {
         return Ok(FateList::new(alloc));
     }
-    let equations = live_equations(alloc, lattice, known)?;
+    let blocks = blocks.as_slice();
+    let marked = marked_losses(alloc, lattice, known)?;
+    let lost = &marked.losses;
+    let mut fates = lost_fates(alloc, lattice, lost, blocks)?;
     let mut columns = vec![in alloc; 0; lattice.blocks() as usize]?;
     let mut scratch = vec![in alloc; 0; lattice.blocks() as usize]?;
-    let blocks = blocks.as_slice();
     let columns = columns.as_mut_slice();
-    set_columns(lattice, columns, blocks);
-    let parts = parts_of(alloc, lattice, known, columns, blocks, equations.as_slice())?;
     let scratch = scratch.as_mut_slice();
-    let list = losses(alloc, lattice, known)?;
-    let lost = &list;
-    let mut fates = lost_fates(alloc, lattice, lost, blocks)?;
-    for label in 0..blocks.len() {
+    let parts = unknown_parts(alloc, lattice, &marked.marks, columns)?;
+    set_columns(lattice, columns, blocks);
+    for label in 0..parts.blocks.len() {
         let part_blocks = bucket_at(parts.blocks.as_slice(), label);
         let part_equations = bucket_at(parts.equations.as_slice(), label);
         solve_part(

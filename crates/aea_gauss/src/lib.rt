@@ -5,8 +5,9 @@
 //! equations, which add up to it and marked blocks, or the listed nodes, whose codeword contains it and no marked block
 //! (`AreFates`); and that the list of fates is the only one (`fates_are_one`).
 //!
-//! Read in `specs/`: `Fates`; the others are of the way it is computed. It rests on `aea_fates` for what a fate is, on `losses`
-//! of `aea_sweep` for what is lost, and for the sums on `aea_readings` and on `eliminate` of `aea_gauss_words`.
+//! Read in `specs/`: `Fates`; the others are of the way it is computed. It rests on `aea_fates` for what a fate is, on
+//! `marked_losses` of `aea_sweep` for what is lost and which blocks are ends, and for the sums on `aea_readings` and on
+//! `eliminate` of `aea_gauss_words`.
 #![tactic(auto)]
 
 mod buckets;

@@ -16,6 +16,7 @@ use crate::rows::start_words;
 use aea_gauss_words::eliminate;
 use aea_lattice::{BlockId, EqId, Lattice};
 use aea_readings::small_rows_tell_fates;
+use aea_sweep::LossList;
 use std::alloc::{AllocError, Global};
 
 // The rows of some equations over some blocks, reduced.
@@ -46,20 +47,22 @@ fn reduced_rows(
 }
 
 // The fates of some blocks by some equations: those of the lattice where these are all blocks that are not known, and
-// all equations that have one. The columns are space for one number per block of the lattice.
+// all equations that have one; a block that the list of losses has nodes for gets none. The columns are space for one number per block of the lattice.
 pub(crate) fn solve_small(
     alloc: Global,
     lattice: &Lattice,
+    losses: &LossList,
     columns: &mut [u32],
     blocks: &[BlockId],
     equations: &[EqId],
 ) -> Result<FateList, AllocError>
     requires long { length columns.old ≡ blocks_count lattice.now }
+    requires losses { length losses.now ≡ blocks_count lattice.now }
     requires listed { AreListed lattice.now blocks.now }
     requires equations { All (HasEquation lattice.now) equations.now }
     requires few { length equations.now < 2 ^ 23 }
     ensures blocks { IfOk result (λ fates. map block_of_fate fates ≡ blocks.now) }
-    ensures fates { IfOk result (TellsFates lattice.now blocks.now equations.now) }
+    ensures fates { IfOk result (TellsFates lattice.now losses.now blocks.now equations.now) }
 {
     small_rows_tell_fates();
     if blocks.is_empty() {
@@ -70,6 +73,15 @@ pub(crate) fn solve_small(
     let words = reduced_rows(alloc, wide, lattice, columns, blocks, equations)?;
     let words = words.as_slice();
     let leads = lead_table(alloc, words, equations.len(), wide, blocks.len())?;
-    let fates = read_all(alloc, words, wide, leads.as_slice(), blocks, equations)?;
+    let fates = read_all(
+        alloc,
+        lattice,
+        losses,
+        words,
+        wide,
+        leads.as_slice(),
+        blocks,
+        equations,
+    )?;
     Ok(fates)
 }

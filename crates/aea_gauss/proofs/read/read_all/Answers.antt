@@ -2,14 +2,14 @@ use Rattle.std.proofs.Common.{◌∷◌, [], All, map, sym, ◌∙◌, ap, subst
 use Rattle.std.proofs.lemmas.List.Elements.{All-nil, All-cons, All-append}
 use Rattle.aea_gauss_words.specs.Words.{bit_matrix}
 use Rattle.aea_gauss.specs.Fates.{block_of_fate}
-use Rattle.aea_gauss.specs.Told.{IsTold}
+use Rattle.aea_gauss.specs.Told.{IsToldFor}
 use Rattle.aea_gauss.proofs.Reading.{blocks-told, take-all}
 use Rattle.aea_gauss.proofs.read.read_all.Goals as goal
 
 pub loop-a-preserved : goal.loop-a-preserved
 loop-a-preserved c =
     let blocks = c.args.blocks.now in
-    let P = IsTold blocks c.args.equations.now (bit_matrix c.args.wide c.args.words.now) in
+    let P = IsToldFor c.args.lattice.now c.args.losses.now blocks c.args.equations.now (bit_matrix c.args.wide c.args.words.now) in
     let fate = c.in_ok-fate.fate in
     let fates = c.loop-a.fates in
     record {

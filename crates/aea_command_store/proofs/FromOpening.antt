@@ -1,9 +1,9 @@
 -- A stretch from the end of the opening, as one of the whole run.
-use Rattle.std.proofs.Common.{◌≡◌, ℕ, List, sym, ◌∙◌, ap, subst}
+use Rattle.std.proofs.Common.{◌≡◌, ◌≤◌, ℕ, ◌+◌, max, List, ◌++◌, length, sym, ◌∙◌, ap, subst}
 use Rattle.aea_lattice.specs.declared.shape.Shape.{Shape}
 use Rattle.aea_disk.specs.Files.{Files}
 use Rattle.aea_disk.specs.State.{State}
-use Rattle.aea_records.specs.Format.{Record, digests_of}
+use Rattle.aea_records.specs.Format.{Record, digests_of, spelled}
 use Rattle.aea_archive.specs.Data.{AreSurvivorsHonest, IsDamagePlain}
 use Rattle.aea_archive.specs.Lasts.{AreLastsAtHome, AreLastsHonest}
 use Rattle.aea_archive.specs.Next.{NewObject}
@@ -20,12 +20,14 @@ grows_at shape records objects old mid new same grows = record {
   payload = grows.payload;
   homes = λ some. subst (λ (c : Files). AreLastsAtHome shape grows.lattice grows.payload c) same (grows.homes some);
   lasts_wide = grows.lasts_wide;
+  wide = grows.wide;
   bytes = grows.bytes;
   added = grows.added;
   next = grows.next;
   adds = adds_at shape records grows.added grows.payload old mid new grows.adds;
   leaves = λ t c from to here. subst (λ (d : Files). LeavesArchive shape records d c) same (grows.leaves t c from to here);
   reads = subst (λ (d : Files). LeavesArchive shape records d new.files) same grows.reads;
+  long = subst (λ (d : Files). length (new.files 0) ≤ max (length (d 0)) (length (spelled shape (records ++ grows.added)) + 1)) same grows.long;
   records_more = λ datas valid recorded honest. grows.records_more datas valid recorded (subst (λ (c : Files). AreLastsHonest shape grows.lattice (digests_of records) datas c) (sym same) honest);
 }
 
@@ -35,9 +37,9 @@ stays_at shape records objects old mid new same grown = record {
   grows = grows_at shape records objects old mid new same grown.grows;
   images = grown.images;
   ledger = grown.ledger;
+  exactly = grown.exactly ∙ ap (λ (c : Files). committed_all shape records (c 0) grown.grows.added) same;
   blocks = grown.blocks;
   lasts = grown.lasts;
-  wide = grown.wide;
   cells = grown.cells;
   honest = λ datas recorded honest plain.
       grown.honest datas recorded
@@ -46,10 +48,8 @@ stays_at shape records objects old mid new same grown = record {
 }
 
 pub grown_at : (shape : Shape) (records : List Record) (objects : List NewObject) (old mid new : State) → mid.files ≡ old.files → HasGrown shape records objects mid new → HasGrown shape records objects (opened_at old new mid.moment) new
-unfolding stays_at grows_at
 grown_at shape records objects old mid new same grown = record {
   stays = stays_at shape records objects old mid new same grown.stays;
-  exactly = grown.exactly ∙ ap (λ (c : Files). committed_all shape records (c 0) grown.stays.grows.added) same;
   synced = grown.synced;
 }
 

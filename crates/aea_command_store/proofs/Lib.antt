@@ -4,6 +4,7 @@ pub mod FenceLemmas
 pub mod UpgradeLemmas
 pub mod Committing
 pub mod Growing
+pub mod Wides
 pub mod PutLemmas
 pub mod FromOpening
 pub mod Staying

@@ -66,9 +66,9 @@ module _ (reading : HasOneReading) (counts : DigestsAreCounted) (survivors : Sur
             let later = writes.time.later in
             subst (λ (l : List Record). HasLedger w.shape l (c 0)) nil (subst (HasLedger w.shape rs) (sym (leaves.images next.moment c later (omega arith) here)) ledger);
         ledger = subst (λ (l : List Record). HasLedger w.shape l (next.files 0)) nil (subst (HasLedger w.shape rs) (sym leaves.reads) ledger);
+        exactly = leaves.reads;
         blocks = λ b on. absurd (let a = on.after in let m = on.most in omega (arith, a, m, nodes_of-append rs []));
         lasts = λ some. absurd (some refl);
-        wide = λ b on. absurd (let a = on.after in let m = on.most in omega (arith, a, m));
         cells = λ b on. absurd (let a = on.after in let m = on.most in omega (arith, a, m));
         honest = honest_still;
       }

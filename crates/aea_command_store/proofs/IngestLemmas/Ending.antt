@@ -87,16 +87,16 @@ grown_none tells told v list s reading its synced =
       grows = grows_no_more tells told v list s s its synced (IsReady s) ⊥ ⊥ writes reading leaves;
       images = λ c here. subst (λ (l : List Record). HasLedger v.shape l (c 0)) nil (subst (HasLedger v.shape list) (sym (synced c here 0)) ledger);
       ledger = subst (λ (l : List Record). HasLedger v.shape l (s.files 0)) nil ledger;
+      exactly = refl;
       blocks = λ b on. absurd (let a = on.after in let m = on.most in omega (arith, a, m, nodes_of-append list []));
       lasts = λ some. absurd (some refl);
-      wide = λ b on. absurd (let a = on.after in let m = on.most in omega (arith, a, m));
       cells = λ b on. absurd (let a = on.after in let m = on.most in omega (arith, a, m));
       honest = λ datas recorded honest plain.
           let alone : datas ≡ datas ++ [] = sym (append-nil datas) in
           subst (λ (ds : List (List ℕ)). AreSurvivorsHonest v.shape v.lattice (digests_of (list ++ [])) ds s.files × IsDamagePlain v.shape v.lattice (digests_of (list ++ [])) s.files) alone
           (subst (λ (l : List Record). AreSurvivorsHonest v.shape v.lattice (digests_of l) datas s.files × IsDamagePlain v.shape v.lattice (digests_of l) s.files) nil (honest, plain));
     } in
-    record { stays = stays; exactly = refl; synced = synced }
+    record { stays = stays; synced = synced }
 
 -- all that grew is in every image
 surely_all : (shape : Shape) (list : List Record) (objects : List NewObject) (old new : State) → (g : StaysGrown shape list objects old new) → length g.grows.added ≡ length objects → GrowsSurely shape list objects (length objects) old new

@@ -1,5 +1,5 @@
 -- One frame after others: what the call that takes it leaves of the archive, from where nothing is pending.
-use Rattle.std.proofs.Common.{◌≡◌, ℕ, List, [], ◌∷◌, ◌++◌, sym, ◌∙◌, ap, subst, arith, refl}
+use Rattle.std.proofs.Common.{◌≡◌, ℕ, List, [], ◌∷◌, ◌++◌, length, sym, ◌∙◌, ap, subst, arith, refl}
 use Rattle.std.proofs.lemmas.List.{append-nil}
 use Rattle.std.proofs.lemmas.List.Elements.{All-cons}
 use Rattle.aea_lattice.specs.declared.shape.Shape.{Shape}
@@ -19,8 +19,10 @@ use Rattle.aea_archive.specs.Next.{NewObject, object_blocks}
 use Rattle.aea_archive.proofs.Stretches.{has_ledger, adds_nothing}
 use Rattle.aea_append.specs.Puts.{HasStored, MayHaveStored, LeavesLedger}
 use Rattle.aea_append.specs.declared.store.Stored.{Stored}
-use Rattle.aea_command_store.specs.Growing.{LeavesArchive, Grows, StaysGrown, HasGrown}
+use Rattle.aea_command_store.specs.Growing.{LeavesArchive, committed_all, Grows, StaysGrown, HasGrown}
+use Rattle.aea_command_store.proofs.Committing.{long_behind, long_exactly}
 use Rattle.aea_command_store.proofs.PutLemmas.Opening.{changes, leaves_is, none_more}
+use Rattle.aea_command_store.proofs.Wides.{wide_next}
 
 module _ (tells : Type 0) (told : tells) (w : Opened) (rs : List Record) (now next : State) (its : AreItsRecords w rs (now.files 0)) (synced : IsSynced now)
     (taken fits fault : Type 0) (writes : OnlyWrites tells taken fits fault (changes w) now next) where
@@ -47,6 +49,7 @@ module _ (tells : Type 0) (told : tells) (w : Opened) (rs : List Record) (now ne
         payload = λ b. [];
         homes = λ some. absurd (some refl);
         lasts_wide = λ some. absurd (some refl);
+        wide = λ b on. absurd (let a = on.after in let m = on.most in omega (arith, a, m));
         bytes = λ k d inside. absurd (omega (arith, inside));
         added = [];
         next = refl;
@@ -55,6 +58,7 @@ module _ (tells : Type 0) (told : tells) (w : Opened) (rs : List Record) (now ne
             (subst (HasLedger w.shape rs) (sym leaves.reads) ledger);
         leaves = leaves_from;
         reads = reads_from;
+        long = (let same = ap length leaves.reads in omega (arith, same));
         records_more = λ datas valid recorded honest. none_more w.shape rs datas w.lattice (λ b. []) recorded;
       }
 
@@ -67,12 +71,14 @@ module _ (tells : Type 0) (told : tells) (w : Opened) (rs : List Record) (now ne
     payload = may.payload;
     homes = may.homes;
     lasts_wide = may.lasts_wide;
+    wide = wide_next w.shape w.lattice may.lattice may.payload may.objects may.added its.has.lattice.alpha may.lasts_wide may.bytes may.next;
     bytes = may.bytes;
     added = may.added;
     next = may.next;
     adds = may.adds rs its;
     leaves = leaves_from;
     reads = reads_from;
+    long = long_behind w.shape rs may.added w.end (length (now.files 0)) (length (next.files 0)) its.has.end may.long;
     records_more = λ datas valid recorded honest.
         may.records_more rs datas its.has valid recorded (subst (λ (ds : List (List ℕ)). AreLastsHonest w.shape w.lattice ds datas now.files) (sym its.has.digests) honest);
   }
@@ -84,6 +90,7 @@ module _ (tells : Type 0) (told : tells) (w : Opened) (rs : List Record) (now ne
       let alone : blocks ≡ blocks ++ [] = sym (append-nil blocks) in
       let then = has.value rs its.has in
       let added = has.added told rs its in
+      let exactly : next.files 0 ≡ committed_all w.shape rs (now.files 0) (Object has.r ∷ []) = has.exactly told ∙ ap (λ (n : ℕ). committed (now.files 0) n (body (Object has.r) ++ 0 ∷ [])) its.has.end in
       let stays : StaysGrown w.shape rs (o ∷ []) now next = record {
         grows = record {
           lattice = w.lattice;
@@ -92,21 +99,23 @@ module _ (tells : Type 0) (told : tells) (w : Opened) (rs : List Record) (now ne
           payload = has.payload;
           homes = λ some. has.homes told;
           lasts_wide = λ some. has.lasts_wide;
+          wide = has.wide;
           bytes = All-cons (λ q. AreBytes q.bytes) o [] has.bytes (λ k d inside. absurd (omega (arith, inside)));
           added = Object has.r ∷ [];
           next = (w2.lattice, has.r, refl, has.next, refl);
           adds = has.adds told rs its;
           leaves = leaves_from;
           reads = reads_from;
+          long = long_exactly w.shape rs (Object has.r ∷ []) (now.files 0) (next.files 0) exactly;
           records_more = λ datas valid recorded honest.
               subst (λ (more : List (List ℕ)). RecordsMore w.shape rs (Object has.r ∷ []) datas more w.lattice w2.lattice has.payload) alone
               (has.records_more told rs datas its.has recorded (subst (λ (ds : List (List ℕ)). AreLastsHonest w.shape w.lattice ds datas now.files) (sym its.has.digests) honest));
         };
         images = λ c here. subst (HasLedger w.shape (rs ++ Object has.r ∷ [])) (sym (added.synced c here 0)) added.ledger;
         ledger = added.ledger;
+        exactly = exactly;
         blocks = added.blocks;
         lasts = λ some. subst (λ (ds : List (List ℕ)). AreLastsRecorded w.shape w.lattice ds has.payload) its.has.digests has.lasts;
-        wide = has.wide;
         cells = has.cells told;
         honest = λ datas recorded honest plain.
             let early = subst (λ (ds : List (List ℕ)). AreSurvivorsHonest w.shape w.lattice ds datas now.files) (sym its.has.digests) honest in
@@ -118,7 +127,6 @@ module _ (tells : Type 0) (told : tells) (w : Opened) (rs : List Record) (now ne
       } in (
         record {
           stays = stays;
-          exactly = has.exactly told ∙ ap (λ (n : ℕ). committed (now.files 0) n (body (Object has.r) ++ 0 ∷ [])) its.has.end;
           synced = added.synced;
         },
         refl,

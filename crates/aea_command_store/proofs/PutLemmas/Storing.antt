@@ -10,15 +10,16 @@ use Rattle.aea_command_store.specs.Growing.{Grows, StaysGrown, HasGrown}
 use Rattle.aea_ledger.specs.Stops.{HasLedger, IsOpened}
 use Rattle.aea_records.specs.Laws.{HasOneReading, DigestsAreCounted, ObjectsAreCounted, NewNamesAreFree}
 use Rattle.aea_archive.specs.Laws.{SurvivorsStayHonest}
-use Rattle.aea_append.specs.Puts.{IsWhole, HasPut}
+use Rattle.aea_append.specs.Puts.{IsWhole, HasPut, HasStored}
 use Rattle.aea_append.specs.Causes.{HasPutRoom, next_end}
 use Rattle.aea_append.specs.Causes as causes
 use Rattle.aea_command_store.proofs.PutLemmas.Refusing.{reason_of}
 use Rattle.aea_command_store.proofs.PutLemmas.Causing.{HasPutting, answer_of}
-use Rattle.aea_command_store.proofs.PutLemmas.Opening.{changes, ledger_left, changed, grows_none, grows_may, grows_stored}
+use Rattle.aea_command_store.proofs.PutLemmas.Opening.{changes, ledger_left, changed}
 use Rattle.aea_command.proofs.Opened.{opens_then, opening_synced, opening_then, untouched_by}
 use Rattle.aea_command_store.proofs.Adding.{its_records}
-use Rattle.aea_command_store.proofs.FromOpening.{stays_at}
+use Rattle.aea_command_store.proofs.FromOpening.{grows_at, stays_at, grown_at}
+use Rattle.aea_command_store.proofs.IngestLemmas.One.{grows_maybe, grown_by_one}
 use Rattle.aea_command_store.proofs.Staying.{stays_none}
 use Rattle.aea_append.specs.declared.fault.PutFault.TheVariants as put
 use Rattle.aea_archive.specs.Cells.{IsBesides}
@@ -124,6 +125,20 @@ module _ (reading : HasOneReading) (counts : DigestsAreCounted) (survivors : Sur
   put_of : (s : Stored) → r ≡ Ok s → HasPut tells v w name left rest mid new s
   put_of s is = subst (λ (q : Result Stored PutFault). IfOk q (HasPut tells v w name left rest mid new)) is gave.stored
 
+  -- what the call left of the archive, as of the whole run: where the object was stored, and where nothing was
+  stored_then : (told : tells) (s : Stored) (o : NewObject) → HasStored tells v w o mid new s → HasGrown v.shape (gave.opens.this_one told).records (o ∷ []) (opened_at old new mid.moment) new
+  stored_then told s o has =
+      let one = gave.opens.this_one told in
+      grown_at v.shape one.records (o ∷ []) old mid new (gave.opens.reads.contents told)
+      (grown_by_one tells told v one.records mid new (its_records tells old mid v gave.opens told one) (opening_synced tells v old mid new gave.opens told) _ _ _ gave.writes w o s has).0
+
+  none_then : (told : tells) → r ≢ Err put.DiskFault → IsErr r → StaysGrown v.shape (gave.opens.this_one told).records [] (opened_at old new mid.moment) new
+  none_then told differs failed =
+      let one = gave.opens.this_one told in
+      stays_at v.shape one.records [] old mid new (gave.opens.reads.contents told)
+      (stays_none reading counts survivors tells told v one.records mid new (its_records tells old mid v gave.opens told one) (opening_synced tells v old mid new gave.opens told) _ _ _ gave.writes
+      (gave.leaves failed differs told) (gave.padded differs told))
+
   has_stands : EndsStored (answer_of r) → tells → (shape : Shape) (records : List Record) → HasLedger shape records (old.files 0)
       → (o : NewObject) × IsWhole name left rest o × OpensThen old new (HasGrown shape records (o ∷ []))
   has_stands stored told =
@@ -134,7 +149,7 @@ module _ (reading : HasOneReading) (counts : DigestsAreCounted) (survivors : Sur
         has.0,
         has.1,
         opens_then tells v old mid new gave.opens told (HasGrown v.shape (gave.opens.this_one told).records (has.0 ∷ [])) late
-            (grows_stored tells v old mid new gave.opens told _ _ _ gave.writes w has.0 s.0 (gave.opens.this_one told) has.2),
+            (stored_then told s.0 has.0 has.2),
       )
 
   -- what a stop leaves, by the answer
@@ -145,7 +160,7 @@ module _ (reading : HasOneReading) (counts : DigestsAreCounted) (survivors : Sur
         has.0 ∷ [],
         inr (inl (inl refl), (has.0, has.1, refl)),
         inr (opens_then tells v old mid new gave.opens told (Grows v.shape one.records (has.0 ∷ [])) late
-            (grows_stored tells v old mid new gave.opens told _ _ _ gave.writes w has.0 s one has.2).stays.grows),
+            (stored_then told s has.0 has.2).stays.grows),
       )
   stops_by told (Err put.DiskFault) is =
       let may = gave.stopped is told in
@@ -157,7 +172,8 @@ module _ (reading : HasOneReading) (counts : DigestsAreCounted) (survivors : Sur
         may.objects,
         most,
         inr (opens_then tells v old mid new gave.opens told (Grows v.shape one.records may.objects) late
-            (grows_may tells v old mid new gave.opens told _ _ _ gave.writes one (IsWhole name left rest) may)),
+            (grows_at v.shape one.records may.objects old mid new (gave.opens.reads.contents told)
+            (grows_maybe tells told v one.records mid new (its_records tells old mid v gave.opens told one) (opening_synced tells v old mid new gave.opens told) _ _ _ gave.writes (IsWhole name left rest) may))),
       )
   stops_by told (Err fault) is =
       let one = gave.opens.this_one told in
@@ -165,7 +181,7 @@ module _ (reading : HasOneReading) (counts : DigestsAreCounted) (survivors : Sur
         [],
         inl refl,
         inr (opens_then tells v old mid new gave.opens told (Grows v.shape one.records []) late
-            (grows_none tells v old mid new gave.opens told _ _ _ gave.writes reading one (gave.leaves (subst IsErr (sym is) refl) differs told))),
+            (none_then told differs (subst IsErr (sym is) refl)).grows),
       )
 
   -- what is there but after a fault of the disk
@@ -173,16 +189,12 @@ module _ (reading : HasOneReading) (counts : DigestsAreCounted) (survivors : Sur
       → (objects : List NewObject) × MayHavePut name left rest (answer_of q) objects × StaysGrown v.shape (gave.opens.this_one told).records objects (opened_at old new mid.moment) new
   stays_by told (Ok s) is fine =
       let has = put_of s is in
-      let one = gave.opens.this_one told in
-      (has.0 ∷ [], inr (inl (inl refl), (has.0, has.1, refl)), (grows_stored tells v old mid new gave.opens told _ _ _ gave.writes w has.0 s one has.2).stays)
+      (has.0 ∷ [], inr (inl (inl refl), (has.0, has.1, refl)), (stored_then told s has.0 has.2).stays)
   stays_by told (Err fault) is fine =
-      let one = gave.opens.this_one told in
       let differs : r ≢ Err put.DiskFault = λ e. fine (ap answer_of (sym is ∙ e)) in (
         [],
         inl refl,
-        stays_at v.shape one.records [] old mid new (gave.opens.reads.contents told)
-            (stays_none reading counts survivors tells told v one.records mid new (its_records tells old mid v gave.opens told one) (opening_synced tells v old mid new gave.opens told) _ _ _ gave.writes
-            (gave.leaves (subst IsErr (sym is) refl) differs told) (gave.padded differs told)),
+        none_then told differs (subst IsErr (sym is) refl),
       )
 
   -- refusals before the input is read

@@ -7,9 +7,11 @@ use Rattle.aea_lattice.specs.declared.grid.Lattice.{Lattice}
 use Rattle.aea_lattice.specs.declared.shape.Shape.{Shape}
 use Rattle.aea_disk.specs.Files.{Files}
 use Rattle.aea_disk.specs.State.{State, IsFixed, KeepsImages}
-use Rattle.aea_records.specs.Format.{Record, spelled}
-use Rattle.aea_records.specs.Laws.{HasOneReading}
+use Rattle.aea_envelope.specs.Facts.{CellsHaveLengths, CellsHaveParts}
+use Rattle.aea_records.specs.Format.{Record, digests_of, spelled}
+use Rattle.aea_records.specs.Laws.{HasOneReading, DigestsAreCounted}
 use Rattle.aea_ledger.specs.Stops.{HasLedger, HasOpening}
+use Rattle.aea_archive.specs.Blocks.{IsIntactBy}
 use Rattle.aea_archive.specs.Next.{NewObject, AreNextRecords}
 use Rattle.aea_archive.specs.Stretches.{HasPrefix}
 use Rattle.aea_command.specs.Failures.{Answer}
@@ -17,11 +19,12 @@ use Rattle.aea_command.specs.Openings.{OpensOr, OpensThen}
 use Rattle.aea_command.proofs.OpeningCases.{opening_more}
 use Rattle.aea_command_store.specs.Adding.{AddsRecord}
 use Rattle.aea_command_store.specs.Fence.{next_fence}
-use Rattle.aea_command_store.specs.GoingOn.{PutRun, IngestRun, RunKind, Putting, Ingesting, Fencing, Raising, Leaving, DoesRun, StoppedRun, IsPutOf, AreRecordsFor, IsUnadded, IsAdded, IsLeftBy, StopsKeepPuts}
+use Rattle.aea_command_store.specs.GoingOn.{PutRun, IngestRun, RunKind, Putting, Ingesting, Fencing, Raising, Leaving, DoesRun, StoppedRun, IsPutOf, AreRecordsFor, IsUnadded, IsAdded, IsLeftBy, KeepsBlocks, AllSpareBlocks, StopsKeepPuts}
 use Rattle.aea_command_store.specs.Growing.{Grows}
 use Rattle.aea_command_store.specs.Ingest.{MayBeLast, StoresFrames, GrowsSurely}
 use Rattle.aea_command_store.specs.Put.{EndsStored, MayHavePut, Stores}
 use Rattle.aea_command_store.specs.Upgrade.{next_raise}
+use Rattle.aea_command_store.proofs.KeptBlocks.{blocks_left}
 
 -- ---- the records of the first objects
 
@@ -253,12 +256,24 @@ module _ (reading : HasOneReading) (D tells : Type 0) (state : D → State) (tol
 
 -- ---- all of them
 
-pub stops_keep : HasOneReading → (D tells : Type 0) (state : D → State) → StopsKeepPuts {D = D} tells state
-stops_keep reading D tells state told shape records [] first last ledger same =
+-- the blocks of two runs, one after the other
+blocks_both : (shape : Shape) (records between later : List Record) (old mid new : Files) → KeepsBlocks shape records between old mid → KeepsBlocks shape between later mid new → KeepsBlocks shape records later old new
+blocks_both shape records between later old mid new first second b on was =
+    second b on (λ few. first b (record { after = on.after; most = few; used = on.used }) was)
+
+pub stops_keep : HasOneReading → DigestsAreCounted → CellsHaveLengths → CellsHaveParts → (D tells : Type 0) (state : D → State) → StopsKeepPuts {D = D} tells state
+stops_keep reading counts lengths parts D tells state told shape records [] first last ledger same =
     let there : HasLedger shape records (last 0) = subst (λ (c : Files). HasLedger shape records (c 0)) (sym same) ledger in
-    ([], refl, subst (λ (l : List Record). HasLedger shape l (last 0)) (sym (append-nil records)) there)
-stops_keep reading D tells state told shape records (r ∷ runs) first last ledger goes =
+    let keeps : KeepsBlocks shape records records first last = λ b on was. subst (λ (c : Files). IsIntactBy shape (digests_of records) c b) (sym same) (was on.most) in
+    let nil : records ≡ records ++ [] = sym (append-nil records) in
+    ([], refl, subst (λ (l : List Record). HasLedger shape l (last 0)) nil there, λ all. subst (λ (l : List Record). KeepsBlocks shape records l first last) nil keeps)
+stops_keep reading counts lengths parts D tells state told shape records (r ∷ runs) first last ledger goes =
     let here : HasLedger shape records ((state r.old).files 0) = subst (λ (c : Files). HasLedger shape records (c 0)) (sym goes.0) ledger in
     let left = left_as reading D tells state told shape records r here goes.1 r.kind r.does in
-    let rest = stops_keep reading D tells state told shape (records ++ left.0) runs r.files last left.2 goes.2 in
-    (left.0 ++ rest.0, (left.0, rest.0, refl, left.1, rest.1), subst (λ (l : List Record). HasLedger shape l (last 0)) (append_assoc records left.0 rest.0) rest.2)
+    let rest = stops_keep reading counts lengths parts D tells state told shape (records ++ left.0) runs r.files last left.2 goes.2 in
+    let all : (records ++ left.0) ++ rest.0 ≡ records ++ (left.0 ++ rest.0) = append_assoc records left.0 rest.0 in
+    let keeps : AllSpareBlocks D tells state (r ∷ runs) → KeepsBlocks shape records ((records ++ left.0) ++ rest.0) first last = λ spare.
+    blocks_both shape records (records ++ left.0) ((records ++ left.0) ++ rest.0) first r.files last
+    (subst (λ (c : Files). KeepsBlocks shape records (records ++ left.0) c r.files) goes.0 (blocks_left reading counts lengths parts D tells state told shape records r here spare.0 left.0 left.1 left.2))
+    (rest.3 spare.1) in
+    (left.0 ++ rest.0, (left.0, rest.0, refl, left.1, rest.1), subst (λ (l : List Record). HasLedger shape l (last 0)) all rest.2, λ spare. subst (λ (l : List Record). KeepsBlocks shape records l first last) all (keeps spare))

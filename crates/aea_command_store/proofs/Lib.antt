@@ -8,5 +8,6 @@ pub mod Wides
 pub mod PutLemmas
 pub mod FromOpening
 pub mod Staying
+pub mod KeptBlocks
 pub mod GoingOn
 pub mod IngestLemmas

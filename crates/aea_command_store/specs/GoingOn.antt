@@ -1,11 +1,13 @@
 -- Runs that a stop may cut off, and runs that go on from what a stop left.
 use Rattle.std.specs.Prelude.{◌≡◌, ◌≢◌, ◌⊎◌, ◌≤◌, ℕ, List, [], ◌∷◌, ◌++◌, length, Option, Err}
 use Rattle.sha2.specs.Sha256.{sha256}
+use Rattle.aea_lattice.specs.declared.blocks.BlockId.{BlockId}
 use Rattle.aea_lattice.specs.declared.shape.Shape.{Shape}
 use Rattle.aea_disk.specs.Files.{Files}
-use Rattle.aea_disk.specs.State.{State, IsFixed}
-use Rattle.aea_records.specs.Format.{Record, Stored, Object}
+use Rattle.aea_disk.specs.State.{State, IsFixed, IsSynced}
+use Rattle.aea_records.specs.Format.{Record, Stored, Object, nodes_of, digests_of}
 use Rattle.aea_ledger.specs.Stops.{HasLedger, HasOpening}
+use Rattle.aea_archive.specs.Blocks.{IsBlockIn, IsIntactBy}
 use Rattle.aea_archive.specs.Next.{NewObject}
 use Rattle.aea_append.specs.Puts.{IsWhole}
 use Rattle.aea_command.specs.declared.refusal.Refusal.{Refusal}
@@ -118,9 +120,33 @@ AreKept D tells state records [] added = added ≡ []
 AreKept D tells state records (r ∷ runs) added =
     (one : List Record) × (rest : List Record) × (added ≡ one ++ rest) × IsLeftBy records r.kind (r.moment ≡ (state r.new).moment) one × AreKept D tells state (records ++ one) runs rest
 
+-- Each block of an archive with the later records that is one of the nodes after those of the records before, or was intact, by
+-- these, in the old files, is intact in the new ones.
+abbrev pub KeepsBlocks : Shape → List Record → List Record → Files → Files → Type 0
+KeepsBlocks shape records later old new =
+    (b : BlockId) → IsBlockIn shape (nodes_of later) b → (b.node ≤ nodes_of records → IsIntactBy shape (digests_of records) old b) → IsIntactBy shape (digests_of later) new b
+
+-- A run of a command that leaves the ledger leaves the blocks that are intact too: from its first sync on, in every image.
+abbrev pub LeavesBlocks : RunKind → Type 0 → State → State → Type 0
+LeavesBlocks Leaving tells old new =
+    tells → (shape : Shape) (records : List Record) → HasLedger shape records (old.files 0) → HasOpening old new (KeepsBlocks shape records records old.files)
+LeavesBlocks kind tells old new = Unit {0}
+
+-- Of a run that leaves the blocks of others: it does, and it began with nothing pending, on the ledger and on the sites.
+pub record SparesBlocks (kind : RunKind) (tells : Type 0) (old new : State) : Type 0 where
+  pub synced : IsSynced old
+  pub leaves : LeavesBlocks kind tells old new
+
+-- and so does each of these runs
+abbrev pub AllSpareBlocks : (D tells : Type 0) (state : D → State) → List (StoppedRun D tells state) → Type 0
+AllSpareBlocks D tells state [] = Unit {0}
+AllSpareBlocks D tells state (r ∷ runs) = SparesBlocks r.kind tells (state r.old) (state r.new) × AllSpareBlocks D tells state runs
+
 -- However many runs there are, and wherever each was stopped: the ledger that the last stop left has the records that were
--- there before the first, and after them, in order, those that the runs added, of each that was acknowledged.
+-- there before the first, and after them, in order, those that the runs added, of each that was acknowledged. And where each run
+-- began with nothing pending, every block of these is intact, and so is each block that was so before the first run.
 abbrev pub StopsKeepPuts : {D : Type 0} → Type 0 → (D → State) → Type 0
 StopsKeepPuts {D} tells state =
     tells → (shape : Shape) (records : List Record) (runs : List (StoppedRun D tells state)) (first last : Files) → HasLedger shape records (first 0) → GoOn D tells state first runs last
     → (added : List Record) × AreKept D tells state records runs added × HasLedger shape (records ++ added) (last 0)
+    × (AllSpareBlocks D tells state runs → KeepsBlocks shape records (records ++ added) first last)

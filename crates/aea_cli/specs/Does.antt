@@ -152,17 +152,21 @@ FitsDisk (Explain word) w = IsRoomy w.disk
 FitsDisk Verify w = IsRoomy w.disk
 FitsDisk (Rehearse number nodes permille) w = Unit {0}
 
+-- no reason for a refusal of the command holds
+abbrev pub IsUnrefused : Command → World → Type 0
+IsUnrefused command w = (why : Refusal) → Causes command w why → ⊥
+
 -- the output has space for all that a run of the command prints
 abbrev pub FitsOutput : Command → World → Type 0
 FitsOutput (Drill l) w = (text : List ℕ) (status : Status) → IsOutcome l (input_of w) text status → FitsText w.out text
-FitsOutput (Create shape) w = FitsText w.out (created_line shape)
+FitsOutput (Create shape) w = IsUnrefused (Create shape) w → FitsText w.out (created_line shape)
 FitsOutput Stat w = (text : List ℕ) → IsStatOf (w.disk.files 0) text → FitsText w.out text
 FitsOutput command.List w = (text : List ℕ) → IsListOf (w.disk.files 0) text → FitsText w.out text
-FitsOutput (Put name) w = (shape : Shape) (records : List Record) → HasLedger shape records (w.disk.files 0) → FitsText w.out (stored_line shape (object_of name (input_of w)))
+FitsOutput (Put name) w = IsUnrefused (Put name) w → (shape : Shape) (records : List Record) → HasLedger shape records (w.disk.files 0) → FitsText w.out (stored_line shape (object_of name (input_of w)))
 FitsOutput Ingest w = FitsLines w.disk.files (input_of w) w.out
 FitsOutput (Get name) w = (shape : Shape) (records : List Record) (p : Placed) → HasObject w.disk.files name shape records p → FitsBytes w.out p.object.length
-FitsOutput Fence w = (shape : Shape) (records : List Record) → HasLedger shape records (w.disk.files 0) → FitsText w.out (fence_line (nodes_of records))
-FitsOutput Upgrade w = FitsText w.out upgraded_line
+FitsOutput Fence w = IsUnrefused Fence w → (shape : Shape) (records : List Record) → HasLedger shape records (w.disk.files 0) → FitsText w.out (fence_line (nodes_of records))
+FitsOutput Upgrade w = IsUnrefused Upgrade w → FitsText w.out upgraded_line
 FitsOutput Scrub w = (l : Lattice) (intact : BlockId → Bool) → TellsIntact w.disk.files l intact → FitsText w.out (scrub_text l intact)
 FitsOutput Repair w = (text : List ℕ) → IsRepairText w.disk.files text → FitsText w.out text
 FitsOutput (Explain word) w = (text : List ℕ) → IsExplanationText w.disk.files word text → FitsText w.out text

@@ -7,6 +7,7 @@ use Rattle.aea_command.specs.declared.refusal.Failure.TheVariants as failure
 use Rattle.aea_command_store.specs.Adding.{KeepsTheRest}
 use Rattle.aea_command.specs.Causes.{Refuses}
 use Rattle.aea_cli.specs.Does.{Runs}
+use Rattle.aea_cli.proofs.Runs.Unrefused.{none_held}
 use Rattle.aea_command.specs.Failures.{Answer, NeverClashes}
 use Rattle.aea_command_store.specs.Fence.{next_fence, FenceCauses, Fences}
 use Rattle.aea_command.specs.Worlds.{world}
@@ -24,7 +25,7 @@ fence_runs tells old new input before after answer fences refuses rest honest = 
   disk_fits = λ told ready fits. (fences.adds.in_room told ready fits).0;
   output_fits = λ told fits e.
       let stands = fences.adds.stands (inr e) (told.disk tt) in
-      let room = fits stands.0.shape stands.0.records stands.0.before in
+      let room = fits (none_held _ _ answer refuses (λ why. told.disk tt) e) stands.0.shape stands.0.records stands.0.before in
       ((fences.prints (told.disk tt) stands.0.shape stands.0.records stands.0.before).in_room room.room room.told room.enough).0 e;
   honest = λ told is. honest;
   stays = rest_stays tells _ old new rest;

@@ -11,6 +11,7 @@ use Rattle.aea_records.specs.Grammar.{IsLedger}
 use Rattle.std.specs.Prelude.{IsSome, unwrap_or}
 use Rattle.aea_command.specs.Causes.{RefusesBy, IsDecided}
 use Rattle.aea_cli.specs.Does.{Runs}
+use Rattle.aea_cli.proofs.Runs.Unrefused.{none_held}
 use Rattle.aea_command.specs.Worlds.{world}
 use Rattle.aea_lattice.specs.declared.shape.Shape.{Shape}
 use Rattle.aea_command.proofs.OpeningCases.{images_same}
@@ -33,7 +34,7 @@ put_runs name tells old new input input_after before after answer puts refuses r
       let line = puts.line (inr e) in
       let ledger = puts.stores.archive (inr e) (told.disk tt) in
       let has = subst (λ (n : ℕ). IsLedger (old.files 0) ledger.shape ledger.records n) ledger.ledger.place ledger.ledger in
-      let room = fits ledger.shape ledger.records has in
+      let room = fits (none_held _ _ answer refuses (λ why. (told.disk tt, λ by. told.input tt)) e) ledger.shape ledger.records has in
       let given : unwrap_or input.left [] ≡ line.o.bytes = whole_input input.left input_after.left line.o.bytes (told.input tt) line.whole.taken line.whole.end in
       let shape : line.shape ≡ ledger.shape = line.is_shape (told.disk tt) ledger.shape ledger.records has in
       let same_line : puts.text ≡ stored_line ledger.shape (object_of name (unwrap_or input.left [])) =

@@ -7,6 +7,7 @@ use Rattle.aea_command.specs.declared.refusal.Failure.TheVariants as failure
 use Rattle.aea_command_store.specs.Adding.{KeepsTheRest}
 use Rattle.aea_command.specs.Causes.{Refuses}
 use Rattle.aea_cli.specs.Does.{Runs}
+use Rattle.aea_cli.proofs.Runs.Unrefused.{none_held}
 use Rattle.aea_command.specs.Failures.{Answer, NeverClashes}
 use Rattle.aea_command_store.specs.Upgrade.{next_raise, UpgradeCauses, Upgrades}
 use Rattle.aea_command.specs.Worlds.{world}
@@ -22,7 +23,7 @@ upgrade_runs tells old new input before after answer upgrades refuses rest hones
   does = upgrades;
   refuses = λ early. refuses_by_told _ _ _ _ (λ why told. told.0 tt) refuses;
   disk_fits = λ told ready fits. (upgrades.adds.in_room told ready fits).0;
-  output_fits = λ told fits. (upgrades.prints.in_room fits.room fits.told fits.enough).0;
+  output_fits = λ told fits e. let room = fits (none_held _ _ answer refuses (λ why. told.disk tt) e) in (upgrades.prints.in_room room.room room.told room.enough).0 e;
   honest = λ told is. honest;
   stays = rest_stays tells _ old new rest;
   opens = adds_opens next_raise tells old new answer upgrades.adds;

@@ -3,3 +3,4 @@ pub mod RepairLemmas
 pub mod ExplainLemmas
 pub mod VerifyLemmas
 pub mod RehearseLemmas
+pub mod SitesLemmas

@@ -10,7 +10,7 @@ use Rattle.aea_ledger.specs.Taking.{FitsMaking}
 use Rattle.aea_ledger.specs.Stops.{HasOpening, HasLedger}
 use Rattle.aea_cli.specs.declared.command.Command.{Command}
 use Rattle.aea_cli.specs.declared.command.Command.TheVariants as command
-use Rattle.aea_cli.specs.declared.command.Command.TheVariants.{Drill, Create, Stat, Put, Ingest, Get, Fence, Upgrade, Scrub, Repair, Explain, Verify, Rehearse}
+use Rattle.aea_cli.specs.declared.command.Command.TheVariants.{Drill, Create, Stat, Put, Ingest, Get, Fence, Upgrade, Scrub, Repair, Explain, Verify, Rehearse, Sites}
 use Rattle.aea_command.specs.declared.refusal.Refusal.{Refusal}
 use Rattle.aea_command.specs.declared.refusal.Failure.TheVariants as failure
 use Rattle.aea_command.specs.declared.status.Status.{Status}
@@ -33,6 +33,7 @@ use Rattle.aea_command_loss.specs.Explain.{ExplainsOrNot, ExplainCauses, IsExpla
 use Rattle.aea_command_loss.specs.Verify.{Verifies, VerifyCauses, IsVerdictText}
 use Rattle.aea_rehearse.specs.declared.rehearsal.Rehearsal.{Rehearsal}
 use Rattle.aea_command_loss.specs.Rehearse.{Rehearses, IsRehearsalOf, rehearsal_line}
+use Rattle.aea_command_loss.specs.Sites.{SumsUpSites, AreFirstLines}
 use Rattle.aea_command.specs.Causes.{RefusesBy, IsDecided}
 use Rattle.aea_command.specs.Failures.{Answer, NeverClashes}
 use Rattle.aea_command.specs.Printed.{FitsText}
@@ -54,6 +55,7 @@ ReadsInput Repair = ⊥
 ReadsInput (Explain word) = ⊥
 ReadsInput Verify = Unit {0}
 ReadsInput (Rehearse number nodes permille) = ⊥
+ReadsInput Sites = ⊥
 
 -- the command makes calls of the disk
 abbrev pub UsesDisk : Command → Type 0
@@ -71,6 +73,7 @@ UsesDisk Repair = Unit {0}
 UsesDisk (Explain word) = Unit {0}
 UsesDisk Verify = Unit {0}
 UsesDisk (Rehearse number nodes permille) = ⊥
+UsesDisk Sites = Unit {0}
 
 -- the command may change the file
 abbrev pub MayChange : Command → ℕ → Type 0
@@ -88,6 +91,7 @@ MayChange Repair file = IsSiteFile file
 MayChange (Explain word) file = ⊥
 MayChange Verify file = ⊥
 MayChange (Rehearse number nodes permille) file = ⊥
+MayChange Sites file = ⊥
 
 -- the input is a part of what decides this refusal of the command
 abbrev pub IsByInput : Command → Refusal → Type 0
@@ -105,6 +109,7 @@ IsByInput Repair why = ⊥
 IsByInput (Explain word) why = ⊥
 IsByInput Verify why = IsAfterOpening why
 IsByInput (Rehearse number nodes permille) why = ⊥
+IsByInput Sites why = ⊥
 
 -- it leaves the file
 abbrev pub Keeps : Command → ℕ → Type 0
@@ -134,6 +139,7 @@ Causes Repair w = OpeningCauses (w.disk.files 0)
 Causes (Explain word) w = ExplainCauses word (w.disk.files 0)
 Causes Verify w = VerifyCauses (w.disk.files 0) (input_of w)
 Causes (Rehearse number nodes permille) w = NeverRefused
+Causes Sites w = OpeningCauses (w.disk.files 0)
 
 -- the disk has space for all that a run of the command writes, and to sync
 abbrev pub FitsDisk : Command → World → Type 0
@@ -151,6 +157,7 @@ FitsDisk Repair w = FitsRepair w.tells w.disk
 FitsDisk (Explain word) w = IsRoomy w.disk
 FitsDisk Verify w = IsRoomy w.disk
 FitsDisk (Rehearse number nodes permille) w = Unit {0}
+FitsDisk Sites w = IsRoomy w.disk
 
 -- no reason for a refusal of the command holds
 abbrev pub IsUnrefused : Command → World → Type 0
@@ -172,6 +179,7 @@ FitsOutput Repair w = (text : List ℕ) → IsRepairText w.disk.files text → F
 FitsOutput (Explain word) w = (text : List ℕ) → IsExplanationText w.disk.files word text → FitsText w.out text
 FitsOutput Verify w = (text : List ℕ) → IsVerdictText w.disk.files (input_of w) text → FitsText w.out text
 FitsOutput (Rehearse number nodes permille) w = (r : Rehearsal) → IsRehearsalOf number nodes permille r → FitsText w.out (rehearsal_line nodes r)
+FitsOutput Sites w = (text : List ℕ) → AreFirstLines (w.disk.files 0) text → FitsText w.out text
 
 -- what a run of the command did
 abbrev pub Does : Command → World → World → Answer → Type 0
@@ -189,6 +197,7 @@ Does Repair old new answer = RepairsArchive old.tells old.disk new.disk old.out 
 Does (Explain word) old new answer = ExplainsOrNot word old.tells old.disk new.disk old.out new.out answer
 Does Verify old new answer = Verifies old.tells old.disk new.disk old.input new.input old.out new.out answer
 Does (Rehearse number nodes permille) old new answer = Rehearses number nodes permille old.out new.out answer
+Does Sites old new answer = SumsUpSites old.tells old.disk new.disk old.out new.out answer
 
 -- where the intact blocks are honest no digests clash: of a repair for some data list that the ledger records, and no other
 -- command compares digests that it computes

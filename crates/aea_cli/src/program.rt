@@ -16,7 +16,7 @@ ghost use Rattle.aea_command.specs.Worlds.{world};
 use crate::command::{Command, parse_words};
 use aea_command::{Failure, Status, report};
 use aea_command_loss::drill::drill;
-use aea_command_loss::{explain_word, rehearse_line, repair_archive, verify_report};
+use aea_command_loss::{explain_word, rehearse_line, repair_archive, sum_up_sites, verify_report};
 use aea_command_read::get_object;
 use aea_command_read::list::list;
 use aea_command_read::scrub::scrub;
@@ -70,6 +70,7 @@ fn carry_out<D: Disk, S: Source, O: Sink>(
             nodes,
             permille,
         } => rehearse_line(alloc, *number, *nodes, *permille, out),
+        Command::Sites => sum_up_sites(alloc, disk, out),
     }
 }
 
@@ -106,7 +107,8 @@ fn execute<D: Disk, S: Source, O: Sink>(
 
 /// Does all that the program does: takes the words of the command line, the disk and the three streams, and returns
 /// the status. What is printed is on `out`, and a line that says why a command did not end well on `err`. That memory
-/// ran out may be returned at any time before the first byte is printed.
+/// ran out may be returned at any time before the first byte is printed, and by `ingest` and `sites` after each of their lines:
+/// then these lines are on `out`, and nothing else.
 pub fn run<D: Disk, S: Source, O: Sink, E: Sink>(
     alloc: Global,
     words: &[String],

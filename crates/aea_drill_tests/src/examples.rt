@@ -62,7 +62,7 @@ fn drills_print_the_outcome(rt: HostRuntime) -> Result<(), Fail> {
 }
 
 // Lines whose words are no command.
-const NO_COMMANDS: [&str; 73] = [
+const NO_COMMANDS: [&str; 76] = [
     "drill 2 3 2 5",
     "drill 2 1 4 5",
     "drill 1 1 0 65537",
@@ -136,6 +136,9 @@ const NO_COMMANDS: [&str; 73] = [
     "rehearse 18446744073709551616 3 0",
     "Rehearse 7 3 0",
     "rehearses 7 3 0",
+    "sites 1",
+    "Sites",
+    "site",
 ];
 
 #[test]

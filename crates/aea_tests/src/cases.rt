@@ -30,7 +30,7 @@ pub struct Case {
     pub input: &'static str,
     pub status: Status,
     pub out: &'static str,
-    /// In how many pieces it is printed, each flushed.
+    /// In how many pieces it is printed, each flushed; where there are several, each is a line.
     pub pieces: usize,
     /// How many calls of the disk it makes.
     pub calls: u64,
@@ -310,10 +310,20 @@ const REHEARSE: Case = Case {
     ..NOTHING
 };
 
+const SITES: Case = Case {
+    line: "sites",
+    out: "site 1 lost 0\nsite 2 lost 0\nsite 3 lost 0\nsite 4 lost 0\n\
+        pair 1 2 lost 0\npair 1 3 lost 0\npair 1 4 lost 0\n\
+        pair 2 3 lost 0\npair 2 4 lost 0\npair 3 4 lost 0\n",
+    pieces: 10,
+    calls: 5,
+    ..OVER_ONE
+};
+
 // One run of each command.
 const CASES: &[Case] = &[
     DRILL, CREATE, STAT, LIST, PUT, INGEST, GET, FENCE, UPGRADE, SCRUB, REPAIR, EXPLAIN, VERIFY,
-    REHEARSE,
+    REHEARSE, SITES,
 ];
 
 /// One run of each command. It is a function, so that the proof of a test does not carry the table.

@@ -2,11 +2,11 @@
 
 use super::ends::lines_in;
 use crate::cases::{Case, bare, cases};
-use crate::standing::{is_whole, prepared, printed, stands};
+use crate::standing::{is_whole, prepared, stands};
 use aea_cli::Status;
 use aea_disk::SureDisk;
 use aea_runs::{Faults, NONE, run_failing, run_line};
-use std::alloc::{AllocError, Global};
+use std::alloc::Global;
 use std::test::Fail;
 
 // Whether the run with an output that fails so says so, has printed this many bytes of the whole, and leaves what so many
@@ -28,12 +28,23 @@ fn bears_output(
     Ok(is_told && is_first_part && is_kept)
 }
 
-// How many bytes the first pieces that are printed have: the lines of commits, and after them the rest.
-fn length_of(alloc: Global, case: &Case, pieces: usize) -> Result<usize, AllocError> {
+// How many bytes the first pieces that are printed have.
+fn length_of(case: &Case, pieces: usize) -> usize {
     if case.pieces <= pieces {
-        return Ok(case.out.len());
+        return case.out.len();
     }
-    Ok(printed(alloc, case, pieces)?.len())
+    let mut length = 0usize;
+    let mut lines = 0usize;
+    for byte in case.out.as_bytes() {
+        if lines == pieces {
+            break;
+        }
+        length = length.wrapping_add(1);
+        if *byte == b'\n' {
+            lines = lines.wrapping_add(1);
+        }
+    }
+    length
 }
 
 // The first call of the output, counted from 1, whose failing the run does not bear. Each piece is written and flushed, and its
@@ -51,7 +62,7 @@ fn first_call(alloc: Global, case: &Case) -> Result<Option<u32>, Fail> {
             let is_whole = is_whole(case, left.status, left.out.bytes(), left.err.bytes());
             return Ok((!is_whole).then_some(call));
         }
-        let length = length_of(alloc, case, call as usize / 2)?;
+        let length = length_of(case, call as usize / 2);
         if !bears_output(alloc, case, faults, length, begun)? {
             return Ok(Some(call));
         }
@@ -159,7 +170,7 @@ fn the_errors_fail_at_each_byte(rt: HostRuntime) -> Result<(), Fail> {
 }
 
 // Lines that are refused where there is no archive, and lines that are no command.
-const REFUSED: [&str; 11] = [
+const REFUSED: [&str; 12] = [
     "stat",
     "list",
     "put a",
@@ -171,6 +182,7 @@ const REFUSED: [&str; 11] = [
     "repair",
     "explain d1",
     "verify",
+    "sites",
 ];
 
 const NO_COMMANDS: [&str; 10] = [

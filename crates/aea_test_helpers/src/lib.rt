@@ -20,6 +20,6 @@ pub use files::{file_bytes, fill_file, has_file};
 pub use flipping::FlippingDisk;
 pub use lines::add_line;
 pub use reports::{digits_of, report_of};
-pub use sets::{Mask, Split, escapes, masks_of, meets_oddly, take_out};
+pub use sets::{Mask, ends_of, escapes, masks_of, meets_oddly, set_of};
 pub use shapes::{PLAIN, SMALL, WIDE, WOVEN};
 pub use slow::SlowReader;

@@ -15,11 +15,11 @@ pub struct Mask {
     pub nodes: u64,
 }
 
-/// What is left of some sets of nodes where one of them is added to each other that has a block, and taken out.
+// What is left of some sets of nodes where one of them is added to each other that has a block, and taken out.
 #[derive(Drop)]
-pub struct Split {
-    pub pivot: Option<u64>,
-    pub rest: Vec<u64>,
+struct Split {
+    pivot: Option<u64>,
+    rest: Vec<u64>,
 }
 
 /// Whether an odd number of nodes are in both sets.
@@ -85,8 +85,8 @@ pub fn masks_of(alloc: Global, lattice: &Lattice) -> Result<Vec<Mask>, AllocErro
     Ok(masks)
 }
 
-/// Takes the first set out whose codeword contains the block of the mask, and adds it to the others of this kind.
-pub fn take_out(alloc: Global, sets: &[u64], mask: u64) -> Result<Split, AllocError> {
+// Takes the first set out whose codeword contains the block of the mask, and adds it to the others of this kind.
+fn take_out(alloc: Global, sets: &[u64], mask: u64) -> Result<Split, AllocError> {
     let mut pivot = None;
     let mut rest = Vec::new(alloc);
     for nodes in sets {
@@ -121,4 +121,43 @@ pub fn escapes(
         }
     }
     Ok(sets)
+}
+
+// Adds the set to each of these whose codeword contains the block of the mask.
+fn add_to_each(alloc: Global, sets: &[u64], mask: u64, set: u64) -> Result<Vec<u64>, AllocError> {
+    let mut all = Vec::new(alloc);
+    for nodes in sets {
+        all.push(if meets_oddly(*nodes, mask) {
+            *nodes ^ set
+        } else {
+            *nodes
+        })?;
+    }
+    Ok(all)
+}
+
+/// The sets of the ends, that of the greatest end first: each contains its own end alone.
+pub fn ends_of(alloc: Global, masks: &[Mask], sets: Vec<u64>) -> Result<Vec<u64>, AllocError> {
+    let mut sets = sets;
+    let mut ends = Vec::new(alloc);
+    for mask in masks.iter().rev() {
+        let parted = take_out(alloc, sets.as_slice(), mask.nodes)?;
+        if let Some(set) = parted.pivot {
+            ends = add_to_each(alloc, ends.as_slice(), mask.nodes, set)?;
+            ends.push(set)?;
+        }
+        sets = parted.rest;
+    }
+    Ok(ends)
+}
+
+/// The set of the least end whose codeword contains the block of the mask, if there is one.
+pub fn set_of(ends: &[u64], mask: u64) -> Option<u64> {
+    let mut found = None;
+    for set in ends {
+        if meets_oddly(*set, mask) {
+            found = Some(*set);
+        }
+    }
+    found
 }

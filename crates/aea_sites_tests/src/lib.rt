@@ -1,0 +1,12 @@
+//! Tests of what the loss of sites would cost: whole runs of `sites` over archives in memory, beside a plain elimination among sets
+//! of nodes.
+#![tactic(auto)]
+
+#[cfg(test)]
+mod archives;
+#[cfg(test)]
+mod chance;
+#[cfg(test)]
+mod examples;
+#[cfg(test)]
+mod plain;

@@ -4,6 +4,7 @@ scripts take from it what stands in files. It is no program by itself; SHA-256 i
 equations are numbers whose bits are theirs."""
 
 import hashlib
+import itertools
 import re
 from dataclasses import dataclass, field
 
@@ -321,6 +322,19 @@ class Plain:
             by = sorted(place for kind, place in columns if kind == "equation" and row >> bit[kind, place] & 1)
             return f"{text}sum {' '.join(self.text(self.equations[place][1]) for place in by)}\n".encode(), 0
         return f"{text}word {' '.join(map(str, self.fates(set(unknown))[k]))}\n".encode(), 1
+
+    def site_losses(self):
+        """What is printed of what the loss of each site, and of each two, would cost."""
+        sites, lines = range(1, self.sites + 1), []
+        on_site = {site: {k for k in range(len(self.cells)) if self.home(k)[0] == site} for site in sites}
+        for a, b in [*((a, a) for a in sites), *itertools.combinations(sites, 2)]:
+            gone = on_site[a] | on_site[b]
+            # what single equations give is known too, which changes no word
+            fates = self.fates(gone - self.peeled(gone))
+            lost = [k for k in sorted(fates) if fates[k] is not None]
+            line = f"{f'site {a}' if a == b else f'pair {a} {b}'} lost {len(lost)}"
+            lines.append(f"{line} first {self.text(lost[0])} by {' '.join(map(str, fates[lost[0]]))}\n" if lost else f"{line}\n")
+        return "".join(lines).encode()
 
     def codeword(self, nodes):
         """The blocks of the codeword of these nodes."""

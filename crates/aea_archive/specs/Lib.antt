@@ -4,4 +4,5 @@ pub mod Next
 pub mod Cells
 pub mod Stretches
 pub mod Data
+pub mod Objects
 pub mod Laws

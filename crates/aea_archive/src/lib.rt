@@ -9,7 +9,8 @@
 //! `specs/Blocks.antt` says which digest the ledger keeps of a block and which blocks are intact by it, `specs/Lasts.antt`
 //! what the last parities are that enter the next node, `specs/Next.antt` what the next record of an object is, given by
 //! the payloads of blocks, `specs/Cells.antt` what changes of the files leave of the blocks, `specs/Stretches.antt` what a
-//! stretch of a run leaves in which records are added, and `specs/Data.antt` what of the data survivors have.
+//! stretch of a run leaves in which records are added, `specs/Data.antt` what of the data survivors have, and
+//! `specs/Objects.antt` what the data blocks of an object are, and what payloads of them are, joined and cut.
 //!
 //! A function that adds records gets its clauses from those of its calls by these lemmas of
 //! `Rattle.aea_archive.proofs.Stretches`. Each takes the states before, between and after.

@@ -1,33 +1,41 @@
--- Payloads of blocks, joined and cut.
-use Rattle.std.proofs.Common.{◌≡◌, ℕ, zero, suc, ◌+◌, ◌-◌, ◌*◌, List, [], ◌∷◌, ◌++◌, length, take, drop, sym, ◌∙◌, ap, arith, length-append, length-drop, length-take}
+-- Payloads of blocks, whatever a payload is: `has b p` says that p is a payload of b. For those who join payloads, and cut
+-- them.
+use Rattle.std.proofs.Common.{◌≡◌, ℕ, zero, suc, ◌+◌, ◌-◌, ◌*◌, List, [], ◌∷◌, ◌++◌, length, take, refl, sym, ◌∙◌, ap, arith, length-append}
 use Rattle.std.proofs.lemmas.List.{append-nil}
 use Rattle.std.proofs.lemmas.List.Concat.{flat_map-append}
 use Rattle.aea_lattice.specs.declared.blocks.BlockId.{BlockId}
-use Rattle.aea_lattice.specs.declared.shape.Shape.{Shape}
-use Rattle.aea_disk.specs.Files.{Files}
-use Rattle.aea_fetch.specs.Objects.{IsPayload, ArePayloads, joined}
-use Rattle.aea_shelf.specs.Places.{HasAtHome, home_bytes, home_file, home_place}
-use Rattle.aea_envelope.specs.Cells.{block_digest}
-use Rattle.aea_shelf.specs.Intact.{payload_in}
-use Rattle.aea_archive.specs.Blocks.{recorded_in, IsIntactBy}
+use Rattle.aea_archive.specs.Objects.{ArePayloads, joined}
 
--- payloads of some blocks, and of others after them
-pub payloads_append : (tells : Type 0) (shape : Shape) (digests : List (List ℕ)) (c : Files) (bs cs : List BlockId) (ps qs : List (List ℕ)) → ArePayloads tells shape digests c bs ps → ArePayloads tells shape digests c cs qs → ArePayloads tells shape digests c (bs ++ cs) (ps ++ qs)
-payloads_append tells shape digests c [] cs [] qs one two = two
-payloads_append tells shape digests c [] cs (p ∷ ps) qs one two = absurd one
-payloads_append tells shape digests c (b ∷ bs) cs [] qs one two = absurd one
-payloads_append tells shape digests c (b ∷ bs) cs (p ∷ ps) qs one two = (one.0, payloads_append tells shape digests c bs cs ps qs one.1 two)
+-- payloads of some blocks and of others after them are some of the ones and some of the others
+pub record AreSplit (has : BlockId → List ℕ → Type 0) (bs cs : List BlockId) (ps : List (List ℕ)) : Type 0 where
+  pub front : List (List ℕ)
+  pub back : List (List ℕ)
+  pub are : ps ≡ front ++ back
+  pub fronts : ArePayloads has bs front
+  pub backs : ArePayloads has cs back
 
--- they have a block's bytes each
-pub length-joined : (tells : Type 0) (shape : Shape) (digests : List (List ℕ)) (c : Files) (bs : List BlockId) (ps : List (List ℕ)) → ArePayloads tells shape digests c bs ps → length (joined ps) ≡ length bs * shape.block
-length-joined tells shape digests c [] [] are = let e : 0 ≡ 0 * shape.block = omega arith in e
-length-joined tells shape digests c [] (p ∷ ps) are = absurd are
-length-joined tells shape digests c (b ∷ bs) [] are = absurd are
-length-joined tells shape digests c (b ∷ bs) (p ∷ ps) are =
-    let wide = are.0.wide in
-    let rest = length-joined tells shape digests c bs ps are.1 in
-    let e : suc (length bs) * shape.block ≡ shape.block + length bs * shape.block = omega arith in
-    omega (arith, length-append p (joined ps), wide, rest, e)
+module _ (has : BlockId → List ℕ → Type 0) where
+  -- payloads of some blocks, and of others after them
+  pub payloads_append : (bs cs : List BlockId) (ps qs : List (List ℕ)) → ArePayloads has bs ps → ArePayloads has cs qs → ArePayloads has (bs ++ cs) (ps ++ qs)
+  payloads_append [] cs [] qs one two = two
+  payloads_append [] cs (p ∷ ps) qs one two = absurd one
+  payloads_append (b ∷ bs) cs [] qs one two = absurd one
+  payloads_append (b ∷ bs) cs (p ∷ ps) qs one two = (one.0, payloads_append bs cs ps qs one.1 two)
+
+  -- and back
+  pub payloads_split : (bs cs : List BlockId) (ps : List (List ℕ)) → ArePayloads has (bs ++ cs) ps → AreSplit has bs cs ps
+  payloads_split [] cs ps are = record { front = []; back = ps; are = refl; fronts = tt; backs = are }
+  payloads_split (b ∷ bs) cs [] are = absurd are
+  payloads_split (b ∷ bs) cs (p ∷ ps) are =
+      let rest = payloads_split bs cs ps are.1 in
+      record { front = p ∷ rest.front; back = rest.back; are = ap (λ (l : List (List ℕ)). p ∷ l) rest.are; fronts = (are.0, rest.fronts); backs = rest.backs }
+
+-- payloads are payloads by another word too, where each is
+pub payloads_as : (has other : BlockId → List ℕ → Type 0) → ((b : BlockId) (p : List ℕ) → has b p → other b p) → (bs : List BlockId) (ps : List (List ℕ)) → ArePayloads has bs ps → ArePayloads other bs ps
+payloads_as has other also [] [] are = tt
+payloads_as has other also [] (p ∷ ps) are = absurd are
+payloads_as has other also (b ∷ bs) [] are = absurd are
+payloads_as has other also (b ∷ bs) (p ∷ ps) are = (also b p are.0, payloads_as has other also bs ps are.1)
 
 -- the first bytes of two lists, one after the other
 pub take_both : (n : ℕ) (xs ys : List ℕ) → take n (xs ++ ys) ≡ take n xs ++ take (n - length xs) ys
@@ -37,31 +45,26 @@ take_both (suc n) (x ∷ xs) ys =
     let e : n - length xs ≡ suc n - suc (length xs) = omega arith in
     ap (λ (l : List ℕ). x ∷ l) (take_both n xs ys ∙ ap (λ (m : ℕ). take n xs ++ take m ys) e)
 
--- the first bytes of payloads and of others after them
-pub take_joined : (tells : Type 0) (shape : Shape) (digests : List (List ℕ)) (c : Files) (bs : List BlockId) (ps qs : List (List ℕ)) (most : ℕ) → ArePayloads tells shape digests c bs ps
-    → take most (joined (ps ++ qs)) ≡ take most (joined ps) ++ take (most - length bs * shape.block) (joined qs)
-take_joined tells shape digests c bs ps qs most are =
-    ap (take most) (flat_map-append (λ (p : List ℕ). p) ps qs) ∙ take_both most (joined ps) (joined qs)
-    ∙ ap (λ (n : ℕ). take most (joined ps) ++ take (most - n) (joined qs)) (length-joined tells shape digests c bs ps are)
+-- the first bytes of a payload are those of it alone
+pub take_alone : (p : List ℕ) (most : ℕ) → take most p ≡ take most (joined (p ∷ []))
+take_alone p most = ap (take most) (sym (append-nil p))
 
--- ---- the payload in a cell that was read
+-- ---- payloads that have the bytes of a block each
 
--- what is at a home is its cell, where all of it does
-home_is : (shape : Shape) (b : BlockId) (cell : List ℕ) (c : Files) → length cell ≡ shape.block + 48 → HasAtHome shape b cell c → cell ≡ home_bytes shape b c
-home_is shape b cell c long at = sym at ∙ ap (λ (n : ℕ). take n (drop (home_place shape b) (c (home_file shape b)))) long
+module _ (has : BlockId → List ℕ → Type 0) (size : ℕ) (wide : (b : BlockId) (p : List ℕ) → has b p → length p ≡ size) where
+  -- so many bytes they have together
+  pub length-joined : (bs : List BlockId) (ps : List (List ℕ)) → ArePayloads has bs ps → length (joined ps) ≡ length bs * size
+  length-joined [] [] are = let e : 0 ≡ 0 * size = omega arith in e
+  length-joined [] (p ∷ ps) are = absurd are
+  length-joined (b ∷ bs) [] are = absurd are
+  length-joined (b ∷ bs) (p ∷ ps) are =
+      let one = wide b p are.0 in
+      let rest = length-joined bs ps are.1 in
+      let e : suc (length bs) * size ≡ size + length bs * size = omega arith in
+      omega (arith, length-append p (joined ps), one, rest, e)
 
--- it is a payload of the block
-pub payload_of : (tells : Type 0) (shape : Shape) (digests : List (List ℕ)) (c : Files) (b : BlockId) (cell : List ℕ) → length cell ≡ shape.block + 48 → block_digest b (payload_in shape cell) ≡ recorded_in shape digests b → (tells → HasAtHome shape b cell c) → (tells → IsIntactBy shape digests c b)
-    → IsPayload tells shape digests c b (payload_in shape cell)
-payload_of tells shape digests c b cell long digest at intact = record {
-  wide = omega (arith, length-take shape.block (drop 16 cell), length-drop 16 cell, long);
-  digest = digest;
-  home = λ told. ap (payload_in shape) (home_is shape b cell c long (at told));
-  intact = intact;
-}
-
--- the first bytes of it are those of it alone
-pub front_is : (shape : Shape) (cell : List ℕ) (most : ℕ) → length cell ≡ shape.block + 48 → take most (take (length cell - 48) (drop 16 cell)) ≡ take most (joined (payload_in shape cell ∷ []))
-front_is shape cell most long =
-    let size : length cell - 48 ≡ shape.block = omega (arith, long) in
-    ap (λ (n : ℕ). take most (take n (drop 16 cell))) size ∙ ap (take most) (sym (append-nil (payload_in shape cell)))
+  -- the first bytes of payloads and of others after them
+  pub take_joined : (bs : List BlockId) (ps qs : List (List ℕ)) (most : ℕ) → ArePayloads has bs ps → take most (joined (ps ++ qs)) ≡ take most (joined ps) ++ take (most - length bs * size) (joined qs)
+  take_joined bs ps qs most are =
+      ap (take most) (flat_map-append (λ (p : List ℕ). p) ps qs) ∙ take_both most (joined ps) (joined qs)
+      ∙ ap (λ (n : ℕ). take most (joined ps) ++ take (most - n) (joined qs)) (length-joined bs ps are)

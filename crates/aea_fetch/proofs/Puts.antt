@@ -23,9 +23,9 @@ use Rattle.aea_lattice.specs.Data.{IsDataList}
 use Rattle.aea_records.proofs.OneMore.{stored_of-push, nodes_of-push}
 use Rattle.aea_archive.specs.Next.{NewObject, cut_blocks, object_blocks}
 use Rattle.aea_archive.proofs.Pieces.{cut-length, cut-joined}
-use Rattle.aea_fetch.specs.Objects.{object_in, joined}
+use Rattle.aea_archive.specs.Objects.{object_in, joined}
 use Rattle.aea_fetch.specs.Puts.{AreOfPuts, datas_of, PutsGoOn, RecordedObjectsHaveTheirDigests}
-use Rattle.aea_fetch.proofs.Getting.{nodes_hold}
+use Rattle.aea_fetch.proofs.Copies.{nodes_hold}
 
 -- ---- the bytes of the next object
 

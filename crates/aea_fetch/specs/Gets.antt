@@ -1,16 +1,15 @@
 -- What `get` appends, and why it does not.
-use Rattle.std.specs.Prelude.{◌≡◌, ◌⊎◌, ℕ, ◌≤◌, List, ◌++◌, length, take, All, Some, Option, None, Result, Ok, Err}
+use Rattle.std.specs.Prelude.{◌≡◌, ◌⊎◌, ℕ, List, length, take, All, Some, Option, None, Result, Err}
 use Rattle.std.specs.Io.KnownBytes.{Appends}
-use Rattle.aea_faults.specs.Faults.{Rose}
 use Rattle.aea_io.specs.Streams.{SinkState}
-use Rattle.aea_io.specs.Written.{AppendsPart}
-use Rattle.aea_io.specs.Pages.{Prints}
 use Rattle.aea_lattice.specs.declared.blocks.BlockId.{BlockId}
 use Rattle.aea_lattice.specs.declared.shape.Shape.{Shape}
 use Rattle.aea_disk.specs.Files.{Files}
 use Rattle.aea_catalog.specs.Catalogs.{Placed}
 use Rattle.aea_archive.specs.Blocks.{IsIntactBy}
-use Rattle.aea_fetch.specs.Objects.{data_of, ArePayloads, joined, IsOneOf, IsFirstDamaged, IsFront}
+use Rattle.aea_archive.specs.Objects.{data_of, ArePayloads, joined, IsOneOf}
+use Rattle.aea_fetch.specs.Payloads.{IsPayload, IsFirstDamaged}
+use Rattle.aea_fetch.specs.Copies.{HasCut}
 use Rattle.aea_fetch.specs.declared.fault.GetFault.{GetFault}
 use Rattle.aea_fetch.specs.declared.fault.GetFault.TheVariants.{Damaged, DiskFault, NoMemory, WriteFault}
 
@@ -19,42 +18,19 @@ abbrev pub IsFound : Type 0 → Shape → List (List ℕ) → Files → List Blo
 IsFound tells shape digests c blocks None = tells → All (IsIntactBy shape digests c) blocks
 IsFound tells shape digests c blocks (Some b) = IsOneOf blocks b × (tells → IsFirstDamaged shape digests c blocks b)
 
--- The payloads of the blocks were printed, of them the first bytes, so many, through what was gathered before and is now.
-pub record HasCopied (tells : Type 0) (shape : Shape) (digests : List (List ℕ)) (c : Files) (blocks : List BlockId) (most : ℕ) (old : SinkState) (before : List ℕ) (new : SinkState) (after : List ℕ) : Type 0 where
-  pub payloads : List (List ℕ)
-  pub are : ArePayloads tells shape digests c blocks payloads
-  pub prints : Prints {T = Unit {0}} {E = Unit {0}} old before new after (Ok tt) (take most (joined payloads))
-
--- A fault came: of the payloads of some first blocks a first part was appended, after what was gathered before.
+-- A fault came, and the payloads of the blocks were cut short; a block is damaged only where it is not intact.
 pub record HasBroken (tells : Type 0) (shape : Shape) (digests : List (List ℕ)) (c : Files) (blocks : List BlockId) (most : ℕ) (old : SinkState) (before : List ℕ) (new : SinkState) (fault : GetFault) : Type 0 where
-  pub front : List BlockId
-  pub is_front : IsFront front blocks
-  pub payloads : List (List ℕ)
-  pub are : ArePayloads tells shape digests c front payloads
-  pub part : AppendsPart old.written new.written (before ++ take most (joined payloads))
-  pub kept : old.faults ≤ new.faults
-  pub cause : fault ≡ WriteFault → Rose old.faults new.faults
-  -- a sink with space for all does not fail
-  pub fits : (room : ℕ) → old.room ≡ Some room → length (before ++ take most (joined payloads)) ≤ room → (fault ≡ WriteFault → ⊥) × (new.faults ≡ old.faults)
-  -- a block is damaged only where it is not intact
+  pub cut : HasCut (IsPayload tells shape digests c) blocks most old before new (fault ≡ WriteFault)
   pub damaged : (b : BlockId) → fault ≡ Damaged b → IsOneOf blocks b × (tells → IsIntactBy shape digests c b → ⊥)
 
 -- the fault is of the second pass: a block is damaged, the output failed, or the disk did
 abbrev pub IsCopyFault : GetFault → Type 0
 IsCopyFault fault = ((b : BlockId) × (fault ≡ Damaged b)) ⊎ ((fault ≡ WriteFault) ⊎ (fault ≡ DiskFault))
 
--- The payloads of the blocks were appended, of them the first bytes, so many; and a sink with space for them did not fail.
-pub record HasSent (tells : Type 0) (shape : Shape) (digests : List (List ℕ)) (c : Files) (blocks : List BlockId) (most : ℕ) (old new : SinkState) : Type 0 where
-  pub payloads : List (List ℕ)
-  pub are : ArePayloads tells shape digests c blocks payloads
-  pub appended : Appends old.written new.written (take most (joined payloads))
-  pub kept : old.faults ≤ new.faults
-  pub steady : (room : ℕ) → old.room ≡ Some room → length (take most (joined payloads)) ≤ room → new.faults ≡ old.faults
-
 -- The object was got: what was appended is its first bytes, as many as its length says, of payloads of its data blocks.
 pub record HasGot (tells : Type 0) (shape : Shape) (digests : List (List ℕ)) (c : Files) (p : Placed) (old new : SinkState) : Type 0 where
   pub payloads : List (List ℕ)
-  pub are : ArePayloads tells shape digests c (data_of p.parts) payloads
+  pub are : ArePayloads (IsPayload tells shape digests c) (data_of p.parts) payloads
   pub long : length (take p.object.length (joined payloads)) ≡ p.object.length
   pub appended : Appends old.written new.written (take p.object.length (joined payloads))
 

@@ -1,3 +1,6 @@
-pub mod Objects
+pub mod Cursors
+pub mod Payloads
+pub mod Cells
+pub mod Copies
 pub mod Gets
 pub mod Puts

@@ -11,7 +11,7 @@ use Rattle.aea_records.specs.Catalogued.{objects_of}
 use Rattle.aea_records.specs.Format.{Stored, Record, Object, Joined, Fence, Raise}
 use Rattle.aea_ledger.specs.Recorded.{AreRecordsOf}
 use Rattle.aea_archive.specs.Next.{NewObject, object_blocks, IsNextStored}
-use Rattle.aea_fetch.specs.Objects.{object_in}
+use Rattle.aea_archive.specs.Objects.{object_in}
 
 -- The records are those of these objects, put one after the other, each with its name and its length; fences and raises of
 -- the limit may come between them.

@@ -17,22 +17,28 @@ ghost use Rattle.aea_ledger.specs.Values.{HasRecords};
 ghost use Rattle.aea_archive.specs.Blocks.{IsIntactBy};
 ghost use Rattle.aea_archive.specs.Data.{AreSurvivorsHonest};
 ghost use Rattle.aea_archive.specs.Next.{NewObject};
-ghost use Rattle.aea_fetch.specs.Objects.{data_of, object_in, IsOneOf, IsFirstDamaged};
-ghost use Rattle.aea_fetch.specs.Gets.{HasGot, HasSent, HasBroken, IsCopyFault, IsOutside};
+ghost use Rattle.aea_archive.specs.Objects.{data_of, data_under, object_in, IsOneOf};
+ghost use Rattle.aea_fetch.specs.Payloads.{IsPayload, IsFirstDamaged};
+ghost use Rattle.aea_fetch.specs.Copies.{HasSent};
+ghost use Rattle.aea_fetch.specs.Gets.{HasGot, HasBroken, IsCopyFault, IsOutside};
 ghost use Rattle.aea_fetch.specs.Puts.{AreOfPuts, datas_of};
 
-use crate::check::check_parts;
-use crate::copy::copy_parts;
+use crate::cells::{CellFault, CellReader};
+use crate::check::check_object;
+use crate::copy::send_payloads;
 use crate::fault::GetFault;
+use crate::source::SendFault;
 use aea_archive::cell_buffer;
 use aea_disk::Disk;
-use aea_io::{Page, Sink, finish};
+use aea_io::{Page, Sink};
 use aea_ledger::Ledger;
 use aea_records::objects_are_of_records;
 use std::alloc::Global;
 
-// Appends the payloads of the object's data blocks, cut to so many bytes, through a page without bytes, and flushes all.
-fn send_object<D: Disk, O: Sink>(
+/// Appends the payloads of the data blocks of the object under the name, one after the other and cut to so many bytes, through
+/// a page without bytes, and flushes. It reads each cell once, into the buffer, which has the bytes of a cell, B + 48. Of a
+/// fault it says whether a block is damaged, at which no byte of it is written, the disk failed, or the output did.
+pub fn send_object<D: Disk, O: Sink>(
     disk: &mut D,
     ledger: &Ledger,
     name: &[u8],
@@ -43,20 +49,19 @@ fn send_object<D: Disk, O: Sink>(
 ) -> Result<(), GetFault>
     requires buffer { length cell.old ≡ cell_size ledger.now.shape }
     requires empty { page.old ≡ [] }
-    ensures sent { OnOk result ((p : Placed) → get ledger.now.objects name.now ≡ Some p → HasSent D.tells ledger.now.shape ledger.now.digests (D.state disk.old).files (data_of p.parts) most (O.state out.old) (O.state out.new)) }
-    ensures broken { IfErr result (λ fault. (p : Placed) → get ledger.now.objects name.now ≡ Some p → HasBroken D.tells ledger.now.shape ledger.now.digests (D.state disk.old).files (data_of p.parts) most (O.state out.old) [] (O.state out.new) fault) }
+    ensures sent { OnOk result (HasSent (IsPayload D.tells ledger.now.shape ledger.now.digests (D.state disk.old).files) (data_under (get ledger.now.objects name.now)) most (O.state out.old) (O.state out.new)) }
+    ensures broken { IfErr result (HasBroken D.tells ledger.now.shape ledger.now.digests (D.state disk.old).files (data_under (get ledger.now.objects name.now)) most (O.state out.old) [] (O.state out.new)) }
     ensures faults { IfErr result IsCopyFault }
     ensures still { result ≢ Err GetFault.WriteFault → (O.state out.new).faults ≡ (O.state out.old).faults }
     ensures flushed { OnOk result (IsFlushed (O.state out.new)) }
     ensures reads { OnlyReads D.tells (result ≡ Err GetFault.DiskFault) (D.state disk.old) (D.state disk.new) }
 {
-    match copy_parts(disk, ledger, name, most, cell, page, out) {
-        Ok(()) => (),
-        Err(fault) => return Err(fault),
-    }
-    match finish(out, page) {
+    let mut payloads = CellReader { cell };
+    match send_payloads(&mut payloads, ledger, disk, name, most, page, out) {
         Ok(()) => Ok(()),
-        Err(_) => Err(GetFault::WriteFault),
+        Err(SendFault::Payload(CellFault::Damaged { block })) => Err(GetFault::Damaged { block }),
+        Err(SendFault::Payload(CellFault::DiskFault)) => Err(GetFault::DiskFault),
+        Err(SendFault::Output) => Err(GetFault::WriteFault),
     }
 }
 
@@ -122,7 +127,7 @@ pub fn get<D: Disk, O: Sink>(
     let Ok(mut page) = Page::large(alloc) else {
         return Err(GetFault::NoMemory);
     };
-    match check_parts(disk, ledger, name, cell.as_mut_slice()) {
+    match check_object(disk, ledger, name, cell.as_mut_slice()) {
         Ok(None) => (),
         Ok(Some(block)) => return Err(GetFault::Damaged { block }),
         Err(_) => return Err(GetFault::DiskFault),

@@ -12,7 +12,7 @@ use Rattle.aea_catalog.specs.Catalogs.{Placed}
 use Rattle.aea_ledger.specs.Values.{Opened}
 use Rattle.aea_archive.specs.Blocks.{IsIntactBy}
 use Rattle.aea_archive.specs.Next.{NewObject}
-use Rattle.aea_fetch.specs.Objects.{data_of, IsOneOf}
+use Rattle.aea_archive.specs.Objects.{data_of, IsOneOf}
 use Rattle.aea_witness.specs.Objects.{IsFirst, HasPuts}
 use Rattle.aea_witness.specs.Rooms.{IsEmptySink}
 

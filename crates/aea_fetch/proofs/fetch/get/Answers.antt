@@ -4,14 +4,19 @@ use Rattle.std.specs.FinMap.{get}
 use Rattle.aea_catalog.specs.Catalogs.{Placed, Objects}
 use Rattle.aea_lattice.specs.declared.blocks.BlockId.{BlockId}
 use Rattle.aea_disk.proofs.Frames.{ok_fine, reads_none, reads_both, reads_as}
-use Rattle.aea_fetch.specs.Objects.{data_of, joined, IsOneOf, IsFirstDamaged}
-use Rattle.aea_fetch.specs.Gets.{IsFound, HasSent, HasGot, HasBroken}
+use Rattle.aea_archive.specs.Blocks.{IsIntactBy}
+use Rattle.aea_archive.specs.Objects.{data_of, joined, IsOneOf}
+use Rattle.aea_fetch.specs.Payloads.{IsPayload, IsFirstDamaged}
+use Rattle.aea_fetch.specs.Copies.{HasSent}
+use Rattle.aea_fetch.specs.Gets.{IsFound, HasGot, HasBroken}
 use Rattle.aea_fetch.specs.declared.fault.GetFault.TheVariants.{Damaged, DiskFault}
 use Rattle.std.specs.Io.KnownBytes.{Appends}
 use Rattle.aea_fetch.proofs.Blocks.{same_placed}
-use Rattle.aea_fetch.proofs.Owns.{own_parts_are}
-use Rattle.aea_fetch.proofs.Copies.{broken_at, sent_at}
-use Rattle.aea_fetch.proofs.Getting.{none_first, none_of, one_first, placed_of, long_enough, most_bytes}
+use Rattle.aea_fetch.proofs.Owns.{own_parts_are, own_payload}
+use Rattle.aea_fetch.proofs.Firsts.{none_first, none_of, one_first}
+use Rattle.aea_fetch.proofs.Copies.{long_enough, most_bytes}
+use Rattle.aea_fetch.proofs.Broken.{payload_wide, broken_at, sent_at}
+use Rattle.aea_fetch.proofs.Getting.{placed_of, found_under, sent_under, broken_under}
 use Rattle.aea_fetch.specs.Puts.{datas_of}
 use Rattle.aea_records.specs.Catalogued.{objects_of}
 use Rattle.aea_fetch.proofs.Puts.{put_is_found, data_of_records}
@@ -32,7 +37,7 @@ returns-in-Ok-Some-clause-damaged g c b e =
     let name = c.args.name.now in
     let old = g.D.Disk.state c.args.disk.now in
     let placed = placed_of (get v.objects name) c.in-Some.object (sym (ap (λ (m : Objects). option_map (λ p. p.object) (get m name)) c.catalog.ensures.objects) ∙ sym c.find.ensures ∙ c.in-Some.is) in
-    let found = subst (IsFound g.D.Disk.tells v.shape v.digests old.files (data_of placed.0.parts)) c.in-Ok-Some.field-0-is (c.in-Ok-Some.ensures.found placed.0 placed.1) in
+    let found = found_under g.D.Disk.tells v.shape v.digests old.files (get v.objects c.args.name.now) placed.0 placed.1 c.in-Ok-Some.field-0-is c.in-Ok-Some.ensures.found in
     let same : c.in-Ok-Some.block ≡ b = (let h = e in cc) in
     (placed.0, placed.1, subst (IsOneOf (data_of placed.0.parts)) same found.0, λ told. (subst (IsFirstDamaged v.shape v.digests old.files (data_of placed.0.parts)) same (found.1 told), refl))
 
@@ -40,16 +45,16 @@ pub returns-in-Ok-Some-clause-damage_refused : goal.returns-in-Ok-Some-clause-da
 returns-in-Ok-Some-clause-damage_refused g c told p b is first =
     let v = c.args.ledger.now in
     let old = g.D.Disk.state c.args.disk.now in
-    let found = subst (IsFound g.D.Disk.tells v.shape v.digests old.files (data_of p.parts)) c.in-Ok-Some.field-0-is (c.in-Ok-Some.ensures.found p is) in
-    let same : c.in-Ok-Some.block ≡ b = one_first v.shape v.digests old.files (data_of p.parts) c.in-Ok-Some.block b (found.1 told) first in
+    let found = found_under g.D.Disk.tells v.shape v.digests old.files (get v.objects c.args.name.now) p is c.in-Ok-Some.field-0-is c.in-Ok-Some.ensures.found in
+    let same : c.in-Ok-Some.block ≡ b = one_first (IsIntactBy v.shape v.digests old.files) (data_of p.parts) c.in-Ok-Some.block b (found.1 told) first in
     inl (ap (λ (x : BlockId). Err (Damaged x)) same)
 
 pub returns-in-Ok-Some-clause-complete : goal.returns-in-Ok-Some-clause-complete
 returns-in-Ok-Some-clause-complete g c told p is all =
     let v = c.args.ledger.now in
     let old = g.D.Disk.state c.args.disk.now in
-    let found = subst (IsFound g.D.Disk.tells v.shape v.digests old.files (data_of p.parts)) c.in-Ok-Some.field-0-is (c.in-Ok-Some.ensures.found p is) in
-    absurd (none_first v.shape v.digests old.files (data_of p.parts) c.in-Ok-Some.block all (found.1 told))
+    let found = found_under g.D.Disk.tells v.shape v.digests old.files (get v.objects c.args.name.now) p is c.in-Ok-Some.field-0-is c.in-Ok-Some.ensures.found in
+    absurd (none_first (IsIntactBy v.shape v.digests old.files) (data_of p.parts) c.in-Ok-Some.block all (found.1 told))
 
 pub returns-in-Ok-send_object-clause-got : goal.returns-in-Ok-send_object-clause-got
 returns-in-Ok-send_object-clause-got g c =
@@ -57,14 +62,15 @@ returns-in-Ok-send_object-clause-got g c =
     let name = c.args.name.now in
     let tells = g.D.Disk.tells in
     let old = g.D.Disk.state c.args.disk.now in
-    let mid = g.D.Disk.state c.check_parts.new.disk in
+    let mid = g.D.Disk.state c.check_object.new.disk in
     let object = c.in-Some.object in
     let placed = placed_of (get v.objects name) object (sym (ap (λ (m : Objects). option_map (λ p. p.object) (get m name)) c.catalog.ensures.objects) ∙ sym c.find.ensures ∙ c.in-Some.is) in
     let lies = c.catalog.ensures.within name placed.0 (ap (λ (m : Objects). get m name) c.catalog.ensures.objects ∙ placed.1) in
     let length_is : object.length ≡ placed.0.object.length = ap (λ o. o.length) (sym placed.2) in
-    let sent = sent_at tells v.shape v.digests mid.files old.files (data_of placed.0.parts) object.length (g.O.Sink.state c.args.out.now) (g.O.Sink.state c.send_object.new.out) (c.check_parts.ensures.reads.contents) (c.in-Ok-send_object.ensures.sent placed.0 placed.1) in
-    let cut = subst (λ (n : ℕ). HasSent tells v.shape v.digests old.files (data_of placed.0.parts) n (g.O.Sink.state c.args.out.now) (g.O.Sink.state c.send_object.new.out)) length_is sent in
-    (placed.0, placed.1, length_is, record { payloads = cut.payloads; are = cut.are; long = long_enough tells v.shape v.digests old.files placed.0 cut.payloads cut.are lies.sum lies.count; appended = cut.appended })
+    let sent = sent_at tells v.shape v.digests mid.files old.files (c.check_object.ensures.reads.contents) (data_of placed.0.parts) object.length (g.O.Sink.state c.args.out.now) (g.O.Sink.state c.send_object.new.out)
+    (sent_under (IsPayload tells v.shape v.digests mid.files) (get v.objects name) placed.0 object.length (g.O.Sink.state c.args.out.now) (g.O.Sink.state c.send_object.new.out) placed.1 c.in-Ok-send_object.ensures.sent) in
+    let cut = subst (λ (n : ℕ). HasSent (IsPayload tells v.shape v.digests old.files) (data_of placed.0.parts) n (g.O.Sink.state c.args.out.now) (g.O.Sink.state c.send_object.new.out)) length_is sent in
+    (placed.0, placed.1, length_is, record { payloads = cut.payloads; are = cut.are; long = long_enough (IsPayload tells v.shape v.digests old.files) v.shape.block (payload_wide tells v.shape v.digests old.files) v.shape placed.0 cut.payloads refl cut.are lies.sum lies.count; appended = cut.appended })
 
 pub returns-in-Ok-send_object-clause-own : goal.returns-in-Ok-send_object-clause-own
 returns-in-Ok-send_object-clause-own g c told p datas is is_data honest =
@@ -74,7 +80,8 @@ returns-in-Ok-send_object-clause-own g c told p datas is is_data honest =
     let lies = c.catalog.ensures.within name p (ap (λ (m : Objects). get m name) c.catalog.ensures.objects ∙ is) in
     let same : got.0 ≡ p = same_placed (get v.objects name) got.0 p got.1 is in
     let mine = subst (λ (q : Placed). HasGot g.D.Disk.tells v.shape v.digests (g.D.Disk.state c.args.disk.now).files q (g.O.Sink.state c.args.out.now) (g.O.Sink.state c.send_object.new.out)) same got.3 in
-    let are = own_parts_are g.D.Disk.tells v.shape v.lattice v.digests (g.D.Disk.state c.args.disk.now).files datas told is_data honest 0 p.parts mine.payloads lies.apart mine.are in
+    let are = own_parts_are v.shape v.lattice datas is_data (IsPayload g.D.Disk.tells v.shape v.digests (g.D.Disk.state c.args.disk.now).files)
+    (own_payload g.D.Disk.tells v.shape v.lattice v.digests (g.D.Disk.state c.args.disk.now).files datas told honest) 0 p.parts mine.payloads lies.apart mine.are in
     subst (λ (ps : List (List ℕ)). Appends (g.O.Sink.state c.args.out.now).written (g.O.Sink.state c.send_object.new.out).written (take p.object.length (joined ps))) are mine.appended
 
 pub returns-in-Ok-send_object-clause-put : goal.returns-in-Ok-send_object-clause-put
@@ -93,14 +100,14 @@ pub returns-in-Ok-send_object-clause-damage_refused : goal.returns-in-Ok-send_ob
 returns-in-Ok-send_object-clause-damage_refused g c told p b is first =
     let v = c.args.ledger.now in
     let old = g.D.Disk.state c.args.disk.now in
-    let none = subst (IsFound g.D.Disk.tells v.shape v.digests old.files (data_of p.parts)) c.in-Ok-None.field-0-is (c.in-Ok-None.ensures.found p is) in
-    absurd (none_first v.shape v.digests old.files (data_of p.parts) b (none told) first)
+    let none = found_under g.D.Disk.tells v.shape v.digests old.files (get v.objects c.args.name.now) p is c.in-Ok-None.field-0-is c.in-Ok-None.ensures.found in
+    absurd (none_first (IsIntactBy v.shape v.digests old.files) (data_of p.parts) b (none told) first)
 
 pub returns-in-Ok-send_object-clause-reads : goal.returns-in-Ok-send_object-clause-reads
 returns-in-Ok-send_object-clause-reads g c =
     let mine = c.send_object.result ≡ Err DiskFault in
     reads_as g.D.Disk.tells mine _ (g.D.Disk.state c.args.disk.now) (g.D.Disk.state c.send_object.new.disk) (λ is. let e = is in cc) (λ is. cc)
-    (reads_both g.D.Disk.tells (IsErr c.check_parts.result) mine (g.D.Disk.state c.args.disk.now) (g.D.Disk.state c.check_parts.new.disk) (g.D.Disk.state c.send_object.new.disk) (ok_fine c.in-Ok-None.is) c.check_parts.ensures.reads c.send_object.ensures.reads)
+    (reads_both g.D.Disk.tells (IsErr c.check_object.result) mine (g.D.Disk.state c.args.disk.now) (g.D.Disk.state c.check_object.new.disk) (g.D.Disk.state c.send_object.new.disk) (ok_fine c.in-Ok-None.is) c.check_object.ensures.reads c.send_object.ensures.reads)
 
 pub returns-in-Ok-send_object-clause-out_kept : goal.returns-in-Ok-send_object-clause-out_kept
 returns-in-Ok-send_object-clause-out_kept g c =
@@ -108,10 +115,10 @@ returns-in-Ok-send_object-clause-out_kept g c =
     let name = c.args.name.now in
     let tells = g.D.Disk.tells in
     let old = g.D.Disk.state c.args.disk.now in
-    let mid = g.D.Disk.state c.check_parts.new.disk in
+    let mid = g.D.Disk.state c.check_object.new.disk in
     let object = c.in-Some.object in
     let placed = placed_of (get v.objects name) object (sym (ap (λ (m : Objects). option_map (λ p. p.object) (get m name)) c.catalog.ensures.objects) ∙ sym c.find.ensures ∙ c.in-Some.is) in
-    (c.in-Ok-send_object.ensures.sent placed.0 placed.1).kept
+    c.in-Ok-send_object.ensures.sent.kept
 
 pub returns-in-Ok-send_object-clause-in_room : goal.returns-in-Ok-send_object-clause-in_room
 returns-in-Ok-send_object-clause-in_room g c p room is told enough =
@@ -119,11 +126,11 @@ returns-in-Ok-send_object-clause-in_room g c p room is told enough =
     let name = c.args.name.now in
     let tells = g.D.Disk.tells in
     let old = g.D.Disk.state c.args.disk.now in
-    let mid = g.D.Disk.state c.check_parts.new.disk in
+    let mid = g.D.Disk.state c.check_object.new.disk in
     let object = c.in-Some.object in
     let placed = placed_of (get v.objects name) object (sym (ap (λ (m : Objects). option_map (λ p. p.object) (get m name)) c.catalog.ensures.objects) ∙ sym c.find.ensures ∙ c.in-Some.is) in
     let is_placed : (p : Placed) → get v.objects name ≡ Some p → p ≡ placed.0 = λ p is. same_placed (get v.objects name) p placed.0 is placed.1 in
-    let sent = c.in-Ok-send_object.ensures.sent placed.0 placed.1 in
+    let sent = c.in-Ok-send_object.ensures.sent in
     let size : p.object.length ≡ object.length = ap (λ (q : Placed). q.object.length) (is_placed p is) ∙ ap (λ o. o.length) placed.2 in
     let most = most_bytes object.length sent.payloads in
     ((λ e. let h = e in cc), sent.steady room told (omega (arith, most, size, enough)))
@@ -134,34 +141,34 @@ returns-clause-damaged g c b e =
     let name = c.args.name.now in
     let tells = g.D.Disk.tells in
     let old = g.D.Disk.state c.args.disk.now in
-    let mid = g.D.Disk.state c.check_parts.new.disk in
+    let mid = g.D.Disk.state c.check_object.new.disk in
     let object = c.in-Some.object in
     let placed = placed_of (get v.objects name) object (sym (ap (λ (m : Objects). option_map (λ p. p.object) (get m name)) c.catalog.ensures.objects) ∙ sym c.find.ensures ∙ c.in-Some.is) in
-    let none : IsFound tells v.shape v.digests old.files (data_of placed.0.parts) None = subst (IsFound tells v.shape v.digests old.files (data_of placed.0.parts)) c.in-Ok-None.field-0-is (c.in-Ok-None.ensures.found placed.0 placed.1) in
+    let none : IsFound tells v.shape v.digests old.files (data_of placed.0.parts) None = found_under tells v.shape v.digests old.files (get v.objects c.args.name.now) placed.0 placed.1 c.in-Ok-None.field-0-is c.in-Ok-None.ensures.found in
     let fault : c.in-Err-send_object.fault ≡ Damaged b = (let h = e in cc) in
-    let broken = broken_at tells v.shape v.digests mid.files old.files (data_of placed.0.parts) object.length (g.O.Sink.state c.args.out.now) (g.O.Sink.state c.send_object.new.out) [] c.in-Err-send_object.fault (c.check_parts.ensures.reads.contents) (c.in-Err-send_object.ensures.broken placed.0 placed.1) in
+    let broken = broken_at tells v.shape v.digests mid.files old.files (c.check_object.ensures.reads.contents) (data_of placed.0.parts) object.length (g.O.Sink.state c.args.out.now) (g.O.Sink.state c.send_object.new.out) [] c.in-Err-send_object.fault (broken_under tells v.shape v.digests mid.files (get v.objects c.args.name.now) placed.0 object.length (g.O.Sink.state c.args.out.now) (g.O.Sink.state c.send_object.new.out) c.in-Err-send_object.fault placed.1 c.in-Err-send_object.ensures.broken) in
     let both = broken.damaged b fault in
-    (placed.0, placed.1, both.0, λ told. absurd (none_of v.shape v.digests old.files (data_of placed.0.parts) b (none told) both.0 (both.1 told)))
+    (placed.0, placed.1, both.0, λ told. absurd (none_of (IsIntactBy v.shape v.digests old.files) (data_of placed.0.parts) b (none told) both.0 (both.1 told)))
 
 pub returns-clause-damage_refused : goal.returns-clause-damage_refused
 returns-clause-damage_refused g c told p b is first =
     let v = c.args.ledger.now in
     let old = g.D.Disk.state c.args.disk.now in
-    let none = subst (IsFound g.D.Disk.tells v.shape v.digests old.files (data_of p.parts)) c.in-Ok-None.field-0-is (c.in-Ok-None.ensures.found p is) in
-    absurd (none_first v.shape v.digests old.files (data_of p.parts) b (none told) first)
+    let none = found_under g.D.Disk.tells v.shape v.digests old.files (get v.objects c.args.name.now) p is c.in-Ok-None.field-0-is c.in-Ok-None.ensures.found in
+    absurd (none_first (IsIntactBy v.shape v.digests old.files) (data_of p.parts) b (none told) first)
 
 pub returns-clause-complete : goal.returns-clause-complete
 returns-clause-complete g c told p is all =
     let v = c.args.ledger.now in
     let tells = g.D.Disk.tells in
     let old = g.D.Disk.state c.args.disk.now in
-    let mid = g.D.Disk.state c.check_parts.new.disk in
+    let mid = g.D.Disk.state c.check_object.new.disk in
     let f = c.in-Err-send_object.fault in
     elim c.in-Err-send_object.ensures.faults [
       | inl found ↦
-          let broken = broken_at tells v.shape v.digests mid.files old.files (data_of p.parts) c.in-Some.object.length (g.O.Sink.state c.args.out.now) (g.O.Sink.state c.send_object.new.out) [] f (c.check_parts.ensures.reads.contents) (c.in-Err-send_object.ensures.broken p is) in
+          let broken = broken_at tells v.shape v.digests mid.files old.files (c.check_object.ensures.reads.contents) (data_of p.parts) c.in-Some.object.length (g.O.Sink.state c.args.out.now) (g.O.Sink.state c.send_object.new.out) [] f (broken_under tells v.shape v.digests mid.files (get v.objects c.args.name.now) p c.in-Some.object.length (g.O.Sink.state c.args.out.now) (g.O.Sink.state c.send_object.new.out) f is c.in-Err-send_object.ensures.broken) in
           let both = broken.damaged found.0 found.1 in
-          absurd (none_of v.shape v.digests old.files (data_of p.parts) found.0 all both.0 (both.1 told))
+          absurd (none_of (IsIntactBy v.shape v.digests old.files) (data_of p.parts) found.0 all both.0 (both.1 told))
       | inr (inl e) ↦ inr (inl (ap Err e))
       | inr (inr e) ↦ inr (inr (inl (ap Err e)))
     ]
@@ -172,19 +179,19 @@ returns-clause-part g c p is =
     let name = c.args.name.now in
     let tells = g.D.Disk.tells in
     let old = g.D.Disk.state c.args.disk.now in
-    let mid = g.D.Disk.state c.check_parts.new.disk in
+    let mid = g.D.Disk.state c.check_object.new.disk in
     let object = c.in-Some.object in
     let placed = placed_of (get v.objects name) object (sym (ap (λ (m : Objects). option_map (λ p. p.object) (get m name)) c.catalog.ensures.objects) ∙ sym c.find.ensures ∙ c.in-Some.is) in
     let is_placed : (p : Placed) → get v.objects name ≡ Some p → p ≡ placed.0 = λ p is. same_placed (get v.objects name) p placed.0 is placed.1 in
     let size : object.length ≡ p.object.length = sym (ap (λ (q : Placed). q.object.length) (is_placed p is) ∙ ap (λ o. o.length) placed.2) in
     inr (subst (λ (n : ℕ). HasBroken tells v.shape v.digests old.files (data_of p.parts) n (g.O.Sink.state c.args.out.now) [] (g.O.Sink.state c.send_object.new.out) c.in-Err-send_object.fault) size
-    (broken_at tells v.shape v.digests mid.files old.files (data_of p.parts) object.length (g.O.Sink.state c.args.out.now) (g.O.Sink.state c.send_object.new.out) [] c.in-Err-send_object.fault (c.check_parts.ensures.reads.contents) (c.in-Err-send_object.ensures.broken p is)))
+    (broken_at tells v.shape v.digests mid.files old.files (c.check_object.ensures.reads.contents) (data_of p.parts) object.length (g.O.Sink.state c.args.out.now) (g.O.Sink.state c.send_object.new.out) [] c.in-Err-send_object.fault (broken_under tells v.shape v.digests mid.files (get v.objects c.args.name.now) p object.length (g.O.Sink.state c.args.out.now) (g.O.Sink.state c.send_object.new.out) c.in-Err-send_object.fault is c.in-Err-send_object.ensures.broken)))
 
 pub returns-clause-reads : goal.returns-clause-reads
 returns-clause-reads g c =
     let mine = c.send_object.result ≡ Err DiskFault in
     reads_as g.D.Disk.tells mine _ (g.D.Disk.state c.args.disk.now) (g.D.Disk.state c.send_object.new.disk) (λ is. c.in-Err-send_object.is ∙ (let h : c.in-Err-send_object.fault ≡ DiskFault = (let e = is in cc) in ap Err h)) (λ is. cc)
-    (reads_both g.D.Disk.tells (IsErr c.check_parts.result) mine (g.D.Disk.state c.args.disk.now) (g.D.Disk.state c.check_parts.new.disk) (g.D.Disk.state c.send_object.new.disk) (ok_fine c.in-Ok-None.is) c.check_parts.ensures.reads c.send_object.ensures.reads)
+    (reads_both g.D.Disk.tells (IsErr c.check_object.result) mine (g.D.Disk.state c.args.disk.now) (g.D.Disk.state c.check_object.new.disk) (g.D.Disk.state c.send_object.new.disk) (ok_fine c.in-Ok-None.is) c.check_object.ensures.reads c.send_object.ensures.reads)
 
 pub returns-clause-out_kept : goal.returns-clause-out_kept
 returns-clause-out_kept g c =
@@ -192,10 +199,10 @@ returns-clause-out_kept g c =
     let name = c.args.name.now in
     let tells = g.D.Disk.tells in
     let old = g.D.Disk.state c.args.disk.now in
-    let mid = g.D.Disk.state c.check_parts.new.disk in
+    let mid = g.D.Disk.state c.check_object.new.disk in
     let object = c.in-Some.object in
     let placed = placed_of (get v.objects name) object (sym (ap (λ (m : Objects). option_map (λ p. p.object) (get m name)) c.catalog.ensures.objects) ∙ sym c.find.ensures ∙ c.in-Some.is) in
-    (c.in-Err-send_object.ensures.broken placed.0 placed.1).kept
+    c.in-Err-send_object.ensures.broken.cut.kept
 
 pub returns-clause-out_cause : goal.returns-clause-out_cause
 returns-clause-out_cause g c e =
@@ -203,10 +210,10 @@ returns-clause-out_cause g c e =
     let name = c.args.name.now in
     let tells = g.D.Disk.tells in
     let old = g.D.Disk.state c.args.disk.now in
-    let mid = g.D.Disk.state c.check_parts.new.disk in
+    let mid = g.D.Disk.state c.check_object.new.disk in
     let object = c.in-Some.object in
     let placed = placed_of (get v.objects name) object (sym (ap (λ (m : Objects). option_map (λ p. p.object) (get m name)) c.catalog.ensures.objects) ∙ sym c.find.ensures ∙ c.in-Some.is) in
-    (c.in-Err-send_object.ensures.broken placed.0 placed.1).cause (let h = e in cc)
+    c.in-Err-send_object.ensures.broken.cut.cause (let h = e in cc)
 
 pub returns-clause-in_room : goal.returns-clause-in_room
 returns-clause-in_room g c p room is told enough =
@@ -214,11 +221,11 @@ returns-clause-in_room g c p room is told enough =
     let name = c.args.name.now in
     let tells = g.D.Disk.tells in
     let old = g.D.Disk.state c.args.disk.now in
-    let mid = g.D.Disk.state c.check_parts.new.disk in
+    let mid = g.D.Disk.state c.check_object.new.disk in
     let object = c.in-Some.object in
     let placed = placed_of (get v.objects name) object (sym (ap (λ (m : Objects). option_map (λ p. p.object) (get m name)) c.catalog.ensures.objects) ∙ sym c.find.ensures ∙ c.in-Some.is) in
     let is_placed : (p : Placed) → get v.objects name ≡ Some p → p ≡ placed.0 = λ p is. same_placed (get v.objects name) p placed.0 is placed.1 in
-    let broken = c.in-Err-send_object.ensures.broken placed.0 placed.1 in
+    let broken = c.in-Err-send_object.ensures.broken.cut in
     let size : p.object.length ≡ object.length = ap (λ (q : Placed). q.object.length) (is_placed p is) ∙ ap (λ o. o.length) placed.2 in
     let most = most_bytes object.length broken.payloads in
     let fits = broken.fits room told (omega (arith, most, size, enough)) in

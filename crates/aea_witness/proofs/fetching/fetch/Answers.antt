@@ -13,7 +13,7 @@ unreachable-requires-in-Err-Damaged g c =
     let r = c.requires.puts in
     let b = c.in-Err-Damaged.field-0-0 in
     let d = c.get.ensures.damaged b (c.in-Err-Damaged.is ∙ ap Err c.in-Err-Damaged.field-0-is) in
-    (d.3 c.requires.tells).0.damaged (is_intact c.args.ledger.now r.0 r.1 (g.D.Disk.state c.args.disk.now).files c.args.name.now r.2 r.3 d.0 b d.1 d.2)
+    (d.3 c.requires.tells).0.bad (is_intact c.args.ledger.now r.0 r.1 (g.D.Disk.state c.args.disk.now).files c.args.name.now r.2 r.3 d.0 b d.1 d.2)
 
 pub unreachable-requires-in-Err-WriteFault : goal.unreachable-requires-in-Err-WriteFault
 unreachable-requires-in-Err-WriteFault g c =

@@ -2,6 +2,10 @@ pub mod Turning
 pub mod Filling
 pub mod Reading
 pub mod OneList
+pub mod Halving
 pub mod Joining
 pub mod Parting
+pub mod Placing
 pub mod LostFates
+pub mod Marking
+pub mod Depending

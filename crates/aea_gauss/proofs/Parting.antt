@@ -1,21 +1,19 @@
 -- What is not known falls into parts by labels, and what happens to the blocks of a part.
-use Rattle.std.proofs.Common.{◌≡◌, ℕ, zero, suc, ◌+◌, ◌<◌, ◌≤◌, ◌^◌, inl, inr, Bool, true, false, not, ◌&&◌, ◌||◌, ◌==◌, cond, List, Option, None, Some, ◌⊎◌, [], ◌∷◌, ◌++◌, take, map, filter, length, get_or, All, refl, sym, ◌∙◌, ap, subst, arith}
+use Rattle.std.proofs.Common.{◌≡◌, ℕ, zero, suc, ◌+◌, ◌<◌, ◌^◌, inl, inr, Bool, true, false, not, ◌&&◌, ◌||◌, ◌==◌, cond, List, [], ◌∷◌, ◌++◌, take, filter, length, get_or, All, refl, sym, ◌∙◌, ap, subst, arith}
 use Rattle.std.specs.List.{list_any}
 use Rattle.std.proofs.Math.ListN.{set}
 use Rattle.std.proofs.lemmas.Bool.{cases_Bool, cases_eq, or_cases, or_parts, eq-eqb, ne_eqb, eqb-true, true≢false, false≢true, false_from_ne_true, not-true}
-use Rattle.std.proofs.lemmas.List.{append-nil, length-set, get_or-set_same, get_or-set_other, length-map, get_or-map, length_push, get_or_push, get_or_append_left}
+use Rattle.std.proofs.lemmas.List.{append-nil, length-set, get_or-set_same, get_or-set_other}
 use Rattle.std.proofs.lemmas.List.Elements.{All-get_or, All-from_get_or, filter_passes}
 use Rattle.aea_lattice.specs.declared.blocks.Class.TheVariants.{Datum}
 use Rattle.aea_lattice.specs.declared.blocks.BlockId.{BlockId}
 use Rattle.aea_lattice.specs.declared.blocks.EqId.{EqId}
 use Rattle.aea_lattice.specs.declared.grid.Lattice.{Lattice}
-use Rattle.aea_lattice.specs.Blocks.{block_of, same_block, HasBlock, number_of, blocks_of}
+use Rattle.aea_lattice.specs.Blocks.{block_of, same_block, HasBlock, blocks_of}
 use Rattle.aea_lattice.specs.Equations.{HasEquation, equation_of, equation_blocks, equations_of, is_in_equation}
-use Rattle.aea_lattice.specs.Lists.{same_equation, has_node}
-use Rattle.aea_lattice.proofs.Equations.{same_block-equal, member_inside}
+use Rattle.aea_lattice.specs.Lists.{same_equation}
+use Rattle.aea_lattice.proofs.Equations.{same_block-equal, same_block-refl, member_inside}
 use Rattle.aea_lattice.proofs.Among.{passing-among}
-use Rattle.aea_lattice.proofs.Words.{word-not_determined}
-use Rattle.aea_lattice.specs.Data.{Determines}
 use Rattle.aea_lattice.proofs.Odd.{same_test}
 use Rattle.aea_lattice.proofs.Once.{same_equation-equal}
 use Rattle.aea_fates.specs.Live.{is_live, live_equations}
@@ -26,16 +24,10 @@ use Rattle.aea_fates.proofs.Parts.{any_some}
 use Rattle.aea_fates.proofs.Listing.{any_has}
 use Rattle.aea_readings.proofs.Standing.{live_inside, live_few}
 use Rattle.aea_fates.proofs.Listing.{equations_same, equation_listed}
-use Rattle.aea_sweep.specs.Sweep.{EndsStandAside}
-use Rattle.aea_sweep.specs.Losses.{AreLosses, IsLoss}
-use Rattle.aea_sweep.specs.Ends.{AddsEnds}
 use Rattle.aea_gauss.specs.declared.fates.Fate.{Fate}
 use Rattle.aea_gauss.specs.declared.fates.Fate.TheVariants.{Sum, Word}
-use Rattle.aea_gauss.specs.Fates.{block_of_fate, IsFate, AreFates}
-use Rattle.aea_gauss.specs.Fills.{AreColumns}
-use Rattle.aea_gauss.specs.Told.{TellsFates}
-use Rattle.aea_gauss.specs.Lost.{IsLost, IsNotLost, AreLostRight, IsRightFor, Rights}
-use Rattle.aea_gauss.specs.Parts.{items_at, JoinsEach, label_at, IsLabelOf, ArePart, StandsIn, fate_in}
+use Rattle.aea_gauss.specs.Fates.{block_of_fate, IsFate}
+use Rattle.aea_gauss.specs.Parts.{items_at, JoinsEach, label_at, IsLabelOf, ArePart, AreParts, IsReady, StandsIn}
 use Rattle.aea_gauss.proofs.Turning.{once}
 
 -- ---- items at places
@@ -90,7 +82,7 @@ filter-both p q (x ∷ xs) =
     ]
 
 -- the place of an item
-stands_at : {A : Type 0} → (same : A → A → Bool) → ((x y : A) → same x y ≡ true → x ≡ y) → (x : A) (xs : List A) (d : A) → list_any (same x) xs ≡ true
+pub stands_at : {A : Type 0} → (same : A → A → Bool) → ((x y : A) → same x y ≡ true → x ≡ y) → (x : A) (xs : List A) (d : A) → list_any (same x) xs ≡ true
     → (i : ℕ) × (i < length xs) × (get_or xs i d ≡ x)
 stands_at same equal x [] d h = absurd (false≢true h)
 stands_at same equal x (y ∷ ys) d h = elim (or_cases (same x y) (list_any (same x) ys) h) [
@@ -98,17 +90,40 @@ stands_at same equal x (y ∷ ys) d h = elim (or_cases (same x y) (list_any (sam
   | inr there ↦ (let rest = stands_at same equal x ys d there in (suc rest.0, (let less = rest.1 in omega arith), rest.2))
 ]
 
+-- the place of a block in a list, or the list's length
+abbrev place_in : List BlockId → BlockId → ℕ
+place_in [] b = 0
+place_in (x ∷ xs) b = cond (same_block x b) 0 (suc (place_in xs b))
+
+-- where no block is in the list twice, that of the block at a place is this place
+place_own : (xs : List BlockId) → ((i j : ℕ) → i < length xs → j < length xs → block_in xs i ≡ block_in xs j → i ≡ j) → (a : ℕ) → a < length xs → place_in xs (block_in xs a) ≡ a
+place_own [] apart a less = absurd (omega arith)
+place_own (x ∷ xs) apart zero less = rw (same_block-refl x) refl
+place_own (x ∷ xs) apart (suc a) less =
+    elim (cases_Bool (same_block x (block_in xs a))) [
+      | inl same ↦
+          (let one : 0 ≡ suc a = apart 0 (suc a) (omega arith) less (same_block-equal x (block_in xs a) same) in
+          absurd (omega arith))
+      | inr other ↦
+          rw other
+          (ap suc
+          (place_own xs
+          (λ i j i_less j_less same.
+          (let both : suc i ≡ suc j = apart (suc i) (suc j) (omega arith) (omega arith) same in omega arith))
+          a (omega arith)))
+    ]
+
 -- ---- the parts that the labels make
 
-module _ (l : Lattice) (kn : BlockId → Bool) (us : List BlockId) (es : List EqId) (columns labels own : List ℕ)
-    (us_are : us ≡ unknown_blocks l kn) (es_are : es ≡ live_equations l kn) (cols : AreColumns l us columns)
+module _ (l : Lattice) (kn : BlockId → Bool) (us : List BlockId) (es : List EqId) (labels own : List ℕ)
+    (us_are : us ≡ unknown_blocks l kn) (es_are : es ≡ live_equations l kn) (listed : AreListed l us)
     (joins : JoinsEach l us es (length es) (label_at labels))
     (owns : (i : ℕ) → i < length es → IsLabelOf l us labels (equation_in es i) (get_or own i 0)) where
   abbrev label : BlockId → ℕ
-  label b = get_or labels (get_or columns (number_of l b) 0) 0
+  label b = get_or labels (place_in us b) 0
 
   label_in : (a : ℕ) → a < length us → label (block_in us a) ≡ get_or labels a 0
-  label_in a less = ap (λ k. get_or labels k 0) (cols a less)
+  label_in a less = ap (λ k. get_or labels k 0) (place_own us (once l us listed) a less)
 
   abbrev within : ℕ → BlockId → Bool
   within c b = label b == c
@@ -235,7 +250,7 @@ labels_whole us bs labels a less are =
 
 -- ---- what is asked of a part
 
-part_unknown : (l : Lattice) (kn : BlockId → Bool) (w : BlockId → Bool) (a : ℕ) → a < length (unknown_blocks l (known_or_outside kn w))
+pub part_unknown : (l : Lattice) (kn : BlockId → Bool) (w : BlockId → Bool) (a : ℕ) → a < length (unknown_blocks l (known_or_outside kn w))
     → (kn (block_in (unknown_blocks l (known_or_outside kn w)) a) ≡ false) × (w (block_in (unknown_blocks l (known_or_outside kn w)) a) ≡ true)
 part_unknown l kn w a less =
     let bs = unknown_blocks l (known_or_outside kn w) in
@@ -249,7 +264,7 @@ part_unknown l kn w a less =
     split false false h = absurd (false≢true h)
 
 -- the blocks of a part of what is not known where more is, if they are listed in number order, are all in the list of unknown blocks
-pub part_stands : (l : Lattice) (kn more : BlockId → Bool) (us bs : List BlockId) (es : List EqId) → ((d : BlockId) → HasBlock l d → kn d ≡ true → more d ≡ true)
+part_stands : (l : Lattice) (kn more : BlockId → Bool) (us bs : List BlockId) (es : List EqId) → ((d : BlockId) → HasBlock l d → kn d ≡ true → more d ≡ true)
     → us ≡ unknown_blocks l kn → AreListed l bs → ArePart l more bs es → All (StandsIn us) bs
 part_stands l kn more us bs es kept us_are listed p =
     All-from_get_or (StandsIn us) bs (block_of 0 Datum)
@@ -263,264 +278,44 @@ part_stands l kn more us bs es kept us_are listed p =
     (subst (λ xs. list_any (same_block (block_in bs a)) xs ≡ true) (sym us_are) ((passing-among l (λ d. not (kn d)) (block_in bs a)).1 (has, ap not unknown)))))
 
 -- the equations of a part are equations of the lattice
-pub part_inside : (l : Lattice) (kn : BlockId → Bool) (bs : List BlockId) (es : List EqId) → ArePart l kn bs es → All (HasEquation l) es
+part_inside : (l : Lattice) (kn : BlockId → Bool) (bs : List BlockId) (es : List EqId) → ArePart l kn bs es → All (HasEquation l) es
 part_inside l kn bs es p = subst (All (HasEquation l)) (sym p.equations_are) (live_inside l (known_or_outside kn p.within))
 
 -- a part has fewer than 2^23 equations
-pub part_few : (l : Lattice) (kn : BlockId → Bool) (bs : List BlockId) (es : List EqId) → ArePart l kn bs es → length es < 2 ^ 23
+part_few : (l : Lattice) (kn : BlockId → Bool) (bs : List BlockId) (es : List EqId) → ArePart l kn bs es → length es < 2 ^ 23
 part_few l kn bs es p = subst (λ xs. length xs < 8388608) (sym p.equations_are) (live_few l (known_or_outside kn p.within))
 
--- ---- the fates of a part
-
-fate_alone : PartsStandAlone → (l : Lattice) (kn w : BlockId → Bool) → IsPart l kn w → (f : Fate) → HasBlock l (block_of_fate f) → w (block_of_fate f) ≡ true
+-- nothing outside a part matters for the fates of its blocks
+pub fate_alone : PartsStandAlone → (l : Lattice) (kn w : BlockId → Bool) → IsPart l kn w → (f : Fate) → HasBlock l (block_of_fate f) → w (block_of_fate f) ≡ true
     → IsFate l (known_or_outside kn w) f → IsFate l kn f
 fate_alone law l kn w part (Sum b equations) has inside h = (law l kn w part b has inside).0 equations h
 fate_alone law l kn w part (Word b nodes) has inside h = (law l kn w part b has inside).1 nodes h
 
-block_at_fate : (fates : List Fate) (bs : List BlockId) (a : ℕ) → map block_of_fate fates ≡ bs → a < length fates → block_of_fate (fate_in fates a) ≡ block_in bs a
-block_at_fate fates bs a are less = sym (get_or-map block_of_fate fates a (Word (block_of 0 Datum) []) (block_of 0 Datum) less) ∙ ap (λ xs. block_in xs a) are
-
--- The fates of a part by itself are those of its blocks.
-pub part_fates : PartsStandAlone → (l : Lattice) (kn : BlockId → Bool) (losses : List (Option (List ℕ))) (bs : List BlockId) (es : List EqId) (fates : List Fate) → AreListed l bs → ArePart l kn bs es
-    → TellsFates l losses bs es fates → map block_of_fate fates ≡ bs → All (IsRightFor l kn losses) fates
-part_fates law l kn losses bs es fates listed p tells are =
-    let w = p.within in
-    let told : All (IsRightFor l (known_or_outside kn w) losses) fates = tells (known_or_outside kn w) p.blocks_are p.equations_are in
-    let none : Fate = Word (block_of 0 Datum) [] in
-    All-from_get_or (IsRightFor l kn losses) fates none
-    (λ a less not_lost.
-    (let long : a < length bs = (let m = length-map fates block_of_fate in let n = ap length are in omega arith) in
-    let many : a < length (unknown_blocks l (known_or_outside kn w)) = subst (λ xs. a < length xs) p.blocks_are long in
-    let same : block_of_fate (fate_in fates a) ≡ block_in bs a = block_at_fate fates bs a are less in
-    let in_all : block_in bs a ≡ block_in (unknown_blocks l (known_or_outside kn w)) a = ap (λ xs. block_in xs a) p.blocks_are in
-    fate_alone law l kn w p.part (fate_in fates a)
-    (subst (HasBlock l) (sym same) (All-get_or (HasBlock l) bs a (block_of 0 Datum) long listed.inside))
-    (ap w (same ∙ in_all) ∙ (part_unknown l kn w a many).1)
-    (All-get_or (IsRightFor l (known_or_outside kn w) losses) fates a none less told not_lost)))
-
--- a block that the list has no nodes for is determined
-determined_at : (l : Lattice) (kn : BlockId → Bool) (losses : List (Option (List ℕ))) → AreLosses l kn losses → (b : BlockId) → HasBlock l b → IsNotLost l losses b → Determines l kn b
-determined_at l kn losses are b has none = subst (IsLoss l kn b) none (are.each b has)
-
--- where the ends are known too, the fate of a determined block is right without them
-right_for : EndsStandAside → (l : Lattice) (kn more : BlockId → Bool) (losses : List (Option (List ℕ))) → AreLosses l kn losses → AddsEnds l kn more → (f : Fate) → HasBlock l (block_of_fate f)
-    → IsFate l more f → IsRightFor l kn losses f
-right_for law l kn more losses are adds (Sum b equations) has sum none =
-    law l kn more b equations has adds.kept (λ d hd is. adds.aside b d has (determined_at l kn losses are b has none) hd is) sum
-right_for law l kn more losses are adds (Word b nodes) has word none =
-    let least = word.chosen.1 in
-    absurd
-    (word-not_determined l kn (has_node nodes) b has least.contains (λ d hd is. least.word.misses d hd (adds.kept d hd is))
-    (determined_at l kn losses are b has none))
-
--- The fates of a part where the ends are known too are right for its determined blocks.
-pub part_rights : PartsStandAlone → EndsStandAside → (l : Lattice) (kn more : BlockId → Bool) (losses : List (Option (List ℕ))) → AreLosses l kn losses → AddsEnds l kn more
-    → (bs : List BlockId) (es : List EqId) (fates : List Fate) → AreListed l bs → ArePart l more bs es → TellsFates l losses bs es fates → map block_of_fate fates ≡ bs
-    → All (IsRightFor l kn losses) fates
-part_rights law aside l kn more losses are adds bs es fates listed p tells blocks =
-    let each = part_fates law l more losses bs es fates listed p tells blocks in
-    let none : Fate = Word (block_of 0 Datum) [] in
-    All-from_get_or (IsRightFor l kn losses) fates none
-    (λ a less not_lost.
-    (let long : a < length bs = (let m = length-map fates block_of_fate in let n = ap length blocks in omega arith) in
-    let has : HasBlock l (block_of_fate (fate_in fates a)) =
-    subst (HasBlock l) (sym (block_at_fate fates bs a blocks less)) (All-get_or (HasBlock l) bs a (block_of 0 Datum) long listed.inside) in
-    right_for aside l kn more losses are adds (fate_in fates a) has (All-get_or (IsRightFor l more losses) fates a none less each not_lost) not_lost))
-
--- ---- fates that are put at their places
-
-put_here : (l : Lattice) (kn : BlockId → Bool) (fates : List Fate) (a : ℕ) (f : Fate) → a < length fates → IsFate l kn f → IsFate l kn (fate_in (set fates a f) a)
-put_here l kn fates a f less h = subst (IsFate l kn) (sym (get_or-set_same fates a f (Word (block_of 0 Datum) []) less)) h
-
-put_kept : (l : Lattice) (kn : BlockId → Bool) (fates : List Fate) (a : ℕ) (f : Fate) → a < length fates → IsFate l kn f → (k : ℕ) → IsFate l kn (fate_in fates k)
-    → IsFate l kn (fate_in (set fates a f) k)
-put_kept l kn fates a f less h k before = elim (cases_eq k a) [
-  | inl same ↦ subst (λ j. IsFate l kn (fate_in (set fates a f) j)) (sym same) (put_here l kn fates a f less h)
-  | inr other ↦ subst (IsFate l kn) (sym (get_or-set_other fates a k f (Word (block_of 0 Datum) []) (λ e. other (omega arith)))) before
-]
-
-map-set : (fates : List Fate) (bs : List BlockId) (a : ℕ) (f : Fate) → map block_of_fate fates ≡ bs → a < length bs → block_in bs a ≡ block_of_fate f
-    → map block_of_fate (set fates a f) ≡ bs
-map-set fates bs a f are less is = at fates a f (subst (λ xs. block_in xs a ≡ block_of_fate f) (sym are) is) ∙ are
-  where
-    at : (fates : List Fate) (a : ℕ) (f : Fate) → block_in (map block_of_fate fates) a ≡ block_of_fate f → map block_of_fate (set fates a f) ≡ map block_of_fate fates
-    at [] a f h = refl
-    at (g ∷ gs) zero f h = ap (λ b. b ∷ map block_of_fate gs) (sym h)
-    at (g ∷ gs) (suc a) f h = ap (λ bs. block_of_fate g ∷ bs) (at gs a f h)
-
--- the last fates of a part are put, those of the determined blocks, and the others wait
-pub record Putting (l : Lattice) (losses : List (Option (List ℕ))) (us : List BlockId) (all rest old new : List Fate) : Type 0 where
-  pub blocks : map block_of_fate new ≡ us
-  pub fewer : length rest ≤ length all
-  pub waits : (t : ℕ) → t < length rest → fate_in rest t ≡ fate_in all t
-  pub kept : (kn : BlockId → Bool) → All (IsRightFor l kn losses) all → (a : ℕ) → a < length us → IsFate l kn (fate_in old a) → IsFate l kn (fate_in new a)
-  pub done : (kn : BlockId → Bool) → All (IsRightFor l kn losses) all → (a t : ℕ) → a < length us → length rest ≤ t → t < length all
-      → block_of_fate (fate_in all t) ≡ block_in us a → IsNotLost l losses (block_in us a) → IsFate l kn (fate_in new a)
-
-pub putting_none : (l : Lattice) (losses : List (Option (List ℕ))) (us : List BlockId) (all fates : List Fate) → map block_of_fate fates ≡ us → Putting l losses us all all fates fates
-putting_none l losses us all fates are = record {
-  blocks = are;
-  fewer = omega arith;
-  waits = λ t less. refl;
-  kept = λ kn each a less h. h;
-  done = λ kn each a t less past below. absurd (omega arith);
-}
-
--- the fate that is taken is the last that waits
-pub taken : (l : Lattice) (losses : List (Option (List ℕ))) (us : List BlockId) (all rest now old new : List Fate) (f : Fate) → Putting l losses us all rest old new → rest ≡ now ++ f ∷ []
-    → (length now < length all) × (f ≡ fate_in all (length now)) × (length rest ≡ length now + 1)
-taken l losses us all rest now old new f p is =
-    let long : length rest ≡ length now + 1 = ap length is ∙ length_push now f in
-    let fewer = p.fewer in
-    (omega arith, sym (ap (λ xs. fate_in xs (length now)) is ∙ get_or_push now f (Word (block_of 0 Datum) []) (length now) refl) ∙ p.waits (length now) (omega arith), long)
-
--- where the last fates of a part are put and the others wait, to set the last of these at the place of its block,
--- in a list in number order, puts one more
-pub putting_more : (l : Lattice) (losses : List (Option (List ℕ))) (us : List BlockId) → AreListed l us → (all rest now old fates : List Fate) (f : Fate) (a : ℕ)
-    → Putting l losses us all rest old fates
-    → rest ≡ now ++ f ∷ [] → a < length us → block_in us a ≡ block_of_fate f → IsNotLost l losses (block_of_fate f) → Putting l losses us all now old (set fates a f)
-putting_more l losses us listed all rest now old fates f a p is less here not_lost =
-    let t0 = taken l losses us all rest now old fates f p is in
-    let below = t0.0 in
-    let long = t0.2 in
-    let none : Fate = Word (block_of 0 Datum) [] in
-    let room : a < length fates = (let m = length-map fates block_of_fate in let n = ap length p.blocks in omega arith) in
-    let right : (kn : BlockId → Bool) → All (IsRightFor l kn losses) all → IsFate l kn f =
-    λ kn each. subst (IsRightFor l kn losses) (sym t0.1) (All-get_or (IsRightFor l kn losses) all (length now) none below each) not_lost in
-    record {
-      blocks = map-set fates us a f p.blocks less here;
-      fewer = omega arith;
-      waits = λ t t_less. sym (ap (λ xs. fate_in xs t) is ∙ get_or_append_left now (f ∷ []) none t t_less) ∙ p.waits t (omega arith);
-      kept = λ kn each k k_less h. put_kept l kn fates a f room (right kn each) k (p.kept kn each k k_less h);
-      done = λ kn each k t k_less past t_less same k_not. elim (cases_eq t (length now)) [
-        | inl first ↦
-            (let at : block_in us k ≡ block_in us a = sym same ∙ ap (λ j. block_of_fate (fate_in all j)) first ∙ ap block_of_fate (sym t0.1) ∙ sym here in
-            let one : k ≡ a = once l us listed k a k_less less at in
-            subst (λ j. IsFate l kn (fate_in (set fates a f) j)) (sym one) (put_here l kn fates a f room (right kn each)))
-        | inr later ↦ put_kept l kn fates a f room (right kn each) k (p.done kn each k t k_less (omega arith) t_less same k_not)
-      ];
-    }
-
--- a block that has nodes in the list is not one that has none
-pub not_both : (l : Lattice) (losses : List (Option (List ℕ))) (b : BlockId) → IsLost l losses b → IsNotLost l losses b → ⊥
-not_both l losses b lost none = apart (sym lost.1 ∙ none)
-  where
-    apart : ◌≡◌ {A = Option (List ℕ)} (Some lost.0) None → ⊥
-    apart h = absurd (cc)
-
--- and where the last of these is that of a lost block, no fate need be set
-pub putting_less : (l : Lattice) (losses : List (Option (List ℕ))) (us : List BlockId) (all rest now old fates : List Fate) (f : Fate)
-    → Putting l losses us all rest old fates
-    → rest ≡ now ++ f ∷ [] → IsLost l losses (block_of_fate f) → Putting l losses us all now old fates
-putting_less l losses us all rest now old fates f p is lost =
-    let t0 = taken l losses us all rest now old fates f p is in
-    let below = t0.0 in
-    let long = t0.2 in
-    let none : Fate = Word (block_of 0 Datum) [] in
-    record {
-      blocks = p.blocks;
-      fewer = omega arith;
-      waits = λ t t_less. sym (ap (λ xs. fate_in xs t) is ∙ get_or_append_left now (f ∷ []) none t t_less) ∙ p.waits t (omega arith);
-      kept = p.kept;
-      done = λ kn each k t k_less past t_less same k_not. elim (cases_eq t (length now)) [
-        | inl first ↦
-            (let at : block_in us k ≡ block_of_fate f = sym same ∙ ap (λ j. block_of_fate (fate_in all j)) first ∙ ap block_of_fate (sym t0.1) in
-            absurd (not_both l losses (block_of_fate f) lost (subst (IsNotLost l losses) at k_not)))
-        | inr later ↦ p.done kn each k t k_less (omega arith) t_less same k_not
-      ];
-    }
-
--- all are put
-pub putting_all : (l : Lattice) (losses : List (Option (List ℕ))) (us : List BlockId) (all rest old new : List Fate) → Putting l losses us all rest old new → rest ≡ []
-    → (kn : BlockId → Bool) → All (IsRightFor l kn losses) all → Rights l kn losses us (map block_of_fate all) old new
-putting_all l losses us all rest old new p empty kn each = record {
-  kept = p.kept kn each;
-  put = λ a less stands not_lost.
-      (let none = ap length empty in
-      let inside = stands.1 in
-      let t_less : stands.0 < length all = (let m = length-map all block_of_fate in omega arith) in
-      p.done kn each a stands.0 less (omega arith) t_less (block_at_fate all (map block_of_fate all) stands.0 refl t_less ∙ stands.2) not_lost);
-}
-
--- ---- all parts
-
--- the fates of the determined blocks of the first parts are right, and those of the lost blocks
-pub record Solved (l : Lattice) (kn : BlockId → Bool) (us : List BlockId) (losses : List (Option (List ℕ))) (parts : List (List BlockId)) (count : ℕ) (fates : List Fate) : Type 0 where
-  pub blocks : map block_of_fate fates ≡ us
-  pub lost : AreLostRight l kn us losses fates
-  pub right : (c a : ℕ) → c < count → a < length us → StandsIn (get_or parts c []) (block_in us a) → IsNotLost l losses (block_in us a) → IsFate l kn (fate_in fates a)
-
--- where the fates of the next part are right, and those that were right still are, one part more is solved
-pub solved_more : (l : Lattice) (kn : BlockId → Bool) (us : List BlockId) (losses : List (Option (List ℕ))) (parts : List (List BlockId)) (count : ℕ) (part : List BlockId) (old new : List Fate)
-    → Solved l kn us losses parts count old → part ≡ get_or parts count [] → map block_of_fate new ≡ us → Rights l kn losses us part old new → Solved l kn us losses parts (count + 1) new
-solved_more l kn us losses parts count part old new before is blocks rights = record {
-  blocks = blocks;
-  lost = λ a less is_lost. rights.kept a less (before.lost a less is_lost);
-  right = λ c a c_less less stands not_lost. elim (cases_eq c count) [
-    | inl same ↦ rights.put a less (subst (λ xs. StandsIn xs (block_in us a)) (ap (λ j. get_or parts j []) same ∙ sym is) stands) not_lost
-    | inr other ↦ rights.kept a less (before.right c a (omega arith) less stands not_lost)
-  ];
-}
-
--- a block has nodes in the list or none
-lost_or_not : (l : Lattice) (losses : List (Option (List ℕ))) (b : BlockId) → IsLost l losses b ⊎ IsNotLost l losses b
-lost_or_not l losses b = at (get_or losses (number_of l b) None) refl
-  where
-    at : (o : Option (List ℕ)) → get_or losses (number_of l b) None ≡ o → IsLost l losses b ⊎ IsNotLost l losses b
-    at None is = inr is
-    at (Some nodes) is = inl (nodes, is)
-
--- a determined block is not known where the ends are known too, if it is not known without them
-still_unknown : (l : Lattice) (kn more : BlockId → Bool) → AddsEnds l kn more → (b : BlockId) → HasBlock l b → Determines l kn b → kn b ≡ false → more b ≡ false
-still_unknown l kn more adds b has determined unknown =
-    false_from_ne_true (more b)
-    (λ is. elim (adds.only b has is) [
-      | inl is_known ↦ true≢false (sym is_known ∙ unknown)
-      | inr end ↦ word-not_determined l kn end.0 b has end.1.contains end.1.misses determined
-    ])
-
--- where so many parts are solved, and each block that is not known where the ends are known too is in one of them, the fates are
--- those of the lattice
-pub solved_all : (l : Lattice) (kn more : BlockId → Bool) (us : List BlockId) (losses : List (Option (List ℕ))) (parts : List (List BlockId)) (count : ℕ) (fates : List Fate) → us ≡ unknown_blocks l kn
-    → AreListed l us → AreLosses l kn losses → AddsEnds l kn more
-    → length parts ≤ count → Solved l kn us losses parts count fates
-    → ((a : ℕ) → a < length (unknown_blocks l more) → (c : ℕ) × (c < length parts) × StandsIn (get_or parts c []) (block_in (unknown_blocks l more) a)) → AreFates l kn fates
-solved_all l kn more us losses parts count fates us_are listed are adds many solved whole = record {
-  blocks = solved.blocks ∙ us_are;
-  each =
-      All-from_get_or (IsFate l kn) fates (Word (block_of 0 Datum) [])
-      (λ a less.
-      (let inside : a < length us = (let m = length-map fates block_of_fate in let n = ap length solved.blocks in omega arith) in
-      elim (lost_or_not l losses (block_in us a)) [
-        | inl lost ↦ solved.lost a inside lost
-        | inr none ↦ determined_one a inside none
-      ]));
-}
-  where
-    determined_one : (a : ℕ) → a < length us → IsNotLost l losses (block_in us a) → IsFate l kn (fate_in fates a)
-    determined_one a inside none =
-        let b = block_in us a in
-        let has : HasBlock l b = All-get_or (HasBlock l) us a (block_of 0 Datum) inside listed.inside in
-        let unknown : kn b ≡ false =
-        not-true (kn b) (All-get_or (λ d. not (kn d) ≡ true) us a (block_of 0 Datum) inside (subst (All (λ d. not (kn d) ≡ true)) (sym us_are) (filter_passes (λ d. not (kn d)) (blocks_of l)))) in
-        let open' = still_unknown l kn more adds b has (determined_at l kn losses are b has none) unknown in
-        let place = stands_at same_block same_block-equal b (unknown_blocks l more) (block_of 0 Datum) ((passing-among l (λ d. not (more d)) b).1 (has, ap not open')) in
-        let at = whole place.0 place.1 in
-        let c_less = at.1 in
-        solved.right at.0 a (omega arith) inside (subst (StandsIn (get_or parts at.0 [])) place.2 at.2) none
-
--- blocks and equations that equal those of a part are those of a part
-pub part_from : (l : Lattice) (kn : BlockId → Bool) (bs cs : List BlockId) (es fs : List EqId) → ArePart l kn cs fs → bs ≡ cs → es ≡ fs → ArePart l kn bs es
-part_from l kn bs cs es fs p same_blocks same_equations = record {
-  within = p.within;
-  part = p.part;
-  blocks_are = same_blocks ∙ p.blocks_are;
-  equations_are = same_equations ∙ p.equations_are;
-}
-
 -- where unknown blocks always are listed in number order, so are the blocks of a part
-pub part_listed : UnknownAreListed → (l : Lattice) (kn : BlockId → Bool) (bs : List BlockId) (es : List EqId) → ArePart l kn bs es → AreListed l bs
+part_listed : UnknownAreListed → (l : Lattice) (kn : BlockId → Bool) (bs : List BlockId) (es : List EqId) → ArePart l kn bs es → AreListed l bs
 part_listed law l kn bs es p = subst (AreListed l) (sym p.blocks_are) (law l (known_or_outside kn p.within))
+
+-- what equals the blocks and the equations at a place of the lists of parts are those of a part
+pub part_at : (l : Lattice) (kn : BlockId → Bool) (parts : List (List BlockId)) (equations : List (List EqId)) (label : ℕ) (bs : List BlockId) (es : List EqId)
+    → AreParts l kn parts equations → label < length parts → bs ≡ get_or parts label [] → es ≡ get_or equations label [] → ArePart l kn bs es
+part_at l kn parts equations label bs es each less same_blocks same_equations =
+    let p = each label less in
+    record {
+      within = p.within;
+      part = p.part;
+      blocks_are = same_blocks ∙ p.blocks_are;
+      equations_are = same_equations ∙ p.equations_are;
+    }
+
+-- the blocks and the equations of a part are ready to be solved
+pub part_ready : UnknownAreListed → (l : Lattice) (kn more : BlockId → Bool) → ((d : BlockId) → HasBlock l d → kn d ≡ true → more d ≡ true)
+    → (us bs : List BlockId) (es : List EqId) → us ≡ unknown_blocks l kn → ArePart l more bs es → IsReady l us bs es
+part_ready law l kn more kept us bs es us_are p = record {
+  listed = part_listed law l more bs es p;
+  stand = part_stands l kn more us bs es kept us_are (part_listed law l more bs es p) p;
+  inside = part_inside l more bs es p;
+  few = part_few l more bs es p;
+}
 
 -- ---- buckets
 
@@ -552,11 +347,3 @@ bucket_more {A} items labels old new count k x d less inside is set_is long each
           ∙ sym (append-nil (items_at (λ j. get_or labels j 0 == c) (take k items)))
           ∙ ap (λ b. items_at (λ j. get_or labels j 0 == c) (take k items) ++ cond b (x ∷ []) []) (sym (ne_eqb (get_or labels k 0) c (λ e. other (sym e))))
     ]
-
--- the blocks of a part's fates are where the part's blocks are
-pub stand_all : (us bs : List BlockId) (fates : List Fate) → All (StandsIn us) bs → map block_of_fate fates ≡ bs → All (λ f. StandsIn us (block_of_fate f)) fates
-stand_all us bs fates stand are =
-    All-from_get_or (λ f. StandsIn us (block_of_fate f)) fates (Word (block_of 0 Datum) [])
-    (λ a less.
-    (let long : a < length bs = (let m = length-map fates block_of_fate in let n = ap length are in omega arith) in
-    subst (StandsIn us) (sym (block_at_fate fates bs a are less)) (All-get_or (StandsIn us) bs a (block_of 0 Datum) long stand)))

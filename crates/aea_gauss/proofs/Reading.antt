@@ -1,14 +1,13 @@
 -- What is read off reduced rows, by the rows that the columns lead.
-use Rattle.std.proofs.Common.{◌≡◌, ◌≢◌, ℕ, zero, suc, ◌+◌, ◌*◌, ◌<◌, ◌≤◌, inl, inr, Bool, true, false, ◌&&◌, ◌||◌, ◌==◌, cond, List, [], ◌∷◌, ◌++◌, take, map, length, get_or, Option, Some, None, MatchOption, refl, sym, ◌∙◌, ap, subst, arith}
+use Rattle.std.proofs.Common.{◌≡◌, ◌≢◌, ℕ, zero, suc, ◌+◌, ◌*◌, ◌<◌, ◌≤◌, inl, inr, Bool, true, false, ◌&&◌, ◌||◌, ◌==◌, cond, List, [], ◌∷◌, ◌++◌, take, length, get_or, Option, Some, None, MatchOption, refl, sym, ◌∙◌, ap, subst, arith}
 use Rattle.std.proofs.Math.ListN.{set}
 use Rattle.std.specs.Prelude.{nat_lt}
 use Rattle.std.proofs.lemmas.Bool.{cases_Bool, cases_lt, cases_eq, and_parts, eq-eqb, ne_eqb, le-ltb, cond-false, true≢false}
-use Rattle.std.proofs.lemmas.List.{get_or-set_same, get_or-set_other, length-set, map-append}
+use Rattle.std.proofs.lemmas.List.{get_or-set_same, get_or-set_other, length-set}
 use Rattle.aea_lattice.specs.declared.blocks.BlockId.{BlockId}
 use Rattle.aea_lattice.specs.declared.blocks.EqId.{EqId}
-use Rattle.aea_lattice.specs.declared.blocks.Class.TheVariants.{Datum}
 use Rattle.aea_lattice.specs.declared.grid.Lattice.{Lattice}
-use Rattle.aea_lattice.specs.Blocks.{class_number, block_of}
+use Rattle.aea_lattice.specs.Blocks.{class_number}
 use Rattle.aea_lattice.specs.Equations.{is_in_equation}
 use Rattle.aea_gauss_laws.specs.Parities.{odd_below}
 use Rattle.aea_gauss_laws.proofs.Columns.{odd_below-one, odd_below-none, odd_below-same}
@@ -18,8 +17,6 @@ use Rattle.aea_gauss_words.proofs.Reduced.{lead_unique}
 use Rattle.aea_readings.specs.Readings.{has_none_below, is_lead, IsFree, word_at}
 use Rattle.aea_readings.specs.Small.{block_in, equation_in, own_column, small_start, nodes_at, equations_at}
 use Rattle.aea_readings.proofs.WordReading.{lead_test, test_lead}
-use Rattle.aea_gauss.specs.declared.fates.Fate.{Fate}
-use Rattle.aea_gauss.specs.Fates.{block_of_fate}
 use Rattle.aea_gauss.specs.Told.{AreLeads}
 
 -- ---- leads over more columns
@@ -167,22 +164,6 @@ take-snoc (x ∷ xs) zero d less = refl
 take-snoc (x ∷ xs) (suc k) d less =
     let next : suc k + 1 ≡ suc (k + 1) = omega arith in
     ap (λ n. take n (x ∷ xs)) next ∙ ap (λ ys. x ∷ ys) (take-snoc xs k d (omega arith))
-
--- fates of the first a blocks, in order, and then one of block a are fates of the first a + 1
-pub blocks-told : (blocks : List BlockId) (fates : List Fate) (fate : Fate) (a : ℕ) → map block_of_fate fates ≡ take a blocks → a < length blocks
-    → block_of_fate fate ≡ block_in blocks a → map block_of_fate (fates ++ fate ∷ []) ≡ take (a + 1) blocks
-blocks-told blocks fates fate a before less is =
-    map-append block_of_fate fates (fate ∷ [])
-    ∙ ap (λ bs. bs ++ block_of_fate fate ∷ []) before
-    ∙ ap (λ b. take a blocks ++ b ∷ []) is
-    ∙ sym (take-snoc blocks a (block_of 0 Datum) less)
-
--- the first k items of a list are all of it, where it has no more than k
-pub take-all : {A : Type 0} → (xs : List A) (k : ℕ) → length xs ≤ k → take k xs ≡ xs
-take-all [] zero past = refl
-take-all [] (suc k) past = refl
-take-all (x ∷ xs) zero past = absurd (omega arith)
-take-all (x ∷ xs) (suc k) past = ap (λ ys. x ∷ ys) (take-all xs k (omega arith))
 
 -- ---- rows as they were filled
 

@@ -1,8 +1,7 @@
 -- How packed rows are filled.
 use Rattle.std.specs.Prelude.{◌≡◌, ◌⊎◌, ℕ, ◌+◌, ◌*◌, ◌<◌, ◌≤◌, Bool, ◌&&◌, nat_lt, List, length, get_or}
 use Rattle.aea_lattice.specs.declared.blocks.BlockId.{BlockId}
-use Rattle.aea_lattice.specs.declared.grid.Lattice.{Lattice}
-use Rattle.aea_lattice.specs.Blocks.{same_block, number_of}
+use Rattle.aea_lattice.specs.Blocks.{same_block}
 use Rattle.aea_lattice.specs.Parity.{differ}
 use Rattle.aea_gauss_words.specs.Words.{is_bit}
 use Rattle.aea_readings.specs.Small.{block_in}
@@ -16,7 +15,3 @@ pub record Turns (begin wide : ℕ) (test : ℕ → Bool) (old new : List ℕ) :
 -- whether the block is in the list at this place
 abbrev pub stands : List BlockId → BlockId → ℕ → Bool
 stands blocks b k = nat_lt k (length blocks) && same_block (block_in blocks k) b
-
--- the table has the place of each block of the list at its number
-abbrev pub AreColumns : Lattice → List BlockId → List ℕ → Type 0
-AreColumns l blocks columns = (a : ℕ) → a < length blocks → get_or columns (number_of l (block_in blocks a)) 0 ≡ a

@@ -3,3 +3,4 @@ pub mod Fills
 pub mod Told
 pub mod Parts
 pub mod Lost
+pub mod Outputs

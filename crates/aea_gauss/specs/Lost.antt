@@ -5,8 +5,8 @@ use Rattle.aea_lattice.specs.declared.grid.Lattice.{Lattice}
 use Rattle.aea_lattice.specs.Blocks.{number_of}
 use Rattle.aea_readings.specs.Small.{block_in}
 use Rattle.aea_gauss.specs.declared.fates.Fate.{Fate}
-use Rattle.aea_gauss.specs.Fates.{block_of_fate, IsFate}
-use Rattle.aea_gauss.specs.Parts.{StandsIn, fate_in}
+use Rattle.aea_gauss.specs.Fates.{IsFate}
+use Rattle.aea_gauss.specs.Parts.{fate_in}
 
 -- the list has nodes for the block
 abbrev pub IsLost : Lattice → List (Option (List ℕ)) → BlockId → Type 0
@@ -19,12 +19,3 @@ IsNotLost l losses b = get_or losses (number_of l b) None ≡ None
 -- the fate of each block that the list has nodes for is right
 abbrev pub AreLostRight : Lattice → (BlockId → Bool) → List BlockId → List (Option (List ℕ)) → List Fate → Type 0
 AreLostRight l known blocks losses fates = (a : ℕ) → a < length blocks → IsLost l losses (block_in blocks a) → IsFate l known (fate_in fates a)
-
--- the fate is right, where the list has no nodes for its block
-abbrev pub IsRightFor : Lattice → (BlockId → Bool) → List (Option (List ℕ)) → Fate → Type 0
-IsRightFor l known losses fate = IsNotLost l losses (block_of_fate fate) → IsFate l known fate
-
--- The fates of those blocks of a part that the list has no nodes for are right now, and those that were right still are.
-pub record Rights (l : Lattice) (known : BlockId → Bool) (losses : List (Option (List ℕ))) (blocks part : List BlockId) (old new : List Fate) : Type 0 where
-  pub kept : (a : ℕ) → a < length blocks → IsFate l known (fate_in old a) → IsFate l known (fate_in new a)
-  pub put : (a : ℕ) → a < length blocks → StandsIn part (block_in blocks a) → IsNotLost l losses (block_in blocks a) → IsFate l known (fate_in new a)

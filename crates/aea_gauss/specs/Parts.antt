@@ -1,16 +1,18 @@
 -- Parts of what is not known: blocks that an equation has together get one label.
-use Rattle.std.specs.Prelude.{◌≡◌, ℕ, suc, ◌<◌, ◌≤◌, Bool, cond, List, [], ◌∷◌, length, get_or, IsTrue}
+use Rattle.std.specs.Prelude.{◌≡◌, ℕ, suc, ◌<◌, ◌≤◌, ◌^◌, Bool, cond, List, [], ◌∷◌, All, length, get_or, slice_set, IsTrue}
 use Rattle.aea_lattice.specs.declared.blocks.Class.TheVariants.{Datum}
 use Rattle.aea_lattice.specs.declared.blocks.BlockId.{BlockId}
 use Rattle.aea_lattice.specs.declared.blocks.EqId.{EqId}
 use Rattle.aea_lattice.specs.declared.grid.Lattice.{Lattice}
-use Rattle.aea_lattice.specs.Equations.{is_in_equation}
+use Rattle.aea_lattice.specs.Equations.{HasEquation, is_in_equation}
 use Rattle.aea_lattice.specs.Blocks.{block_of}
 use Rattle.aea_fates.specs.Live.{live_equations}
-use Rattle.aea_readings.specs.Small.{block_in, equation_in, unknown_blocks}
+use Rattle.aea_readings.specs.Small.{block_in, equation_in, unknown_blocks, AreListed}
 use Rattle.aea_fates.specs.Laws.{IsPart, known_or_outside}
 use Rattle.aea_gauss.specs.declared.fates.Fate.{Fate}
 use Rattle.aea_gauss.specs.declared.fates.Fate.TheVariants.{Word}
+use Rattle.aea_gauss.specs.Fates.{block_of_fate, IsFate}
+use Rattle.aea_gauss.specs.Told.{TellsFate}
 
 -- the items at the places that pass, in order
 abbrev pub items_at : {A : Type 0} → (ℕ → Bool) → List A → List A
@@ -68,3 +70,38 @@ StandsIn blocks b = (a : ℕ) × (a < length blocks) × (block_in blocks a ≡ b
 -- the fate at a place
 abbrev pub fate_in : List Fate → ℕ → Fate
 fate_in fates a = get_or fates a (Word (block_of 0 Datum) [])
+
+-- the lists at each place are the blocks and the equations of a part
+abbrev pub AreParts : Lattice → (BlockId → Bool) → List (List BlockId) → List (List EqId) → Type 0
+AreParts l known blocks equations = (c : ℕ) → c < length blocks → ArePart l known (get_or blocks c []) (get_or equations c [])
+
+-- the blocks of a part are in number order and in the list of all, and the equations are of the lattice, and not too many
+pub record IsReady (l : Lattice) (all blocks : List BlockId) (equations : List EqId) : Type 0 where
+  pub listed : AreListed l blocks
+  pub stand : All (StandsIn all) blocks
+  pub inside : All (HasEquation l) equations
+  pub few : length equations < 2 ^ 23
+
+-- each block of the list is in one of these lists
+abbrev pub HaveEach : List BlockId → List (List BlockId) → Type 0
+HaveEach blocks parts = (a : ℕ) → a < length blocks → (c : ℕ) × (c < length parts) × StandsIn (get_or parts c []) (block_in blocks a)
+
+-- The fate of the block at a place of a part is put at the block's place in the list of all. It is right for every set of known
+-- blocks that leaves the part's blocks unknown, with its equations.
+pub record PutsFate (l : Lattice) (blocks part : List BlockId) (equations : List EqId) (a : ℕ) (old new : List Fate) : Type 0 where
+  pub at : ℕ
+  pub fate : Fate
+  pub inside : at < length blocks
+  pub here : block_in blocks at ≡ block_of_fate fate
+  pub block : block_of_fate fate ≡ block_in part a
+  pub tells : TellsFate l part equations fate
+  pub is : new ≡ slice_set old at fate
+
+-- The fates of those blocks of a part that are wanted are right now, and those that were right still are.
+pub record Rights (l : Lattice) (known : BlockId → Bool) (Wanted : BlockId → Type 0) (blocks part : List BlockId) (old new : List Fate) : Type 0 where
+  pub kept : (a : ℕ) → a < length blocks → IsFate l known (fate_in old a) → IsFate l known (fate_in new a)
+  pub put : (a : ℕ) → a < length blocks → StandsIn part (block_in blocks a) → Wanted (block_in blocks a) → IsFate l known (fate_in new a)
+
+-- each block is wanted
+abbrev pub IsWanted : BlockId → Type 0
+IsWanted b = Unit {0}

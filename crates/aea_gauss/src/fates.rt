@@ -1,17 +1,21 @@
-ghost use Rattle.std.specs.Prelude.{◌≡◌, ◌++◌, [], ◌∷◌, ◌<◌, ◌≤◌, length, slice_get, slice_set, IfOk, OnOk, OnErr, MatchOption, Some};
-ghost use Rattle.aea_gauss.specs.Fates.{AreFates, block_of_fate};
+ghost use Rattle.std.specs.Prelude.{◌≡◌, ◌≢◌, ◌++◌, [], ◌∷◌, ◌<◌, ◌≤◌, length, slice_get, slice_set, All, IfOk, OnOk, OnErr, MatchOption, Some};
+ghost use Rattle.std.specs.List.{swap_remove};
+ghost use Rattle.aea_lattice.specs.Blocks.{HasBlock};
+ghost use Rattle.aea_gauss.specs.declared.fates.Fate.{Fate};
+ghost use Rattle.aea_gauss.specs.Fates.{AreFates, AreInOrder, block_of_fate};
 ghost use Rattle.aea_view.specs.Marked.{is_marked};
 
 use crate::buckets::bucket_at;
-use crate::columns::set_columns;
+use crate::determined::solve_part;
 use crate::equations::unknown_blocks;
 use crate::lost::lost_fates;
-use crate::parts::{solve_part, unknown_parts};
+use crate::parts::unknown_parts;
 use aea_lattice::{BlockId, EqList, Lattice, NodeList};
 use aea_readings::unknown_are_listed;
 use aea_sweep::marked_losses;
 use aea_view::Marks;
 use std::alloc::{AllocError, Global};
+use std::cmp::Ordering;
 use std::marker::Model;
 
 /// What happens to a block that is not known: the sum of equations that gives it from known blocks, or the nodes of
@@ -82,11 +86,39 @@ impl FateList {
         Ok(())
     }
 
-    // Takes the last fate.
-    pub(crate) fn pop(&mut self) -> Option<Fate>
-        ensures { MatchOption result ((self.old ≡ []) × (self.new ≡ [])) (λ fate. self.old ≡ self.new ++ fate ∷ []) }
+    /// The place of the block's fate, if there is one here. What is left of the list is halved by the numbers of the blocks, which
+    /// rise.
+    pub fn find(&self, lattice: &Lattice, b: BlockId) -> Option<usize>
+        requires order { AreInOrder lattice.now self.now }
+        requires block { HasBlock lattice.now b }
+        ensures { MatchOption result (All (λ fate. block_of_fate fate ≢ b) self.now)
+            (λ k. (fate : Fate) × (slice_get self.now k ≡ Some fate) × (block_of_fate fate ≡ b)) }
     {
-        self.items.pop()
+        unknown_are_listed();
+        let number = lattice.number(b);
+        let mut low = 0;
+        let mut high = self.items.len();
+        while low < high {
+            let middle = low + (high - low) / 2;
+            match lattice.number(self.items[middle].block()).cmp(&number) {
+                Ordering::Less => low = middle + 1,
+                Ordering::Equal => return Some(middle),
+                Ordering::Greater => high = middle,
+            }
+        }
+        None
+    }
+
+    /// Takes the fate at this place, counted from 0, out of the list, and puts the last one into its place.
+    pub fn take(&mut self, k: usize) -> Option<Fate>
+        ensures { MatchOption result ((length self.old ≤ k) × (self.new ≡ self.old))
+            (λ fate. (slice_get self.old k ≡ Some fate) × (self.new ≡ swap_remove self.old k fate)) }
+    {
+        if k < self.items.len() {
+            Some(self.items.swap_remove(k))
+        } else {
+            None
+        }
     }
 
     // Puts a fate in the place of another.
@@ -102,7 +134,7 @@ impl FateList {
 /// says, in time that grows with the lattice, and it marks the ends too: the sums stay the same, and less is unknown. The sums
 /// are found part by part: blocks that are not marked then and that an equation has together are in one part, and each part in
 /// which some block is determined by the known ones has an elimination of its own. Beside the fates it takes what `losses`
-/// takes, a bit and 8 bytes for each block of the lattice, some 150 bytes for each block that is not marked, some 16 bytes for
+/// takes, a bit for each block of the lattice, some 150 bytes for each block that is not marked, some 16 bytes for
 /// each equation, and the rows of one such part at a time: of b blocks and e equations, (b + e) bits for each of the e
 /// equations. An error means that memory ran out.
 pub fn solve(alloc: Global, lattice: &Lattice, known: &Marks) -> Result<FateList, AllocError>
@@ -118,12 +150,7 @@ pub fn solve(alloc: Global, lattice: &Lattice, known: &Marks) -> Result<FateList
     let marked = marked_losses(alloc, lattice, known)?;
     let lost = &marked.losses;
     let mut fates = lost_fates(alloc, lattice, lost, blocks)?;
-    let mut columns = vec![in alloc; 0; lattice.blocks() as usize]?;
-    let mut scratch = vec![in alloc; 0; lattice.blocks() as usize]?;
-    let columns = columns.as_mut_slice();
-    let scratch = scratch.as_mut_slice();
-    let parts = unknown_parts(alloc, lattice, &marked.marks, columns)?;
-    set_columns(lattice, columns, blocks);
+    let parts = unknown_parts(alloc, lattice, &marked.marks)?;
     for label in 0..parts.blocks.len() {
         let part_blocks = bucket_at(parts.blocks.as_slice(), label);
         let part_equations = bucket_at(parts.equations.as_slice(), label);
@@ -131,8 +158,6 @@ pub fn solve(alloc: Global, lattice: &Lattice, known: &Marks) -> Result<FateList
             alloc,
             lattice,
             lost,
-            columns,
-            scratch,
             blocks,
             part_blocks,
             part_equations,

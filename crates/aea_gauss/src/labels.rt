@@ -1,9 +1,8 @@
 ghost use Rattle.std.specs.Prelude.{◌≡◌, ◌≢◌, ℕ, ◌<◌, ◌≤◌, ◌^◌, ◌⊎◌, false, true, length, get_or, All, IfOk, MatchOption};
 ghost use Rattle.std.specs.Option.{ForSome};
-ghost use Rattle.aea_lattice.specs.Blocks.{HasBlock, blocks_count};
+ghost use Rattle.aea_lattice.specs.Blocks.{HasBlock};
 ghost use Rattle.aea_lattice.specs.Equations.{HasEquation, is_in_equation};
 ghost use Rattle.aea_readings.specs.Small.{block_in, equation_in, AreListed};
-ghost use Rattle.aea_gauss.specs.Fills.{AreColumns};
 ghost use Rattle.aea_gauss.specs.Parts.{AreParents, IsRoot, Follows, JoinsBlocks, JoinsEquation, JoinsEach, label_at, IsLabelOf};
 
 use crate::columns::find_column;
@@ -63,23 +62,20 @@ fn join(parents: &mut [u32], a: usize, b: usize)
 fn join_blocks(
     parents: &mut [u32],
     lattice: &Lattice,
-    columns: &[u32],
     blocks: &[BlockId],
     first: BlockId,
     second: BlockId,
 )
     requires parents { AreParents parents.old }
     requires each { length parents.old ≡ length blocks.now }
-    requires long { length columns.now ≡ blocks_count lattice.now }
-    requires columns { AreColumns lattice.now blocks.now columns.now }
     requires listed { AreListed lattice.now blocks.now }
     requires first { HasBlock lattice.now first }
     requires second { HasBlock lattice.now second }
     ensures parents { AreParents parents.new }
     ensures follows { (label : ℕ → ℕ) → Follows label parents.new → Follows label parents.old × JoinsBlocks blocks.now first second label }
 {
-    let a = find_column(lattice, columns, blocks, first);
-    let b = find_column(lattice, columns, blocks, second);
+    let a = find_column(lattice, blocks, first);
+    let b = find_column(lattice, blocks, second);
     if let Some(a) = a {
         if let Some(b) = b {
             join(parents, a, b);
@@ -91,15 +87,12 @@ fn join_blocks(
 fn join_input(
     parents: &mut [u32],
     lattice: &Lattice,
-    columns: &[u32],
     blocks: &[BlockId],
     input: Option<BlockId>,
     other: BlockId,
 )
     requires parents { AreParents parents.old }
     requires each { length parents.old ≡ length blocks.now }
-    requires long { length columns.now ≡ blocks_count lattice.now }
-    requires columns { AreColumns lattice.now blocks.now columns.now }
     requires listed { AreListed lattice.now blocks.now }
     requires input { ForSome input (HasBlock lattice.now) }
     requires other { HasBlock lattice.now other }
@@ -108,23 +101,15 @@ fn join_input(
         → Follows label parents.old × ForSome input (λ g. JoinsBlocks blocks.now g other label) }
 {
     match input {
-        Some(g) => join_blocks(parents, lattice, columns, blocks, g, other),
+        Some(g) => join_blocks(parents, lattice, blocks, g, other),
         None => {}
     }
 }
 
 // Makes one chain of those of the blocks of the equation that are in the list.
-fn join_equation(
-    parents: &mut [u32],
-    lattice: &Lattice,
-    columns: &[u32],
-    blocks: &[BlockId],
-    e: EqId,
-)
+fn join_equation(parents: &mut [u32], lattice: &Lattice, blocks: &[BlockId], e: EqId)
     requires parents { AreParents parents.old }
     requires each { length parents.old ≡ length blocks.now }
-    requires long { length columns.now ≡ blocks_count lattice.now }
-    requires columns { AreColumns lattice.now blocks.now columns.now }
     requires listed { AreListed lattice.now blocks.now }
     requires equation { HasEquation lattice.now e }
     ensures parents { AreParents parents.new }
@@ -132,23 +117,15 @@ fn join_equation(
         → Follows label parents.old × JoinsEquation lattice.now blocks.now e label }
 {
     let q = lattice.equation(e);
-    join_input(parents, lattice, columns, blocks, q.input, q.datum);
-    join_input(parents, lattice, columns, blocks, q.input, q.output);
-    join_blocks(parents, lattice, columns, blocks, q.datum, q.output);
+    join_input(parents, lattice, blocks, q.input, q.datum);
+    join_input(parents, lattice, blocks, q.input, q.output);
+    join_blocks(parents, lattice, blocks, q.datum, q.output);
 }
 
 // Makes one chain of those of the blocks of each equation that are in the list.
-fn join_each(
-    parents: &mut [u32],
-    lattice: &Lattice,
-    columns: &[u32],
-    blocks: &[BlockId],
-    equations: &[EqId],
-)
+fn join_each(parents: &mut [u32], lattice: &Lattice, blocks: &[BlockId], equations: &[EqId])
     requires parents { AreParents parents.old }
     requires each { length parents.old ≡ length blocks.now }
-    requires long { length columns.now ≡ blocks_count lattice.now }
-    requires columns { AreColumns lattice.now blocks.now columns.now }
     requires listed { AreListed lattice.now blocks.now }
     requires equations { All (HasEquation lattice.now) equations.now }
     ensures parents { AreParents parents.new }
@@ -156,7 +133,7 @@ fn join_each(
         → JoinsEach lattice.now blocks.now equations.now (length equations.now) label }
 {
     for at in 0..equations.len() {
-        join_equation(parents, lattice, columns, blocks, equations[at]);
+        join_equation(parents, lattice, blocks, equations[at]);
     }
 }
 
@@ -185,23 +162,15 @@ fn own_labels(alloc: Global, count: usize) -> Result<Vec<u32>, AllocError>
 }
 
 // Makes labels of parents: one for all blocks of an equation that are in the list.
-fn label_blocks(
-    labels: &mut [u32],
-    lattice: &Lattice,
-    columns: &[u32],
-    blocks: &[BlockId],
-    equations: &[EqId],
-)
+fn label_blocks(labels: &mut [u32], lattice: &Lattice, blocks: &[BlockId], equations: &[EqId])
     requires parents { AreParents labels.old }
     requires each { length labels.old ≡ length blocks.now }
-    requires long { length columns.now ≡ blocks_count lattice.now }
-    requires columns { AreColumns lattice.now blocks.now columns.now }
     requires listed { AreListed lattice.now blocks.now }
     requires equations { All (HasEquation lattice.now) equations.now }
     ensures below { (k : ℕ) → k < length blocks.now → get_or labels.new k 0 ≤ k }
     ensures joined { JoinsEach lattice.now blocks.now equations.now (length equations.now) (label_at labels.new) }
 {
-    join_each(labels, lattice, columns, blocks, equations);
+    join_each(labels, lattice, blocks, equations);
     settle(labels);
 }
 
@@ -210,12 +179,9 @@ fn label_blocks(
 pub(crate) fn block_labels(
     alloc: Global,
     lattice: &Lattice,
-    columns: &[u32],
     blocks: &[BlockId],
     equations: &[EqId],
 ) -> Result<Vec<u32>, AllocError>
-    requires long { length columns.now ≡ blocks_count lattice.now }
-    requires columns { AreColumns lattice.now blocks.now columns.now }
     requires listed { AreListed lattice.now blocks.now }
     requires equations { All (HasEquation lattice.now) equations.now }
     ensures long { IfOk result (λ labels. length labels.items ≡ length blocks.now) }
@@ -223,65 +189,50 @@ pub(crate) fn block_labels(
     ensures joined { IfOk result (λ labels. JoinsEach lattice.now blocks.now equations.now (length equations.now) (label_at labels.items)) }
 {
     let mut labels = own_labels(alloc, blocks.len())?;
-    label_blocks(labels.as_mut_slice(), lattice, columns, blocks, equations);
+    label_blocks(labels.as_mut_slice(), lattice, blocks, equations);
     Ok(labels)
 }
 
 // The place of one of two blocks, if one is in the list.
 fn find_either(
     lattice: &Lattice,
-    columns: &[u32],
     blocks: &[BlockId],
     first: BlockId,
     second: BlockId,
 ) -> Option<usize>
-    requires long { length columns.now ≡ blocks_count lattice.now }
-    requires columns { AreColumns lattice.now blocks.now columns.now }
+    requires listed { AreListed lattice.now blocks.now }
     requires first { HasBlock lattice.now first }
     requires second { HasBlock lattice.now second }
     ensures { MatchOption result
         (((a : ℕ) → a < length blocks.now → block_in blocks.now a ≢ first) × ((a : ℕ) → a < length blocks.now → block_in blocks.now a ≢ second))
         (λ a. (a < length blocks.now) × ((block_in blocks.now a ≡ first) ⊎ (block_in blocks.now a ≡ second))) }
 {
-    match find_column(lattice, columns, blocks, first) {
+    match find_column(lattice, blocks, first) {
         Some(a) => Some(a),
-        None => find_column(lattice, columns, blocks, second),
+        None => find_column(lattice, blocks, second),
     }
 }
 
 // The place of a block of the equation, if one is in the list.
-fn find_in_equation(
-    lattice: &Lattice,
-    columns: &[u32],
-    blocks: &[BlockId],
-    e: EqId,
-) -> Option<usize>
-    requires long { length columns.now ≡ blocks_count lattice.now }
-    requires columns { AreColumns lattice.now blocks.now columns.now }
+fn find_in_equation(lattice: &Lattice, blocks: &[BlockId], e: EqId) -> Option<usize>
+    requires listed { AreListed lattice.now blocks.now }
     requires equation { HasEquation lattice.now e }
     ensures { MatchOption result ((a : ℕ) → a < length blocks.now → is_in_equation lattice.now e (block_in blocks.now a) ≡ false)
         (λ a. (a < length blocks.now) × (is_in_equation lattice.now e (block_in blocks.now a) ≡ true)) }
 {
     let q = lattice.equation(e);
-    match find_either(lattice, columns, blocks, q.datum, q.output) {
+    match find_either(lattice, blocks, q.datum, q.output) {
         Some(a) => Some(a),
         None => match q.input {
-            Some(g) => find_column(lattice, columns, blocks, g),
+            Some(g) => find_column(lattice, blocks, g),
             None => None,
         },
     }
 }
 
 // The label of the equation's blocks that are in the list.
-fn equation_label(
-    lattice: &Lattice,
-    columns: &[u32],
-    blocks: &[BlockId],
-    labels: &[u32],
-    e: EqId,
-) -> u32
-    requires long { length columns.now ≡ blocks_count lattice.now }
-    requires columns { AreColumns lattice.now blocks.now columns.now }
+fn equation_label(lattice: &Lattice, blocks: &[BlockId], labels: &[u32], e: EqId) -> u32
+    requires listed { AreListed lattice.now blocks.now }
     requires equation { HasEquation lattice.now e }
     requires each { length labels.now ≡ length blocks.now }
     requires some { 1 ≤ length blocks.now }
@@ -290,7 +241,7 @@ fn equation_label(
     ensures label { IsLabelOf lattice.now blocks.now labels.now e result }
     ensures below { result < length blocks.now }
 {
-    match find_in_equation(lattice, columns, blocks, e) {
+    match find_in_equation(lattice, blocks, e) {
         Some(a) => labels[a],
         None => 0,
     }
@@ -300,13 +251,11 @@ fn equation_label(
 pub(crate) fn equation_labels(
     alloc: Global,
     lattice: &Lattice,
-    columns: &[u32],
     blocks: &[BlockId],
     labels: &[u32],
     equations: &[EqId],
 ) -> Result<Vec<u32>, AllocError>
-    requires long { length columns.now ≡ blocks_count lattice.now }
-    requires columns { AreColumns lattice.now blocks.now columns.now }
+    requires listed { AreListed lattice.now blocks.now }
     requires equations { All (HasEquation lattice.now) equations.now }
     requires each { length labels.now ≡ length blocks.now }
     requires some { 1 ≤ length blocks.now }
@@ -319,7 +268,7 @@ pub(crate) fn equation_labels(
 {
     let mut own = Vec::new(alloc);
     for at in 0..equations.len() {
-        own.push(equation_label(lattice, columns, blocks, labels, equations[at]))?;
+        own.push(equation_label(lattice, blocks, labels, equations[at]))?;
     }
     Ok(own)
 }

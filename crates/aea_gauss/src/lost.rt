@@ -1,4 +1,4 @@
-ghost use Rattle.std.specs.Prelude.{◌≡◌, ◌<◌, Bool, false, [], None, length, get_or, map, take, unwrap_or, IfOk};
+ghost use Rattle.std.specs.Prelude.{◌≡◌, ◌<◌, ◌≤◌, Bool, false, true, [], None, length, get_or, map, take, unwrap_or, IfOk};
 ghost use Rattle.aea_lattice.specs.declared.blocks.BlockId.{BlockId};
 ghost use Rattle.aea_lattice.specs.Blocks.{blocks_count};
 ghost use Rattle.aea_readings.specs.Small.{AreListed};
@@ -60,7 +60,8 @@ pub(crate) fn lost_fates(
 pub(crate) fn has_determined(lattice: &Lattice, losses: &LossList, blocks: &[BlockId]) -> bool
     requires listed { AreListed lattice.now blocks.now }
     requires long { length losses.now ≡ blocks_count lattice.now }
-    ensures { result ≡ false → (b : BlockId) → StandsIn blocks.now b → IsLost lattice.now losses.now b }
+    ensures lost { result ≡ false → (b : BlockId) → StandsIn blocks.now b → IsLost lattice.now losses.now b }
+    ensures some { result ≡ true → 1 ≤ length blocks.now }
 {
     for at in 0..blocks.len() {
         let number = lattice.number(blocks[at]);

@@ -1,16 +1,15 @@
-ghost use Rattle.std.specs.Prelude.{◌≡◌, ℕ, ◌+◌, ◌*◌, ◌/◌, ◌<◌, ◌≤◌, ◌^◌, false, true, ◌++◌, [], ◌∷◌, if◌then◌else◌, ◌&&◌, ◌==◌, length, map, All, IfOk, OnOk, MatchOption};
-ghost use Rattle.aea_lattice.specs.Blocks.{class_number, blocks_count};
+ghost use Rattle.std.specs.Prelude.{◌≡◌, ℕ, ◌+◌, ◌*◌, ◌/◌, ◌<◌, ◌≤◌, ◌^◌, false, true, ◌++◌, [], ◌∷◌, if◌then◌else◌, ◌&&◌, ◌==◌, length, IfOk, OnOk, MatchOption};
+ghost use Rattle.aea_lattice.specs.Blocks.{class_number};
 ghost use Rattle.aea_gauss_words.specs.Words.{words_for, is_bit, bit_matrix};
 ghost use Rattle.aea_gauss_words.specs.Matrices.{IsReduced};
 ghost use Rattle.aea_readings.specs.Readings.{word_at};
-ghost use Rattle.aea_readings.specs.Small.{block_in, equation_in, own_column, nodes_at, equations_at, AreListed};
+ghost use Rattle.aea_readings.specs.Small.{block_in, equation_in, own_column, nodes_at, equations_at};
 ghost use Rattle.aea_gauss.specs.Fates.{block_of_fate};
-ghost use Rattle.aea_gauss.specs.Told.{AreLeads, IsTold, IsToldFor};
+ghost use Rattle.aea_gauss.specs.Told.{AreLeads, IsTold};
 
-use crate::fates::{Fate, FateList};
+use crate::fates::Fate;
 use aea_gauss_words::has;
 use aea_lattice::{BlockId, Class, EqId, EqList, Lattice, NodeList};
-use aea_sweep::LossList;
 use std::alloc::{AllocError, Global};
 
 // The least column of the row from `from` on and before `end`, if there is one.
@@ -137,7 +136,7 @@ fn read_equations(
 }
 
 // The fate of the block at a place, as the reduced rows show it.
-fn read_fate(
+pub(crate) fn read_fate(
     alloc: Global,
     words: &[u64],
     wide: usize,
@@ -173,75 +172,4 @@ fn read_fate(
             }
         },
     }
-}
-
-// The fate of the block at a place, as the reduced rows show it, or a word without nodes where the list of losses has nodes for it.
-fn read_determined(
-    alloc: Global,
-    lattice: &Lattice,
-    losses: &LossList,
-    words: &[u64],
-    wide: usize,
-    leads: &[Option<usize>],
-    blocks: &[BlockId],
-    equations: &[EqId],
-    a: usize,
-) -> Result<Fate, AllocError>
-    requires listed { AreListed lattice.now blocks.now }
-    requires losses { length losses.now ≡ blocks_count lattice.now }
-    requires long { length words.now ≡ length equations.now * wide }
-    requires wide { wide ≡ words_for (length blocks.now + length equations.now) }
-    requires short { length blocks.now + length equations.now < 2 ^ 32 }
-    requires leads { AreLeads (length equations.now) (64 * wide) (bit_matrix wide words.now) leads.now }
-    requires blocks { length blocks.now ≡ length leads.now }
-    requires reduced { IsReduced (length equations.now) (64 * wide) (bit_matrix wide words.now) }
-    requires a { a < length blocks.now }
-    ensures block { IfOk result (λ fate. block_of_fate fate ≡ block_in blocks.now a) }
-    ensures told { IfOk result (IsToldFor lattice.now losses.now blocks.now equations.now (bit_matrix wide words.now)) }
-{
-    let block = blocks[a];
-    let number = lattice.number(block);
-    match losses.nodes(number as usize) {
-        Some(_) => Ok(Fate::Word {
-            block,
-            nodes: NodeList::new(alloc),
-        }),
-        None => {
-            let fate = read_fate(alloc, words, wide, leads, blocks, equations, a)?;
-            Ok(fate)
-        }
-    }
-}
-
-// The fates of all blocks of the list that the list of losses has no nodes for, as the reduced rows show them; for each other block,
-// in place of its fate, a word without nodes.
-pub(crate) fn read_all(
-    alloc: Global,
-    lattice: &Lattice,
-    losses: &LossList,
-    words: &[u64],
-    wide: usize,
-    leads: &[Option<usize>],
-    blocks: &[BlockId],
-    equations: &[EqId],
-) -> Result<FateList, AllocError>
-    requires listed { AreListed lattice.now blocks.now }
-    requires losses { length losses.now ≡ blocks_count lattice.now }
-    requires long { length words.now ≡ length equations.now * wide }
-    requires wide { wide ≡ words_for (length blocks.now + length equations.now) }
-    requires short { length blocks.now + length equations.now < 2 ^ 32 }
-    requires leads { AreLeads (length equations.now) (64 * wide) (bit_matrix wide words.now) leads.now }
-    requires blocks { length blocks.now ≡ length leads.now }
-    requires reduced { IsReduced (length equations.now) (64 * wide) (bit_matrix wide words.now) }
-    ensures blocks { IfOk result (λ fates. map block_of_fate fates ≡ blocks.now) }
-    ensures told { IfOk result (λ fates. All (IsToldFor lattice.now losses.now blocks.now equations.now (bit_matrix wide words.now)) fates) }
-{
-    let mut fates = FateList::new(alloc);
-    for a in 0..blocks.len() {
-        let fate = read_determined(
-            alloc, lattice, losses, words, wide, leads, blocks, equations, a,
-        )?;
-        fates.push(fate)?;
-    }
-    Ok(fates)
 }

@@ -1,10 +1,10 @@
 ghost use Rattle.std.specs.Prelude.{◌≡◌, ℕ, ◌+◌, ◌*◌, ◌<◌, ◌≤◌, ◌^◌, false, ◌==◌, length, All, IfOk, OnOk, get_or, MatchOption};
 ghost use Rattle.std.specs.Option.{ForSome};
-ghost use Rattle.aea_lattice.specs.Blocks.{HasBlock, blocks_count};
+ghost use Rattle.aea_lattice.specs.Blocks.{HasBlock};
 ghost use Rattle.aea_lattice.specs.Equations.{HasEquation};
 ghost use Rattle.aea_gauss_words.specs.Words.{bit_matrix};
 ghost use Rattle.aea_readings.specs.Small.{own_column, small_row, small_start, AreListed};
-ghost use Rattle.aea_gauss.specs.Fills.{Turns, stands, AreColumns};
+ghost use Rattle.aea_gauss.specs.Fills.{Turns, stands};
 
 use crate::columns::find_column;
 use aea_lattice::{BlockId, EqId, Lattice};
@@ -25,19 +25,16 @@ fn turn_block(
     begin: usize,
     wide: usize,
     lattice: &Lattice,
-    columns: &[u32],
     blocks: &[BlockId],
     b: BlockId,
 )
     requires inside { begin + wide ≤ length words.old }
     requires wide { length blocks.now ≤ 64 * wide }
-    requires long { length columns.now ≡ blocks_count lattice.now }
-    requires columns { AreColumns lattice.now blocks.now columns.now }
     requires listed { AreListed lattice.now blocks.now }
     requires block { HasBlock lattice.now b }
     ensures { Turns begin wide (stands blocks.now b) words.old words.new }
 {
-    match find_column(lattice, columns, blocks, b) {
+    match find_column(lattice, blocks, b) {
         Some(column) => turn(words, begin, wide, column),
         None => {}
     }
@@ -49,21 +46,18 @@ fn turn_input(
     begin: usize,
     wide: usize,
     lattice: &Lattice,
-    columns: &[u32],
     blocks: &[BlockId],
     input: Option<BlockId>,
 )
     requires inside { begin + wide ≤ length words.old }
     requires wide { length blocks.now ≤ 64 * wide }
-    requires long { length columns.now ≡ blocks_count lattice.now }
-    requires columns { AreColumns lattice.now blocks.now columns.now }
     requires listed { AreListed lattice.now blocks.now }
     requires block { ForSome input (HasBlock lattice.now) }
     ensures { MatchOption input (Turns begin wide (λ k. false) words.old words.new)
         (λ g. Turns begin wide (stands blocks.now g) words.old words.new) }
 {
     match input {
-        Some(g) => turn_block(words, begin, wide, lattice, columns, blocks, g),
+        Some(g) => turn_block(words, begin, wide, lattice, blocks, g),
         None => {}
     }
 }
@@ -74,7 +68,6 @@ fn fill_row(
     begin: usize,
     wide: usize,
     lattice: &Lattice,
-    columns: &[u32],
     blocks: &[BlockId],
     e: EqId,
     own: usize,
@@ -82,16 +75,14 @@ fn fill_row(
     requires inside { begin + wide ≤ length words.old }
     requires own { length blocks.now ≤ own }
     requires wide { own < 64 * wide }
-    requires long { length columns.now ≡ blocks_count lattice.now }
-    requires columns { AreColumns lattice.now blocks.now columns.now }
     requires listed { AreListed lattice.now blocks.now }
     requires equation { HasEquation lattice.now e }
     ensures { Turns begin wide (small_row lattice.now blocks.now e own) words.old words.new }
 {
     let q = lattice.equation(e);
-    turn_input(words, begin, wide, lattice, columns, blocks, q.input);
-    turn_block(words, begin, wide, lattice, columns, blocks, q.datum);
-    turn_block(words, begin, wide, lattice, columns, blocks, q.output);
+    turn_input(words, begin, wide, lattice, blocks, q.input);
+    turn_block(words, begin, wide, lattice, blocks, q.datum);
+    turn_block(words, begin, wide, lattice, blocks, q.output);
     turn(words, begin, wide, own);
 }
 
@@ -123,7 +114,6 @@ fn fill_rows(
     words: &mut [u64],
     wide: usize,
     lattice: &Lattice,
-    columns: &[u32],
     blocks: &[BlockId],
     equations: &[EqId],
 )
@@ -131,8 +121,6 @@ fn fill_rows(
     requires zero { (k : ℕ) → get_or words.old k 0 ≡ 0 }
     requires wide { length blocks.now + length equations.now ≤ 64 * wide }
     requires short { length blocks.now + length equations.now < 2 ^ 32 }
-    requires long { length columns.now ≡ blocks_count lattice.now }
-    requires columns { AreColumns lattice.now blocks.now columns.now }
     requires listed { AreListed lattice.now blocks.now }
     requires equations { All (HasEquation lattice.now) equations.now }
     ensures long { length words.new ≡ length words.old }
@@ -146,7 +134,6 @@ fn fill_rows(
             row * wide,
             wide,
             lattice,
-            columns,
             blocks,
             equations[row],
             own,
@@ -159,14 +146,11 @@ pub(crate) fn start_words(
     alloc: Global,
     wide: usize,
     lattice: &Lattice,
-    columns: &[u32],
     blocks: &[BlockId],
     equations: &[EqId],
 ) -> Result<Vec<u64>, AllocError>
     requires wide { length blocks.now + length equations.now ≤ 64 * wide }
     requires short { length blocks.now + length equations.now < 2 ^ 32 }
-    requires long { length columns.now ≡ blocks_count lattice.now }
-    requires columns { AreColumns lattice.now blocks.now columns.now }
     requires listed { AreListed lattice.now blocks.now }
     requires equations { All (HasEquation lattice.now) equations.now }
     ensures long { IfOk result (λ words. length words.items ≡ length equations.now * wide) }
@@ -174,13 +158,6 @@ pub(crate) fn start_words(
         → bit_matrix wide words.items i k ≡ small_start lattice.now blocks.now equations.now i k) }
 {
     let mut words = zero_words(alloc, equations.len(), wide)?;
-    fill_rows(
-        words.as_mut_slice(),
-        wide,
-        lattice,
-        columns,
-        blocks,
-        equations,
-    );
+    fill_rows(words.as_mut_slice(), wide, lattice, blocks, equations);
     Ok(words)
 }

@@ -1,8 +1,9 @@
 //! What the tests share.
 
 ghost use Rattle.std.specs.Prelude.{◌≡◌, IfOk};
+ghost use Rattle.aea_gauss.specs.Fates.{AreInOrder};
 
-use aea_gauss::{Fate, FateList, solve};
+use aea_gauss::{Fate, FateList, solve, solve_open};
 use aea_lattice::{BlockId, Class, EqList, Lattice, NodeList, parse_block};
 use aea_view::Marks;
 use std::alloc::{AllocError, Global};
@@ -94,9 +95,43 @@ pub fn text_of(alloc: Global, fates: &FateList) -> Result<String, AllocError> {
     Ok(text)
 }
 
-/// The fates as text where these blocks are lost.
-pub fn fates_of(alloc: Global, lattice: &Lattice, lost: &[BlockId]) -> Result<String, AllocError> {
+// Whether the fates of these blocks, and of no others, are found, each with its block.
+fn are_found(lattice: &Lattice, fates: &FateList, lost: &[BlockId]) -> bool
+    requires { AreInOrder lattice.now fates.now }
+{
+    for k in 0..lattice.blocks() {
+        let b = lattice.block(k);
+        let found = fates.find(lattice, b).and_then(|at| fates.get(at));
+        let block = found.map(|fate| fate.block());
+        if block != lost.contains(&b).then_some(b) {
+            return false;
+        }
+    }
+    true
+}
+
+// The fates as text where these blocks alone are open. Each has to be found.
+fn open_fates_of(
+    alloc: Global,
+    lattice: &Lattice,
+    lost: &[BlockId],
+    open: &Marks,
+) -> Result<String, Fail>
+    requires { «open».now.lattice ≡ lattice.now }
+{
+    let fates = solve_open(alloc, lattice, open)?;
+    let found = are_found(lattice, &fates, lost);
+    let text = text_of(alloc, &fates)?;
+    Ok(found.then_some(text).ok_or("a fate is not found")?)
+}
+
+/// The fates as text where these blocks are lost. `solve_open` has to give the same.
+pub fn fates_of(alloc: Global, lattice: &Lattice, lost: &[BlockId]) -> Result<String, Fail> {
     let marks = marks_without(alloc, lattice, lost)?;
     let fates = solve(alloc, lattice, &marks)?;
-    text_of(alloc, &fates)
+    let text = text_of(alloc, &fates)?;
+    let open = marks.complement(alloc)?;
+    let other = open_fates_of(alloc, lattice, lost, &open)?;
+    let same = text.as_str() == other.as_str();
+    Ok(same.then_some(text).ok_or("solve_open gives other fates")?)
 }

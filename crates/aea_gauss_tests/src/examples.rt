@@ -1,6 +1,8 @@
 //! The worked examples as fates.
 
-use crate::bench::{blocks_of, fates_of};
+use crate::bench::{blocks_of, fates_of, marks_without};
+use crate::chance::lost_blocks;
+use aea_gauss::solve_open;
 use aea_lattice::Lattice;
 use std::test::Fail;
 
@@ -46,6 +48,28 @@ fn examples_have_their_fates(rt: HostRuntime) -> Result<(), Fail> {
         let fates = fates_of(rt.alloc(), &lattice, lost.as_slice())?;
         assert!(rt; fates.as_str() == want);
     }
+    Ok(())
+}
+
+#[test]
+fn a_part_of_many_blocks_has_its_fates(rt: HostRuntime) -> Result<(), Fail> {
+    let lattice = Lattice::new(1, 1, 0, 300).ok_or("no lattice")?;
+    let lost = lost_blocks(rt.alloc(), &lattice, 100, 0)?;
+    let fates = fates_of(rt.alloc(), &lattice, lost.as_slice())?;
+    assert!(rt; fates.as_str().lines().count() == 600);
+    Ok(())
+}
+
+#[test]
+fn a_fate_is_taken_out(rt: HostRuntime) -> Result<(), Fail> {
+    let lattice = Lattice::new(1, 1, 0, 3).ok_or("no lattice")?;
+    let lost = blocks_of(rt.alloc(), "d2 h2 d3")?;
+    let marks = marks_without(rt.alloc(), &lattice, lost.as_slice())?;
+    let open = marks.complement(rt.alloc())?;
+    let mut fates = solve_open(rt.alloc(), &lattice, &open)?;
+    let first = fates.take(0).map(|fate| fate.block());
+    assert!(rt; first == lost.first().copied());
+    assert!(rt; fates.len() == 2);
     Ok(())
 }
 

@@ -6,7 +6,7 @@ pub loop-at-preserved : goal.loop-at-preserved
 loop-at-preserved c =
     lost_more c.args.lattice.now c.args.losses.now c.args.blocks.now c.loop-at.at c.number-number.result c.in-Some.field-0.now c.loop-at.invariant c.number-number.ensures.value c.in-Some.ensures
 
-pub returns : goal.returns
-returns c none =
+pub returns-clause-lost : goal.returns-clause-lost
+returns-clause-lost c none =
     let past = c.loop-at-test.false in
     all_lost c.args.lattice.now c.args.losses.now c.args.blocks.now c.loop-at.at c.loop-at.invariant (omega (arith, past))

@@ -5,3 +5,4 @@ mod Losing
 mod Rows
 mod LossLaws
 mod Passing
+mod ByFates

@@ -3,3 +3,4 @@ pub mod Sites
 pub mod Laws
 pub mod Counts
 pub mod Passes
+pub mod Words

@@ -8,11 +8,13 @@
 //! gone (`lost_are_on_sites`).
 //!
 //! Read `specs/Losses.antt` first, then `Sites` (which blocks the named sites leave) and `Laws`. How it is counted is in
-//! `Counts`, and what the pass over the missing blocks keeps in `Passes`. It rests on `peel_marks` of `aea_peel` for what that
-//! pass leaves, on `losses` of `aea_sweep` for what peeling leaves, on the laws of `aea_fates`, and on `aea_place`.
+//! `Counts` and `Words`, and what the pass over the missing blocks keeps in `Passes`. It rests on `peel_marks` of `aea_peel`
+//! for what that pass leaves; for what peeling leaves, on `solve_open` of `aea_gauss` where that is little (`Words`), and else
+//! on `losses` of `aea_sweep` (`Counts`); on the laws of `aea_fates`, and on `aea_place`.
 #![tactic(auto)]
 
 mod count;
+mod few;
 mod laws;
 mod lost;
 mod missing;

@@ -7,6 +7,7 @@ ghost use Rattle.aea_view.specs.Marked.{AreMarks, IsWhole, is_marked};
 ghost use Rattle.aea_sites.specs.Losses.{IsLossOf};
 
 use crate::count::count_lost;
+use crate::few::loss_of_few;
 use crate::pass::mark_forced;
 use aea_fates::{determined_stay, words_are_open, words_stay};
 use aea_lattice::{BlockId, Lattice, NodeList, blocks_are_inside, reached_are_determined};
@@ -29,6 +30,10 @@ pub struct FirstLost {
     pub nodes: NodeList,
 }
 
+// Where at most one in so many blocks of the lattice is not known, the loss is told by the fates of these blocks: they take some 300
+// bytes for each, less than 3 for each block of the lattice, where `losses` takes 14 to 24.
+const FEW_AMONG: u32 = 128;
+
 // What is lost where the marked blocks are known. Where all are marked, no block is looked at.
 fn loss_beyond(alloc: Global, reached: &Marks) -> Result<SiteLoss, AllocError>
     ensures { IfOk result (IsLossOf reached.now.lattice (is_marked reached.now)) }
@@ -44,6 +49,9 @@ fn loss_beyond(alloc: Global, reached: &Marks) -> Result<SiteLoss, AllocError>
             first: None,
         }),
         Some(_) => {
+            if reached.unmarked() <= lattice.blocks() / FEW_AMONG {
+                return loss_of_few(alloc, lattice, &open);
+            }
             let list = losses(alloc, lattice, reached)?;
             count_lost(alloc, lattice, &list)
         }
@@ -71,7 +79,8 @@ pub(crate) fn loss_of(alloc: Global, mut left: Marks) -> Result<SiteLoss, AllocE
 
 /// What is lost of a lattice where the present blocks of the view are left: the blocks that these do not determine. The others
 /// are gone over once, with a bit of memory a block; it takes the time and memory of `peel_marks` too where that leaves a block,
-/// and those of `losses` where all single equations do. An error is a lack of memory.
+/// and where all single equations do, a bit more for each block and those of `solve_open` for the blocks that are left, if they are
+/// at most one in 128, and else those of `losses`. An error is a lack of memory.
 pub fn loss<F: Fn(BlockId) -> bool>(
     alloc: Global,
     lattice: &Lattice,

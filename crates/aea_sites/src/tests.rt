@@ -38,6 +38,25 @@ fn two_nodes_over_three_sites(rt: HostRuntime) -> Result<(), Fail> {
     Ok(())
 }
 
+// What is lost where the blocks of the last node of a strand are gone.
+fn without_last(alloc: Global, lattice: &Lattice) -> Result<SiteLoss, AllocError> {
+    let last = lattice.n();
+    let view = View::new(lattice, |b: BlockId| b.node != last);
+    loss(alloc, lattice, &view)
+}
+
+// The last node's two blocks are more than one in 128 of the blocks of 127 nodes, and no more than that of the blocks of 128: so the
+// one loss is told by `losses`, and the other by the fates of the two.
+#[test]
+fn the_last_node_is_lost_both_ways(rt: HostRuntime) -> Result<(), Fail> {
+    for n in [127, 128] {
+        let lattice = Lattice::new(1, 1, 0, n).ok_or("no lattice")?;
+        let loss = without_last(rt.alloc(), &lattice)?;
+        assert!(rt; is(&loss, 2, n, None));
+    }
+    Ok(())
+}
+
 // Where the view has no block of the lattice, all is lost.
 #[test]
 fn a_view_that_leaves_nothing(rt: HostRuntime) -> Result<(), Fail> {

@@ -1,13 +1,15 @@
 use Rattle.std.proofs.Common.{None, refl, subst}
-use Rattle.std.specs.Prelude.{filter}
+use Rattle.std.specs.Prelude.{Bool, not, filter}
 use Rattle.std.proofs.lemmas.Result.{IfOk-weaker}
+use Rattle.aea_lattice.specs.declared.blocks.BlockId.{BlockId}
 use Rattle.aea_lattice.specs.declared.grid.Lattice.{Lattice}
 use Rattle.aea_lattice.specs.Blocks.{blocks_of}
-use Rattle.aea_view.specs.Marked.{is_marked}
+use Rattle.aea_view.specs.Marked.{AreMarks, is_marked}
+use Rattle.aea_sites.specs.declared.lost.SiteLoss.{SiteLoss}
 use Rattle.aea_sites.specs.Counts.{has_nodes, IsCountOf}
 use Rattle.aea_sites.specs.Losses.{IsLossOf}
 use Rattle.aea_sites.proofs.Losing.{none_lost, counted_lost}
-use Rattle.aea_sites.proofs.Turned.{all-marked}
+use Rattle.aea_sites.proofs.Turned.{AreTurned, turned, all-marked}
 use Rattle.aea_sites.proofs.lost.loss_beyond.Goals as goal
 
 pub returns-in-None : goal.returns-in-None
@@ -29,3 +31,16 @@ returns c =
     subst (λ (x : Lattice). IsLossOf x (is_marked marks) loss) c.lattice-lattice.ensures.lattice
     (counted_lost c.blocks_are_inside.ensures c.words_are_open.ensures l (is_marked marks) list loss c.in_ok-list-in-Some.ensures counted))
     c.count_lost.ensures
+
+pub returns-then-unmarked-blocks : goal.returns-then-unmarked-blocks
+returns-then-unmarked-blocks c =
+    let marks = c.args.reached.now in
+    let l = c.lattice-lattice.result.now in
+    let flipped : AreTurned marks c.in_ok-open.open = record { same = c.in_ok-open.ensures.lattice; marks = c.in_ok-open.ensures.marks; whole = c.in_ok-open.ensures.whole } in
+    IfOk-weaker c.loss_of_few.result
+    (λ (loss : SiteLoss). (known : BlockId → Bool) → AreMarks c.in_ok-open.open (λ b. not (known b)) → IsLossOf l known loss)
+    (IsLossOf marks.lattice (is_marked marks))
+    (λ loss of.
+    subst (λ (x : Lattice). IsLossOf x (is_marked marks) loss) c.lattice-lattice.ensures.lattice
+    (of (is_marked marks) (turned marks c.in_ok-open.open (is_marked marks) flipped (λ b has. refl))))
+    c.loss_of_few.ensures

@@ -1,0 +1,5 @@
+mod Around
+mod Keeping
+mod Waiting
+pub mod Going
+pub mod Fated

@@ -18,7 +18,7 @@ pub fn store<D: Disk>(alloc: Global, disk: &mut D, name: &[u8], source: &mut Mem
 
 /// An undamaged archive of the shape with one object of these bytes; none where it could not be made.
 pub fn archive(alloc: Global, shape: &Shape, bytes: &[u8]) -> Result<Option<SureDisk>, Fail> {
-    let mut disk = SureDisk::new(alloc, 5, 8192, 8192)?;
+    let mut disk = SureDisk::new(alloc, 5, 65536, 65536)?;
     let mut source = MemSource::new(alloc, bytes, &[])?;
     if create_ledger(&mut disk, shape).is_ok() && store(alloc, &mut disk, b"one", &mut source) {
         return Ok(Some(disk));

@@ -249,7 +249,7 @@ fn a_read_that_fails_is_a_fault(rt: HostRuntime) -> Result<(), Fail> {
         let block = BlockId { node, class };
         assert!(rt; ledger.lattice().contains(block));
         let mut failing = FailDisk::new(alloc, disk, &[k])?;
-        let want = if k <= 4 {
+        let want = if k <= 3 {
             Some(ExplainFault::DiskFault)
         } else {
             None
@@ -257,5 +257,58 @@ fn a_read_that_fails_is_a_fault(rt: HostRuntime) -> Result<(), Fail> {
         let fault = explain(alloc, &ledger, &mut failing, block).err();
         assert!(rt; fault == want, "read {k}");
     }
+    Ok(())
+}
+
+// Whether explaining the datum of node 150 of an archive of 300 nodes, in which the blocks of these numbers are damaged,
+// reads so many cells: the last of these reads is made, and no other one.
+fn takes_reads(alloc: Global, bytes: &[u8], damaged: &[u32], reads: u64) -> Result<bool, Fail> {
+    for fails in [reads, reads.saturating_add(1)] {
+        let Some(mut disk) = archive(alloc, &WIDE, bytes)? else {
+            return Ok(false);
+        };
+        for number in damaged {
+            spoil_block(&mut disk, &WIDE, *number)?;
+        }
+        let Ok(ledger) = open_ledger(alloc, &mut disk) else {
+            return Ok(false);
+        };
+        let node = 150;
+        let class = Class::Datum;
+        let block = BlockId { node, class };
+        if !ledger.lattice().contains(block) {
+            return Ok(false);
+        }
+        let mut failing = FailDisk::new(alloc, disk, &[fails])?;
+        let fault = explain(alloc, &ledger, &mut failing, block).err();
+        let want = if fails == reads {
+            Some(ExplainFault::DiskFault)
+        } else {
+            None
+        };
+        if fault != want {
+            return Ok(false);
+        }
+    }
+    Ok(true)
+}
+
+#[test]
+fn only_cells_around_a_part_are_read(rt: HostRuntime) -> Result<(), Fail> {
+    let alloc = rt.alloc();
+    let bytes = vec![in alloc; 97; 4800]?;
+    // the blocks of a node have four numbers: its datum, and its parities
+    let datum = 149 * 4;
+    let alone = [datum];
+    let both = [datum, datum + 1];
+    // the datum and six parities; beside them the two of the next equation of a damaged parity
+    for (damaged, reads) in [(&alone[..0], 7), (&alone[..], 7), (&both[..], 9)] {
+        assert!(rt;
+            takes_reads(alloc, bytes.as_slice(), damaged, reads)?,
+            "{reads} reads"
+        );
+    }
+    // a damaged block elsewhere is not read
+    assert!(rt; takes_reads(alloc, bytes.as_slice(), &[datum, 9, 777], 7)?);
     Ok(())
 }

@@ -1,4 +1,2 @@
-pub mod Around
-pub mod Flooding
-pub mod Fated
-pub mod Scanned
+mod Fated
+mod Explanations

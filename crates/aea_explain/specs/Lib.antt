@@ -1,2 +1,2 @@
-pub mod Flood
+pub mod Around
 pub mod Explained

@@ -1,17 +1,20 @@
 //! Explanations of blocks.
 
-ghost use Rattle.std.specs.Prelude.{◌≡◌, Err, IfOk};
+ghost use Rattle.std.specs.Prelude.{◌≡◌, length, Err, IfOk};
 ghost use Rattle.aea_lattice.specs.Blocks.{HasBlock};
 ghost use Rattle.aea_disk.specs.Frames.{OnlyReads};
+ghost use Rattle.aea_shelf.specs.Places.{cell_size};
+ghost use Rattle.aea_explain.specs.Around.{IsAround};
 ghost use Rattle.aea_explain.specs.Explained.{Explains};
 
 use crate::fate::fate_of;
+use aea_archive::{cell_buffer, is_block_intact, survivors_are_told};
 use aea_disk::Disk;
 use aea_fates::words_stay;
 use aea_gauss::Fate;
 use aea_lattice::BlockId;
 use aea_ledger::Ledger;
-use aea_scrub::{ScanFault, scan};
+use aea_search::{Search, SearchFault};
 use std::alloc::Global;
 
 /// Whether a block is intact, and its fate where all other intact blocks are known: the listed equations that give it from
@@ -31,11 +34,38 @@ pub enum ExplainFault {
     NoMemory,
 }
 
-/// Says whether the block is intact, and how the other intact blocks determine it or why they do not. It scans the archive,
-/// and then solves the block's own part alone: the block, and what equations join with it, from block to block, the intact
-/// blocks left out. The time is that of the scan, linear in the number of blocks, and that of the elimination in the part.
-/// It takes memory for one cell and three marks a block, a bit each; 8 bytes for each block of the part that waits to be
-/// looked at; and what `solve` takes where the part alone is not known. Nothing is written.
+// Goes around the block, which is taken as unknown.
+fn search_around<D: Disk>(
+    alloc: Global,
+    ledger: &Ledger,
+    disk: &mut D,
+    block: BlockId,
+    cell: &mut [u8],
+) -> Result<Search, ExplainFault>
+    requires block { HasBlock ledger.now.lattice block }
+    requires buffer { length cell.old ≡ cell_size ledger.now.shape }
+    ensures around { IfOk result (IsAround D.tells ledger.now (D.state disk.old).files block) }
+    ensures reads { OnlyReads D.tells (result ≡ Err ExplainFault.DiskFault) (D.state disk.old) (D.state disk.new) }
+{
+    let Ok(mut search) = Search::new(alloc, ledger) else {
+        return Err(ExplainFault::NoMemory);
+    };
+    let Ok(()) = search.begin(block) else {
+        return Err(ExplainFault::NoMemory);
+    };
+    match search.finish(ledger, disk, cell) {
+        Ok(()) => Ok(search),
+        Err(SearchFault::DiskFault) => Err(ExplainFault::DiskFault),
+        Err(SearchFault::NoMemory) => Err(ExplainFault::NoMemory),
+    }
+}
+
+/// Says whether the block is intact, and how the other intact blocks determine it or why they do not. It reads the block's
+/// cell, and then goes around the block's own part: the block, and what equations join with it, from block to block, the
+/// intact blocks left out. Only the cells of these are read, and those of the intact blocks around them, each once. The time
+/// is linear in the number of blocks, for the marks, and in the part, beside that of the elimination in the part. It takes
+/// memory for one cell and two marks a block, a bit each; 8 bytes for each block of the part; and what
+/// `Search::fates` takes. Nothing is written.
 pub fn explain<D: Disk>(
     alloc: Global,
     ledger: &Ledger,
@@ -51,15 +81,20 @@ pub fn explain<D: Disk>(
     ensures reads { OnlyReads D.tells (result ≡ Err ExplainFault.DiskFault) (D.state disk.old) (D.state disk.new) }
 {
     words_stay();
-    let _lattice = ledger.lattice();
-    let mut marks = match scan(alloc, ledger, disk) {
-        Ok(marks) => marks,
-        Err(ScanFault::DiskFault) => return Err(ExplainFault::DiskFault),
-        Err(ScanFault::NoMemory) => return Err(ExplainFault::NoMemory),
+    survivors_are_told();
+    let lattice = ledger.lattice();
+    let Ok(mut cell) = cell_buffer(alloc, ledger) else {
+        return Err(ExplainFault::NoMemory);
     };
-    let intact = marks.get(block);
-    marks.set(block, false);
-    match fate_of(alloc, &marks, block) {
+    let intact = match is_block_intact(disk, ledger, block, cell.as_mut_slice()) {
+        Ok(intact) => intact,
+        Err(_) => return Err(ExplainFault::DiskFault),
+    };
+    let search = match search_around(alloc, ledger, disk, block, cell.as_mut_slice()) {
+        Ok(search) => search,
+        Err(fault) => return Err(fault),
+    };
+    match fate_of(alloc, &lattice, &search, block) {
         Ok(fate) => Ok(Explanation { intact, fate }),
         Err(_) => Err(ExplainFault::NoMemory),
     }

@@ -1,18 +1,16 @@
 //! The fate of one block.
 
-ghost use Rattle.std.specs.Prelude.{◌≡◌, ◌<◌, ◌++◌, ◌∷◌, [], Bool, false, true, map, length, slice_get, Some, Contains, IsTrue, IfOk, OnOk, MatchOption};
+ghost use Rattle.std.specs.Prelude.{◌≡◌, ◌<◌, ◌++◌, ◌∷◌, [], Bool, false, true, map, length, slice_get, Some, Contains, IfOk, OnOk, MatchOption};
 ghost use Rattle.aea_lattice.specs.declared.blocks.BlockId.{BlockId};
 ghost use Rattle.aea_lattice.specs.Blocks.{HasBlock};
 ghost use Rattle.aea_lattice.specs.Closure.{is_among};
-ghost use Rattle.aea_view.specs.Marked.{is_marked, AreMarks};
-ghost use Rattle.aea_fates.specs.Laws.{IsPart, known_or_outside};
+ghost use Rattle.aea_view.specs.Marked.{is_marked};
 ghost use Rattle.aea_gauss.specs.Fates.{block_of_fate, IsFate};
+ghost use Rattle.aea_search.specs.Searches.{IsRightBy};
 
-use crate::flood::part_of;
-use aea_fates::{parts_stand_alone, words_stay};
-use aea_gauss::{Fate, FateList, solve};
-use aea_lattice::{BlockId, Items, passing_are_among};
-use aea_view::Marks;
+use aea_gauss::{Fate, FateList};
+use aea_lattice::{BlockId, Items, Lattice, passing_are_among};
+use aea_search::Search;
 use std::alloc::{AllocError, Global};
 
 // Puts the item of this place last, if there is one.
@@ -80,34 +78,23 @@ fn take_fate(alloc: Global, fates: &FateList, block: BlockId) -> Result<Fate, Al
     }
 }
 
-// Marks of all blocks that are outside the part of this block.
-fn outside_of(alloc: Global, known: &Marks, block: BlockId) -> Result<Marks, AllocError>
-    requires block { HasBlock known.now.lattice block }
-    requires open { is_marked known.now block ≡ false }
-    ensures lattice { IfOk result (λ outside. outside.lattice ≡ known.now.lattice) }
-    ensures open { IfOk result (λ outside. is_marked outside block ≡ false) }
-    ensures part { IfOk result (λ outside. (part : BlockId → Bool) × IsPart known.now.lattice (is_marked known.now) part × IsTrue (part block)
-        × AreMarks outside (known_or_outside (is_marked known.now) part)) }
-{
-    let part = part_of(alloc, known, block)?;
-    let outside = part.complement(alloc)?;
-    Ok(outside)
-}
-
-/// The fate of a block where the marked blocks are known, and the block itself is not. It solves the block's own part: the
-/// block, and what equations join with it, from block to block, the known blocks left out. The rules of choice give each
-/// block of a part the same fate where all outside the part is known. An error is lack of memory.
-pub(crate) fn fate_of(alloc: Global, known: &Marks, block: BlockId) -> Result<Fate, AllocError>
-    requires block { HasBlock known.now.lattice block }
-    requires open { is_marked known.now block ≡ false }
+/// The fate of a block that a search has gone around: where exactly the blocks are known that pass a test that is right about
+/// what the search has read. An error is lack of memory.
+pub(crate) fn fate_of(
+    alloc: Global,
+    lattice: &Lattice,
+    search: &Search,
+    block: BlockId,
+) -> Result<Fate, AllocError>
+    requires same { search.now.read.lattice ≡ lattice.now }
+    requires block { HasBlock lattice.now block }
+    requires unknown { is_marked search.now.unknown block ≡ true }
+    requires done { search.now.waiting ≡ [] }
     ensures block { IfOk result (λ fate. block_of_fate fate ≡ block) }
-    ensures fate { IfOk result (IsFate known.now.lattice (is_marked known.now)) }
+    ensures fate { IfOk result (λ fate. (known : BlockId → Bool) → IsRightBy lattice.now known search.now → IsFate lattice.now known fate) }
 {
-    parts_stand_alone();
-    words_stay();
     passing_are_among();
-    let outside = outside_of(alloc, known, block)?;
-    let fates = solve(alloc, known.lattice(), &outside)?;
+    let fates = search.fates(alloc, lattice)?;
     let fate = take_fate(alloc, &fates, block)?;
     Ok(fate)
 }

@@ -7,12 +7,11 @@
 //!
 //! `specs/Explained.antt` says what an explanation is.
 //!
-//! It rests on `scan` of `aea_scrub` and on `solve` of `aea_gauss`, for the part of the block alone.
+//! It rests on `Search` of `aea_search`, which reads the cells around the block's own part, and has its fate.
 #![tactic(auto)]
 
 mod explaining;
 mod fate;
-mod flood;
 mod laws;
 
 pub use explaining::{ExplainFault, Explanation, explain};

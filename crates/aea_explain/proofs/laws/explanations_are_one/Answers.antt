@@ -1,4 +1,4 @@
-use Rattle.aea_explain.proofs.Scanned.{explanations-one}
+use Rattle.aea_explain.proofs.Explanations.{explanations-one}
 use Rattle.aea_explain.proofs.laws.explanations_are_one.Goals as goal
 
 pub returns : goal.returns

@@ -1,4 +1,4 @@
-use Rattle.aea_explain.proofs.Scanned.{sums-determined}
+use Rattle.aea_explain.proofs.Explanations.{sums-determined}
 use Rattle.aea_explain.proofs.laws.sums_explain_determined.Goals as goal
 
 pub returns : goal.returns

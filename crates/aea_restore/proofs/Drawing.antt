@@ -95,7 +95,7 @@ drawn_sum v known ready first now b es payload has gives all is =
     }
 
 -- a survivor is the sum of itself
-drawn_alone : (v : Opened) (known : BlockId → Bool) (c : Files) (b : BlockId) → HasBlock v.lattice b → IsTrue (known b) → IsIntactBy v.shape v.digests c b → IsDrawn v known c b (payload_at v.shape c b)
+pub drawn_alone : (v : Opened) (known : BlockId → Bool) (c : Files) (b : BlockId) → HasBlock v.lattice b → IsTrue (known b) → IsIntactBy v.shape v.digests c b → IsDrawn v known c b (payload_at v.shape c b)
 drawn_alone v known c b has is sound = record {
   blocks = b ∷ [];
   survivors = All-cons (λ d. HasBlock v.lattice d × IsTrue (known d)) b [] (has, is) (All-nil (λ d. HasBlock v.lattice d × IsTrue (known d)));

@@ -83,13 +83,15 @@ read_begins shape b c cell is = begins_take shape.block (drop 16 (home_bytes sha
 payload_size : (shape : Shape) (cell : List ℕ) → length cell ≡ cell_size shape → length (payload_in shape cell) ≡ shape.block
 payload_size shape cell size = omega (arith, size, length-take shape.block (drop 16 cell), length-drop 16 cell)
 
--- what was read of a home, by the digest of the payload in it
+-- what was read of a home
+pub read_home : (tells : Type 0) (v : Opened) (c : Files) (b : BlockId) (cell : List ℕ) → length cell ≡ cell_size v.shape → (tells → take (length (home_bytes v.shape b c)) cell ≡ home_bytes v.shape b c)
+    → IsReadAt tells v c b (payload_in v.shape cell)
+read_home tells v c b cell size begins = record { size = payload_size v.shape cell size; begins = λ told. read_begins v.shape b c cell (begins told) }
+
+-- and by the digest of the payload in it
 pub read_judged : (tells : Type 0) (v : Opened) (c : Files) (b : BlockId) (cell : List ℕ) → length cell ≡ cell_size v.shape → (tells → take (length (home_bytes v.shape b c)) cell ≡ home_bytes v.shape b c)
     → block_digest b (payload_in v.shape cell) ≡ recorded_in v.shape v.digests b → IsJudged tells v c b (payload_in v.shape cell)
-read_judged tells v c b cell size begins digest = record {
-  home = record { size = payload_size v.shape cell size; begins = λ told. read_begins v.shape b c cell (begins told) };
-  digest = digest;
-}
+read_judged tells v c b cell size begins digest = record { home = read_home tells v c b cell size begins; digest = digest }
 
 -- another digest of it
 pub read_other : (v : Opened) (b : BlockId) (cell told computed : List ℕ) → HasBlock v.lattice b → length cell ≡ cell_size v.shape
@@ -109,7 +111,7 @@ read_clash tells v c b cell told computed has size begins damaged told_is is dif
   other = read_other v b cell told computed has size told_is is differ;
   damaged = damaged;
   payload = payload_in v.shape cell;
-  home = record { size = payload_size v.shape cell size; begins = λ told. read_begins v.shape b c cell (begins told) };
+  home = read_home tells v c b cell size begins;
   computed_is = is;
 }
 
@@ -273,24 +275,34 @@ payloads_same tells v c (r ∷ rs) told judged intact =
     ∙ ap (λ zs. payload_at v.shape c r.block ∷ zs)
     (payloads_same tells v c rs told (All-tail (λ (q : Reading). IsJudged tells v c q.block q.payload) r rs judged) (All-tail (IsIntactBy v.shape v.digests c) r.block (map (λ (q : Reading). q.block) rs) intact))
 
--- the payloads that are read for a block are those at the homes
-pub judged_added : (tells : Type 0) (v : Opened) (ready : BlockId → Bool) (c : Files) (b : BlockId) (es : List EqId) (start sum : List ℕ) → tells → HasBlock v.lattice b → Give v.lattice ready b es
-    → IsJudgedSum tells v c start (other_blocks v.lattice ready b es) sum → AreAllIntact v ready c → sum ≡ added_up v.shape c start (other_blocks v.lattice ready b es)
-judged_added tells v ready c b es start sum told has gives is sound =
-    let intact : All (IsIntactBy v.shape v.digests c) (other_blocks v.lattice ready b es) =
-    λ k d lt. let one = others_ready v.lattice ready b es has gives k d lt in sound _ one.0 one.1 in
+-- the payloads that are read of intact blocks are those at their homes
+pub judged_homes : (tells : Type 0) (v : Opened) (c : Files) (start sum : List ℕ) (blocks : List BlockId) → tells → All (IsIntactBy v.shape v.digests c) blocks → IsJudgedSum tells v c start blocks sum → sum ≡ added_up v.shape c start blocks
+judged_homes tells v c start sum blocks told intact is =
     is.sum_is
     ∙ ap (fold xor_bytes start)
     (payloads_same tells v c is.readings told is.judged (subst (All (IsIntactBy v.shape v.digests c)) (sym is.blocks_are) intact)
     ∙ ap (λ (bs : List BlockId). map (payload_at v.shape c) bs) is.blocks_are)
 
 -- and none of them is a clash
+pub homes_never : (tells : Type 0) (v : Opened) (c : Files) (blocks : List BlockId) (d : BlockId) (kept computed : List ℕ) → tells → All (IsIntactBy v.shape v.digests c) blocks → IsReadClashIn tells v c blocks d kept computed → ⊥
+homes_never tells v c blocks d kept computed told intact is =
+    is.1.damaged told (among-each (IsIntactBy v.shape v.digests c) blocks d (All-Each (IsIntactBy v.shape v.digests c) blocks intact) is.0)
+
+-- where what is had is intact, the other blocks of equations that give a block are
+others_intact : (v : Opened) (ready : BlockId → Bool) (c : Files) (b : BlockId) (es : List EqId) → HasBlock v.lattice b → Give v.lattice ready b es → AreAllIntact v ready c → All (IsIntactBy v.shape v.digests c) (other_blocks v.lattice ready b es)
+others_intact v ready c b es has gives sound k d lt = let one = others_ready v.lattice ready b es has gives k d lt in sound _ one.0 one.1
+
+-- so the payloads that are read for the block are those at the homes
+pub judged_added : (tells : Type 0) (v : Opened) (ready : BlockId → Bool) (c : Files) (b : BlockId) (es : List EqId) (start sum : List ℕ) → tells → HasBlock v.lattice b → Give v.lattice ready b es
+    → IsJudgedSum tells v c start (other_blocks v.lattice ready b es) sum → AreAllIntact v ready c → sum ≡ added_up v.shape c start (other_blocks v.lattice ready b es)
+judged_added tells v ready c b es start sum told has gives is sound =
+    judged_homes tells v c start sum (other_blocks v.lattice ready b es) told (others_intact v ready c b es has gives sound) is
+
+-- and none of them is a clash
 pub read_never : (tells : Type 0) (v : Opened) (ready : BlockId → Bool) (c : Files) (b d : BlockId) (es : List EqId) (kept computed : List ℕ) → tells → HasBlock v.lattice b → Give v.lattice ready b es
     → IsReadClashIn tells v c (other_blocks v.lattice ready b es) d kept computed → AreAllIntact v ready c → ⊥
 read_never tells v ready c b d es kept computed told has gives is sound =
-    let one = among-each (λ (a : BlockId). HasBlock v.lattice a × IsTrue (ready a)) (other_blocks v.lattice ready b es) d
-    (All-Each (λ (a : BlockId). HasBlock v.lattice a × IsTrue (ready a)) (other_blocks v.lattice ready b es) (others_ready v.lattice ready b es has gives)) is.0 in
-    is.1.damaged told (sound d one.0 one.1)
+    homes_never tells v c (other_blocks v.lattice ready b es) d kept computed told (others_intact v ready c b es has gives sound) is
 
 -- ---- a block that is computed
 

@@ -186,3 +186,7 @@ give_more l had more b es so gives = record {
   contains = gives.contains;
   others = λ d d_has left other. so d d_has (gives.others d d_has left other);
 }
+
+-- those that are picked of the blocks of equations are blocks of the lattice
+pub others_picked : (l : Lattice) (ready : BlockId → Bool) (b : BlockId) (es : List EqId) → HasBlock l b → Give l ready b es → ArePicked l (is_other ready b) (other_blocks l ready b es)
+others_picked l ready b es has gives = Each-All (λ d. HasBlock l d × IsTrue (is_other ready b d)) (other_blocks l ready b es) (picked l ready b es has gives)

@@ -13,8 +13,23 @@
 //! survivors, `specs/Judged.antt` which are sums of what was read and judged, `specs/InOrder.antt` what is carried out in
 //! which order, `specs/Repairs.antt` what holds afterwards, and `specs/UnderWay.antt` what holds meanwhile.
 //!
-//! `Rattle.aea_restore.proofs.Same` is for callers that name the restored blocks otherwise than by steps and sums: what is
-//! said of a call holds for each test that names the same blocks.
+//! A crate that computes a payload without a repair has the parts of one, which only read: `read_payload` and `add_payload`
+//! judge each payload by the digest that the ledger keeps before it is used, and `other_digest` what was computed (`Judged`).
+//!
+//! It offers these modules of its proofs. `Rattle.aea_restore.proofs.Same` is for callers that name the restored blocks
+//! otherwise than by steps and sums: what is said of a call holds for each test that names the same blocks. The others are for
+//! callers that add up payloads themselves.
+//!
+//! - `Sums`: the XOR of lists of blocks whose payloads are wide (`sum_one`, `sum_both`, `sum_others`)
+//! - `Parts`: the other blocks of equations that give a block are had, are blocks of the lattice that are picked, and add up to
+//!   it (`others_ready`, `others_picked`, `others_sum`)
+//! - `Planned`: the listed equations of a fate give its block (`sum_gives`)
+//! - `Drawing`: the payload of an intact block is wide, and is drawn from it (`payload_wide`, `drawn_alone`); a block of the
+//!   lattice is one of the archive (`block_in_archive`)
+//! - `Judging`: sums of judged payloads, one block, one equation, one more and all of them (`judged_none`, `judged_equation`,
+//!   `judged_start`, `judged_next`), in files that stay (`judged_moved`, `clash_moved`); which blocks were read (`among_input`,
+//!   `among_next`); and that of intact blocks they are the payloads at the homes, with no clash (`judged_homes`, `homes_never`)
+//! - `Items`: lists that are gone through by their places (`take_more`, `take_whole`, `got_some`, `item_has`)
 #![tactic(auto)]
 
 mod block;
@@ -27,4 +42,6 @@ mod sum;
 
 pub use fault::RestoreFault;
 pub use laws::{given_are_restorable, plans_can_be_restored};
+pub use payload::{other_digest, read_payload};
 pub use stage::restore;
+pub use sum::add_payload;

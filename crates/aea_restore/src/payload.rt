@@ -25,8 +25,10 @@ use aea_shelf::{
 };
 
 /// Reads the cell of a block into the buffer, and judges its payload by the digest that the ledger keeps, whatever else
-/// is there. An intact cell has this digest, and is hashed once.
-pub(crate) fn read_payload<D: Disk>(
+/// is there. The buffer has the bytes of a cell, B + 48; the payload is what comes after its first 16. An intact cell has
+/// this digest, and is hashed once. It takes no memory. An error is a Clash of this block, which is then not intact, or a fault
+/// of the disk.
+pub fn read_payload<D: Disk>(
     ledger: &Ledger,
     disk: &mut D,
     b: BlockId,
@@ -35,6 +37,7 @@ pub(crate) fn read_payload<D: Disk>(
     requires block { HasBlock ledger.now.lattice b }
     requires buffer { length read.old ≡ cell_size ledger.now.shape }
     ensures judged { OnOk result (IsJudged D.tells ledger.now (D.state disk.old).files b (payload_in ledger.now.shape read.new)) }
+    ensures intact { OnOk result (D.tells → IsIntactBy ledger.now.shape ledger.now.digests (D.state disk.old).files b → payload_in ledger.now.shape read.new ≡ payload_at ledger.now.shape (D.state disk.old).files b) }
     ensures clash { (d : BlockId) (told computed : List ℕ) → result ≡ Err (RestoreFault.Clash d told computed) → IsOtherDigest ledger.now d told computed }
     ensures found { (d : BlockId) (told computed : List ℕ) → result ≡ Err (RestoreFault.Clash d told computed) → (d ≡ b) × IsReadClash D.tells ledger.now (D.state disk.old).files d told computed }
     ensures reads { OnlyReads D.tells (result ≡ Err RestoreFault.DiskFault) (D.state disk.old) (D.state disk.new) }
@@ -54,8 +57,8 @@ pub(crate) fn read_payload<D: Disk>(
     }
 }
 
-// The digest of a computed payload, where it is not the wanted one.
-fn other_digest(b: BlockId, want: &[u8; 32], sum: &[u8]) -> Option<[u8; 32]>
+/// The digest of a computed payload of the block, where it is not the wanted one. It takes no memory.
+pub fn other_digest(b: BlockId, want: &[u8; 32], sum: &[u8]) -> Option<[u8; 32]>
     ensures none { IsNone result → block_digest b sum.now ≡ want.now }
     ensures some { IfSome result (λ d. (d ≡ block_digest b sum.now) × (d ≢ want.now)) }
 {

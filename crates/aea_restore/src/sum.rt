@@ -1,6 +1,6 @@
 //! Payloads that are read back and added up.
 
-ghost use Rattle.std.specs.Prelude.{◌≡◌, [], ◌∷◌, ℕ, List, length, filter, All, IfSome, OnOk, Err, option_to_list};
+ghost use Rattle.std.specs.Prelude.{◌≡◌, [], ◌∷◌, ℕ, List, length, filter, All, IfSome, IsErr, OnOk, Err, option_to_list};
 ghost use Rattle.aea_lattice.specs.declared.blocks.BlockId.{BlockId};
 ghost use Rattle.aea_lattice.specs.Blocks.{HasBlock};
 ghost use Rattle.aea_lattice.specs.Equations.{HasEquation};
@@ -21,8 +21,10 @@ use aea_ledger::Ledger;
 use aea_view::Marks;
 use aea_weave::xor_into;
 
-// Reads the payload of a block, and adds it to the sum.
-fn add_payload<D: Disk>(
+/// Reads the payload of a block as `read_payload` does, and adds it to the sum by XOR, once it is judged. The buffer has the
+/// bytes of a cell, B + 48, and the sum those of a block, B; after an error the sum is as it was. It takes no memory. An error
+/// is a Clash of this block, which is then not intact, or a fault of the disk.
+pub fn add_payload<D: Disk>(
     ledger: &Ledger,
     disk: &mut D,
     b: BlockId,
@@ -33,6 +35,7 @@ fn add_payload<D: Disk>(
     requires buffer { length read.old ≡ cell_size ledger.now.shape }
     requires sum { length sum.old ≡ ledger.now.shape.block }
     ensures judged { OnOk result (IsJudgedSum D.tells ledger.now (D.state disk.old).files sum.old (b ∷ []) sum.new) }
+    ensures same { IsErr result → sum.new ≡ sum.old }
     ensures clash { (d : BlockId) (told computed : List ℕ) → result ≡ Err (RestoreFault.Clash d told computed) → IsOtherDigest ledger.now d told computed }
     ensures found { (d : BlockId) (told computed : List ℕ) → result ≡ Err (RestoreFault.Clash d told computed) → IsReadClashIn D.tells ledger.now (D.state disk.old).files (b ∷ []) d told computed }
     ensures reads { OnlyReads D.tells (result ≡ Err RestoreFault.DiskFault) (D.state disk.old) (D.state disk.new) }

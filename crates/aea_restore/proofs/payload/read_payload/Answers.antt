@@ -1,8 +1,9 @@
 use Rattle.std.proofs.Common.{◌≡◌, refl, sym, ◌∙◌, subst}
 use Rattle.aea_lattice.specs.declared.blocks.BlockId.{BlockId}
 use Rattle.aea_restore.specs.Drawn.{IsOtherDigest}
+use Rattle.aea_shelf.specs.Intact.{payload_in}
 use Rattle.aea_restore.specs.Judged.{IsReadClash}
-use Rattle.aea_restore.proofs.Judging.{read_judged, read_other, read_clash, digest_between}
+use Rattle.aea_restore.proofs.Judging.{read_home, read_judged, read_other, read_clash, read_intact, digest_between}
 use Rattle.aea_restore.proofs.payload.read_payload.Goals as goal
 
 pub returns-in-None-clause-judged : goal.returns-in-None-clause-judged
@@ -11,6 +12,20 @@ returns-in-None-clause-judged g c =
     let size = c.read_block.auto.cell ∙ c.requires.buffer in
     read_judged g.D.Disk.tells v (g.D.Disk.state c.args.disk.now).files c.args.b c.read_block.new.cell size c.in-Ok-Bad.ensures.home
     (sym (digest_between v c.args.b c.read_block.new.cell size) ∙ c.in-None.ensures.none.0 refl ∙ c.recorded-want.ensures)
+
+pub returns-in-Ok-Intact-clause-intact : goal.returns-in-Ok-Intact-clause-intact
+returns-in-Ok-Intact-clause-intact g c told intact =
+    let v = c.args.ledger.now in
+    let files = (g.D.Disk.state c.args.disk.now).files in
+    let cell = c.read_block.new.cell in
+    read_intact g.D.Disk.tells v files c.args.b (payload_in v.shape cell) told intact (read_home g.D.Disk.tells v files c.args.b cell (c.read_block.auto.cell ∙ c.requires.buffer) c.in-Ok-Intact.ensures.home)
+
+pub returns-in-None-clause-intact : goal.returns-in-None-clause-intact
+returns-in-None-clause-intact g c told intact =
+    let v = c.args.ledger.now in
+    let files = (g.D.Disk.state c.args.disk.now).files in
+    let cell = c.read_block.new.cell in
+    read_intact g.D.Disk.tells v files c.args.b (payload_in v.shape cell) told intact (read_home g.D.Disk.tells v files c.args.b cell (c.read_block.auto.cell ∙ c.requires.buffer) c.in-Ok-Bad.ensures.home)
 
 pub returns-in-Some-clause-clash : goal.returns-in-Some-clause-clash
 returns-in-Some-clause-clash g c d told computed is =

@@ -1,0 +1,12 @@
+-- Faults as faults of payloads.
+use Rattle.std.proofs.Common.{◌≡◌, ℕ, List}
+use Rattle.aea_lattice.specs.declared.blocks.BlockId.{BlockId}
+use Rattle.aea_restore.specs.declared.fault.RestoreFault.{RestoreFault}
+use Rattle.aea_restore.specs.declared.fault.RestoreFault.TheVariants as restore
+use Rattle.aea_degraded.specs.declared.fault.PayloadFault.TheVariants.{Clash}
+use Rattle.aea_degraded.specs.Faults.{payload_fault}
+
+-- a clash is of a clash
+pub clash_of : (f : RestoreFault) (d : BlockId) (told computed : List ℕ) → payload_fault f ≡ Clash d told computed → f ≡ restore.Clash d told computed
+clash_of (restore.Clash b recorded other) d told computed is = cc
+clash_of restore.DiskFault d told computed is = absurd (cc)

@@ -1,0 +1,10 @@
+mod LeftOver
+mod Summing
+mod Faulting
+mod Survivors
+mod FatesAt
+mod Looked
+mod FirstPass
+mod Checked
+mod Printed
+mod TwoPasses

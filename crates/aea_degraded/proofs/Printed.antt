@@ -1,0 +1,84 @@
+-- The payloads that the second pass of a fetch prints, and how it fails.
+use Rattle.std.proofs.Common.{◌≡◌, ℕ, Bool, true, false, not, List, length, refl, sym, ◌∙◌, ap, subst, inl, inr}
+use Rattle.std.specs.Prelude.{Some, slice_get}
+use Rattle.aea_io.specs.Streams.{SinkState}
+use Rattle.aea_lattice.specs.declared.blocks.BlockId.{BlockId}
+use Rattle.aea_view.specs.Marked.{Marked, is_marked}
+use Rattle.aea_disk.specs.Files.{Files}
+use Rattle.aea_envelope.specs.Cells.{block_digest}
+use Rattle.aea_gauss.specs.declared.fates.Fate.{Fate}
+use Rattle.aea_ledger.specs.Values.{Opened}
+use Rattle.aea_archive.specs.Blocks.{recorded_in, TellsSurvivors}
+use Rattle.aea_fetch.specs.Copies.{HasCopied, HasCut}
+use Rattle.aea_fetch.proofs.Copies.{copied_as, cut_as}
+use Rattle.aea_restore.specs.Drawn.{IsDrawn, IsOtherDigest}
+use Rattle.aea_degraded.specs.declared.fault.PayloadFault.{PayloadFault}
+use Rattle.aea_degraded.specs.declared.fault.PayloadFault.TheVariants as payload
+use Rattle.aea_degraded.specs.declared.fault.FetchFault.TheVariants.{Clash, WriteFault, DiskFault}
+use Rattle.aea_degraded.specs.Summed.{sum_at}
+use Rattle.aea_degraded.specs.Found.{IsSumAt}
+use Rattle.aea_degraded.specs.Fetched.{IsFetched}
+use Rattle.aea_degraded.specs.Planned.{IsChecked}
+use Rattle.aea_degraded.specs.Sent.{IsSendFault, fetch_fault}
+use Rattle.aea_degraded.proofs.Checked.{contained}
+
+-- ---- faults
+
+-- a clash is of a clash
+pub clash_from : (f : PayloadFault) (d : BlockId) (told computed : List ℕ) → fetch_fault f ≡ Clash d told computed → f ≡ payload.Clash d told computed
+clash_from (payload.Clash b recorded other) d told computed is = cc
+clash_from payload.DiskFault d told computed is = absurd (cc)
+
+-- a fault of the disk is of one
+pub disk_from : (f : PayloadFault) → fetch_fault f ≡ DiskFault → f ≡ payload.DiskFault
+disk_from (payload.Clash b recorded other) is = absurd (cc)
+disk_from payload.DiskFault is = refl
+
+-- none is of the output
+pub no_output : (f : PayloadFault) → fetch_fault f ≡ WriteFault → ⊥
+no_output (payload.Clash b recorded other) is = cc
+no_output payload.DiskFault is = cc
+
+pub send_fault : (f : PayloadFault) → IsSendFault (fetch_fault f)
+send_fault (payload.Clash b recorded other) = inl (b, recorded, other, refl)
+send_fault payload.DiskFault = inr (inr refl)
+
+-- the block is marked, where it is not known
+pub none_marked : (known marked : Bool) → known ≡ not marked → known ≡ false → marked ≡ true
+none_marked known true is unknown = refl
+none_marked known false is unknown = absurd (cc)
+
+-- where a block is checked, the sum that its fate is has no other digest
+pub no_other : (v : Opened) (c : Files) (damaged : Marked) (fates : List Fate) (b d : BlockId) (at : ℕ) (told computed : List ℕ) → is_marked damaged b ≡ true → IsSumAt fates b at → IsChecked v c damaged fates b
+    → d ≡ b → ((fate : Fate) → slice_get fates at ≡ Some fate → computed ≡ block_digest b (sum_at v.lattice v.shape c fate)) → IsOtherDigest v d told computed → ⊥
+no_other v c damaged fates b d at told computed set here checked same is other =
+    other.differ
+    (is here.fate here.here
+    ∙ checked set here.fate (contained fates at here.fate here.here) here.block
+    ∙ ap (recorded_in v.shape v.digests) (sym same)
+    ∙ sym other.told_is)
+
+-- ---- payloads
+
+module _ (tells : Type 0) (v : Opened) (c : Files) where
+  -- a payload has the bytes of a block
+  pub fetched_wide : (b : BlockId) (p : List ℕ) → IsFetched tells v c b p → length p ≡ v.shape.block
+  fetched_wide b p is = is.wide
+
+-- where the contents are known, the files read the same
+module _ (tells : Type 0) (v : Opened) (c d : Files) (same : tells → c ≡ d) where
+  -- a payload by the one is a payload by the other
+  pub fetched_also : (b : BlockId) (p : List ℕ) → IsFetched tells v c b p → IsFetched tells v d b p
+  fetched_also b p is = record {
+    wide = is.wide;
+    digest = is.digest;
+    drawn = λ told known survivors.
+        subst (λ (f : Files). IsDrawn v known f b p) (same told)
+        (is.drawn told known (subst (λ (f : Files). TellsSurvivors v.shape v.lattice.n v.digests f known) (sym (same told)) survivors));
+  }
+
+  pub fetched_copied : (bs : List BlockId) (most : ℕ) (a b : SinkState) (p q : List ℕ) → HasCopied (IsFetched tells v c) bs most a p b q → HasCopied (IsFetched tells v d) bs most a p b q
+  fetched_copied bs most a b p q one = copied_as (IsFetched tells v c) (IsFetched tells v d) fetched_also bs most a b p q one
+
+  pub fetched_cut : (bs : List BlockId) (most : ℕ) (a b : SinkState) (p : List ℕ) (output : Type 0) → HasCut (IsFetched tells v c) bs most a p b output → HasCut (IsFetched tells v d) bs most a p b output
+  fetched_cut bs most a b p output one = cut_as (IsFetched tells v c) (IsFetched tells v d) fetched_also bs most a b p output output (λ is. is) one

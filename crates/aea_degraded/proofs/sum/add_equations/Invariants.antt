@@ -1,0 +1,15 @@
+use Rattle.std.proofs.Common.{◌≡◌, length, take}
+use Rattle.aea_restore.specs.Plans.{is_left_over}
+use Rattle.aea_disk.specs.Frames.{OnlyReads}
+use Rattle.aea_shelf.specs.Places.{cell_size}
+use Rattle.aea_restore.specs.Drawn.{other_blocks}
+use Rattle.aea_restore.specs.Judged.{IsJudgedSum}
+use Rattle.aea_degraded.proofs.sum.add_equations.Given as goal
+
+abbrev pub invariant-loop-k : goal.invariant-loop-k
+invariant-loop-k g l = record {
+  buffer : length l.read ≡ cell_size l.ledger.shape;
+  size : length l.sum ≡ l.ledger.shape.block;
+  added : IsJudgedSum g.D.Disk.tells l.ledger (g.D.Disk.state l.fn.disk).files l.fn.sum (other_blocks l.ledger.lattice (is_left_over l.ledger.lattice l.equations) l.b (take l.k l.equations)) l.sum;
+  reads : OnlyReads g.D.Disk.tells ⊥ (g.D.Disk.state l.fn.disk) (g.D.Disk.state l.disk);
+}

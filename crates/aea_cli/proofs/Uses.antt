@@ -2,7 +2,7 @@
 use Rattle.std.proofs.Common.{◌⊎◌, inl, inr}
 use Rattle.aea_cli.specs.declared.command.Command.{Command}
 use Rattle.aea_cli.specs.declared.command.Command.TheVariants as command
-use Rattle.aea_cli.specs.declared.command.Command.TheVariants.{Drill, Create, Stat, Put, Ingest, Get, Fence, Upgrade, Scrub, Repair, Explain, Verify, Rehearse, Sites}
+use Rattle.aea_cli.specs.declared.command.Command.TheVariants.{Drill, Create, Stat, Put, Ingest, Get, Fetch, Fence, Upgrade, Scrub, Repair, Explain, Verify, Rehearse, Sites}
 use Rattle.aea_cli.specs.Does.{UsesDisk}
 
 -- a command uses the disk or not
@@ -14,6 +14,7 @@ uses_or_not command.List = inl tt
 uses_or_not (Put name) = inl tt
 uses_or_not Ingest = inl tt
 uses_or_not (Get name) = inl tt
+uses_or_not (Fetch name) = inl tt
 uses_or_not Fence = inl tt
 uses_or_not Upgrade = inl tt
 uses_or_not Scrub = inl tt

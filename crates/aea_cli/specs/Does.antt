@@ -10,7 +10,7 @@ use Rattle.aea_ledger.specs.Taking.{FitsMaking}
 use Rattle.aea_ledger.specs.Stops.{HasOpening, HasLedger}
 use Rattle.aea_cli.specs.declared.command.Command.{Command}
 use Rattle.aea_cli.specs.declared.command.Command.TheVariants as command
-use Rattle.aea_cli.specs.declared.command.Command.TheVariants.{Drill, Create, Stat, Put, Ingest, Get, Fence, Upgrade, Scrub, Repair, Explain, Verify, Rehearse, Sites}
+use Rattle.aea_cli.specs.declared.command.Command.TheVariants.{Drill, Create, Stat, Put, Ingest, Get, Fetch, Fence, Upgrade, Scrub, Repair, Explain, Verify, Rehearse, Sites}
 use Rattle.aea_command.specs.declared.refusal.Refusal.{Refusal}
 use Rattle.aea_command.specs.declared.refusal.Failure.TheVariants as failure
 use Rattle.aea_command.specs.declared.status.Status.{Status}
@@ -27,8 +27,9 @@ use Rattle.aea_command_store.specs.Put.{Puts, PutCauses, FitsPutUnlessRefused, s
 use Rattle.aea_command_store.specs.Ingest.{Ingests, IngestCauses, FitsIngest, FitsLines}
 use Rattle.aea_catalog.specs.Catalogs.{Placed}
 use Rattle.aea_command_read.specs.Get.{GetsNamed, GetCauses, HasObject, FitsBytes}
+use Rattle.aea_command_read.specs.Fetch.{FetchesNamed, FetchCauses}
 use Rattle.aea_command_read.specs.List.{ListsObjects, IsListOf}
-use Rattle.aea_command_loss.specs.Repair.{RepairsArchive, FitsRepair, IsSiteFile, IsRepairText, HasHonestSurvivors}
+use Rattle.aea_command_loss.specs.Repair.{RepairsArchive, FitsRepair, IsSiteFile, IsRepairText}
 use Rattle.aea_command_loss.specs.Explain.{ExplainsOrNot, ExplainCauses, IsExplanationText}
 use Rattle.aea_command_loss.specs.Verify.{Verifies, VerifyCauses, IsVerdictText}
 use Rattle.aea_rehearse.specs.declared.rehearsal.Rehearsal.{Rehearsal}
@@ -36,6 +37,7 @@ use Rattle.aea_command_loss.specs.Rehearse.{Rehearses, IsRehearsalOf, rehearsal_
 use Rattle.aea_command_loss.specs.Sites.{SumsUpSites, AreFirstLines}
 use Rattle.aea_command.specs.Causes.{RefusesBy, IsDecided}
 use Rattle.aea_command.specs.Failures.{Answer, NeverClashes}
+use Rattle.aea_command.specs.Honest.{HasHonestSurvivors}
 use Rattle.aea_command.specs.Printed.{FitsText}
 use Rattle.aea_command.specs.Worlds.{World}
 
@@ -48,6 +50,7 @@ ReadsInput command.List = ⊥
 ReadsInput (Put name) = Unit {0}
 ReadsInput Ingest = Unit {0}
 ReadsInput (Get name) = ⊥
+ReadsInput (Fetch name) = ⊥
 ReadsInput Fence = ⊥
 ReadsInput Upgrade = ⊥
 ReadsInput Scrub = ⊥
@@ -66,6 +69,7 @@ UsesDisk command.List = Unit {0}
 UsesDisk (Put name) = Unit {0}
 UsesDisk Ingest = Unit {0}
 UsesDisk (Get name) = Unit {0}
+UsesDisk (Fetch name) = Unit {0}
 UsesDisk Fence = Unit {0}
 UsesDisk Upgrade = Unit {0}
 UsesDisk Scrub = Unit {0}
@@ -84,6 +88,7 @@ MayChange command.List file = ⊥
 MayChange (Put name) file = file ≤ greatest_sites
 MayChange Ingest file = file ≤ greatest_sites
 MayChange (Get name) file = ⊥
+MayChange (Fetch name) file = ⊥
 MayChange Fence file = file ≡ 0
 MayChange Upgrade file = file ≡ 0
 MayChange Scrub file = ⊥
@@ -102,6 +107,7 @@ IsByInput command.List why = ⊥
 IsByInput (Put name) why = put.IsByInput why
 IsByInput Ingest why = IsAfterOpening why
 IsByInput (Get name) why = ⊥
+IsByInput (Fetch name) why = ⊥
 IsByInput Fence why = ⊥
 IsByInput Upgrade why = ⊥
 IsByInput Scrub why = ⊥
@@ -132,6 +138,7 @@ Causes command.List w = OpeningCauses (w.disk.files 0)
 Causes (Put name) w = PutCauses name w.disk.files (input_of w)
 Causes Ingest w = IngestCauses w.disk.files (input_of w)
 Causes (Get name) w = GetCauses name w.disk.files
+Causes (Fetch name) w = FetchCauses name w.disk.files
 Causes Fence w = FenceCauses (w.disk.files 0)
 Causes Upgrade w = UpgradeCauses (w.disk.files 0)
 Causes Scrub w = OpeningCauses (w.disk.files 0)
@@ -150,6 +157,7 @@ FitsDisk command.List w = IsRoomy w.disk
 FitsDisk (Put name) w = FitsPutUnlessRefused name w.tells w.input.left w.disk
 FitsDisk Ingest w = FitsIngest w.tells w.input.left w.disk
 FitsDisk (Get name) w = IsRoomy w.disk
+FitsDisk (Fetch name) w = IsRoomy w.disk
 FitsDisk Fence w = FitsRecord next_fence w.tells w.disk
 FitsDisk Upgrade w = FitsRecord next_raise w.tells w.disk
 FitsDisk Scrub w = IsRoomy w.disk
@@ -172,6 +180,7 @@ FitsOutput command.List w = (text : List ℕ) → IsListOf (w.disk.files 0) text
 FitsOutput (Put name) w = IsUnrefused (Put name) w → (shape : Shape) (records : List Record) → HasLedger shape records (w.disk.files 0) → FitsText w.out (stored_line shape (object_of name (input_of w)))
 FitsOutput Ingest w = FitsLines w.disk.files (input_of w) w.out
 FitsOutput (Get name) w = (shape : Shape) (records : List Record) (p : Placed) → HasObject w.disk.files name shape records p → FitsBytes w.out p.object.length
+FitsOutput (Fetch name) w = (shape : Shape) (records : List Record) (p : Placed) → HasObject w.disk.files name shape records p → FitsBytes w.out p.object.length
 FitsOutput Fence w = IsUnrefused Fence w → (shape : Shape) (records : List Record) → HasLedger shape records (w.disk.files 0) → FitsText w.out (fence_line (nodes_of records))
 FitsOutput Upgrade w = IsUnrefused Upgrade w → FitsText w.out upgraded_line
 FitsOutput Scrub w = (l : Lattice) (intact : BlockId → Bool) → TellsIntact w.disk.files l intact → FitsText w.out (scrub_text l intact)
@@ -190,6 +199,7 @@ Does command.List old new answer = ListsObjects old.tells old.disk new.disk old.
 Does (Put name) old new answer = Puts name old.tells old.disk new.disk old.input.left new.input.left old.out new.out answer
 Does Ingest old new answer = Ingests old.tells old.disk new.disk old.input.left new.input.left old.out new.out answer
 Does (Get name) old new answer = GetsNamed name old.tells old.disk new.disk old.out new.out answer
+Does (Fetch name) old new answer = FetchesNamed name old.tells old.disk new.disk old.out new.out answer
 Does Fence old new answer = Fences old.tells old.disk new.disk old.out new.out answer
 Does Upgrade old new answer = Upgrades old.tells old.disk new.disk old.out new.out answer
 Does Scrub old new answer = Scrubs old.tells old.disk new.disk old.out new.out answer
@@ -199,9 +209,10 @@ Does Verify old new answer = Verifies old.tells old.disk new.disk old.input new.
 Does (Rehearse number nodes permille) old new answer = Rehearses number nodes permille old.out new.out answer
 Does Sites old new answer = SumsUpSites old.tells old.disk new.disk old.out new.out answer
 
--- where the intact blocks are honest no digests clash: of a repair for some data list that the ledger records, and no other
--- command compares digests that it computes
+-- where the intact blocks are honest no digests clash: of a repair and of a fetch for some data list that the ledger records,
+-- and no other command compares digests that it computes
 abbrev pub IsHonest : Command → World → Type 0
+IsHonest (Fetch name) w = HasHonestSurvivors w.disk.files
 IsHonest Repair w = HasHonestSurvivors w.disk.files
 IsHonest command w = Unit {0}
 

@@ -17,10 +17,10 @@ use crate::command::{Command, parse_words};
 use aea_command::{Failure, Status, report};
 use aea_command_loss::drill::drill;
 use aea_command_loss::{explain_word, rehearse_line, repair_archive, sum_up_sites, verify_report};
-use aea_command_read::get_object;
 use aea_command_read::list::list;
 use aea_command_read::scrub::scrub;
 use aea_command_read::stat::stat;
+use aea_command_read::{fetch_object, get_object};
 use aea_command_store::create::create;
 use aea_command_store::fence::fence;
 use aea_command_store::ingest::ingest;
@@ -59,6 +59,7 @@ fn carry_out<D: Disk, S: Source, O: Sink>(
         Command::Put { name } => put_input(alloc, name.bytes(), disk, input, out),
         Command::Ingest => ingest(alloc, disk, input, out),
         Command::Get { name } => get_object(alloc, name.bytes(), disk, out),
+        Command::Fetch { name } => fetch_object(alloc, name.bytes(), disk, out),
         Command::Fence => fence(alloc, disk, out),
         Command::Upgrade => upgrade(alloc, disk, out),
         Command::Scrub => scrub(alloc, disk, out),

@@ -3,6 +3,7 @@
 ghost use Rattle.std.specs.Prelude.{◌≡◌};
 
 use aea_append::{IngestFault, PutFault};
+use aea_degraded::FetchFault;
 use aea_explain::ExplainFault;
 use aea_fetch::GetFault;
 use aea_io::WriteFault;
@@ -54,7 +55,7 @@ pub enum Refusal {
     /// This line of the report, counted from 1, has more than 16,777,216 bytes.
     LineTooLong { line: u32 },
     /// A data block of the object is not determined by the intact blocks: the first one, with the nodes of a codeword that
-    /// contains it and touches no intact block. No command returns it yet.
+    /// contains it and touches no intact block.
     Undetermined { block: BlockId, nodes: NodeList },
     /// The limit on nodes was not raised. No command returns it yet.
     NotUpgraded,
@@ -87,7 +88,8 @@ pub enum Failure {
     Output,
     /// Memory ran out.
     Memory,
-    /// A block was not restored: what was computed, or read again, has another digest than the ledger keeps of the block.
+    /// A block was not restored, or not computed: what was computed, or read again, has another digest than the ledger keeps of
+    /// the block.
     Clash {
         block: BlockId,
         recorded: [u8; 32],
@@ -189,6 +191,35 @@ impl From<GetFault> for Failure {
             GetFault::WriteFault => Failure::Output,
             GetFault::DiskFault => Failure::Disk,
             GetFault::NoMemory => Failure::Memory,
+        }
+    }
+}
+
+impl From<FetchFault> for Failure {
+    ghost use Rattle.aea_command.specs.Failures.{fetch_failure};
+
+    ghost from_gives = { λ fault failure. failure ≡ fetch_failure fault };
+
+    fn from(fault: FetchFault) -> Failure {
+        match fault {
+            FetchFault::UnknownName => Failure::Refused {
+                why: Refusal::UnknownName,
+            },
+            FetchFault::Undetermined { block, nodes } => Failure::Refused {
+                why: Refusal::Undetermined { block, nodes },
+            },
+            FetchFault::Clash {
+                block,
+                recorded,
+                computed,
+            } => Failure::Clash {
+                block,
+                recorded,
+                computed,
+            },
+            FetchFault::WriteFault => Failure::Output,
+            FetchFault::DiskFault => Failure::Disk,
+            FetchFault::NoMemory => Failure::Memory,
         }
     }
 }

@@ -107,17 +107,6 @@ pub record IsRepairText (files : Files) (text : List ℕ) : Type 0 where
   pub printed : IsPrinted lattice known (Some (sha256 (spelled shape records))) head lines
   pub is : text ≡ report_bytes head lines
 
--- the intact blocks of the archive in these files are honest for a data list that its ledger records
-pub record HasHonestSurvivors (files : Files) : Type 0 where
-  pub shape : Shape
-  pub records : List Record
-  pub ledger : HasLedger shape records (files 0)
-  pub lattice : Lattice
-  pub is_lattice : IsLatticeOf shape (nodes_of records) (fences_of records) lattice
-  pub datas : List (List ℕ)
-  pub recorded : AreRecordsOf shape records datas
-  pub honest : AreSurvivorsHonest shape lattice (digests_of records) datas files
-
 -- The archive was not opened, which is the answer: nothing is printed, and the disk is only read. But after a fault of the disk
 -- the first sync has succeeded, nothing is pending, and every image has every file as it reads.
 pub record IsUnopened (tells : Type 0) (f : Failure) (old new : State) (before after : SinkState) (answer : Answer) : Type 0 where

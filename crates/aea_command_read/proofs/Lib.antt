@@ -1,4 +1,5 @@
 pub mod StatLemmas
 pub mod ScrubLemmas
 pub mod GetLemmas
+pub mod FetchLemmas
 pub mod ListLemmas

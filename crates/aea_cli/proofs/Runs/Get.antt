@@ -26,7 +26,7 @@ use Rattle.aea_command.proofs.OpeningCases.{opening_more, images_same, opening_n
 use Rattle.aea_command.proofs.Refusing.{refuses_by_told, refuses_by_stopped}
 
 -- something is there, or nothing
-some_or_none : (o : Option Placed) → ((p : Placed) × (o ≡ Some p)) ⊎ (o ≡ None)
+pub some_or_none : (o : Option Placed) → ((p : Placed) × (o ≡ Some p)) ⊎ (o ≡ None)
 some_or_none None = inr refl
 some_or_none (Some p) = inl (p, refl)
 

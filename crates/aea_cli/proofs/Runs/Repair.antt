@@ -4,6 +4,7 @@ use Rattle.std.specs.Prelude.{IfOk, IfErr}
 use Rattle.aea_io.specs.Streams.{SourceState, SinkState}
 use Rattle.aea_lattice.specs.declared.blocks.BlockId.{BlockId}
 use Rattle.aea_lattice.specs.declared.grid.Lattice.{Lattice}
+use Rattle.aea_disk.specs.Files.{Files}
 use Rattle.aea_disk.specs.State.{State}
 use Rattle.aea_records.specs.Format.{nodes_of, fences_of, digests_of}
 use Rattle.aea_records.specs.Laws.{HasOneReading}
@@ -22,8 +23,9 @@ use Rattle.aea_command.specs.Causes.{Refuses}
 use Rattle.aea_cli.specs.Does.{Runs}
 use Rattle.aea_command.specs.Failures.{Answer, opening_failure, NeverClashes}
 use Rattle.aea_command.specs.Openings.{OpeningCauses, KeepsAllBut}
+use Rattle.aea_command.specs.Honest.{HasHonestSurvivors}
 use Rattle.aea_command.specs.Printed.{FitsText}
-use Rattle.aea_command_loss.specs.Repair.{RepairsThen, IsUnopened, IsSiteFile, IsRepairText, HasHonestSurvivors, RepairsArchive}
+use Rattle.aea_command_loss.specs.Repair.{RepairsThen, IsUnopened, IsSiteFile, IsRepairText, RepairsArchive}
 use Rattle.aea_command.specs.Worlds.{world}
 use Rattle.aea_command.proofs.Reading.{has_ledger_of, from_reading}
 use Rattle.aea_command.proofs.Refusing.{refuses_by_told}
@@ -31,7 +33,7 @@ use Rattle.aea_command_loss.proofs.RepairLemmas.Answering.{from_output, from_cla
 use Rattle.aea_command.proofs.OpeningCases.{opening_not_output}
 
 -- an opening never fails by a clash
-opening_not_clash : (fault : OpenFault) → (b : BlockId) (told computed : List ℕ) → opening_failure fault ≡ failure.Clash b told computed → ⊥
+pub opening_not_clash : (fault : OpenFault) → (b : BlockId) (told computed : List ℕ) → opening_failure fault ≡ failure.Clash b told computed → ⊥
 opening_not_clash opening.NoArchive b told computed e = cc
 opening_not_clash (opening.LedgerBad at) b told computed e = cc
 opening_not_clash opening.DiskFault b told computed e = cc
@@ -66,23 +68,27 @@ repair_fits reading tells old new before after answer (Err f) told one unopened 
     let is : f ≡ failure.Output = cc in
     opening_not_output unopened.why.0 (sym unopened.why.1 ∙ is)
 
--- where the intact blocks are honest, no digests clash
+-- the intact blocks are honest for a data list that the opened ledger records
+pub honest_here : HasOneReading → (v : Opened) (c : Files) (one : IsThisOne v (c 0)) (honest : HasHonestSurvivors c) → AreRecordsOf v.shape one.records honest.datas × AreSurvivorsHonest v.shape v.lattice v.digests honest.datas c
+honest_here reading v c one honest =
+    let there = from_reading reading v (c 0) one
+    (λ shape records. (l : Lattice) → IsLatticeOf shape (nodes_of records) (fences_of records) l → AreRecordsOf shape records honest.datas × AreSurvivorsHonest shape l (digests_of records) honest.datas c)
+    honest.shape honest.records honest.ledger
+    (λ l is_l. (
+      honest.recorded,
+      subst (λ (m : Lattice). AreSurvivorsHonest honest.shape m (digests_of honest.records) honest.datas c)
+          (lattice_equal honest.lattice l (honest.is_lattice.alpha ∙ sym is_l.alpha) (honest.is_lattice.s ∙ sym is_l.s) (honest.is_lattice.p ∙ sym is_l.p) (honest.is_lattice.n ∙ sym is_l.n) (honest.is_lattice.fences_are ∙ sym is_l.fences_are)) honest.honest,
+    )) v.lattice one.has.lattice in
+    (there.0, subst (λ (ds : List (List ℕ)). AreSurvivorsHonest v.shape v.lattice ds honest.datas c) (sym one.has.digests) there.1)
+
+-- where they are, no digests clash
 repair_honest : HasOneReading → (tells : Type 0) (old new : State) (before after : SinkState) (answer : Answer) (gave : Result Opened Failure) → tells
     → IfOk gave (λ v. tells → IsThisOne v (old.files 0)) → IfErr gave (λ f. IsUnopened tells f old new before after answer) → IfOk gave (λ v. RepairsThen tells v old new before after answer)
     → HasHonestSurvivors old.files → NeverClashes answer
 repair_honest reading tells old new before after answer (Ok v) told one unopened (result, is, opened) honest b recorded computed e =
     let here = one told in
-    let there = from_reading reading v (old.files 0) here
-    (λ shape records. (l : Lattice) → IsLatticeOf shape (nodes_of records) (fences_of records) l → AreRecordsOf shape records honest.datas × AreSurvivorsHonest shape l (digests_of records) honest.datas old.files)
-    honest.shape honest.records honest.ledger
-    (λ l is_l. (
-      honest.recorded,
-      subst (λ (m : Lattice). AreSurvivorsHonest honest.shape m (digests_of honest.records) honest.datas old.files)
-          (lattice_equal honest.lattice l (honest.is_lattice.alpha ∙ sym is_l.alpha) (honest.is_lattice.s ∙ sym is_l.s) (honest.is_lattice.p ∙ sym is_l.p) (honest.is_lattice.n ∙ sym is_l.n) (honest.is_lattice.fences_are ∙ sym is_l.fences_are)) honest.honest,
-    )) v.lattice here.has.lattice in
-    opened.no_clash told here.records honest.datas here.has there.0
-    (subst (λ (ds : List (List ℕ)). AreSurvivorsHonest v.shape v.lattice ds honest.datas old.files) (sym here.has.digests) there.1)
-    b recorded computed (from_clash result b recorded computed (sym is ∙ e))
+    let there = honest_here reading v old.files here honest in
+    opened.no_clash told here.records honest.datas here.has there.0 there.1 b recorded computed (from_clash result b recorded computed (sym is ∙ e))
 repair_honest reading tells old new before after answer (Err f) told one unopened opened honest b recorded computed e =
     let h : Err f ≡ Err (failure.Clash b recorded computed) = sym unopened.is ∙ e in
     let is : f ≡ failure.Clash b recorded computed = cc in

@@ -19,10 +19,10 @@ use aea_records::ledgers_have_one_reading;
 use lines::put_explanation;
 use std::alloc::Global;
 
-/// Opens the archive, reads the cell of each block once, and prints `intact B` or `damaged B` for the block with this text,
-/// and after it its fate where all other intact blocks are known: `sum` with the equations that give it, or `word` with the
-/// nodes of a codeword that contains it and none of them. The status says which. The disk is only read. Beside the opened
-/// ledger it takes what `aea_explain` says.
+/// Opens the archive, reads the cell of the block with this text and those around its part, and prints `intact B` or
+/// `damaged B`, and after it its fate where all other intact blocks are known: `sum` with the equations that give it, or `word`
+/// with the nodes of a codeword that contains it and none of them. The status says which. The disk is only read. Beside the
+/// opened ledger it takes two marks a block, a bit each, and what else `aea_explain` says.
 pub fn explain_word<D: Disk, O: Sink>(
     alloc: Global,
     word: &[u8],

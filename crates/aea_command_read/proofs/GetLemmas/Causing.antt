@@ -11,9 +11,10 @@ use Rattle.aea_records.specs.Catalogued.{objects_of}
 use Rattle.aea_records.specs.Format.{stored_of, digests_of}
 use Rattle.aea_records.specs.Laws.{HasOneReading, NewNamesAreFree, IsSomeLedger}
 use Rattle.aea_ledger.specs.Values.{Opened, IsThisOne}
+use Rattle.aea_archive.specs.Objects.{data_of}
 use Rattle.aea_fetch.specs.declared.fault.GetFault.{GetFault}
 use Rattle.aea_fetch.specs.declared.fault.GetFault.TheVariants as fault
-use Rattle.aea_fetch.specs.Objects.{data_of, IsFirstDamaged}
+use Rattle.aea_fetch.specs.Payloads.{IsFirstDamaged}
 use Rattle.aea_command.specs.declared.refusal.Refusal.{Refusal}
 use Rattle.aea_command.specs.declared.refusal.Refusal.TheVariants.{NoArchive, LedgerBad, UnknownName, Damaged, Occupied}
 use Rattle.aea_command.specs.declared.refusal.Failure.{Failure}
@@ -48,12 +49,12 @@ unopened_get name tells old new f opens = unopened_refuses tells old new f (GetC
 -- ---- what the files say, as the opened ledger has it, and back
 
 module _ (reading : HasOneReading) (v : Opened) (files : Files) (one : IsThisOne v (files 0)) (name : List ℕ) where
-  unknown_there : NewNamesAreFree → HasNoObject (files 0) name → get v.objects name ≡ None
+  pub unknown_there : NewNamesAreFree → HasNoObject (files 0) name → get v.objects name ≡ None
   unknown_there free has =
       subst (λ (m : Objects). get m name ≡ None) (sym one.has.objects)
       ((free one.records name).0 (from_reading reading v (files 0) one (λ shape records. All (λ o. o.name ≢ name) (stored_of records)) has.shape has.records has.ledger has.none))
 
-  unknown_here : NewNamesAreFree → get v.objects name ≡ None → HasNoObject (files 0) name
+  pub unknown_here : NewNamesAreFree → get v.objects name ≡ None → HasNoObject (files 0) name
   unknown_here free none = record {
     shape = v.shape;
     records = one.records;
@@ -83,7 +84,7 @@ module _ (reading : HasOneReading) (v : Opened) (files : Files) (one : IsThisOne
   }
 
 -- something is under the name, or nothing is
-none_and_some : (o : Option Placed) (p : Placed) → o ≡ None → o ≡ Some p → ⊥
+pub none_and_some : (o : Option Placed) (p : Placed) → o ≡ None → o ≡ Some p → ⊥
 none_and_some o p none is = let h : None ≡ Some p = sym none ∙ is in cc
 
 -- ---- after the opening

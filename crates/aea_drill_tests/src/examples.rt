@@ -62,7 +62,7 @@ fn drills_print_the_outcome(rt: HostRuntime) -> Result<(), Fail> {
 }
 
 // Lines whose words are no command.
-const NO_COMMANDS: [&str; 76] = [
+const NO_COMMANDS: [&str; 81] = [
     "drill 2 3 2 5",
     "drill 2 1 4 5",
     "drill 1 1 0 65537",
@@ -97,6 +97,11 @@ const NO_COMMANDS: [&str; 76] = [
     "get a b",
     "Get a",
     "gets a",
+    "fetch",
+    "fetch a b",
+    "Fetch a",
+    "fetches a",
+    "fetc a",
     "list a",
     "List",
     "lists",

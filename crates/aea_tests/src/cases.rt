@@ -238,6 +238,14 @@ const GET: Case = Case {
     ..OVER_TWO
 };
 
+const FETCH: Case = Case {
+    turned: TORN,
+    line: "fetch b",
+    out: "0123456789abcdefg",
+    calls: 14,
+    ..OVER_TWO
+};
+
 const FENCE: Case = Case {
     line: "fence",
     out: "fence 1\n",
@@ -291,7 +299,7 @@ const EXPLAIN: Case = Case {
     turned: TORN,
     line: "explain d1",
     out: "damaged d1\nsum h1\n",
-    calls: 17,
+    calls: 9,
     ..OVER_TWO
 };
 
@@ -322,8 +330,8 @@ const SITES: Case = Case {
 
 // One run of each command.
 const CASES: &[Case] = &[
-    DRILL, CREATE, STAT, LIST, PUT, INGEST, GET, FENCE, UPGRADE, SCRUB, REPAIR, EXPLAIN, VERIFY,
-    REHEARSE, SITES,
+    DRILL, CREATE, STAT, LIST, PUT, INGEST, GET, FETCH, FENCE, UPGRADE, SCRUB, REPAIR, EXPLAIN,
+    VERIFY, REHEARSE, SITES,
 ];
 
 /// One run of each command. It is a function, so that the proof of a test does not carry the table.

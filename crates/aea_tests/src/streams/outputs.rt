@@ -170,12 +170,13 @@ fn the_errors_fail_at_each_byte(rt: HostRuntime) -> Result<(), Fail> {
 }
 
 // Lines that are refused where there is no archive, and lines that are no command.
-const REFUSED: [&str; 12] = [
+const REFUSED: [&str; 13] = [
     "stat",
     "list",
     "put a",
     "ingest",
     "get a",
+    "fetch a",
     "fence",
     "upgrade",
     "scrub",
@@ -185,7 +186,7 @@ const REFUSED: [&str; 12] = [
     "sites",
 ];
 
-const NO_COMMANDS: [&str; 10] = [
+const NO_COMMANDS: [&str; 11] = [
     "",
     "drill",
     "drill 2 3 2 5",
@@ -194,6 +195,7 @@ const NO_COMMANDS: [&str; 10] = [
     "drill 1 1 0 03",
     "put",
     "get",
+    "fetch",
     "explain",
     "rehearse 7 0 0",
 ];

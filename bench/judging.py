@@ -206,6 +206,25 @@ class Archive:
         self.told(["get", name], (0, content, b"") if first is None else self.refused(f"damaged d{first}"))
         self.counts["objects got" if first is None else "gets of damaged objects"] += 1
 
+    def fetched(self, name, damaged, fates, clash=None):
+        """Fetches an object where these blocks are damaged and have these fates. Where a datum of it clashes, this is told once it is
+        sure that none is lost."""
+        content, places = self.plain.objects[name]
+        data = [(node - 1) * self.plain.classes for node in places]
+        lost = next((k for k in data if k in damaged and fates.get(k) is not None), None)
+        if lost is not None:
+            word = self.plain.codeword(fates[lost])
+            if lost not in word or not word <= damaged:
+                raise Wrong(f"the plain archive names {fates[lost]} for {self.plain.text(lost)}: {sorted(map(self.plain.text, word))}")
+            self.told(["fetch", name], self.refused(f"undetermined {self.plain.text(lost)} by {' '.join(map(str, fates[lost]))}"))
+            self.counts["fetches of objects that are lost"] += 1
+        elif clash is not None:
+            self.told(["fetch", name], clash)
+            self.counts["fetches that clash"] += 1
+        else:
+            self.told(["fetch", name], (0, content, b""))
+            self.counts["damaged objects fetched" if damaged.intersection(data) else "objects fetched"] += 1
+
     def scrubbed(self):
         damaged = self.damaged()
         self.told(["scrub"], (1 if damaged else 0, self.plain.scrubbed(damaged), b""))

@@ -286,12 +286,14 @@ class Plain:
         nodes = {end: sorted(k // self.classes + 1 for k in word if k % self.classes == 0) for end, word in words.items()}
         return {k: nodes[k] if k in words else None if least[k] is None else nodes[least[k]] for k in order}
 
+    def fates_of_damaged(self, damaged):
+        """The fates where these are damaged: what is known is what is intact; where that leaves much to be reduced, what single
+        equations give is known too, which changes no word, and has no fate here."""
+        return self.fates(damaged if len(damaged) <= 200 else set(damaged) - self.peeled(damaged))
+
     def report(self, damaged):
         """The report of a repair where these are damaged, and the blocks that it restores."""
-        peeled = self.peeled(damaged)
-        # what is known is what is intact; where that leaves much to be reduced, what single equations give is known too, which
-        # changes no word
-        fates = self.fates(damaged if len(damaged) <= 200 else set(damaged) - peeled)
+        peeled, fates = self.peeled(damaged), self.fates_of_damaged(damaged)
         lines, counts = [], [0, 0, 0]
         for k in sorted(damaged):
             nodes = fates.get(k)

@@ -75,6 +75,25 @@ impl Lattice {
         (node - 1) * self.classes() + class
     }
 
+    /// The numbers of the blocks of the equation of a node's parity: datum, parity, and the parity before it, where there is one.
+    pub fn equation(&self, node: usize, class: usize) -> ([usize; 3], usize) {
+        let (datum, back) = (self.number(node, 0), self.back(node, class));
+        if node > back {
+            ([datum, datum + class, self.number(node - back, class)], 3)
+        } else {
+            ([datum, datum + class, 0], 2)
+        }
+    }
+
+    /// The equations of a block, node and class of each, in a lattice of so many nodes. A datum has one for each class, a parity its
+    /// own and that of the next node.
+    pub fn around(&self, number: usize, nodes: usize) -> impl Iterator<Item = (usize, usize)> + use<> {
+        let (node, class) = self.node_and_class(number);
+        let next = if class > 0 { node + self.ahead(node, class) } else { 0 };
+        let own = if class == 0 { 1..=self.alpha } else { class..=class };
+        own.map(move |it| (node, it)).chain((0 < next && next <= nodes).then_some((next, class)))
+    }
+
     /// The node and the class of the block of a number.
     pub fn node_and_class(&self, number: usize) -> (usize, usize) {
         (number / self.classes() + 1, number % self.classes())

@@ -1,12 +1,24 @@
-//! The ledger of the plain programs: of an archive without fences, each of whose objects takes nodes of its own.
+//! The ledger of the plain programs: of an archive without fences, each of whose objects takes nodes of its own. Each of the
+//! programs uses a part of it.
+#![allow(dead_code)]
 
-use crate::plain_archive::{Lattice, head};
+use crate::plain_archive::{Lattice, head, home};
 use crate::plain_sha256::{digest, hex};
-use std::fs::read;
+use std::fs::{File, read};
 use std::io::{Error, ErrorKind, Result};
+use std::os::unix::fs::FileExt;
 
 pub fn wrong(what: &str) -> Error {
     Error::new(ErrorKind::InvalidData, what)
+}
+
+/// A file that was opened, or none where it is not there.
+pub fn if_there(opened: Result<File>) -> Result<Option<File>> {
+    match opened {
+        Ok(file) => Ok(Some(file)),
+        Err(error) if error.kind() == ErrorKind::NotFound => Ok(None),
+        Err(error) => Err(error),
+    }
 }
 
 /// The lattice of an archive, its sites and the bytes of its blocks, their digests in number order, and its seal in digits.
@@ -67,6 +79,24 @@ impl Ledger {
 
     pub fn recorded(&self, number: usize) -> &[u8] {
         &self.digests[32 * number..32 * number + 32]
+    }
+
+    /// The site of a block's home, counted from 0, and the place in its file.
+    pub fn home(&self, number: usize) -> (usize, u64) {
+        home(number, self.sites, self.size())
+    }
+
+    /// Reads the cell of a block from the files of the sites, and whether it is intact.
+    pub fn read(&self, files: &[Option<File>], number: usize, cell: &mut [u8]) -> Result<bool> {
+        let (site, place) = self.home(number);
+        let Some(file) = &files[site] else {
+            return Ok(false);
+        };
+        match file.read_exact_at(cell, place) {
+            Ok(()) => Ok(self.is_cell(number, cell)),
+            Err(error) if error.kind() == ErrorKind::UnexpectedEof => Ok(false),
+            Err(error) => Err(error),
+        }
     }
 
     /// Whether a cell is that of the block: it has its head, and the digest that is recorded.

@@ -14,25 +14,13 @@ mod plain_archive;
 mod plain_ledger;
 mod plain_sha256;
 
-use plain_archive::{Lattice, home, site_file, site_folder};
-use plain_ledger::{Ledger, wrong};
+use plain_archive::{Lattice, site_file, site_folder};
+use plain_ledger::{Ledger, if_there, wrong};
 use plain_sha256::digest;
 use std::fs::{File, OpenOptions, create_dir_all};
-use std::io::{BufWriter, ErrorKind, Result, Write, stdout};
+use std::io::{BufWriter, Result, Write, stdout};
 use std::os::unix::fs::FileExt;
 use std::process::exit;
-
-impl Ledger {
-    /// The numbers of the blocks of the equation of a node's parity: datum, parity, and the parity before it, where there is one.
-    fn equation(&self, node: usize, class: usize) -> ([usize; 3], usize) {
-        let (datum, back) = (self.lattice.number(node, 0), self.lattice.back(node, class));
-        if node > back {
-            ([datum, datum + class, self.lattice.number(node - back, class)], 3)
-        } else {
-            ([datum, datum + class, 0], 2)
-        }
-    }
-}
 
 struct Archive {
     ledger: Ledger,
@@ -49,11 +37,7 @@ impl Archive {
         let ledger = Ledger::open(&format!("{folder}/ledger.aea"))?;
         let mut files = Vec::new();
         for site in 0..ledger.sites {
-            files.push(match OpenOptions::new().read(true).write(true).open(site_file(folder, site)) {
-                Ok(file) => Some(file),
-                Err(error) if error.kind() == ErrorKind::NotFound => None,
-                Err(error) => return Err(error),
-            });
+            files.push(if_there(OpenOptions::new().read(true).write(true).open(site_file(folder, site)))?);
         }
         let (size, sites) = (ledger.size(), ledger.sites);
         Ok(Archive {
@@ -67,23 +51,9 @@ impl Archive {
         })
     }
 
-    /// The site of a block's home, counted from 0, and the place in its file.
-    fn home(&self, number: usize) -> (usize, u64) {
-        home(number, self.ledger.sites, self.ledger.size())
-    }
-
     /// Reads the cell of a block, and whether it is intact.
     fn read(&mut self, number: usize) -> Result<bool> {
-        let (site, place) = self.home(number);
-        let Some(file) = &self.files[site] else {
-            return Ok(false);
-        };
-        match file.read_exact_at(&mut self.read, place) {
-            Ok(()) => (),
-            Err(error) if error.kind() == ErrorKind::UnexpectedEof => return Ok(false),
-            Err(error) => return Err(error),
-        }
-        Ok(self.ledger.is_cell(number, &self.read))
+        self.ledger.read(&self.files, number, &mut self.read)
     }
 
     /// Computes a block from others, and writes its cell.
@@ -104,7 +74,7 @@ impl Archive {
             return Err(wrong("a sum has another digest"));
         }
         self.write[16 + block..].copy_from_slice(&told);
-        let (site, place) = self.home(number);
+        let (site, place) = self.ledger.home(number);
         if self.files[site].is_none() {
             create_dir_all(site_folder(&self.folder, site))?;
             let path = site_file(&self.folder, site);
@@ -118,13 +88,8 @@ impl Archive {
     /// The first equation of a block whose other blocks are there.
     fn others(&self, number: usize, is_there: &[bool]) -> Option<([usize; 3], usize)> {
         let ledger = &self.ledger;
-        let (node, class) = ledger.lattice.node_and_class(number);
-        let first = if class == 0 { 1 } else { class };
-        let last = if class == 0 { ledger.lattice.alpha } else { class };
-        let own = (first..=last).map(|c| (node, c));
-        let next = if class == 0 { ledger.nodes() + 1 } else { node + ledger.lattice.ahead(node, class) };
-        for (node, class) in own.chain((next <= ledger.nodes()).then_some((next, class))) {
-            let (blocks, count) = ledger.equation(node, class);
+        for (node, class) in ledger.lattice.around(number, ledger.nodes()) {
+            let (blocks, count) = ledger.lattice.equation(node, class);
             let mut others = [0; 3];
             let mut found = 0;
             for block in blocks[..count].iter().filter(|block| **block != number) {

@@ -44,13 +44,8 @@ impl Missing {
         }
     }
 
-    /// The equations of a block: node and class of each. A datum has one for each class, a parity its own and that of the next node.
     fn around(&self, number: usize) -> impl Iterator<Item = (usize, usize)> + use<> {
-        let (node, class) = self.lattice.node_and_class(number);
-        let next = if class > 0 { node + self.lattice.ahead(node, class) } else { 0 };
-        let (alpha, nodes) = (self.lattice.alpha, self.nodes);
-        let own = if class == 0 { 1..=alpha } else { class..=class };
-        own.map(move |it| (node, it)).chain((0 < next && next <= nodes).then_some((next, class)))
+        self.lattice.around(number, self.nodes)
     }
 
     /// Adds the blocks of a site, counted from 0, over so many. Gives their numbers to the list.

@@ -54,7 +54,9 @@ fn reduce_group(
     add_group(words, rows, wide, lo, &leads, table, picks);
 }
 
-// Reduces as many groups of thirty-two rows as there are.
+// Reduces as many groups of thirty-two rows as there are. Never made a part of its caller, so that a reduction row by row
+// does not take the stack of the tables.
+#[inline(never)]
 fn reduce_groups(words: &mut [u64], rows: usize, wide: usize)
     requires long { length words.old ≡ rows * wide }
     requires few { rows < 2 ^ 32 }

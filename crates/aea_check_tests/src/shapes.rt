@@ -4,7 +4,7 @@
 use crate::archives::{said, verdict_of};
 use aea_cli::Status;
 use aea_disk::SureDisk;
-use aea_runs::{run_over, run_put, text_of};
+use aea_runs::{run_over, run_put, step, text_of};
 use aea_test_helpers::{some_bytes, spoil_cell};
 use std::alloc::Global;
 use std::test::Fail;
@@ -30,12 +30,6 @@ const THREE_CLASSES: [Row; 2] = [
 
 // How many of a hundred cells are damaged.
 const PERCENTS: [u64; 5] = [0, 5, 30, 60, 90];
-
-// One step of the linear congruential generator of Knuth's MMIX.
-fn step(x: u64) -> u64 {
-    x.wrapping_mul(6_364_136_223_846_793_005)
-        .wrapping_add(1_442_695_040_888_963_407)
-}
 
 // An archive of three objects with fifteen nodes.
 fn of_three(alloc: Global, row: Row) -> Result<SureDisk, Fail> {

@@ -8,7 +8,7 @@ use aea_cli::Status;
 use aea_lattice::{BlockId, Lattice};
 use aea_peel::{Plan, peel};
 use aea_plain::closure;
-use aea_runs::run_line;
+use aea_runs::{run_line, step};
 use aea_test_helpers::add_line;
 use aea_view::View;
 use std::alloc::{AllocError, Global};
@@ -61,12 +61,6 @@ const PERCENTS: [u64; 4] = [1, 10, 25, 50];
 struct Damage {
     lost: Vec<BlockId>,
     left: Vec<BlockId>,
-}
-
-// One step of the linear congruential generator of Knuth's MMIX.
-fn step(x: u64) -> u64 {
-    x.wrapping_mul(6_364_136_223_846_793_005)
-        .wrapping_add(1_442_695_040_888_963_407)
 }
 
 // Loses so many percent of the blocks, by the generator that begins with the seed.

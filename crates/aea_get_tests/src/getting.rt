@@ -3,7 +3,9 @@
 use aea_cli::{Status, run};
 use aea_disk::{Disk, SureDisk};
 use aea_io::{MemSink, SureSource};
-use aea_runs::{run_get, run_over, run_put, text_of, words_of};
+use aea_runs::{
+    PAGE, archive_of_pages, bytes_of_pages, run_get, run_over, run_put, text_of, words_of,
+};
 use aea_test_helpers::FlippingDisk;
 use std::alloc::{AllocError, Global};
 use std::test::Fail;
@@ -83,31 +85,11 @@ fn the_first_damaged_block_is_told(rt: HostRuntime) -> Result<(), Fail> {
     Ok(())
 }
 
-// The bytes of a page of the output.
-const PAGE: usize = 65_536;
-
-// An archive of AE(1,1,0) with blocks of 4,096 bytes on one site, and in it an object of three pages and 7 bytes.
-fn with_pages(alloc: Global, bytes: &[u8]) -> Result<SureDisk, AllocError> {
-    let mut disk = SureDisk::new(alloc, 1, 8192, 1 << 19)?;
-    let _made = run_over(alloc, "create 1 1 0 4096 1", &mut disk, 99)?;
-    let _stored = run_put(alloc, &mut disk, "pages", bytes)?;
-    Ok(disk)
-}
-
-// The bytes of that object.
-fn pages(alloc: Global) -> Result<Vec<u8>, AllocError> {
-    let mut bytes = Vec::new(alloc);
-    for k in 0..3 * PAGE + 7 {
-        bytes.push((k % 251) as u8)?;
-    }
-    Ok(bytes)
-}
-
 #[test]
 fn each_write_of_the_output_fails(rt: HostRuntime) -> Result<(), Fail> {
     let alloc = rt.alloc();
-    let bytes = pages(alloc)?;
-    let mut disk = with_pages(alloc, bytes.as_slice())?;
+    let bytes = bytes_of_pages(alloc)?;
+    let mut disk = archive_of_pages(alloc, bytes.as_slice())?;
     let words = words_of(alloc, "get pages")?;
     // four writes and a flush
     for (call, written) in [
@@ -144,7 +126,7 @@ fn each_write_of_the_output_fails(rt: HostRuntime) -> Result<(), Fail> {
 #[test]
 fn a_cell_that_changes_between_the_passes_is_damaged(rt: HostRuntime) -> Result<(), Fail> {
     let alloc = rt.alloc();
-    let bytes = pages(alloc)?;
+    let bytes = bytes_of_pages(alloc)?;
     // 49 cells are read in each pass; the first read of the second pass is the 50th
     // a page that is full is written when the next block comes
     for (from, line, written) in [
@@ -155,7 +137,7 @@ fn a_cell_that_changes_between_the_passes_is_damaged(rt: HostRuntime) -> Result<
         (67, "refused: damaged d18\n", PAGE),
         (98, "refused: damaged d49\n", 2 * PAGE),
     ] {
-        let inner = with_pages(alloc, bytes.as_slice())?;
+        let inner = archive_of_pages(alloc, bytes.as_slice())?;
         let mut disk = FlippingDisk {
             inner,
             file: 1,
@@ -169,7 +151,7 @@ fn a_cell_that_changes_between_the_passes_is_damaged(rt: HostRuntime) -> Result<
         assert!(rt; left.out.bytes().len() == written, "{from}");
         assert!(rt; bytes.as_slice().starts_with(left.out.bytes()), "{from}");
     }
-    let inner = with_pages(alloc, bytes.as_slice())?;
+    let inner = archive_of_pages(alloc, bytes.as_slice())?;
     let mut disk = FlippingDisk {
         inner,
         file: 1,

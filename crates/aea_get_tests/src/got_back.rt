@@ -1,15 +1,9 @@
 //! Random objects, each got back byte for byte and listed; and an object whose parts lie apart.
 
-ghost use Rattle.std.specs.Prelude.{◌≡◌, true};
-ghost use Rattle.aea_disk.specs.State.{IsFixed};
-ghost use Rattle.aea_ledger.specs.Values.{IsThisOne};
-
-use aea_catalog::{Extent, check_name};
+use aea_catalog::Extent;
 use aea_cli::Status;
-use aea_disk::{Disk, SureDisk};
-use aea_ledger::{AppendFault, Ledger, open_ledger};
-use aea_records::are_parts;
-use aea_runs::{run_over, run_put, run_words};
+use aea_disk::SureDisk;
+use aea_runs::{run_over, run_put, run_words, share_parts, step};
 use sha2::{Digest, Sha256};
 use std::alloc::{AllocError, Global};
 use std::test::Fail;
@@ -32,12 +26,6 @@ const OBJECTS: u64 = 12;
 struct Object {
     name: String,
     bytes: Vec<u8>,
-}
-
-// One step of the linear congruential generator of Knuth's MMIX.
-fn step(x: u64) -> u64 {
-    x.wrapping_mul(6_364_136_223_846_793_005)
-        .wrapping_add(1_442_695_040_888_963_407)
 }
 
 // Bytes of 0 to 5 blocks, whole ones or up to 16 bytes more.
@@ -115,46 +103,6 @@ fn objects_of_chance_are_got_back_and_listed(rt: HostRuntime) -> Result<(), Fail
     Ok(())
 }
 
-// Adds an object without nodes of its own, in parts of those that are there. False where no ledger takes it.
-fn add_parts<D: Disk>(
-    ledger: &mut Ledger,
-    disk: &mut D,
-    name: &[u8],
-    bytes: &[u8],
-    parts: &[Extent],
-) -> Result<bool, AppendFault>
-    requires live { ledger.old.live ≡ true }
-    requires this { D.tells → IsThisOne ledger.old ((D.state disk.old).files 0) }
-    requires fixed { D.tells → IsFixed (D.state disk.old) 0 }
-{
-    let shape = ledger.shape();
-    let nodes = ledger.lattice().n();
-    let size = bytes.len() as u64;
-    if ledger.limit() != 1_048_576 || nodes > 1_048_576 || parts.len() > 1 << 20 {
-        return Ok(false);
-    }
-    if !are_parts(&shape, size, nodes, parts)
-        || !check_name(name)
-        || ledger.catalog().find(name).is_some()
-    {
-        return Ok(false);
-    }
-    let digest = Sha256::digest(bytes);
-    ledger.append_parts(disk, name, size, digest, 0, &[], parts)?;
-    Ok(true)
-}
-
-// Opens the archive, and adds that object.
-fn share<D: Disk>(
-    alloc: Global,
-    disk: &mut D,
-    bytes: &[u8],
-    parts: &[Extent],
-) -> Result<bool, Fail> {
-    let mut ledger = open_ledger(alloc, disk)?;
-    Ok(add_parts(&mut ledger, disk, b"x", bytes, parts)?)
-}
-
 #[test]
 fn an_object_in_parts_that_lie_apart_is_got(rt: HostRuntime) -> Result<(), Fail> {
     let alloc = rt.alloc();
@@ -170,7 +118,7 @@ fn an_object_in_parts_that_lie_apart_is_got(rt: HostRuntime) -> Result<(), Fail>
         b"0123456789abcdefghijklmnopqrstuvwxyz",
     )?;
     let parts = [Extent { first: 1, count: 1 }, Extent { first: 3, count: 1 }];
-    assert!(rt; share(alloc, &mut disk, b"0123456789abcdefwxyz", &parts)?);
+    assert!(rt; share_parts(alloc, &mut disk, b"x", b"0123456789abcdefwxyz", &parts)?);
     let left = run_words(alloc, &["get", "x"], &mut disk, b"", 20)?;
     assert!(rt; left.is(Status::Done, "0123456789abcdefwxyz", ""));
     Ok(())

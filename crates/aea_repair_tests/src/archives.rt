@@ -1,10 +1,8 @@
-//! Archives in memory: what is read of their files, and runs over them.
+//! Archives in memory, and repairs of them.
 
 use aea_disk::{Disk, SureDisk};
 use aea_runs::{Ended, Faults, run_failing, run_over, run_put};
-use aea_test_helpers::file_bytes;
 use std::alloc::{AllocError, Global};
-use std::test::Fail;
 
 /// The line that makes an archive of AE(3,2,5) with blocks of 64 bytes, so cells of 112, on four sites.
 pub const FOUR_LINE: &str = "create 3 2 5 64 4";
@@ -34,24 +32,4 @@ pub fn run_repair<D: Disk>(
         err_room,
     };
     run_failing(alloc, "repair", disk, b"unread", faults)
-}
-
-/// The bytes of the ledger and of four sites.
-pub fn all_bytes<D: Disk>(alloc: Global, disk: &mut D) -> Result<Vec<Vec<u8>>, Fail> {
-    let mut files = Vec::new(alloc);
-    for file in 0..5u8 {
-        files.push(file_bytes(alloc, disk, file)?)?;
-    }
-    Ok(files)
-}
-
-/// Whether the ledger and four sites have these bytes.
-pub fn has_bytes<D: Disk>(alloc: Global, disk: &mut D, files: &[Vec<u8>]) -> Result<bool, Fail> {
-    for (file, bytes) in files.iter().enumerate() {
-        let file = file.min(64) as u8;
-        if file_bytes(alloc, disk, file)?.as_slice() != bytes.as_slice() {
-            return Ok(false);
-        }
-    }
-    Ok(true)
 }

@@ -1,12 +1,12 @@
 //! Random damage, against the plain repair of the files.
 
-use crate::archives::{all_bytes, has_bytes, run_repair};
+use crate::archives::run_repair;
 use crate::lines::{counts_of, drilled};
 use crate::plain::{SITES, determined, lost_blocks, repaired_files};
 use aea_cli::Status;
 use aea_disk::{Disk, DiskFault, SureDisk};
 use aea_lattice::Lattice;
-use aea_runs::{run_over, run_put, text_of};
+use aea_runs::{all_bytes, has_bytes, run_over, run_put, step, text_of};
 use aea_test_helpers::{fill_file, report_of, shorten, spoil_cell};
 use std::alloc::{AllocError, Global};
 use std::test::Fail;
@@ -34,12 +34,6 @@ const THREE_CLASSES: [Row; 3] = [
 
 // How many of a hundred cells are changed, and how many of a hundred sites are cut or emptied.
 const PERCENTS: [(u64, u64); 5] = [(3, 0), (20, 0), (0, 50), (40, 25), (80, 0)];
-
-// One step of the linear congruential generator of Knuth's MMIX.
-fn step(x: u64) -> u64 {
-    x.wrapping_mul(6_364_136_223_846_793_005)
-        .wrapping_add(1_442_695_040_888_963_407)
-}
 
 // An archive of random objects, the lattice that it has, and its files.
 #[derive(Drop)]

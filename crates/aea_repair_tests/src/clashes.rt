@@ -1,42 +1,16 @@
 //! Clashes: blocks whose computed or re-read payloads have other digests than the ledger keeps of them.
 
-use crate::archives::{all_bytes, has_bytes, run_repair};
+use crate::archives::run_repair;
 use aea_cli::Status;
 use aea_disk::{Disk, SureDisk};
-use aea_runs::{run_over, run_put, text_of};
-use aea_test_helpers::{FlippingDisk, digits_of, shorten, spoil_cell};
-use sha2::{Digest, Sha256};
-use std::alloc::{AllocError, Global};
+use aea_runs::{
+    FIRST_DIGEST, all_bytes, clash_line, digest_of, has_bytes, run_over, run_put, text_of,
+};
+use aea_test_helpers::{FlippingDisk, shorten, spoil_cell};
+use std::alloc::Global;
 use std::test::Fail;
 
-// The place in the ledger of the first digest of an archive's first object, where its name is of one byte.
-const FIRST_DIGEST: u64 = 74;
-
 const Y: &[u8; 16] = b"a payload of h1.";
-
-// The digest of the cell of a block of node 1 with this payload, spelled by hand: class 0 is of a datum, and class 1 of a
-// horizontal parity.
-fn digest_of(alloc: Global, class: u8, payload: &[u8]) -> Result<[u8; 32], AllocError> {
-    let mut cell = Vec::from_slice(alloc, b"AEB1")?;
-    cell.push(class)?;
-    cell.extend_from_slice(&[0; 3])?;
-    cell.extend_from_slice(&1u64.to_be_bytes())?;
-    cell.extend_from_slice(payload)?;
-    Ok(Sha256::digest(cell.as_slice()))
-}
-
-// The line of a clash.
-fn clash_line(
-    alloc: Global,
-    block: &str,
-    recorded: &[u8; 32],
-    computed: &[u8; 32],
-) -> Result<String, Fail> {
-    let told = digits_of(alloc, recorded)?;
-    let found = digits_of(alloc, computed)?;
-    let line = format!(in alloc; "clash {block} recorded {told} computed {found}\n")?;
-    Ok(line)
-}
 
 // An archive of one node on two sites whose h1 has the payload Y, whose d1 is gone, and whose ledger keeps the digest of
 // another payload as that of d1.
@@ -44,7 +18,7 @@ fn dishonest(alloc: Global) -> Result<SureDisk, Fail> {
     let mut disk = SureDisk::new(alloc, 2, 4096, 1024)?;
     let _made = run_over(alloc, "create 1 1 0 16 2", &mut disk, 99)?;
     let _stored = run_put(alloc, &mut disk, "a", Y)?;
-    let other = digest_of(alloc, 0, b"another payload.")?;
+    let other = digest_of(alloc, 0, 1, b"another payload.")?;
     disk.write(0, FIRST_DIGEST, &other)?;
     shorten(&mut disk, 1, 0)?;
     Ok(disk)
@@ -53,8 +27,8 @@ fn dishonest(alloc: Global) -> Result<SureDisk, Fail> {
 #[test]
 fn a_sum_with_another_digest_is_a_clash(rt: HostRuntime) -> Result<(), Fail> {
     let alloc = rt.alloc();
-    let recorded = digest_of(alloc, 0, b"another payload.")?;
-    let computed = digest_of(alloc, 0, Y)?;
+    let recorded = digest_of(alloc, 0, 1, b"another payload.")?;
+    let computed = digest_of(alloc, 0, 1, Y)?;
     let want = clash_line(alloc, "d1", &recorded, &computed)?;
     assert!(rt; want.len() == 157);
     for room in [200usize, 157, 156, 64, 6, 0] {
@@ -114,10 +88,10 @@ fn a_restored_block_serves_the_next(rt: HostRuntime) -> Result<(), Fail> {
 fn a_survivor_that_changes_under_way_is_a_clash(rt: HostRuntime) -> Result<(), Fail> {
     let alloc = rt.alloc();
     // h1 is first on site 2, and d1 on site 1; the first reads of site 2 are those of the scan, of h1, d2 and h3
-    let recorded = digest_of(alloc, 1, Y)?;
+    let recorded = digest_of(alloc, 1, 1, Y)?;
     let mut turned = *Y;
     turned[2] ^= 1;
-    let computed = digest_of(alloc, 1, &turned)?;
+    let computed = digest_of(alloc, 1, 1, &turned)?;
     let want = clash_line(alloc, "h1", &recorded, &computed)?;
     let mut disk = FlippingDisk {
         inner: of_three(alloc, &[0])?,

@@ -1,9 +1,9 @@
 //! Worked examples of repairs.
 
-use crate::archives::{all_bytes, archive_of_four, has_bytes};
+use crate::archives::archive_of_four;
 use aea_cli::Status;
 use aea_disk::{Disk, SureDisk};
-use aea_runs::{run_get, run_over, run_put, text_of};
+use aea_runs::{all_bytes, has_bytes, run_get, run_over, run_put, text_of};
 use aea_test_helpers::{file_bytes, fill_file, report_of, shorten, spoil, spoil_cell};
 use std::test::Fail;
 

@@ -1,12 +1,12 @@
 //! Repairs of archives of many blocks.
 
-use crate::archives::{all_bytes, has_bytes, run_repair};
+use crate::archives::run_repair;
 use crate::lines::drilled;
 use aea_cli::Status;
 use aea_disk::SureDisk;
 use aea_lattice::Lattice;
 use aea_plain::codeword;
-use aea_runs::{run_get, run_over, run_put, text_of};
+use aea_runs::{all_bytes, has_bytes, run_get, run_over, run_put, text_of};
 use aea_test_helpers::{
     NINETEEN, TWO_CODEWORDS, add_line, report_of, shorten, some_bytes, spoil_cell,
 };

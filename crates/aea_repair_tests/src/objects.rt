@@ -1,11 +1,10 @@
 //! An archive of many objects that loses a site.
 
-use crate::archives::{all_bytes, has_bytes};
 use crate::lattices::lines_of_site;
 use aea_cli::Status;
 use aea_disk::SureDisk;
 use aea_lattice::Lattice;
-use aea_runs::{run_get, run_over, run_put};
+use aea_runs::{all_bytes, has_bytes, run_get, run_over, run_put};
 use aea_test_helpers::{report_of, shorten, some_bytes};
 use std::alloc::Global;
 use std::test::Fail;

@@ -1,9 +1,9 @@
 //! Repairs that are refused, words that mean none, and a site without space.
 
-use crate::archives::{all_bytes, archive_of_four, has_bytes};
+use crate::archives::archive_of_four;
 use aea_cli::Status;
 use aea_disk::{Disk, SureDisk};
-use aea_runs::{run_over, run_words, text_of};
+use aea_runs::{all_bytes, has_bytes, run_over, run_words, text_of};
 use aea_test_helpers::{file_bytes, fill_file, spoil};
 use std::alloc::Global;
 use std::test::Fail;

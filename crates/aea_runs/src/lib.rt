@@ -1,13 +1,23 @@
-//! Runs of the program over streams and disks in memory, for the tests.
+//! Runs of the program over streams and disks in memory, and what is compared with what they leave, for the tests.
 #![tactic(auto)]
 
+mod chance;
+mod clashes;
 mod failing;
+mod files;
+mod pages;
+mod parts;
 mod slow;
 
 use aea_cli::{Status, run, run_surely};
 use aea_disk::{Disk, SureDisk};
 use aea_io::{SureSink, SureSource};
+pub use chance::step;
+pub use clashes::{FIRST_DIGEST, cell_of, clash_line, digest_of};
 pub use failing::{Ended, Faults, NONE, run_failing};
+pub use files::{all_bytes, has_bytes};
+pub use pages::{PAGE, archive_of_pages, bytes_of_pages};
+pub use parts::share_parts;
 pub use slow::run_slowly;
 use std::alloc::{AllocError, Global};
 use std::str::{self, Utf8Error};
@@ -136,6 +146,16 @@ pub fn run_get<D: Disk>(
     room: usize,
 ) -> Result<Left, AllocError> {
     run_words(alloc, &["get", name], disk, b"unread", room)
+}
+
+/// Runs `fetch` with this name over this disk, with so many bytes of space on `out`.
+pub fn run_fetch<D: Disk>(
+    alloc: Global,
+    disk: &mut D,
+    name: &str,
+    room: usize,
+) -> Result<Left, AllocError> {
+    run_words(alloc, &["fetch", name], disk, b"unread", room)
 }
 
 /// Runs `put` with this name over this disk and input.

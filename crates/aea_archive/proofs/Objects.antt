@@ -100,21 +100,18 @@ records-more shape earlier (r ∷ records) datas more follow le holds =
 pub nodes-hold : (shape : Shape) (long : ℕ) → long ≤ nodes_for shape long * shape.block
 nodes-hold shape long = let h = shape.in_profile in grind (arith, nat_tests)
 
--- its blocks contain its bytes and then zeros
-held-by : (shape : Shape) (datas : List (List ℕ)) (bytes : List ℕ) (o : Stored) (parts : List Extent) → o.size ≡ length bytes → o.digest ≡ sha256 bytes
-    → flat_map (λ d. d) (blocks_in parts (datas ++ object_blocks shape bytes)) ≡ bytes ++ replicate (nodes_for shape (length bytes) * shape.block - length bytes) 0
-    → HoldsObject (datas ++ object_blocks shape bytes) o parts
-held-by shape datas bytes o parts size digest is =
-    let zeros : List ℕ = replicate (nodes_for shape (length bytes) * shape.block - length bytes) 0 in
-    record {
-      bytes = bytes;
-      long = sym size;
-      digest = sym digest;
-      within = subst (λ (l : List ℕ). length bytes ≤ length l) (sym is) (omega (arith, length-append bytes zeros));
-      front = subst (λ (l : List ℕ). take (length bytes) l ≡ bytes) (sym is) (take-append_seam bytes zeros);
-      zeros = subst (λ (l : List ℕ). drop (length bytes) l ≡ replicate (length l - length bytes) 0) (sym is)
-          (drop-append_seam bytes zeros ∙ ap (λ (k : ℕ). replicate k 0) (omega (arith, length-append bytes zeros, length-replicate {A = ℕ} (nodes_for shape (length bytes) * shape.block - length bytes) 0)));
-    }
+-- a data list whose blocks in the parts, joined, are the bytes and then zeros holds the object
+pub held-in : (datas : List (List ℕ)) (bytes : List ℕ) (zeros : ℕ) (o : Stored) (parts : List Extent) → o.size ≡ length bytes → o.digest ≡ sha256 bytes
+    → flat_map (λ d. d) (blocks_in parts datas) ≡ bytes ++ replicate zeros 0 → HoldsObject datas o parts
+held-in datas bytes zeros o parts size digest is = record {
+  bytes = bytes;
+  long = sym size;
+  digest = sym digest;
+  within = subst (λ (l : List ℕ). length bytes ≤ length l) (sym is) (omega (arith, length-append bytes (replicate zeros 0)));
+  front = subst (λ (l : List ℕ). take (length bytes) l ≡ bytes) (sym is) (take-append_seam bytes (replicate zeros 0));
+  zeros = subst (λ (l : List ℕ). drop (length bytes) l ≡ replicate (length l - length bytes) 0) (sym is)
+      (drop-append_seam bytes (replicate zeros 0) ∙ ap (λ (k : ℕ). replicate k 0) (omega (arith, length-append bytes (replicate zeros 0), length-replicate {A = ℕ} zeros 0)));
+}
 
 own-blocks : (shape : Shape) (datas : List (List ℕ)) (bytes : List ℕ) (o : Stored) (b : Bool) → (o.count == 0) ≡ b → o.first ≡ length datas + 1 → o.count ≡ nodes_for shape (length bytes)
     → flat_map (λ d. d) (blocks_in (if b then [] else record { first = o.first; count = o.count } ∷ []) (datas ++ object_blocks shape bytes)) ≡ flat_map (λ d. d) (object_blocks shape bytes)
@@ -134,5 +131,5 @@ own-blocks shape datas bytes o false is first count =
 pub next-held : (shape : Shape) (datas : List (List ℕ)) (bytes : List ℕ) (o : Stored) → o.size ≡ length bytes → o.digest ≡ sha256 bytes → o.first ≡ length datas + 1 → o.count ≡ nodes_for shape (length bytes)
     → HoldsObject (datas ++ object_blocks shape bytes) o (own_parts o)
 next-held shape datas bytes o size digest first count =
-    held-by shape datas bytes o (own_parts o) size digest
+    held-in (datas ++ object_blocks shape bytes) bytes (nodes_for shape (length bytes) * shape.block - length bytes) o (own_parts o) size digest
     (own-blocks shape datas bytes o (o.count == 0) refl first count ∙ cut-joined shape.block (nodes_for shape (length bytes)) bytes (nodes-hold shape (length bytes)))

@@ -1,6 +1,6 @@
 -- Objects that are put one after the other.
 use Rattle.std.proofs.Common.{◌≡◌, ⊎_elim, ℕ, suc, ◌≤◌, List, [], ◌∷◌, ◌++◌, length, Some, All, refl, sym, ◌∙◌, ap, subst, arith, append_assoc}
-use Rattle.std.specs.List.{flat_map, sum_by}
+use Rattle.std.specs.List.{flat_map}
 use Rattle.std.proofs.lemmas.Bool.{cases_lt}
 use Rattle.std.proofs.lemmas.List.{append-nil}
 use Rattle.aea_lattice.specs.declared.blocks.BlockId.{BlockId}
@@ -14,17 +14,16 @@ use Rattle.aea_lattice.specs.Growth.{IsGrown}
 use Rattle.aea_lattice.proofs.Opens.{strand-same}
 use Rattle.aea_weave.specs.Sums.{LongerDataKeepValues}
 use Rattle.aea_records.specs.TableLaws.{AreBytes}
-use Rattle.aea_records.specs.Format.{Stored, Record, Object, nodes_of, fences_of}
+use Rattle.aea_records.specs.Format.{Record, Object, stored_in, nodes_of, fence_in, fences_of}
 use Rattle.aea_records.specs.Grammar.{IsNext}
 use Rattle.aea_ledger.specs.Recorded.{IsLatticeOf, AreRecordsOf}
-use Rattle.aea_records.proofs.OneMore.{nodes_of-push, fences_of-push}
 use Rattle.aea_archive.specs.Blocks.{IsBlockOn}
 use Rattle.aea_archive.specs.Lasts.{IsLastParity, AreLastsOf}
 use Rattle.aea_archive.specs.Next.{object_blocks, IsNextStored, NewObject, AreNextRecords}
 use Rattle.aea_archive.specs.Data.{RecordsMore}
 use Rattle.aea_archive.specs.Laws.{ObjectsRecordMore, PutsRecord}
 use Rattle.aea_archive.proofs.Values.{last_inside, grown-continues, last-grown}
-use Rattle.aea_archive.proofs.Records.{none_record_none, next_records_more}
+use Rattle.aea_archive.proofs.Records.{none_record_none, lattice-more, next_records_more}
 
 -- a last parity of a lattice that has grown is new, or was one before
 pub lasts_more : LongerDataKeepValues → (shape : Shape) (l m : Lattice) (datas news : List (List ℕ)) (payload : BlockId → List ℕ) → IsGrown l m.n m → l.n ≤ m.n → l.alpha ≡ shape.alpha → length datas ≡ l.n
@@ -92,16 +91,8 @@ objects_record_more longer shape records (r ∷ added) datas l m payload (o ∷ 
     let nodes = g.nodes in
     let whole : IsGrown l mid.n mid = record { shape = g.shape; nodes = refl; fences = g.fences } in
     let long : length datas ≡ l.n = (let d = old.is_data in let i = old.is_lattice in let a = d.long in let b = i.n in let c = is.n in omega (arith, a, b, c)) in
-    let sum : sum_by (λ (q : Stored). q.count) (stored ∷ []) ≡ stored.count = omega arith in
-    let then : IsLatticeOf shape (nodes_of (records ++ Object stored ∷ [])) (fences_of (records ++ Object stored ∷ [])) mid = record {
-      alpha = g.shape.alpha ∙ is.alpha;
-      s = g.shape.s ∙ is.s;
-      p = g.shape.p ∙ is.p;
-      n = nodes ∙ (let i = is.n in omega (arith, i, nodes_of-push records (Object stored), sum));
-      fences_are = g.fences ∙ is.fences_are ∙ sym (fences_of-push records (Object stored) ∙ append-nil (fences_of records));
-    } in
     let after : IsLatticeOf shape (nodes_of (records ++ r ∷ [])) (fences_of (records ++ r ∷ [])) mid =
-    subst (λ (q : Record). IsLatticeOf shape (nodes_of (records ++ q ∷ [])) (fences_of (records ++ q ∷ [])) mid) (sym next.2) then in
+    lattice-more shape records r stored l mid (ap stored_in next.2) (ap fence_in next.2) is g in
     let ready = lasts_more longer shape l mid datas blocks payload whole (omega (arith, nodes)) is.alpha long lasts first.values in
     let rest : RecordsMore shape (records ++ r ∷ []) added (datas ++ blocks) others mid m payload =
     objects_record_more longer shape (records ++ r ∷ []) added (datas ++ blocks) mid m payload objects here after ready (All-tail (λ (q : NewObject). AreBytes q.bytes) o objects bytes) follow.1 next.4 in

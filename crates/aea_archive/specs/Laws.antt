@@ -4,18 +4,19 @@ use Rattle.std.specs.List.{flat_map}
 use Rattle.aea_lattice.specs.declared.blocks.BlockId.{BlockId}
 use Rattle.aea_lattice.specs.declared.grid.Lattice.{Lattice}
 use Rattle.aea_lattice.specs.declared.shape.Shape.{Shape}
+use Rattle.aea_catalog.specs.declared.objects.Extent.{Extent}
 use Rattle.aea_records.specs.TableLaws.{AreBytes}
-use Rattle.aea_records.specs.Format.{Stored, Record, Object, nodes_of, fences_of}
+use Rattle.aea_records.specs.Format.{Stored, Record, Object, Joined, nodes_of, fences_of}
 use Rattle.aea_records.specs.Grammar.{IsNext, MayFollow, AreRecords}
 use Rattle.aea_ledger.specs.Recorded.{IsLatticeOf, AreRecordsOf}
-use Rattle.aea_lattice.specs.Data.{value_of}
+use Rattle.aea_lattice.specs.Data.{IsDataList, value_of}
 use Rattle.aea_lattice.specs.Growth.{IsGrown}
 use Rattle.aea_disk.specs.Files.{Files}
 use Rattle.aea_shelf.specs.Writes.{KeepsPadded, KeepsIntact}
 use Rattle.aea_archive.specs.Blocks.{IsBlockOn, IsBlockIn, TellsSurvivors}
 use Rattle.aea_archive.specs.Cells.{AreAtHome}
 use Rattle.aea_archive.specs.Lasts.{IsLastParity, AreLastsHonest, AreLastsRecorded, AreLastsAtHome, AreLastsOf}
-use Rattle.aea_archive.specs.Next.{AreDigestsOn, object_blocks, IsNextStored, NewObject, AreNextRecords}
+use Rattle.aea_archive.specs.Next.{AreDigestsOn, object_blocks, IsNextStored, IsNextInParts, NewObject, AreNextRecords}
 use Rattle.aea_archive.specs.Data.{AreSurvivorsHonest, IsDamagePlain, RecordsMore}
 
 -- An archive without records records no data.
@@ -50,6 +51,17 @@ PutsRecord =
     → IsLatticeOf shape 0 [] l → All (λ o. AreBytes o.bytes) objects
     → AreRecords shape records → AreNextRecords shape l m payload objects records
     → AreRecordsOf shape records (flat_map (λ o. object_blocks shape o.bytes) objects)
+
+-- Where records record a data list, the records with that of an object in parts after them record the list followed by the
+-- blocks that were woven after it, also where some of these belong to no object.
+abbrev pub PartsRecordMore : Type 0
+PartsRecordMore =
+    (shape : Shape) (records : List Record) (datas more : List (List ℕ)) (l m : Lattice)
+    (name bytes : List ℕ) (parts : List Extent) (o : Stored)
+    → AreRecordsOf shape records datas → IsLatticeOf shape (nodes_of records) (fences_of records) l
+    → IsDataList m shape.block (datas ++ more)
+    → IsNext shape records (Joined o parts) → IsNextInParts shape l m datas more name bytes parts o
+    → AreRecordsOf shape (records ++ Joined o parts ∷ []) (datas ++ more)
 
 -- Last parities whose cells are at their homes, with the digests that are kept, have the payloads of the lattice of each
 -- data list for which they are honest.

@@ -1,6 +1,8 @@
--- “Next record” of an object that is put: the blocks of its data, what is woven of them, and what is recorded. It is given
--- by the payloads of blocks: those of the last parities, and those of the new nodes.
+-- “Next record”: the blocks of an object's data, what is woven of them, and what is recorded. Of an object that is put it is
+-- given by the payloads of blocks: those of the last parities, and those of the new nodes. Of one in parts it is given by the
+-- data that are recorded and the blocks woven after them.
 use Rattle.std.specs.Prelude.{◌≡◌, ℕ, zero, suc, ◌+◌, ◌-◌, ◌*◌, ◌<◌, ◌≤◌, List, [], ◌∷◌, ◌++◌, length, take, drop, replicate, slice_index_or, Option, Some, None}
+use Rattle.std.specs.List.{flat_map}
 use Rattle.sha2.specs.Sha256.{sha256}
 use Rattle.aea_lattice.specs.declared.blocks.Class.{Class}
 use Rattle.aea_lattice.specs.declared.blocks.Class.TheVariants.{Datum}
@@ -10,10 +12,12 @@ use Rattle.aea_lattice.specs.declared.shape.Shape.{Shape}
 use Rattle.aea_lattice.specs.Blocks.{block_of, HasParity}
 use Rattle.aea_lattice.specs.Strands.{previous}
 use Rattle.aea_lattice.specs.Shapes.{number_in}
-use Rattle.aea_lattice.specs.Data.{xor_bytes}
+use Rattle.aea_lattice.specs.Data.{xor_bytes, value_of}
 use Rattle.aea_lattice.specs.Growth.{IsGrown}
 use Rattle.aea_envelope.specs.Cells.{block_digest}
+use Rattle.aea_catalog.specs.declared.objects.Extent.{Extent}
 use Rattle.aea_records.specs.Format.{Stored, Record, Object, nodes_for}
+use Rattle.aea_records.specs.Recorded.{blocks_in}
 use Rattle.aea_archive.specs.Blocks.{IsBlockOn}
 
 -- the first n blocks of these bytes, the bytes past their end taken as zeros
@@ -74,3 +78,24 @@ AreNextRecords shape l m payload (o ∷ objects) [] = ⊥
 AreNextRecords shape l m payload (o ∷ objects) (r ∷ records) =
     (next : Lattice) × (stored : Stored) × (r ≡ Object stored) × IsNextStored shape l next payload o.name o.bytes stored
     × AreNextRecords shape next m payload objects records
+
+-- “Next record” of an object, where the lattice l of the archive grows to m by its new nodes and their blocks have these
+-- payloads: it has the name, and the length and the SHA-256 of the bytes; its new nodes come after those of l; and it has the
+-- digests of all new blocks, also of blocks that belong to no object. There are two kinds, which say what blocks are new and
+-- which of them are the object's: that of a put (`IsNextStored`), and that of an object in parts (`IsNextInParts`).
+pub record IsNextWoven (shape : Shape) (l m : Lattice) (payload : BlockId → List ℕ) (name bytes : List ℕ) (o : Stored) : Type 0 where
+  pub name_is : o.name ≡ name
+  pub size : o.size ≡ length bytes
+  pub digest : o.digest ≡ sha256 bytes
+  pub first : o.first ≡ l.n + 1
+  pub grown : IsGrown l (l.n + o.count) m
+  pub digests : AreDigestsOn shape l.n m.n payload o.digests
+
+-- “Next record” of an object in parts, where these blocks were woven after the data that were recorded, and the lattice l of
+-- the archive grew to m: the blocks in its parts, joined, are its bytes and zeros after them, and its digests are those of the
+-- new blocks in the lattice of all data.
+pub record IsNextInParts (shape : Shape) (l m : Lattice) (datas more : List (List ℕ)) (name bytes : List ℕ) (parts : List Extent) (o : Stored) : Type 0 where
+  pub next : IsNextWoven shape l m (value_of m shape.block (datas ++ more)) name bytes o
+  pub count : o.count ≡ length more
+  pub zeros : ℕ
+  pub blocks : flat_map (λ d. d) (blocks_in parts (datas ++ more)) ≡ bytes ++ replicate zeros 0

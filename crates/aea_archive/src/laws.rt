@@ -1,6 +1,6 @@
 //! What follows of the definitions.
 
-ghost use Rattle.aea_archive.specs.Laws.{NoneRecordNone, NextRecordsMore, ObjectsRecordMore, PutsRecord, LastsAreValues, SurvivorsStayHonest, SurvivorsAreTold};
+ghost use Rattle.aea_archive.specs.Laws.{NoneRecordNone, NextRecordsMore, ObjectsRecordMore, PutsRecord, PartsRecordMore, LastsAreValues, SurvivorsStayHonest, SurvivorsAreTold};
 
 use aea_envelope::{cells_have_lengths, cells_have_parts};
 use aea_shelf::plain_damage_stays;
@@ -28,6 +28,14 @@ pub fn objects_record_more()
 /// An archive that was made, and into which objects were put, records their blocks.
 pub fn puts_record()
     ensures { PutsRecord }
+{
+    longer_data_keep_values();
+}
+
+/// Where records record some data, the records with that of an object in parts record these and the blocks woven after
+/// them, also blocks that belong to no object.
+pub fn parts_record_more()
+    ensures { PartsRecordMore }
 {
     longer_data_keep_values();
 }

@@ -2,15 +2,17 @@
 //!
 //! Promises to the calls above that `read_block` is Intact exactly where the block is, by the digest that the ledger
 //! keeps, over a disk whose contents are known; that where the last parities have the payloads of a recorded data list,
-//! the records with the next one record that list and the blocks of its object (`next_records_more`); and that some
+//! the records with the next one record that list and the blocks of its object (`next_records_more`); that with the record
+//! of an object in parts they record the list and all blocks that were woven after it (`parts_record_more`); and that some
 //! test distinguishes the intact blocks, whatever the files are (`survivors_are_told`). Read `Blocks` (`IsIntactBy`) and
 //! `Stretches` (`Adds`) first. It rests on `aea_ledger`, `aea_shelf` and `aea_weave`.
 //!
 //! `specs/Blocks.antt` says which digest the ledger keeps of a block and which blocks are intact by it, `specs/Lasts.antt`
-//! what the last parities are that enter the next node, `specs/Next.antt` what the next record of an object is, given by
-//! the payloads of blocks, `specs/Cells.antt` what changes of the files leave of the blocks, `specs/Stretches.antt` what a
-//! stretch of a run leaves in which records are added, `specs/Data.antt` what of the data survivors have, and
-//! `specs/Objects.antt` what the data blocks of an object are, and what payloads of them are, joined and cut.
+//! what the last parities are that enter the next node, `specs/Next.antt` what the next record of an object is, that of a
+//! put given by the payloads of blocks and that of an object in parts by the data, `specs/Cells.antt` what changes of the
+//! files leave of the blocks, `specs/Stretches.antt` what a stretch of a run leaves in which records are added,
+//! `specs/Data.antt` what of the data survivors have, and `specs/Objects.antt` what the data blocks of an object are, and
+//! what payloads of them are, joined and cut.
 //!
 //! A function that adds records gets its clauses from those of its calls by these lemmas of
 //! `Rattle.aea_archive.proofs.Stretches`. Each takes the states before, between and after.
@@ -38,7 +40,7 @@ mod laws;
 mod read;
 
 pub use laws::{
-    lasts_are_values, next_records_more, none_record_none, objects_record_more, puts_record,
-    survivors_are_told, survivors_stay_honest,
+    lasts_are_values, next_records_more, none_record_none, objects_record_more, parts_record_more,
+    puts_record, survivors_are_told, survivors_stay_honest,
 };
 pub use read::{cell_buffer, is_block_intact, read_block, recorded};

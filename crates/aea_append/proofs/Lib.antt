@@ -1,9 +1,13 @@
+mod Placed
 mod Steps
+mod Valued
 mod Cuts
 mod Takings
 mod Faults
 mod Loads
 mod Starts
+mod Kept
+mod Loaded
 mod Rooms
 mod Storing
 mod Leaving
@@ -12,3 +16,4 @@ mod Ended
 mod Frames
 mod Ingesting
 mod Space
+mod Parted

@@ -1,21 +1,28 @@
 -- Heads that are all loaded, before a node is woven.
 use Rattle.std.proofs.Common.{◌≡◌, ℕ, ◌+◌, ◌-◌, ◌*◌, ◌<◌, List, [], replicate, Option, None, Some, Result, Err, refl, sym, ◌∙◌, ap, subst, arith}
+use Rattle.std.proofs.lemmas.List.{append-nil}
 use Rattle.aea_lattice.specs.declared.blocks.Class.{Class}
 use Rattle.aea_lattice.specs.declared.blocks.BlockId.{BlockId}
 use Rattle.aea_lattice.specs.declared.grid.Lattice.{Lattice}
-use Rattle.aea_lattice.specs.Blocks.{HasParity}
+use Rattle.aea_lattice.specs.declared.shape.Shape.{Shape}
+use Rattle.aea_lattice.specs.Blocks.{block_of, HasParity}
+use Rattle.aea_lattice.specs.Data.{IsDataList, value_at}
 use Rattle.aea_lattice.specs.Strands.{strand_of}
 use Rattle.aea_lattice.specs.Ends.{strands_of, last_open}
 use Rattle.aea_disk.specs.Files.{Files}
 use Rattle.aea_weave.specs.Woven.{Woven, head_of}
 use Rattle.aea_weave.specs.Stored.{all_strands}
+use Rattle.aea_weave.specs.Sums.{parity_to, AreStrandSums, LastParitiesAreSums}
 use Rattle.aea_weave.proofs.Places.{strand-below, place-within}
 use Rattle.aea_ledger.specs.Values.{Opened}
-use Rattle.aea_archive.specs.Lasts.{IsLastParity, IsFirstDamagedLast, AreLastsIntact}
+use Rattle.aea_archive.specs.Lasts.{IsLastParity, IsFirstDamagedLast, AreLastsIntact, AreLastsHonest, AreLastsOf}
+use Rattle.aea_archive.specs.Laws.{LastsAreValues}
 use Rattle.aea_append.specs.declared.fault.PutFault.{PutFault}
-use Rattle.aea_append.specs.declared.fault.PutFault.TheVariants.{HeadDamaged, Full}
+use Rattle.aea_append.specs.declared.fault.PutFault.TheVariants.{Full}
+use Rattle.aea_append.specs.declared.heads.HeadFault.{HeadFault}
+use Rattle.aea_append.specs.declared.heads.HeadFault.TheVariants.{HeadDamaged}
 use Rattle.aea_append.specs.Loading.{place_of, IsLoaded, IsFound, HasLoaded}
-use Rattle.aea_append.specs.Weaving.{head_by, AreHeads, HasWoven}
+use Rattle.aea_append.specs.Weaving.{head_by, AreHeads, HasWoven, IsWovenOf}
 use Rattle.aea_append.proofs.Faults.{fault_is}
 use Rattle.aea_append.proofs.Loads.{on_last}
 
@@ -89,13 +96,13 @@ first_damaged tells v files heads b has =
 
 -- ---- which block a fault names, and how many nodes
 
-abbrev block_in : BlockId → PutFault → BlockId
-block_in d (HeadDamaged b) = b
-block_in d fault = d
+abbrev block_in : {T : Type 0} → BlockId → Result T HeadFault → BlockId
+block_in d (Err (HeadDamaged b)) = b
+block_in d r = d
 
 -- faults of a damaged last parity that are the same name the same block
-pub same_head : {T : Type 0} (x y : BlockId) → ◌≡◌ {A = Result T PutFault} (Err (HeadDamaged x)) (Err (HeadDamaged y)) → x ≡ y
-same_head x y e = ap (block_in x) (fault_is (HeadDamaged x) (HeadDamaged y) e)
+pub same_head : {T : Type 0} (x y : BlockId) → ◌≡◌ {A = Result T HeadFault} (Err (HeadDamaged x)) (Err (HeadDamaged y)) → x ≡ y
+same_head x y e = ap (block_in x) e
 
 abbrev nodes_in : PutFault → ℕ
 nodes_in (Full n) = n
@@ -104,3 +111,37 @@ nodes_in fault = 0
 -- faults of a full archive that are the same name the same number of nodes
 pub same_nodes : {T : Type 0} (m n : ℕ) → ◌≡◌ {A = Result T PutFault} (Err (Full m)) (Err (Full n)) → m ≡ n
 same_nodes m n e = ap nodes_in (fault_is (Full m) (Full n) e)
+
+-- ---- heads of a data list
+
+head_value : (l : Lattice) (size : ℕ) (shape : Shape) (datas : List (List ℕ)) (payload : BlockId → List ℕ) (c : Class) (strand : ℕ) → size ≡ shape.block → HasParity l c → AreLastsOf shape l datas payload → (o : Option ℕ) → last_open l c strand ≡ o
+    → head_by size payload c o ≡ parity_to l size datas c o
+head_value l size shape datas payload c strand same parity lasts None is = refl
+head_value l size shape datas payload c strand same parity lasts (Some g) is =
+    lasts (block_of g c) (record { parity = parity; last = subst (λ (k : ℕ). last_open l c k ≡ Some g) (sym (on_last l c strand g is)) is })
+    ∙ ap (λ (k : ℕ). value_at l k datas g c) (sym same)
+
+-- loaded heads are the strand sums of each data list for which the last parities are honest
+pub sums_start : LastsAreValues → LastParitiesAreSums → (tells : Type 0) → tells → (v : Opened) (heads : Woven) (first files : Files) (datas : List (List ℕ)) → heads.lattice ≡ v.lattice → heads.size ≡ v.shape.block
+    → IsDataList v.lattice v.shape.block datas → AreLastsHonest v.shape v.lattice v.digests datas first
+    → HasWoven tells v.shape v.lattice v.digests first files heads [] [] → IsWovenOf v.shape v.lattice heads datas [] []
+sums_start values are tells told v heads first files datas lattice size is honest has =
+    let lasts : AreLastsOf v.shape v.lattice datas has.payload = values v.shape v.lattice v.digests datas has.payload first honest has.lasts (has.homes told) has.lasts_wide in
+    let here : AreLastsOf v.shape heads.lattice datas has.payload = subst (λ (l : Lattice). AreLastsOf v.shape l datas has.payload) (sym lattice) lasts in
+    let own : IsDataList heads.lattice heads.size datas = subst (λ (l : Lattice). IsDataList l heads.size datas) (sym lattice) (subst (λ (k : ℕ). IsDataList v.lattice k datas) (sym size) is) in
+    let n : heads.lattice.n ≡ v.lattice.n = ap (λ (l : Lattice). l.n) lattice in
+    let sums : AreStrandSums heads datas = are heads datas own
+    (λ c strand parity below. has.heads c strand parity below ∙ head_value heads.lattice heads.size v.shape datas has.payload c strand size parity here (last_open heads.lattice c strand) refl) in
+    record {
+      grown = record {
+        shape = record { alpha = ap (λ (l : Lattice). l.alpha) lattice; s = ap (λ (l : Lattice). l.s) lattice; p = ap (λ (l : Lattice). l.p) lattice };
+        nodes = omega (arith, n);
+        fences = ap (λ (l : Lattice). l.fences) lattice;
+      };
+      size = size;
+      sums = subst (AreStrandSums heads) (sym (append-nil datas)) sums;
+      digests_are = record {
+        long = (let z : heads.lattice.n - v.lattice.n ≡ 0 = omega (arith, n) in let e : 0 ≡ 0 * (1 + v.shape.alpha) = omega arith in e ∙ ap (λ (k : ℕ). k * (1 + v.shape.alpha)) (sym z));
+        each = λ b on. absurd (let x = on.after in let y = on.most in omega (arith, x, y, n));
+      };
+    }

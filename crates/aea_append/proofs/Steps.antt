@@ -1,8 +1,5 @@
 -- One more node that is woven and written.
-use Rattle.std.proofs.Common.{◌≡◌, ◌≢◌, ⊎_elim, inl, inr, ℕ, suc, ◌+◌, ◌-◌, ◌*◌, ◌<◌, ◌≤◌, Bool, true, false, cond, ◌==◌, List, [], ◌∷◌, ◌++◌, map, filter, length, replicate, get_or, Option, Some, None, refl, sym, ◌∙◌, ap, subst, arith, length-append}
-use Rattle.std.specs.Prelude.{nat_le}
-use native.Mathlib.Nat.{add-mul, mul_comm}
-use Rattle.std.proofs.lemmas.Nat.{mul-add-lt}
+use Rattle.std.proofs.Common.{◌≡◌, ◌≢◌, ⊎_elim, ℕ, suc, ◌+◌, ◌-◌, ◌<◌, ◌≤◌, Bool, true, false, cond, ◌==◌, List, [], ◌∷◌, ◌++◌, map, length, replicate, get_or, Option, Some, None, refl, sym, ◌∙◌, ap, subst, arith, length-append}
 use Rattle.std.proofs.lemmas.Bool.{cases_eq, cases_lt}
 use Rattle.std.proofs.lemmas.Bool.Decides.{nat_tests}
 use Rattle.std.proofs.lemmas.List.{get_or-append_right, get_or_append_left}
@@ -12,12 +9,10 @@ use Rattle.aea_lattice.specs.declared.blocks.BlockId.{BlockId}
 use Rattle.aea_lattice.specs.declared.grid.Lattice.{Lattice}
 use Rattle.aea_lattice.specs.declared.shape.Shape.{Shape}
 use Rattle.aea_lattice.specs.Blocks.{block_of, class_number, HasParity, classes}
-use Rattle.aea_lattice.specs.Shapes.{number_in}
 use Rattle.aea_lattice.specs.Strands.{strand_of, is_on, previous, next_to_last}
 use Rattle.aea_lattice.specs.Data.{xor_bytes}
 use Rattle.aea_lattice.specs.Ends.{strands_of, open_nodes, last_of, last_open}
 use Rattle.aea_lattice.specs.Facts.{LastsEnter}
-use Rattle.aea_lattice.proofs.Numbers.{one_to_three}
 use Rattle.aea_lattice.proofs.Prefixes.{IsLast-last_of, filter-same, previous-before}
 use Rattle.aea_lattice.proofs.Strands.{last_of-snoc}
 use Rattle.aea_lattice.proofs.Sums.{xor_bytes-zeros}
@@ -31,60 +26,13 @@ use Rattle.aea_archive.specs.Blocks.{IsBlockOn}
 use Rattle.aea_archive.specs.Next.{HoldsData, IsWovenAfter, woven_parity, AreDigestsOn}
 use Rattle.aea_archive.proofs.Values.{last_inside, grown-continues}
 use Rattle.aea_append.specs.Weaving.{last_payload, last_digest, head_by, AreHeads, AreLastAtHome, HasWoven}
-
--- ---- the classes of a node, by their numbers
-
-abbrev classes_at : ℕ → List Class
-classes_at alpha = filter (λ c. nat_le (class_number c) alpha) (Horiz ∷ Right ∷ Left ∷ [])
-
-at_one : (f : Class → List ℕ) (c : Class) → class_number c ≤ 1 → get_or (map f (Datum ∷ Horiz ∷ [])) (class_number c) [] ≡ f c
-at_one f Datum used = refl
-at_one f Horiz used = refl
-at_one f Right used = absurd (omega arith)
-at_one f Left used = absurd (omega arith)
-
-at_two : (f : Class → List ℕ) (c : Class) → class_number c ≤ 2 → get_or (map f (Datum ∷ Horiz ∷ Right ∷ [])) (class_number c) [] ≡ f c
-at_two f Datum used = refl
-at_two f Horiz used = refl
-at_two f Right used = refl
-at_two f Left used = absurd (omega arith)
-
-at_three : (f : Class → List ℕ) (c : Class) → class_number c ≤ 3 → get_or (map f (Datum ∷ Horiz ∷ Right ∷ Left ∷ [])) (class_number c) [] ≡ f c
-at_three f Datum used = refl
-at_three f Horiz used = refl
-at_three f Right used = refl
-at_three f Left used = refl
-
-class-at : (l : Lattice) (f : Class → List ℕ) (c : Class) → class_number c ≤ l.alpha → get_or (map f (Datum ∷ classes l)) (class_number c) [] ≡ f c
-class-at l f c used = elim (one_to_three l) [
-  | inl one ↦ ap (λ (a : ℕ). get_or (map f (Datum ∷ classes_at a)) (class_number c) []) one ∙ at_one f c (omega (arith, one, used))
-  | inr more ↦ elim more [
-    | inl two ↦ ap (λ (a : ℕ). get_or (map f (Datum ∷ classes_at a)) (class_number c) []) two ∙ at_two f c (omega (arith, two, used))
-    | inr three ↦ ap (λ (a : ℕ). get_or (map f (Datum ∷ classes_at a)) (class_number c) []) three ∙ at_three f c (omega (arith, three, used))
-  ]
-]
-
-length-classes : (l : Lattice) (f : Class → List ℕ) → length (map f (Datum ∷ classes l)) ≡ 1 + l.alpha
-length-classes l f = elim (one_to_three l) [
-  | inl one ↦ ap (λ (a : ℕ). length (map f (Datum ∷ classes_at a))) one ∙ ap (λ (a : ℕ). 1 + a) (sym one)
-  | inr more ↦ elim more [
-    | inl two ↦ ap (λ (a : ℕ). length (map f (Datum ∷ classes_at a))) two ∙ ap (λ (a : ℕ). 1 + a) (sym two)
-    | inr three ↦ ap (λ (a : ℕ). length (map f (Datum ∷ classes_at a))) three ∙ ap (λ (a : ℕ). 1 + a) (sym three)
-  ]
-]
+use Rattle.aea_append.proofs.Placed.{digests-push}
 
 differ_test : (a b : ℕ) → a < b → (a == b) ≡ false
 differ_test a b lt = grind (arith, nat_tests)
 
 same_test : (a : ℕ) → (a == a) ≡ true
 same_test a = grind (arith, nat_tests)
-
--- the place of a digest among those after n nodes
-place_of : (q n i c : ℕ) → n < i → (i - 1) * q + c - n * q ≡ (i - 1 - n) * q + c
-place_of q n i c after =
-    let split : i - 1 ≡ n + (i - 1 - n) = omega (arith, after) in
-    let e : (i - 1) * q ≡ n * q + (i - 1 - n) * q = ap (λ (k : ℕ). k * q) split ∙ add-mul n (i - 1 - n) q in
-    omega (arith, e)
 
 module _ (enter : LastsEnter) (v w : Woven) (x : List ℕ) (weaves : Weaves v w x) (wide : length x ≡ v.size) where
   grown_n : w.lattice.n ≡ v.lattice.n + 1
@@ -209,38 +157,7 @@ module _ (enter : LastsEnter) (v w : Woven) (x : List ℕ) (weaves : Weaves v w 
     pub digests-new : (shape : Shape) (n : ℕ) (digests : List (List ℕ)) → w.lattice.alpha ≡ shape.alpha → n ≤ v.lattice.n → AreDigestsOn shape n v.lattice.n payload digests
         → AreDigestsOn shape n w.lattice.n next (digests ++ map (last_digest w x) (Datum ∷ classes w.lattice))
     digests-new shape n digests alpha within are =
-        let more = map (last_digest w x) (Datum ∷ classes w.lattice) in
-        let q = 1 + shape.alpha in
-        let size : length digests ≡ (v.lattice.n - n) * (1 + shape.alpha) = are.long in
-        let step : (w.lattice.n - n) * (1 + shape.alpha) ≡ (v.lattice.n - n) * (1 + shape.alpha) + (1 + shape.alpha) =
-        ap (λ (k : ℕ). k * (1 + shape.alpha)) (let e : w.lattice.n - n ≡ (v.lattice.n - n) + 1 = omega (arith, grown_n, within) in e)
-        ∙ add-mul (v.lattice.n - n) 1 (1 + shape.alpha)
-        ∙ (let one : 1 * (1 + shape.alpha) ≡ 1 + shape.alpha = omega arith in ap (λ (k : ℕ). (v.lattice.n - n) * (1 + shape.alpha) + k) one) in
-        record {
-          long = omega (arith, length-append digests more, size, step, length-classes w.lattice (last_digest w x), alpha);
-          each = λ b on.
-              let place = place_of (1 + shape.alpha) n b.node (class_number b.class) on.after in
-              ⊎_elim
-              (λ gt.
-              let node : b.node ≡ w.lattice.n = (let most = on.most in omega (arith, gt, most, grown_n)) in
-              let index : number_in shape b - n * (1 + shape.alpha) ≡ length digests + class_number b.class =
-              place ∙ ap (λ (k : ℕ). k * (1 + shape.alpha) + class_number b.class) (let e : b.node - 1 - n ≡ v.lattice.n - n = omega (arith, node, grown_n) in e)
-              ∙ ap (λ (k : ℕ). k + class_number b.class) (sym size) in
-              let rest : number_in shape b - n * (1 + shape.alpha) - length digests ≡ class_number b.class = omega (arith, index) in
-              get_or-append_right digests more (length digests) (number_in shape b - n * (1 + shape.alpha)) [] refl (omega (arith, index))
-              ∙ ap (λ (j : ℕ). get_or more j []) rest
-              ∙ class-at w.lattice (last_digest w x) b.class (let used = on.used in omega (arith, used, alpha))
-              ∙ sym (ap (λ (i : ℕ). block_digest (block_of i b.class) (next (block_of i b.class))) node
-              ∙ ap (block_digest (block_of w.lattice.n b.class)) (next-new b.class)))
-              (λ le.
-              let inside : (b.node - 1 - n) * (1 + shape.alpha) + class_number b.class < (1 + shape.alpha) * (v.lattice.n - n) =
-              mul-add-lt (b.node - 1 - n) (1 + shape.alpha) (class_number b.class) (v.lattice.n - n) (let after = on.after in omega (arith, after, le)) (let used = on.used in omega (arith, used)) in
-              let turned : (1 + shape.alpha) * (v.lattice.n - n) ≡ (v.lattice.n - n) * (1 + shape.alpha) = mul_comm (1 + shape.alpha) (v.lattice.n - n) in
-              get_or_append_left digests more [] (number_in shape b - n * (1 + shape.alpha)) (omega (arith, place, inside, turned, size))
-              ∙ are.each b (record { after = on.after; most = le; used = on.used })
-              ∙ ap (block_digest b) (sym (next-old b le)))
-              (cases_lt v.lattice.n b.node);
-        }
+        digests-push shape n v w x payload next digests grown_n alpha within (λ b on. next-old b on.most) (λ c used. next-new c) are
 
 -- one more node, with its cells and digests
 pub woven_step : LastsEnter → (tells : Type 0) (shape : Shape) (l : Lattice) (recorded : List (List ℕ)) (first files after : Files) (v w : Woven) (datas digests : List (List ℕ)) (x : List ℕ)

@@ -12,6 +12,7 @@ use Rattle.aea_disk.specs.State.{State, IsSynced}
 use Rattle.aea_envelope.specs.Cells.{block_digest}
 use Rattle.aea_envelope.specs.Facts.{CellsHaveLengths, CellsHaveParts}
 use Rattle.aea_lattice.specs.Shapes.{number_in}
+use Rattle.aea_weave.specs.Woven.{Woven}
 use Rattle.aea_ledger.specs.Stops.{HasLedger}
 use Rattle.aea_shelf.proofs.Runs.{synced_held}
 use Rattle.aea_shelf.specs.Writes.{KeepsPadded, KeepsIntact}
@@ -43,12 +44,12 @@ next-last shape earlier (q ∷ records) r follow =
 -- ---- the next record, where the lattice that was woven is the longer one
 
 module _ (tells : Type 0) (v : Opened) (name : List ℕ) (k count : ℕ) (digest : List ℕ) (left rest : Option (List ℕ)) (digests : List (List ℕ)) (first files : Files) (counted : count ≡ nodes_for v.shape k)
-    (t : TakesObject tells v.shape v.lattice v.digests k digest left rest digests first files) where
-  pub grown_by : IsGrown v.lattice (v.lattice.n + count) t.heads.lattice
+    {heads : Woven} (t : TakesObject tells v.shape v.lattice v.digests k digest left rest digests first files heads) where
+  pub grown_by : IsGrown v.lattice (v.lattice.n + count) heads.lattice
   grown_by = record { shape = t.woven.grown.shape; nodes = (let n = t.nodes in omega (arith, n, counted)); fences = t.woven.grown.fences }
 
   -- all that a source had, taken and woven after the ledger's lattice, is the next record's object under the name
-  pub next_woven : IsNextStored v.shape v.lattice t.heads.lattice t.woven.payload name t.bytes (next_stored v name k digest count digests)
+  pub next_woven : IsNextStored v.shape v.lattice heads.lattice t.woven.payload name t.bytes (next_stored v name k digest count digests)
   next_woven = record {
     name_is = refl;
     size = sym t.long;
@@ -62,7 +63,7 @@ module _ (tells : Type 0) (v : Opened) (name : List ℕ) (k count : ℕ) (digest
   }
 
   -- the digest of a new block
-  recorded_of : (olds : List (List ℕ)) (b : BlockId) → length olds ≡ v.lattice.n * (1 + v.shape.alpha) → IsBlockOn v.shape v.lattice.n t.heads.lattice.n b → block_digest b (t.woven.payload b) ≡ recorded_in v.shape (olds ++ digests) b
+  recorded_of : (olds : List (List ℕ)) (b : BlockId) → length olds ≡ v.lattice.n * (1 + v.shape.alpha) → IsBlockOn v.shape v.lattice.n heads.lattice.n b → block_digest b (t.woven.payload b) ≡ recorded_in v.shape (olds ++ digests) b
   recorded_of olds b long on =
       let after = on.after in
       let rows : v.lattice.n * (1 + v.shape.alpha) ≤ (b.node - 1) * (1 + v.shape.alpha) = mul-le-mul_right (1 + v.shape.alpha) (let e : v.lattice.n ≤ b.node - 1 = omega (arith, after) in e) in
@@ -72,7 +73,7 @@ module _ (tells : Type 0) (v : Opened) (name : List ℕ) (k count : ℕ) (digest
 
   -- all that was added is there
   pub added_of : CellsHaveLengths → CellsHaveParts → DigestsAreCounted → (records : List Record) → HasRecords v records → (new : State)
-      → AreAtHome v.shape v.lattice.n t.heads.lattice.n t.woven.payload new.files → HasLedger v.shape (records ++ Object (next_stored v name k digest count digests) ∷ []) (new.files 0) → IsSynced new
+      → AreAtHome v.shape v.lattice.n heads.lattice.n t.woven.payload new.files → HasLedger v.shape (records ++ Object (next_stored v name k digest count digests) ∷ []) (new.files 0) → IsSynced new
       → HasAdded v.shape records (Object (next_stored v name k digest count digests) ∷ []) new
   added_of lengths parts counts records has new cells ledger synced = record {
     ledger = ledger;
@@ -81,7 +82,7 @@ module _ (tells : Type 0) (v : Opened) (name : List ℕ) (k count : ℕ) (digest
         let r : Record = Object (next_stored v name k digest count digests) in
         let sum : sum_by (λ (o : Stored). o.count) (next_stored v name k digest count digests ∷ []) ≡ count = omega arith in
         let n = grown_by.nodes in
-        let here : IsBlockOn v.shape v.lattice.n t.heads.lattice.n b = record {
+        let here : IsBlockOn v.shape v.lattice.n heads.lattice.n b = record {
           after = (let a = on.after in omega (arith, a, has.lattice.n));
           most = (let m = on.most in omega (arith, m, has.lattice.n, nodes_of-push records (Object (next_stored v name k digest count digests)), sum, n));
           used = on.used;
@@ -97,18 +98,18 @@ module _ (tells : Type 0) (v : Opened) (name : List ℕ) (k count : ℕ) (digest
   -- where it is in the ledger, it records the data before and the object's blocks
   pub more_where : NextRecordsMore → LastsAreValues → tells → (records : List Record) (datas : List (List ℕ)) → HasRecords v records
       → AreRecords v.shape (records ++ Object (next_stored v name k digest count digests) ∷ []) → AreRecordsOf v.shape records datas → AreLastsHonest v.shape v.lattice v.digests datas first
-      → RecordsMore v.shape records (Object (next_stored v name k digest count digests) ∷ []) datas (object_blocks v.shape t.bytes ++ []) v.lattice t.heads.lattice t.woven.payload
+      → RecordsMore v.shape records (Object (next_stored v name k digest count digests) ∷ []) datas (object_blocks v.shape t.bytes ++ []) v.lattice heads.lattice t.woven.payload
   more_where law values told records datas has valid old honest =
-      subst (λ (more : List (List ℕ)). RecordsMore v.shape records (Object (next_stored v name k digest count digests) ∷ []) datas more v.lattice t.heads.lattice t.woven.payload)
+      subst (λ (more : List (List ℕ)). RecordsMore v.shape records (Object (next_stored v name k digest count digests) ∷ []) datas more v.lattice heads.lattice t.woven.payload)
       (sym (append-nil (object_blocks v.shape t.bytes)))
-      (law v.shape records datas v.lattice t.heads.lattice t.woven.payload name t.bytes (next_stored v name k digest count digests) old has.lattice
+      (law v.shape records datas v.lattice heads.lattice t.woven.payload name t.bytes (next_stored v name k digest count digests) old has.lattice
       (values v.shape v.lattice v.digests datas t.woven.payload first honest t.woven.lasts (t.woven.homes told) t.woven.lasts_wide)
       t.are (next-last v.shape [] records (Object (next_stored v name k digest count digests)) valid) next_woven)
 
 -- ---- and the opened ledger has taken it
 
 module _ (tells : Type 0) (v w : Opened) (name : List ℕ) (k count : ℕ) (digest : List ℕ) (left rest : Option (List ℕ)) (digests : List (List ℕ)) (first files : Files) (counted : count ≡ nodes_for v.shape k)
-    (t : TakesObject tells v.shape v.lattice v.digests k digest left rest digests first files) (same : w.shape ≡ v.shape) (records : List Record) (has : HasRecords v records)
+    {heads : Woven} (t : TakesObject tells v.shape v.lattice v.digests k digest left rest digests first files heads) (same : w.shape ≡ v.shape) (records : List Record) (has : HasRecords v records)
     (new : HasRecords w (records ++ Object (next_stored v name k digest count digests) ∷ [])) where
   abbrev stored : Stored
   stored = next_stored v name k digest count digests
@@ -129,13 +130,13 @@ module _ (tells : Type 0) (v w : Opened) (name : List ℕ) (k count : ℕ) (dige
   }
 
   -- it is the one that was woven
-  pub woven_to : t.heads.lattice ≡ w.lattice
+  pub woven_to : heads.lattice ≡ w.lattice
   woven_to =
       let g = t.woven.grown in
       let h = grown_to in
       let n = t.nodes in
       let m = grown_to.nodes in
-      lattice_equal t.heads.lattice w.lattice (g.shape.alpha ∙ sym grown_to.shape.alpha) (g.shape.s ∙ sym grown_to.shape.s) (g.shape.p ∙ sym grown_to.shape.p)
+      lattice_equal heads.lattice w.lattice (g.shape.alpha ∙ sym grown_to.shape.alpha) (g.shape.s ∙ sym grown_to.shape.s) (g.shape.p ∙ sym grown_to.shape.p)
       (omega (arith, n, m, counted)) (g.fences ∙ sym grown_to.fences)
 
   -- the record is the next one
@@ -153,7 +154,8 @@ module _ (tells : Type 0) (v w : Opened) (name : List ℕ) (k count : ℕ) (dige
       (values v.shape v.lattice v.digests datas t.woven.payload first honest t.woven.lasts (t.woven.homes told) t.woven.lasts_wide)
       t.are may_follow next_of
 
-  digests_to : w.digests ≡ v.digests ++ digests
+  -- the digests of the new blocks come after those that it had
+  pub digests_to : w.digests ≡ v.digests ++ digests
   digests_to = new.digests ∙ digests_of-push records (Object stored) ∙ ap (λ (l : List (List ℕ)). digests_of records ++ l) (append-nil digests) ∙ ap (λ (l : List (List ℕ)). l ++ digests) (sym has.digests)
 
   -- survivors that are honest, in plain damage, are so afterwards

@@ -95,9 +95,9 @@ takes_both tells shape n k left mid rest h i g v u w digests some more old betwe
 -- all that a source had, woven after the nodes of an archive
 pub takes_object : (tells : Type 0) (v : Opened) (shape : Shape) → shape ≡ v.shape → (k : ℕ) (left mid rest : Option (List ℕ)) (h g : Sha256) (heads w : Woven) (digests more : List (List ℕ)) (first files after : Files) (digest : List ℕ)
     → Takes tells shape k left mid h g heads w digests more files after → HasWoven tells v.shape v.lattice v.digests first files heads [] [] → digests ≡ [] → Holds256 h []
-    → ((m : List ℕ) → Holds256 g m → digest ≡ sha256 m) → heads.lattice ≡ v.lattice → Consumes mid rest []
-    → TakesObject tells v.shape v.lattice v.digests k digest left rest more first after
-takes_object tells v shape same k left mid rest h g heads w digests more first files after digest took has none holds hashed lattice stop =
+    → ((m : List ℕ) → Holds256 g m → digest ≡ sha256 m) → heads.lattice ≡ v.lattice → heads.size ≡ v.shape.block → Consumes mid rest []
+    → TakesObject tells v.shape v.lattice v.digests k digest left rest more first after w
+takes_object tells v shape same k left mid rest h g heads w digests more first files after digest took has none holds hashed lattice size stop =
     let t : Takes tells v.shape k left mid h g heads w digests more files after = subst (λ (s : Shape). Takes tells s k left mid h g heads w digests more files after) same took in
     let start : HasWoven tells v.shape v.lattice v.digests first files heads [] digests = subst (λ (d : List (List ℕ)). HasWoven tells v.shape v.lattice v.digests first files heads [] d) (sym none) has in
     let n : heads.lattice.n ≡ v.lattice.n = ap (λ (l : Lattice). l.n) lattice in
@@ -108,7 +108,7 @@ takes_object tells v shape same k left mid rest h g heads w digests more first f
       taken = subst (Consumes left rest) (append-nil t.bytes) (Consumes-trans left mid rest t.bytes [] t.taken stop);
       long = t.long;
       digest_is = hashed t.bytes (t.holds [] holds);
-      heads = w;
+      size = t.size ∙ size;
       nodes = nodes ∙ ap (λ (x : ℕ). x + nodes_for v.shape k) n;
       woven = t.woven v.lattice v.digests first [] start;
     }

@@ -1,6 +1,7 @@
 pub mod Weaving
 pub mod Taking
 pub mod Loading
+pub mod Keeping
 pub mod Faults
 pub mod Puts
 pub mod Causes

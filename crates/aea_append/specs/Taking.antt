@@ -36,14 +36,14 @@ pub record TakesPiece (tells : Type 0) (shape : Shape) (want k : ℕ) (left rest
   pub end : k < want → IsAtEnd rest
 
 -- Bytes of the source were taken and woven after the nodes of a lattice: so many bytes, with this digest, and these
--- digests of the new blocks.
-pub record TakesObject (tells : Type 0) (shape : Shape) (l : Lattice) (recorded : List (List ℕ)) (k : ℕ) (digest : List ℕ) (left rest : Option (List ℕ)) (digests : List (List ℕ)) (first files : Files) : Type 0 where
+-- digests of the new blocks. The heads are those after the last of them.
+pub record TakesObject (tells : Type 0) (shape : Shape) (l : Lattice) (recorded : List (List ℕ)) (k : ℕ) (digest : List ℕ) (left rest : Option (List ℕ)) (digests : List (List ℕ)) (first files : Files) (heads : Woven) : Type 0 where
   pub bytes : List ℕ
   pub are : AreBytes bytes
   pub taken : Consumes left rest bytes
   pub long : length bytes ≡ k
   pub digest_is : digest ≡ sha256 bytes
-  pub heads : Woven
+  pub size : heads.size ≡ shape.block
   pub nodes : heads.lattice.n ≡ l.n + nodes_for shape k
   pub woven : HasWoven tells shape l recorded first files heads (object_blocks shape bytes) digests
 

@@ -1,5 +1,5 @@
 -- The state of weaving: heads, the payloads so far, and what was written.
-use Rattle.std.specs.Prelude.{◌≡◌, ◌⊎◌, ℕ, ◌+◌, ◌<◌, ◌≤◌, List, length, replicate, Option, Some, None}
+use Rattle.std.specs.Prelude.{◌≡◌, ◌⊎◌, ℕ, ◌+◌, ◌-◌, ◌*◌, ◌<◌, ◌≤◌, List, [], ◌++◌, length, replicate, slice_index_or, Option, Some, None}
 use Rattle.aea_lattice.specs.declared.blocks.Class.{Class}
 use Rattle.aea_lattice.specs.declared.blocks.Class.TheVariants.{Datum}
 use Rattle.aea_lattice.specs.declared.blocks.BlockId.{BlockId}
@@ -9,10 +9,14 @@ use Rattle.aea_lattice.specs.Blocks.{block_of, class_number, HasParity}
 use Rattle.aea_lattice.specs.Strands.{strand_of}
 use Rattle.aea_lattice.specs.Ends.{strands_of, last_open}
 use Rattle.aea_lattice.specs.Growth.{IsGrown}
+use Rattle.aea_lattice.specs.Data.{value_of}
+use Rattle.aea_lattice.specs.Shapes.{number_in}
 use Rattle.aea_envelope.specs.Cells.{block_digest, cell_of}
 use Rattle.aea_disk.specs.Files.{Files}
 use Rattle.aea_shelf.specs.Places.{HasAtHome}
+use Rattle.aea_shelf.specs.Intact.{IsIntact}
 use Rattle.aea_weave.specs.Woven.{Woven, head_of}
+use Rattle.aea_weave.specs.Sums.{AreStrandSums}
 use Rattle.aea_archive.specs.Blocks.{IsBlockOn}
 use Rattle.aea_archive.specs.Cells.{AreAtHome}
 use Rattle.aea_archive.specs.Lasts.{IsLastParity, AreLastsRecorded, AreLastsAtHome}
@@ -61,6 +65,24 @@ pub record HasWoven (tells : Type 0) (shape : Shape) (l : Lattice) (recorded : L
   -- the cells of the new blocks are at their homes
   pub cells : tells → AreAtHome shape l.n v.lattice.n payload files
   pub wide : (b : BlockId) → IsBlockOn shape l.n v.lattice.n b → length (payload b) ≡ shape.block
+
+-- Nodes were woven after those of a lattice of these data, of these further blocks: the heads are the strand sums of all data,
+-- and the digests are those of the new blocks in their lattice.
+pub record IsWovenOf (shape : Shape) (l : Lattice) (v : Woven) (datas more digests : List (List ℕ)) : Type 0 where
+  pub grown : IsGrown l (l.n + length more) v.lattice
+  pub size : v.size ≡ shape.block
+  pub sums : AreStrandSums v (datas ++ more)
+  pub digests_are : AreDigestsOn shape l.n v.lattice.n (value_of v.lattice shape.block (datas ++ more)) digests
+
+-- the block is intact by its digest among these, which are those of the nodes after `before` in number order
+abbrev pub IsIntactAmong : Shape → ℕ → List (List ℕ) → Files → BlockId → Type 0
+IsIntactAmong shape before digests c b = IsIntact shape b (slice_index_or digests (number_in shape b - before * (1 + shape.alpha)) []) c
+
+-- There is a digest for each block of the nodes after `before` up to `last` and, where the disk's contents are known, each of
+-- these blocks is intact by its own.
+pub record AreIntactOn (tells : Type 0) (shape : Shape) (before last : ℕ) (digests : List (List ℕ)) (c : Files) : Type 0 where
+  pub long : length digests ≡ (last - before) * (1 + shape.alpha)
+  pub each : tells → (b : BlockId) → IsBlockOn shape before last b → IsIntactAmong shape before digests c b
 
 -- the fault is of the disk, or of memory
 abbrev pub IsStopping : PutFault → Type 0

@@ -103,7 +103,7 @@ fn load_strand<D: Disk>(
 
 /// Loads the heads of all strands from the homes of the last parities. Returns the damaged one with the least number, if
 /// there is any; the heads are then of no use.
-pub(crate) fn load_heads<D: Disk>(
+pub(crate) fn load_strands<D: Disk>(
     disk: &mut D,
     ledger: &Ledger,
     heads: &mut Heads,

@@ -1,6 +1,6 @@
 //! An object that is woven: the heads, and what is wanted of its source.
 
-ghost use Rattle.std.specs.Prelude.{◌≡◌, ◌≢◌, ◌⊎◌, ◌+◌, ◌^◌, ◌<◌, ◌≤◌, true, false, ℕ, List, length, [], None, Some, IfOk, IfErr, OnOk};
+ghost use Rattle.std.specs.Prelude.{◌≡◌, ◌≢◌, ◌⊎◌, ◌+◌, ◌^◌, ◌<◌, ◌≤◌, true, false, ℕ, List, length, [], None, Some, IfOk, IfErr, OnOk, IsSome};
 ghost use Rattle.std.specs.Io.KnownBytes.{Consumes, IsAtEnd};
 ghost use Rattle.aea_faults.specs.Faults.{Rose};
 ghost use Rattle.aea_io.specs.Taken.{Counts};
@@ -15,11 +15,12 @@ ghost use Rattle.aea_archive.specs.Blocks.{IsBlockIn};
 ghost use Rattle.aea_archive.specs.Lasts.{IsLastParity, IsDamagedLast, IsFirstDamagedLast, AreLastsIntact};
 ghost use Rattle.aea_archive.specs.Cells.{WritesCells};
 ghost use Rattle.aea_append.specs.Weaving.{HasWoven, IsBroken, IsStopping};
+ghost use Rattle.aea_append.specs.Keeping.{HasKeptHeads};
 ghost use Rattle.aea_append.specs.Causes.{IsHeadRefused};
 ghost use Rattle.aea_append.specs.Taking.{TakesObject, IsOver, limit_of, most_of, room_left};
 
 use crate::fault::PutFault;
-use crate::load::load_heads;
+use crate::heads::{HeadFault, next_heads};
 use crate::piece::weave_all;
 use aea_archive::cell_buffer;
 use aea_disk::Disk;
@@ -31,43 +32,15 @@ use aea_weave::Heads;
 use sha2::{Digest, Sha256};
 use std::alloc::Global;
 
-/// What was taken from a source and woven: its bytes, the nodes that they take, their SHA-256 (FIPS 180-4), and the digests
-/// of the blocks of these nodes in number order.
+/// What was taken from a source and woven: its bytes, the nodes that they take, their SHA-256 (FIPS 180-4), the digests
+/// of the blocks of these nodes in number order, and the heads after the last of them.
 #[derive(Drop)]
 pub(crate) struct Taken {
     pub(crate) length: u64,
     pub(crate) nodes: u32,
     pub(crate) digest: [u8; 32],
     pub(crate) digests: Vec<[u8; 32]>,
-}
-
-// Heads for the node that is woven next, loaded from the last parities.
-fn ready_heads<D: Disk>(
-    alloc: Global,
-    disk: &mut D,
-    ledger: &Ledger,
-    cell: &mut [u8],
-) -> Result<Heads, PutFault>
-    requires buffer { length cell.old ≡ cell_size ledger.now.shape }
-    ensures woven { IfOk result (λ heads. HasWoven D.tells ledger.now.shape ledger.now.lattice ledger.now.digests (D.state disk.old).files (D.state disk.new).files heads [] []) }
-    ensures lattice { IfOk result (λ heads. heads.lattice ≡ ledger.now.lattice) }
-    ensures size { IfOk result (λ heads. heads.size ≡ ledger.now.shape.block) }
-    ensures intact { OnOk result (D.tells → AreLastsIntact ledger.now.shape ledger.now.lattice ledger.now.digests (D.state disk.old).files) }
-    ensures head { (b : BlockId) → result ≡ Err (PutFault.HeadDamaged b) → IsLastParity ledger.now.lattice b × (D.tells → IsFirstDamagedLast ledger.now.shape ledger.now.lattice ledger.now.digests (D.state disk.old).files b) }
-    ensures faults { IfErr result (λ f. ((b : BlockId) × (f ≡ PutFault.HeadDamaged b)) ⊎ IsStopping f) }
-    ensures earlier { HasEarlier (D.state disk.old) (D.state disk.new) }
-    ensures reads { OnlyReads D.tells (result ≡ Err PutFault.DiskFault) (D.state disk.old) (D.state disk.new) }
-{
-    let size = ledger.shape().block() as usize;
-    let mut heads = match Heads::new(alloc, &ledger.lattice(), size) {
-        Ok(heads) => heads,
-        Err(_) => return Err(PutFault::NoMemory),
-    };
-    match load_heads(disk, ledger, &mut heads, cell) {
-        Ok(None) => Ok(heads),
-        Ok(Some(block)) => Err(PutFault::HeadDamaged { block }),
-        Err(_) => Err(PutFault::DiskFault),
-    }
+    pub(crate) heads: Heads,
 }
 
 // The buffers that weaving takes: a cell and a block of zeros.
@@ -138,19 +111,19 @@ fn take_object<D: Disk, S: Source>(
     disk: &mut D,
     ledger: &Ledger,
     source: &mut S,
-    heads: &mut Heads,
+    mut heads: Heads,
     cell: &mut [u8],
     block: &mut [u8],
     want: Option<u64>,
     at: &mut u64,
 ) -> Result<Taken, PutFault>
-    requires lattice { heads.old.lattice ≡ ledger.now.lattice }
-    requires size { heads.old.size ≡ ledger.now.shape.block }
+    requires lattice { heads.lattice ≡ ledger.now.lattice }
+    requires size { heads.size ≡ ledger.now.shape.block }
     requires block { length block.old ≡ ledger.now.shape.block }
     requires buffer { length cell.old ≡ cell_size ledger.now.shape }
     requires count { at.old ≤ 2 ^ 63 + 265 }
-    ensures took { IfOk result (λ t. (first : Files) → HasWoven D.tells ledger.now.shape ledger.now.lattice ledger.now.digests first (D.state disk.old).files heads.old [] []
-        → TakesObject D.tells ledger.now.shape ledger.now.lattice ledger.now.digests t.length t.digest (S.state source.old).left (S.state source.new).left t.digests.items first (D.state disk.new).files) }
+    ensures took { IfOk result (λ t. (first : Files) → HasWoven D.tells ledger.now.shape ledger.now.lattice ledger.now.digests first (D.state disk.old).files heads [] []
+        → TakesObject D.tells ledger.now.shape ledger.now.lattice ledger.now.digests t.length t.digest (S.state source.old).left (S.state source.new).left t.digests.items first (D.state disk.new).files t.heads) }
     ensures end { OnOk result (want ≡ None → IsAtEnd (S.state source.new).left) }
     ensures cut { IfOk result (λ t. (n : ℕ) → want ≡ Some n → (t.length ≤ n) × (t.length < n → IsAtEnd (S.state source.new).left)) }
     ensures exact { IfOk result (λ t. at.new ≡ at.old + t.length) }
@@ -181,7 +154,7 @@ fn take_object<D: Disk, S: Source>(
     let length = match weave_all(
         disk,
         &shape,
-        heads,
+        &mut heads,
         source,
         most,
         &mut hasher,
@@ -199,6 +172,7 @@ fn take_object<D: Disk, S: Source>(
             nodes: heads.next_node() - 1 - nodes,
             digest: hasher.finalize(),
             digests,
+            heads,
         }),
         Ok(true) => Err(PutFault::Full { nodes }),
         Err(_) => Err(PutFault::ReadFault),
@@ -206,20 +180,23 @@ fn take_object<D: Disk, S: Source>(
 }
 
 /// Takes what is wanted of the source: so many bytes, fewer only at its end, or all that it has. It weaves them after the
-/// nodes of the archive, and writes the cells of their blocks. The last parity of each strand has to be intact. More bytes
-/// than the nodes that are left can hold are refused: a number of them before one is read; where all are wanted, one byte
-/// past them is read at most. `at` grows by the bytes that were taken, whatever the result. It takes memory for a block, a
-/// cell, the heads and 32 bytes for each new block; the list of these grows by doubling.
+/// nodes of the archive, and writes the cells of their blocks. The last parity of each strand has to be intact; where heads
+/// are given, they are those, and none is read. More bytes than the nodes that are left can hold are refused: a number of
+/// them before one is read; where all are wanted, one byte past them is read at most. `at` grows by the bytes that were
+/// taken, whatever the result. It takes memory for a block, a cell, the heads and 32 bytes for each new block; the list of
+/// these grows by doubling.
 pub(crate) fn weave_object<D: Disk, S: Source>(
     alloc: Global,
     disk: &mut D,
     ledger: &Ledger,
+    kept: Option<Heads>,
     source: &mut S,
     want: Option<u64>,
     at: &mut u64,
 ) -> Result<Taken, PutFault>
     requires count { at.old ≤ 2 ^ 63 + 265 }
-    ensures took { IfOk result (λ t. TakesObject D.tells ledger.now.shape ledger.now.lattice ledger.now.digests t.length t.digest (S.state source.old).left (S.state source.new).left t.digests.items (D.state disk.old).files (D.state disk.new).files) }
+    requires kept { HasKeptHeads D.tells ledger.now (D.state disk.old).files kept }
+    ensures took { IfOk result (λ t. TakesObject D.tells ledger.now.shape ledger.now.lattice ledger.now.digests t.length t.digest (S.state source.old).left (S.state source.new).left t.digests.items (D.state disk.old).files (D.state disk.new).files t.heads) }
     ensures end { OnOk result (want ≡ None → IsAtEnd (S.state source.new).left) }
     ensures cut { IfOk result (λ t. (n : ℕ) → want ≡ Some n → (t.length ≤ n) × (t.length < n → IsAtEnd (S.state source.new).left)) }
     ensures exact { IfOk result (λ t. at.new ≡ at.old + t.length) }
@@ -233,6 +210,7 @@ pub(crate) fn weave_object<D: Disk, S: Source>(
     ensures full { (nodes : ℕ) → result ≡ Err (PutFault.Full nodes) → (nodes ≡ ledger.now.lattice.n) × (IsOver ledger.now want (S.state source.old).left (S.state source.new).left × (D.tells → AreLastsIntact ledger.now.shape ledger.now.lattice ledger.now.digests (D.state disk.old).files)) }
     ensures full_leaves { (nodes n : ℕ) → result ≡ Err (PutFault.Full nodes) → want ≡ Some n → (source.new ≡ source.old) × (at.new ≡ at.old) }
     ensures over { (n : ℕ) → want ≡ Some n → room_left ledger.now < n → (result ≡ Err (PutFault.Full ledger.now.lattice.n)) ⊎ IsHeadRefused result }
+    ensures unread { (b : BlockId) → IsSome kept → result ≢ Err (PutFault.HeadDamaged b) }
     ensures head_counts { (b : BlockId) → result ≡ Err (PutFault.HeadDamaged b) → at.new ≡ at.old }
     ensures faults { IfErr result (λ f. ((b : BlockId) × (f ≡ PutFault.HeadDamaged b)) ⊎ (((nodes : ℕ) × (f ≡ PutFault.Full nodes)) ⊎ IsBroken f)) }
     ensures writes { WritesCells D.tells ledger.now.shape (limit_when ledger.now.raised) (IsBlockIn ledger.now.shape ledger.now.lattice.n) (result ≡ Err PutFault.DiskFault) (D.state disk.old) (D.state disk.new) }
@@ -248,19 +226,18 @@ pub(crate) fn weave_object<D: Disk, S: Source>(
         Ok(buffers) => buffers,
         Err(_) => return Err(PutFault::NoMemory),
     };
-    let mut heads = match ready_heads(alloc, disk, ledger, cell.as_mut_slice()) {
+    let heads = match next_heads(alloc, disk, ledger, kept, cell.as_mut_slice()) {
         Ok(heads) => heads,
-        Err(PutFault::HeadDamaged { block }) => return Err(PutFault::HeadDamaged { block }),
-        Err(PutFault::DiskFault) => return Err(PutFault::DiskFault),
-        Err(PutFault::NoMemory) => return Err(PutFault::NoMemory),
-        Err(_) => unreachable!(),
+        Err(HeadFault::HeadDamaged { block }) => return Err(PutFault::HeadDamaged { block }),
+        Err(HeadFault::DiskFault) => return Err(PutFault::DiskFault),
+        Err(HeadFault::NoMemory) => return Err(PutFault::NoMemory),
     };
     match take_object(
         alloc,
         disk,
         ledger,
         source,
-        &mut heads,
+        heads,
         cell.as_mut_slice(),
         block.as_mut_slice(),
         want,

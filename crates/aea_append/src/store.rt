@@ -1,6 +1,6 @@
 //! An object that is put.
 
-ghost use Rattle.std.specs.Prelude.{◌≡◌, ◌≢◌, ◌⊎◌, ◌↔◌, ◌+◌, ◌*◌, ◌^◌, ◌≤◌, ◌<◌, true, false, ℕ, List, length, max, None, Some, IfOk, IfSome, OnOk, IsOk, IsErr};
+ghost use Rattle.std.specs.Prelude.{◌≡◌, ◌≢◌, ◌⊎◌, ◌↔◌, ◌+◌, ◌*◌, ◌^◌, ◌≤◌, ◌<◌, true, false, ℕ, List, length, max, None, Some, IfOk, IfSome, OnOk, IsOk, IsErr, IsSome};
 ghost use Rattle.std.specs.FinMap.{len};
 ghost use Rattle.aea_faults.specs.Faults.{Rose};
 ghost use Rattle.aea_io.specs.Taken.{TakesAtMost, Counts};
@@ -17,6 +17,8 @@ ghost use Rattle.aea_archive.specs.Lasts.{IsLastParity, IsDamagedLast, IsFirstDa
 ghost use Rattle.aea_append.specs.Taking.{HasPassedRoom, IsOver, IsThere, HasEnded, room_left, most_of, long_of};
 ghost use Rattle.aea_append.specs.Puts.{IsWhole, IsWanted, HasKept, HasPut, MayHaveStored, LeavesLedger};
 ghost use Rattle.aea_append.specs.Wanted.{StoresWanted};
+ghost use Rattle.aea_append.specs.Keeping.{HasKeptHeads};
+ghost use Rattle.aea_append.specs.declared.store.Stored.{Stored};
 ghost use Rattle.aea_append.specs.Causes.{IsTaken, MayEnter, IsEarly, IsHeadRefused, HasEarlyReason, HasPutRoom, HasWantedRoom, next_end};
 
 use crate::commit::commit_object;
@@ -29,6 +31,7 @@ use aea_envelope::{cells_have_lengths, cells_have_parts};
 use aea_io::Source;
 use aea_ledger::{AppendFault, Ledger};
 use aea_records::{digests_are_counted, ledgers_have_one_reading};
+use aea_weave::Heads;
 use std::alloc::Global;
 
 /// What was stored: the nodes of the object, its bytes, and their SHA-256 (FIPS 180-4).
@@ -77,7 +80,8 @@ fn is_short(want: Option<u64>, length: u64) -> bool
 }
 
 /// Stores what is wanted of the source under a name that may enter: a number of bytes, or all that it has. Returns None
-/// where it ends before that number. `at` grows by the bytes that were taken, whatever the result.
+/// where it ends before that number. `at` grows by the bytes that were taken, whatever the result. Heads that were kept are
+/// taken in place of the last parities; after `Stored` those that go on from the object are kept, after all else none.
 ///
 /// Its clauses: `stores` says what is left, by how it ended (`StoresWanted`, with a record for each end); the others what
 /// holds in any case.
@@ -89,6 +93,7 @@ pub(crate) fn put_wanted<D: Disk, S: Source>(
     source: &mut S,
     want: Option<u64>,
     at: &mut u64,
+    kept: &mut Option<Heads>,
 ) -> Result<Option<Stored>, PutFault>
     requires enters { MayEnter ledger.old name.now }
     requires opened { HasSomeRecords ledger.old }
@@ -96,10 +101,16 @@ pub(crate) fn put_wanted<D: Disk, S: Source>(
     requires this { D.tells → IsThisOne ledger.old ((D.state disk.old).files 0) }
     requires fixed { D.tells → IsFixed (D.state disk.old) 0 }
     requires count { at.old ≤ 2 ^ 63 + 265 }
+    requires kept { HasKeptHeads D.tells ledger.old (D.state disk.old).files kept.old }
 
     ensures stores { StoresWanted D.tells (source.new ≡ source.old) ledger.old ledger.new name.now want (S.state source.old).left (S.state source.new).left at.old at.new (D.state disk.old) (D.state disk.new) result }
     ensures late { IsEarly result → ⊥ }
     ensures whole { want ≡ None → result ≡ Ok None → ⊥ }
+
+    // The heads that are kept go on from the ledger, and where they were kept no last parity is found damaged.
+    ensures kept { HasKeptHeads D.tells ledger.new (D.state disk.new).files kept.new }
+    ensures keeps { (stored : Stored) → result ≡ Ok (Some stored) → IsSome kept.new }
+    ensures unread { (b : BlockId) → IsSome kept.old → result ≢ Err (PutFault.HeadDamaged b) }
 
     // Where a last parity is damaged, the disk needs space to sync alone.
     ensures head_in_room { D.tells → (a : BlockId) → IsDamagedLast ledger.old.shape ledger.old.lattice ledger.old.digests (D.state disk.old).files a → IsReady (D.state disk.old) → NeverFails (IsRoomy (D.state disk.old)) (result ≢ Err PutFault.DiskFault) (D.state disk.old) (D.state disk.new) }
@@ -121,7 +132,7 @@ pub(crate) fn put_wanted<D: Disk, S: Source>(
     digests_are_counted();
     cells_have_lengths();
     cells_have_parts();
-    let taken = match weave_object(alloc, disk, ledger, source, want, at) {
+    let taken = match weave_object(alloc, disk, ledger, kept.take(), source, want, at) {
         Ok(taken) => taken,
         Err(PutFault::DiskFault) => {
             ledger.retire();
@@ -138,6 +149,7 @@ pub(crate) fn put_wanted<D: Disk, S: Source>(
         nodes,
         digest,
         digests,
+        heads,
     } = taken;
     if is_short(want, length) {
         return Ok(None);
@@ -151,11 +163,14 @@ pub(crate) fn put_wanted<D: Disk, S: Source>(
         nodes,
         digests.as_slice(),
     ) {
-        Ok(()) => Ok(Some(Stored {
-            nodes,
-            length,
-            digest,
-        })),
+        Ok(()) => {
+            *kept = Some(heads);
+            Ok(Some(Stored {
+                nodes,
+                length,
+                digest,
+            }))
+        }
         Err(AppendFault::DiskFault) => Err(PutFault::DiskFault),
         Err(AppendFault::NoMemory) => Err(PutFault::NoMemory),
         Err(AppendFault::CatalogFull) => unreachable!(),
@@ -231,7 +246,10 @@ pub fn put<D: Disk, S: Source>(
         Err(fault) => return Err(fault),
     }
     let mut count = 0;
-    match put_wanted(alloc, ledger, disk, name, source, None, &mut count) {
+    let mut kept = None;
+    match put_wanted(
+        alloc, ledger, disk, name, source, None, &mut count, &mut kept,
+    ) {
         Ok(Some(stored)) => Ok(stored),
         Ok(None) => unreachable!(),
         Err(fault) => Err(fault),

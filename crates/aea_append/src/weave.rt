@@ -14,14 +14,14 @@ ghost use Rattle.aea_shelf.specs.Places.{cell_size, HasAtHome};
 ghost use Rattle.aea_shelf.specs.Writes.{KeepsPadded};
 ghost use Rattle.aea_weave.specs.Woven.{head_of};
 ghost use Rattle.aea_archive.specs.Cells.{WritesCells};
-ghost use Rattle.aea_append.specs.Weaving.{last_payload, last_digest, AreLastAtHome, HasWoven, IsStopping};
+ghost use Rattle.aea_append.specs.Weaving.{last_payload, last_digest, AreLastAtHome, HasWoven, IsWovenOf, AreIntactOn, IsStopping};
 
 use crate::fault::PutFault;
 use aea_disk::Disk;
-use aea_envelope::cells_have_lengths;
+use aea_envelope::{cells_have_lengths, cells_have_parts};
 use aea_lattice::{BlockId, Class, Shape, lasts_enter};
 use aea_shelf::{cells_are_apart, homes_are_in_rows, homes_are_on_its_sites, write_cell};
-use aea_weave::Heads;
+use aea_weave::{Heads, longer_data_keep_values};
 
 // Writes the cell of a block, and keeps its digest.
 fn write_block<D: Disk>(
@@ -128,8 +128,10 @@ fn write_node<D: Disk>(
     write_parity(disk, shape, heads, Class::Left, cell, digests)
 }
 
-// Weaves one more node, and writes its cells.
-pub(crate) fn weave_node<D: Disk>(
+/// Weaves one more node, and writes its cells. The datum has the B bytes of a block, and the buffer those of a cell, B + 48. The
+/// digests of its blocks are put after the others, in number order, and nothing is synced. It takes memory for these digests
+/// alone, in a list that grows by doubling. After a fault the heads have the node, and the cells and digests are of no use.
+pub fn weave_node<D: Disk>(
     disk: &mut D,
     shape: &Shape,
     heads: &mut Heads,
@@ -145,6 +147,13 @@ pub(crate) fn weave_node<D: Disk>(
     ensures woven { OnOk result ((l : Lattice) (recorded : List (List ℕ)) (first : Files) (datas : List (List ℕ))
         → HasWoven D.tells shape.now l recorded first (D.state disk.old).files heads.old datas digests.old.items
         → HasWoven D.tells shape.now l recorded first (D.state disk.new).files heads.new (datas ++ datum.now ∷ []) digests.new.items) }
+
+    // Of a data list, the heads go on to be its strand sums, and the digests those of its lattice.
+    ensures values { OnOk result ((l : Lattice) (datas more : List (List ℕ)) → IsWovenOf shape.now l heads.old datas more digests.old.items → IsWovenOf shape.now l heads.new datas (more ++ datum.now ∷ []) digests.new.items) }
+
+    // Blocks that are intact by the digests stay so, and those of the new node are.
+    ensures intact { OnOk result ((before : ℕ) → before ≤ heads.old.lattice.n → AreIntactOn D.tells shape.now before heads.old.lattice.n digests.old.items (D.state disk.old).files
+        → AreIntactOn D.tells shape.now before heads.new.lattice.n digests.new.items (D.state disk.new).files) }
     ensures grown { IsGrown heads.old.lattice (heads.old.lattice.n + 1) heads.new.lattice }
     ensures size { heads.new.size ≡ heads.old.size }
     ensures writes { (nodes : ℕ) → heads.old.lattice.n + 1 ≤ nodes → WritesCells D.tells shape.now nodes (λ a. a.node ≢ heads.old.lattice.n + 1) (result ≡ Err PutFault.DiskFault) (D.state disk.old) (D.state disk.new) }
@@ -152,7 +161,9 @@ pub(crate) fn weave_node<D: Disk>(
     ensures faults { IfErr result IsStopping }
 {
     cells_have_lengths();
+    cells_have_parts();
     lasts_enter();
+    longer_data_keep_values();
     heads.step(datum);
     match write_node(disk, shape, heads, datum, cell, digests) {
         Ok(()) => Ok(()),

@@ -6,7 +6,7 @@
 //!
 //! Read first in `specs/`: `Adding` (`AddsRecord`: the effect on the disk where a record is added), `Growing` (`Grows`: where
 //! objects are) and `Put`. It rests on `aea_command`, on `create_ledger` and the appends of `aea_ledger`, and on `put` and
-//! `ingest_one` of `aea_append`.
+//! `ingest_next` of `aea_append`.
 #![tactic(auto)]
 
 pub mod create;

@@ -18,7 +18,7 @@ ghost use Rattle.aea_command_store.specs.Ingest.{OpenedCauses, IngestCauses, Fit
 ghost use Rattle.aea_command_store.specs.Put.{KeepsOtherFiles};
 
 use crate::put::write_line;
-use aea_append::{Ingest, ingest_one};
+use aea_append::{Ingest, ingest_next};
 use aea_archive::{lasts_are_values, objects_record_more, survivors_stay_honest};
 use aea_command::{Failure, Status, open};
 use aea_disk::Disk;
@@ -90,8 +90,11 @@ fn put_frames<D: Disk, S: Source, O: Sink>(
     objects_record_more();
     survivors_stay_honest();
     let mut at: u64 = 0;
+    let mut kept = None;
     let mut count: u32 = 0;
-    while let Ingest::Stored { name, stored } = ingest_one(alloc, ledger, disk, input, &mut at)? {
+    while let Ingest::Stored { name, stored } = ingest_next(
+        alloc, ledger, disk, input, &mut at, &mut kept,
+    )? {
         write_line(out, &stored, name.bytes())?;
         count += 1;
     }
@@ -100,8 +103,8 @@ fn put_frames<D: Disk, S: Source, O: Sink>(
 }
 
 /// Stores the objects of the input, a stream of frames, one after the other. It prints `stored NODES LENGTH DIGEST NAME` for
-/// each as soon as its record is committed, and then `end K` with K their number. It takes the memory of `put` for each
-/// object, and gives it back.
+/// each as soon as its record is committed, and then `end K` with K their number. It reads the last parities once, for the
+/// first object. It takes the memory of `put` for each object, and gives it back, but for a block for each strand.
 pub fn ingest<D: Disk, S: Source, O: Sink>(
     alloc: Global,
     disk: &mut D,

@@ -271,3 +271,16 @@ returns-in-Err-put_wanted-clause-read_cause g c is =
 pub returns-in-Err-put_wanted-clause-source_still : goal.returns-in-Err-put_wanted-clause-source_still
 returns-in-Err-put_wanted-clause-source_still g c fine =
     c.put_wanted.ensures.source_still (λ bad. fine (went c.from.ensures (fault_is c.in-Err-put_wanted.fault ReadFault (sym c.in-Err-put_wanted.is ∙ bad))))
+
+-- ---- the heads that are kept
+
+pub returns-in-Ok-Some-clause-keeps : goal.returns-in-Ok-Some-clause-keeps
+returns-in-Ok-Some-clause-keeps g c text stored is = c.put_wanted.ensures.keeps _ (c.in-Ok-Some.is ∙ ap Ok c.in-Ok-Some.field-0-is)
+
+pub returns-in-Err-put_wanted-clause-still : goal.returns-in-Err-put_wanted-clause-still
+returns-in-Err-put_wanted-clause-still g c early =
+    absurd (c.put_wanted.ensures.late (⊎_elim (λ is. inl (c.in-Err-put_wanted.is ∙ ap Err (came c.from.ensures BadName is))) (λ rest. ⊎_elim (λ is. inr (inl (c.in-Err-put_wanted.is ∙ ap Err (came c.from.ensures NameTaken is)))) (λ is. inr (inr (c.in-Err-put_wanted.is ∙ ap Err (came c.from.ensures CatalogFull is)))) rest) early))
+
+pub returns-in-Err-put_wanted-clause-unread : goal.returns-in-Err-put_wanted-clause-unread
+returns-in-Err-put_wanted-clause-unread g c b some is =
+    c.put_wanted.ensures.unread b some (c.in-Err-put_wanted.is ∙ ap Err (came c.from.ensures (HeadDamaged b) is))

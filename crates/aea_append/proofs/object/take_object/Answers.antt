@@ -23,7 +23,7 @@ weave_all-requires-clause-limit g c =
     let within : c.greatest_length-most.result ≤ room_left c.args.ledger.now = (let w : c.greatest_length-most.result ≤ c.from.result * c.from-2.result = grind (arith, nat_tests, c.if-room-most.false) in omega (arith, w, room)) in
     let v = c.args.ledger.now in
     let few : c.greatest_length-most.result ≤ (greatest_nodes - v.lattice.n) * v.shape.block = omega (arith, within, room_within c.args.ledger.now) in
-    subst (λ (s : Shape). c.greatest_length-most.result ≤ (greatest_nodes - c.args.heads.now.lattice.n) * s.block) (sym c.shape-shape.ensures.value)
+    subst (λ (s : Shape). c.greatest_length-most.result ≤ (greatest_nodes - c.args.heads.lattice.n) * s.block) (sym c.shape-shape.ensures.value)
     (subst (λ (l : Lattice). c.greatest_length-most.result ≤ (greatest_nodes - l.n) * v.shape.block) (sym c.requires.lattice) few)
 
 pub weave_all-requires-clause-count : goal.weave_all-requires-clause-count
@@ -62,12 +62,12 @@ returns-in-Err-clause-writes g c =
     let room = limit_is c.args.ledger.now c.limit.result c.n-nodes.result c.from.result c.block.result c.from-2.result c.lattice.result c.shape-shape.result c.limit.ensures.value c.lattice.ensures.value c.n-nodes.ensures c.from.ensures c.shape-shape.ensures.value c.block.ensures c.from-2.ensures in
     let most : c.greatest_length-most.result ≡ limit_of c.args.want (room_left c.args.ledger.now) = c.greatest_length-most.ensures ∙ ap (limit_of c.args.want) room in
     let within : c.greatest_length-most.result ≤ room_left c.args.ledger.now = (let w : c.greatest_length-most.result ≤ c.from.result * c.from-2.result = grind (arith, nat_tests, c.if-room-most.false) in omega (arith, w, room)) in
-    all_writes c.records_are_few.ensures g.D.Disk.tells (c.weave_all.result ≡ Err DiskFault) _ c.args.ledger.now c.shape-shape.result c.args.heads.now.lattice c.greatest_length-most.result (g.D.Disk.state c.args.disk.now) (g.D.Disk.state c.weave_all.new.disk)
+    all_writes c.records_are_few.ensures g.D.Disk.tells (c.weave_all.result ≡ Err DiskFault) _ c.args.ledger.now c.shape-shape.result c.args.heads.lattice c.greatest_length-most.result (g.D.Disk.state c.args.disk.now) (g.D.Disk.state c.weave_all.new.disk)
     c.shape-shape.ensures.records c.shape-shape.ensures.value c.requires.lattice within (λ is. c.in-Err.is ∙ fault_as c.in-Err.fault DiskFault is) (λ is. cc) c.weave_all.ensures.writes
 
 pub returns-in-Err-clause-padded : goal.returns-in-Err-clause-padded
 returns-in-Err-clause-padded g c fine told =
-    all_padded c.args.ledger.now c.shape-shape.result c.args.heads.now.lattice (g.D.Disk.state c.args.disk.now).files (g.D.Disk.state c.weave_all.new.disk).files c.shape-shape.ensures.value c.requires.lattice
+    all_padded c.args.ledger.now c.shape-shape.result c.args.heads.lattice (g.D.Disk.state c.args.disk.now).files (g.D.Disk.state c.weave_all.new.disk).files c.shape-shape.ensures.value c.requires.lattice
     (c.weave_all.ensures.padded (λ bad. fine (fault_as c.in-Err.fault DiskFault (sym c.in-Err.is ∙ bad))) told)
 
 pub returns-in-Err-clause-over : goal.returns-in-Err-clause-over
@@ -90,12 +90,12 @@ returns-in-Ok-true-clause-writes g c =
     let room = limit_is c.args.ledger.now c.limit.result c.n-nodes.result c.from.result c.block.result c.from-2.result c.lattice.result c.shape-shape.result c.limit.ensures.value c.lattice.ensures.value c.n-nodes.ensures c.from.ensures c.shape-shape.ensures.value c.block.ensures c.from-2.ensures in
     let most : c.greatest_length-most.result ≡ limit_of c.args.want (room_left c.args.ledger.now) = c.greatest_length-most.ensures ∙ ap (limit_of c.args.want) room in
     let within : c.greatest_length-most.result ≤ room_left c.args.ledger.now = (let w : c.greatest_length-most.result ≤ c.from.result * c.from-2.result = grind (arith, nat_tests, c.if-room-most.false) in omega (arith, w, room)) in
-    all_writes c.records_are_few.ensures g.D.Disk.tells (c.weave_all.result ≡ Err DiskFault) _ c.args.ledger.now c.shape-shape.result c.args.heads.now.lattice c.greatest_length-most.result (g.D.Disk.state c.args.disk.now) (g.D.Disk.state c.weave_all.new.disk)
+    all_writes c.records_are_few.ensures g.D.Disk.tells (c.weave_all.result ≡ Err DiskFault) _ c.args.ledger.now c.shape-shape.result c.args.heads.lattice c.greatest_length-most.result (g.D.Disk.state c.args.disk.now) (g.D.Disk.state c.weave_all.new.disk)
     c.shape-shape.ensures.records c.shape-shape.ensures.value c.requires.lattice within (λ is. absurd (let e = is in cc)) (λ is. absurd (ok_no_fault c.in-Ok.is is)) c.weave_all.ensures.writes
 
 pub returns-in-Ok-true-clause-padded : goal.returns-in-Ok-true-clause-padded
 returns-in-Ok-true-clause-padded g c fine told =
-    all_padded c.args.ledger.now c.shape-shape.result c.args.heads.now.lattice (g.D.Disk.state c.args.disk.now).files (g.D.Disk.state c.weave_all.new.disk).files c.shape-shape.ensures.value c.requires.lattice
+    all_padded c.args.ledger.now c.shape-shape.result c.args.heads.lattice (g.D.Disk.state c.args.disk.now).files (g.D.Disk.state c.weave_all.new.disk).files c.shape-shape.ensures.value c.requires.lattice
     (c.weave_all.ensures.padded (λ bad. (let is = c.in-Ok.is in cc)) told)
 
 pub returns-in-Ok-true-clause-over : goal.returns-in-Ok-true-clause-over
@@ -122,12 +122,12 @@ returns-in-Ok-false-clause-writes g c =
     let room = limit_is c.args.ledger.now c.limit.result c.n-nodes.result c.from.result c.block.result c.from-2.result c.lattice.result c.shape-shape.result c.limit.ensures.value c.lattice.ensures.value c.n-nodes.ensures c.from.ensures c.shape-shape.ensures.value c.block.ensures c.from-2.ensures in
     let most : c.greatest_length-most.result ≡ limit_of c.args.want (room_left c.args.ledger.now) = c.greatest_length-most.ensures ∙ ap (limit_of c.args.want) room in
     let within : c.greatest_length-most.result ≤ room_left c.args.ledger.now = (let w : c.greatest_length-most.result ≤ c.from.result * c.from-2.result = grind (arith, nat_tests, c.if-room-most.false) in omega (arith, w, room)) in
-    all_writes c.records_are_few.ensures g.D.Disk.tells (c.weave_all.result ≡ Err DiskFault) _ c.args.ledger.now c.shape-shape.result c.args.heads.now.lattice c.greatest_length-most.result (g.D.Disk.state c.args.disk.now) (g.D.Disk.state c.weave_all.new.disk)
+    all_writes c.records_are_few.ensures g.D.Disk.tells (c.weave_all.result ≡ Err DiskFault) _ c.args.ledger.now c.shape-shape.result c.args.heads.lattice c.greatest_length-most.result (g.D.Disk.state c.args.disk.now) (g.D.Disk.state c.weave_all.new.disk)
     c.shape-shape.ensures.records c.shape-shape.ensures.value c.requires.lattice within (λ is. absurd (let e = is in cc)) (λ is. absurd (ok_no_fault c.in-Ok.is is)) c.weave_all.ensures.writes
 
 pub returns-in-Ok-false-clause-padded : goal.returns-in-Ok-false-clause-padded
 returns-in-Ok-false-clause-padded g c fine told =
-    all_padded c.args.ledger.now c.shape-shape.result c.args.heads.now.lattice (g.D.Disk.state c.args.disk.now).files (g.D.Disk.state c.weave_all.new.disk).files c.shape-shape.ensures.value c.requires.lattice
+    all_padded c.args.ledger.now c.shape-shape.result c.args.heads.lattice (g.D.Disk.state c.args.disk.now).files (g.D.Disk.state c.weave_all.new.disk).files c.shape-shape.ensures.value c.requires.lattice
     (c.weave_all.ensures.padded (λ bad. (let is = c.in-Ok.is in cc)) told)
 
 pub returns-in-Ok-false-clause-over : goal.returns-in-Ok-false-clause-over
@@ -154,12 +154,12 @@ returns-in-Err-has_more-clause-writes g c =
     let room = limit_is c.args.ledger.now c.limit.result c.n-nodes.result c.from.result c.block.result c.from-2.result c.lattice.result c.shape-shape.result c.limit.ensures.value c.lattice.ensures.value c.n-nodes.ensures c.from.ensures c.shape-shape.ensures.value c.block.ensures c.from-2.ensures in
     let most : c.greatest_length-most.result ≡ limit_of c.args.want (room_left c.args.ledger.now) = c.greatest_length-most.ensures ∙ ap (limit_of c.args.want) room in
     let within : c.greatest_length-most.result ≤ room_left c.args.ledger.now = (let w : c.greatest_length-most.result ≤ c.from.result * c.from-2.result = grind (arith, nat_tests, c.if-room-most.false) in omega (arith, w, room)) in
-    all_writes c.records_are_few.ensures g.D.Disk.tells (c.weave_all.result ≡ Err DiskFault) _ c.args.ledger.now c.shape-shape.result c.args.heads.now.lattice c.greatest_length-most.result (g.D.Disk.state c.args.disk.now) (g.D.Disk.state c.weave_all.new.disk)
+    all_writes c.records_are_few.ensures g.D.Disk.tells (c.weave_all.result ≡ Err DiskFault) _ c.args.ledger.now c.shape-shape.result c.args.heads.lattice c.greatest_length-most.result (g.D.Disk.state c.args.disk.now) (g.D.Disk.state c.weave_all.new.disk)
     c.shape-shape.ensures.records c.shape-shape.ensures.value c.requires.lattice within (λ is. absurd (let e = is in cc)) (λ is. absurd (ok_no_fault c.in-Ok.is is)) c.weave_all.ensures.writes
 
 pub returns-in-Err-has_more-clause-padded : goal.returns-in-Err-has_more-clause-padded
 returns-in-Err-has_more-clause-padded g c fine told =
-    all_padded c.args.ledger.now c.shape-shape.result c.args.heads.now.lattice (g.D.Disk.state c.args.disk.now).files (g.D.Disk.state c.weave_all.new.disk).files c.shape-shape.ensures.value c.requires.lattice
+    all_padded c.args.ledger.now c.shape-shape.result c.args.heads.lattice (g.D.Disk.state c.args.disk.now).files (g.D.Disk.state c.weave_all.new.disk).files c.shape-shape.ensures.value c.requires.lattice
     (c.weave_all.ensures.padded (λ bad. (let is = c.in-Ok.is in cc)) told)
 
 pub returns-in-Err-has_more-clause-over : goal.returns-in-Err-has_more-clause-over
@@ -207,8 +207,8 @@ pub returns-in-Ok-false-clause-took : goal.returns-in-Ok-false-clause-took
 returns-in-Ok-false-clause-took g c first start =
     let v = c.args.ledger.now in
     takes_object g.D.Disk.tells v c.shape-shape.result c.shape-shape.ensures.value c.in-Ok.length (g.S.Source.state c.args.source.now).left (g.S.Source.state c.weave_all.new.source).left (g.S.Source.state c.has_more.new.source).left c.new-hasher.result c.weave_all.new.hasher
-    c.args.heads.now c.weave_all.new.heads c.new-digests.result.items c.weave_all.new.digests.items first (g.D.Disk.state c.args.disk.now).files (g.D.Disk.state c.weave_all.new.disk).files c.finalize.result
-    c.in-Ok.ensures.took start c.new-digests.ensures.items c.new-hasher.ensures c.finalize.ensures c.requires.lattice (c.in-Ok-false.ensures.none (let t = c.in-Ok-false.field-0-test in ap Ok t))
+    c.args.heads c.weave_all.new.heads c.new-digests.result.items c.weave_all.new.digests.items first (g.D.Disk.state c.args.disk.now).files (g.D.Disk.state c.weave_all.new.disk).files c.finalize.result
+    c.in-Ok.ensures.took start c.new-digests.ensures.items c.new-hasher.ensures c.finalize.ensures c.requires.lattice c.requires.size (c.in-Ok-false.ensures.none (let t = c.in-Ok-false.field-0-test in ap Ok t))
 
 pub returns-in-Ok-false-clause-end : goal.returns-in-Ok-false-clause-end
 returns-in-Ok-false-clause-end g c all =

@@ -6,6 +6,7 @@ use Rattle.aea_archive.specs.Blocks.{IsBlockIn}
 use Rattle.aea_archive.specs.Cells.{IsNoSite, ChangesArchive, FitsRows}
 use Rattle.aea_archive.proofs.Cells.{changes_none, rows_roomy, rows_later}
 use Rattle.aea_append.specs.declared.fault.PutFault.TheVariants.{DiskFault, HeadDamaged, Full, ReadFault}
+use Rattle.aea_append.specs.declared.heads.HeadFault.TheVariants as loading
 use Rattle.aea_append.proofs.Faults.{fault_is, fault_as, ok_no_fault, met_fault}
 use Rattle.aea_append.specs.Taking.{most_of, room_left}
 use Rattle.aea_append.proofs.Takings.{counts_none}
@@ -21,55 +22,55 @@ pub returns-in-Err-HeadDamaged-clause-writes : goal.returns-in-Err-HeadDamaged-c
 returns-in-Err-HeadDamaged-clause-writes g c =
     let v = c.args.ledger.now in
     let old = g.D.Disk.state c.args.disk.now in
-    let mid = g.D.Disk.state c.ready_heads.new.disk in
+    let mid = g.D.Disk.state c.next_heads.new.disk in
     let keep = IsBlockIn c.args.ledger.now.shape c.args.ledger.now.lattice.n in
-    writes_as g.D.Disk.tells _ (FitsRows v.shape (limit_when v.raised) old) (c.ready_heads.result ≡ Err DiskFault) _ (ChangesArchive v.shape (limit_when v.raised) (IsBlockIn v.shape v.lattice.n) (IsNoSite v.shape)) old mid (λ is. absurd (let e = is in cc)) (λ is. absurd (let e = met_fault c.in-Err-HeadDamaged.is c.in-Err-HeadDamaged.field-0-is is in cc))
-    (reads_writes g.D.Disk.tells _ (FitsRows v.shape (limit_when v.raised) old) (c.ready_heads.result ≡ Err DiskFault) (ChangesArchive v.shape (limit_when v.raised) (IsBlockIn v.shape v.lattice.n) (IsNoSite v.shape)) old mid (λ is. is)
-    (λ room. rows_roomy c.homes_are_on_its_sites.ensures v.shape (limit_when v.raised) old room) (λ d. changes_none v.shape (limit_when v.raised) (IsBlockIn v.shape v.lattice.n) (IsNoSite v.shape) d) c.ready_heads.ensures.reads)
+    writes_as g.D.Disk.tells _ (FitsRows v.shape (limit_when v.raised) old) (c.next_heads.result ≡ Err loading.DiskFault) _ (ChangesArchive v.shape (limit_when v.raised) (IsBlockIn v.shape v.lattice.n) (IsNoSite v.shape)) old mid (λ is. absurd (let e = is in cc)) (λ is. absurd (let e = met_fault c.in-Err-HeadDamaged.is c.in-Err-HeadDamaged.field-0-is is in cc))
+    (reads_writes g.D.Disk.tells _ (FitsRows v.shape (limit_when v.raised) old) (c.next_heads.result ≡ Err loading.DiskFault) (ChangesArchive v.shape (limit_when v.raised) (IsBlockIn v.shape v.lattice.n) (IsNoSite v.shape)) old mid (λ is. is)
+    (λ room. rows_roomy c.homes_are_on_its_sites.ensures v.shape (limit_when v.raised) old room) (λ d. changes_none v.shape (limit_when v.raised) (IsBlockIn v.shape v.lattice.n) (IsNoSite v.shape) d) c.next_heads.ensures.reads)
 
 pub returns-in-Err-DiskFault-clause-writes : goal.returns-in-Err-DiskFault-clause-writes
 returns-in-Err-DiskFault-clause-writes g c =
     let v = c.args.ledger.now in
     let old = g.D.Disk.state c.args.disk.now in
-    let mid = g.D.Disk.state c.ready_heads.new.disk in
+    let mid = g.D.Disk.state c.next_heads.new.disk in
     let keep = IsBlockIn c.args.ledger.now.shape c.args.ledger.now.lattice.n in
-    writes_as g.D.Disk.tells _ (FitsRows v.shape (limit_when v.raised) old) (c.ready_heads.result ≡ Err DiskFault) _ (ChangesArchive v.shape (limit_when v.raised) (IsBlockIn v.shape v.lattice.n) (IsNoSite v.shape)) old mid (λ is. c.in-Err-DiskFault.is ∙ ap Err c.in-Err-DiskFault.field-0-is) (λ is. cc)
-    (reads_writes g.D.Disk.tells _ (FitsRows v.shape (limit_when v.raised) old) (c.ready_heads.result ≡ Err DiskFault) (ChangesArchive v.shape (limit_when v.raised) (IsBlockIn v.shape v.lattice.n) (IsNoSite v.shape)) old mid (λ is. is)
-    (λ room. rows_roomy c.homes_are_on_its_sites.ensures v.shape (limit_when v.raised) old room) (λ d. changes_none v.shape (limit_when v.raised) (IsBlockIn v.shape v.lattice.n) (IsNoSite v.shape) d) c.ready_heads.ensures.reads)
+    writes_as g.D.Disk.tells _ (FitsRows v.shape (limit_when v.raised) old) (c.next_heads.result ≡ Err loading.DiskFault) _ (ChangesArchive v.shape (limit_when v.raised) (IsBlockIn v.shape v.lattice.n) (IsNoSite v.shape)) old mid (λ is. c.in-Err-DiskFault.is ∙ ap Err c.in-Err-DiskFault.field-0-is) (λ is. cc)
+    (reads_writes g.D.Disk.tells _ (FitsRows v.shape (limit_when v.raised) old) (c.next_heads.result ≡ Err loading.DiskFault) (ChangesArchive v.shape (limit_when v.raised) (IsBlockIn v.shape v.lattice.n) (IsNoSite v.shape)) old mid (λ is. is)
+    (λ room. rows_roomy c.homes_are_on_its_sites.ensures v.shape (limit_when v.raised) old room) (λ d. changes_none v.shape (limit_when v.raised) (IsBlockIn v.shape v.lattice.n) (IsNoSite v.shape) d) c.next_heads.ensures.reads)
 
 pub returns-in-Err-NoMemory-clause-writes : goal.returns-in-Err-NoMemory-clause-writes
 returns-in-Err-NoMemory-clause-writes g c =
     let v = c.args.ledger.now in
     let old = g.D.Disk.state c.args.disk.now in
-    let mid = g.D.Disk.state c.ready_heads.new.disk in
+    let mid = g.D.Disk.state c.next_heads.new.disk in
     let keep = IsBlockIn c.args.ledger.now.shape c.args.ledger.now.lattice.n in
-    writes_as g.D.Disk.tells _ (FitsRows v.shape (limit_when v.raised) old) (c.ready_heads.result ≡ Err DiskFault) _ (ChangesArchive v.shape (limit_when v.raised) (IsBlockIn v.shape v.lattice.n) (IsNoSite v.shape)) old mid (λ is. absurd (let e = is in cc)) (λ is. absurd (let e = met_fault c.in-Err-NoMemory.is c.in-Err-NoMemory.field-0-is is in cc))
-    (reads_writes g.D.Disk.tells _ (FitsRows v.shape (limit_when v.raised) old) (c.ready_heads.result ≡ Err DiskFault) (ChangesArchive v.shape (limit_when v.raised) (IsBlockIn v.shape v.lattice.n) (IsNoSite v.shape)) old mid (λ is. is)
-    (λ room. rows_roomy c.homes_are_on_its_sites.ensures v.shape (limit_when v.raised) old room) (λ d. changes_none v.shape (limit_when v.raised) (IsBlockIn v.shape v.lattice.n) (IsNoSite v.shape) d) c.ready_heads.ensures.reads)
+    writes_as g.D.Disk.tells _ (FitsRows v.shape (limit_when v.raised) old) (c.next_heads.result ≡ Err loading.DiskFault) _ (ChangesArchive v.shape (limit_when v.raised) (IsBlockIn v.shape v.lattice.n) (IsNoSite v.shape)) old mid (λ is. absurd (let e = is in cc)) (λ is. absurd (let e = met_fault c.in-Err-NoMemory.is c.in-Err-NoMemory.field-0-is is in cc))
+    (reads_writes g.D.Disk.tells _ (FitsRows v.shape (limit_when v.raised) old) (c.next_heads.result ≡ Err loading.DiskFault) (ChangesArchive v.shape (limit_when v.raised) (IsBlockIn v.shape v.lattice.n) (IsNoSite v.shape)) old mid (λ is. is)
+    (λ room. rows_roomy c.homes_are_on_its_sites.ensures v.shape (limit_when v.raised) old room) (λ d. changes_none v.shape (limit_when v.raised) (IsBlockIn v.shape v.lattice.n) (IsNoSite v.shape) d) c.next_heads.ensures.reads)
 
 pub returns-in-Ok-take_object-clause-writes : goal.returns-in-Ok-take_object-clause-writes
 returns-in-Ok-take_object-clause-writes g c =
     let v = c.args.ledger.now in
     let old = g.D.Disk.state c.args.disk.now in
-    let mid = g.D.Disk.state c.ready_heads.new.disk in
+    let mid = g.D.Disk.state c.next_heads.new.disk in
     let keep = IsBlockIn c.args.ledger.now.shape c.args.ledger.now.lattice.n in
     let new = g.D.Disk.state c.take_object.new.disk in
     writes_as g.D.Disk.tells _ (FitsRows v.shape (limit_when v.raised) old) (c.take_object.result ≡ Err DiskFault) _ (ChangesArchive v.shape (limit_when v.raised) (IsBlockIn v.shape v.lattice.n) (IsNoSite v.shape)) old new (λ is. absurd (let e = is in cc)) (λ is. absurd (ok_no_fault c.in-Ok-take_object.is is))
-    (reads_then_writes g.D.Disk.tells _ _ (FitsRows v.shape (limit_when v.raised) old) (FitsRows v.shape (limit_when v.raised) mid) (c.ready_heads.result ≡ Err DiskFault) (c.take_object.result ≡ Err DiskFault) (ChangesArchive v.shape (limit_when v.raised) (IsBlockIn v.shape v.lattice.n) (IsNoSite v.shape)) old mid new (ok_no_fault c.in-Ok-ready_heads.is)
+    (reads_then_writes g.D.Disk.tells _ _ (FitsRows v.shape (limit_when v.raised) old) (FitsRows v.shape (limit_when v.raised) mid) (c.next_heads.result ≡ Err loading.DiskFault) (c.take_object.result ≡ Err DiskFault) (ChangesArchive v.shape (limit_when v.raised) (IsBlockIn v.shape v.lattice.n) (IsNoSite v.shape)) old mid new (ok_no_fault c.in-Ok-next_heads.is)
     (λ d. changes_none v.shape (limit_when v.raised) (IsBlockIn v.shape v.lattice.n) (IsNoSite v.shape) d) (λ is. is) (λ _ is same goes. ready_later old mid same goes is)
-    (λ room. rows_roomy c.homes_are_on_its_sites.ensures v.shape (limit_when v.raised) old room) (λ _ room same time. rows_later v.shape (limit_when v.raised) old mid (ap (λ (f : ℕ → List ℕ). f 0) same) time room) c.ready_heads.ensures.reads c.take_object.ensures.writes)
+    (λ room. rows_roomy c.homes_are_on_its_sites.ensures v.shape (limit_when v.raised) old room) (λ _ room same time. rows_later v.shape (limit_when v.raised) old mid (ap (λ (f : ℕ → List ℕ). f 0) same) time room) c.next_heads.ensures.reads c.take_object.ensures.writes)
 
 pub returns-clause-writes : goal.returns-clause-writes
 returns-clause-writes g c =
     let v = c.args.ledger.now in
     let old = g.D.Disk.state c.args.disk.now in
-    let mid = g.D.Disk.state c.ready_heads.new.disk in
+    let mid = g.D.Disk.state c.next_heads.new.disk in
     let keep = IsBlockIn c.args.ledger.now.shape c.args.ledger.now.lattice.n in
     let new = g.D.Disk.state c.take_object.new.disk in
     writes_as g.D.Disk.tells _ (FitsRows v.shape (limit_when v.raised) old) (c.take_object.result ≡ Err DiskFault) _ (ChangesArchive v.shape (limit_when v.raised) (IsBlockIn v.shape v.lattice.n) (IsNoSite v.shape)) old new (λ is. c.in-Err-take_object.is ∙ fault_as c.in-Err-take_object.fault DiskFault is) (λ is. cc)
-    (reads_then_writes g.D.Disk.tells _ _ (FitsRows v.shape (limit_when v.raised) old) (FitsRows v.shape (limit_when v.raised) mid) (c.ready_heads.result ≡ Err DiskFault) (c.take_object.result ≡ Err DiskFault) (ChangesArchive v.shape (limit_when v.raised) (IsBlockIn v.shape v.lattice.n) (IsNoSite v.shape)) old mid new (ok_no_fault c.in-Ok-ready_heads.is)
+    (reads_then_writes g.D.Disk.tells _ _ (FitsRows v.shape (limit_when v.raised) old) (FitsRows v.shape (limit_when v.raised) mid) (c.next_heads.result ≡ Err loading.DiskFault) (c.take_object.result ≡ Err DiskFault) (ChangesArchive v.shape (limit_when v.raised) (IsBlockIn v.shape v.lattice.n) (IsNoSite v.shape)) old mid new (ok_no_fault c.in-Ok-next_heads.is)
     (λ d. changes_none v.shape (limit_when v.raised) (IsBlockIn v.shape v.lattice.n) (IsNoSite v.shape) d) (λ is. is) (λ _ is same goes. ready_later old mid same goes is)
-    (λ room. rows_roomy c.homes_are_on_its_sites.ensures v.shape (limit_when v.raised) old room) (λ _ room same time. rows_later v.shape (limit_when v.raised) old mid (ap (λ (f : ℕ → List ℕ). f 0) same) time room) c.ready_heads.ensures.reads c.take_object.ensures.writes)
+    (λ room. rows_roomy c.homes_are_on_its_sites.ensures v.shape (limit_when v.raised) old room) (λ _ room same time. rows_later v.shape (limit_when v.raised) old mid (ap (λ (f : ℕ → List ℕ). f 0) same) time room) c.next_heads.ensures.reads c.take_object.ensures.writes)
 
 pub returns-clause-head : goal.returns-clause-head
 returns-clause-head g c b is =
@@ -86,9 +87,9 @@ pub returns-clause-padded : goal.returns-clause-padded
 returns-clause-padded g c fine told =
     let v = c.args.ledger.now in
     let old = g.D.Disk.state c.args.disk.now in
-    let mid = g.D.Disk.state c.ready_heads.new.disk in
+    let mid = g.D.Disk.state c.next_heads.new.disk in
     let new = g.D.Disk.state c.take_object.new.disk in
-    padded_both v.shape (IsBlockIn v.shape v.lattice.n) old.files mid.files new.files (padded_kept v.shape (IsBlockIn v.shape v.lattice.n) old.files mid.files (c.ready_heads.ensures.reads.contents told))
+    padded_both v.shape (IsBlockIn v.shape v.lattice.n) old.files mid.files new.files (padded_kept v.shape (IsBlockIn v.shape v.lattice.n) old.files mid.files (c.next_heads.ensures.reads.contents told))
     (c.take_object.ensures.padded (λ bad. fine (fault_as c.in-Err-take_object.fault DiskFault (sym c.in-Err-take_object.is ∙ bad))) told)
 
 pub returns-in-Err-clause-counted : goal.returns-in-Err-clause-counted
@@ -124,20 +125,20 @@ returns-in-Err-clause-head_in_room g c told a damaged ready roomy = ((λ is. abs
 
 pub returns-in-Err-HeadDamaged-clause-head_in_room : goal.returns-in-Err-HeadDamaged-clause-head_in_room
 returns-in-Err-HeadDamaged-clause-head_in_room g c told a damaged ready roomy =
-    ((λ is. absurd (let e = is in cc)), (c.ready_heads.ensures.reads.sure told ready roomy).1)
+    ((λ is. absurd (let e = is in cc)), (c.next_heads.ensures.reads.sure told ready roomy).1)
 
 pub returns-in-Err-NoMemory-clause-head_in_room : goal.returns-in-Err-NoMemory-clause-head_in_room
 returns-in-Err-NoMemory-clause-head_in_room g c told a damaged ready roomy =
-    ((λ is. absurd (let e = is in cc)), (c.ready_heads.ensures.reads.sure told ready roomy).1)
+    ((λ is. absurd (let e = is in cc)), (c.next_heads.ensures.reads.sure told ready roomy).1)
 
 pub returns-in-Err-DiskFault-clause-head_in_room : goal.returns-in-Err-DiskFault-clause-head_in_room
 returns-in-Err-DiskFault-clause-head_in_room g c told a damaged ready roomy =
-    absurd ((c.ready_heads.ensures.reads.sure told ready roomy).0 (c.in-Err-DiskFault.is ∙ ap Err c.in-Err-DiskFault.field-0-is))
+    absurd ((c.next_heads.ensures.reads.sure told ready roomy).0 (c.in-Err-DiskFault.is ∙ ap Err c.in-Err-DiskFault.field-0-is))
 
 pub returns-in-Ok-take_object-clause-head_in_room : goal.returns-in-Ok-take_object-clause-head_in_room
 returns-in-Ok-take_object-clause-head_in_room g c told a damaged ready roomy =
-    absurd (none_damaged c.args.ledger.now (g.D.Disk.state c.args.disk.now) (c.in-Ok-ready_heads.ensures.intact told) a damaged)
+    absurd (none_damaged c.args.ledger.now (g.D.Disk.state c.args.disk.now) (c.in-Ok-next_heads.ensures.intact told) a damaged)
 
 pub returns-clause-head_in_room : goal.returns-clause-head_in_room
 returns-clause-head_in_room g c told a damaged ready roomy =
-    absurd (none_damaged c.args.ledger.now (g.D.Disk.state c.args.disk.now) (c.in-Ok-ready_heads.ensures.intact told) a damaged)
+    absurd (none_damaged c.args.ledger.now (g.D.Disk.state c.args.disk.now) (c.in-Ok-next_heads.ensures.intact told) a damaged)

@@ -51,69 +51,69 @@ returns-in-Ok-Some-clause-ledger g c told = (ended_as (c.in-Ok-Some.is ∙ ap Ok
 
 -- ---- where it was not
 
-pub returns-in-Err-put_wanted-clause-writes : goal.returns-in-Err-put_wanted-clause-writes
-returns-in-Err-put_wanted-clause-writes g c =
+pub returns-clause-writes : goal.returns-clause-writes
+returns-clause-writes g c =
     writes_as g.D.Disk.tells _ _ _ _ _ (g.D.Disk.state c.args.disk.now) (g.D.Disk.state c.put_wanted.new.disk) (λ is. c.in-Err-put_wanted.is ∙ fault_as c.in-Err-put_wanted.fault DiskFault is) (λ is. cc) c.put_wanted.ensures.writes
 
-pub returns-in-Err-put_wanted-clause-padded : goal.returns-in-Err-put_wanted-clause-padded
-returns-in-Err-put_wanted-clause-padded g c fine told =
+pub returns-clause-padded : goal.returns-clause-padded
+returns-clause-padded g c fine told =
     (none_by c.in-Err-put_wanted.fault c.in-Err-put_wanted.is c.put_wanted.ensures.stores (λ bad. fine (ap Err bad))).padded told
 
-pub returns-in-Err-put_wanted-clause-reads : goal.returns-in-Err-put_wanted-clause-reads
-returns-in-Err-put_wanted-clause-reads g c =
+pub returns-clause-reads : goal.returns-clause-reads
+returns-clause-reads g c =
     counts_most (g.S.Source.state c.args.source.now).left (g.S.Source.state c.put_wanted.new.source).left _ _ (room_left c.args.ledger.now + 1) c.put_wanted.ensures.counted
 
-pub returns-in-Err-put_wanted-clause-early : goal.returns-in-Err-put_wanted-clause-early
-returns-in-Err-put_wanted-clause-early g c is =
+pub returns-clause-early : goal.returns-clause-early
+returns-clause-early g c is =
     absurd (c.put_wanted.ensures.late (⊎_elim (λ bad. inl (c.in-Err-put_wanted.is ∙ fault_as c.in-Err-put_wanted.fault BadName bad)) (λ rest. inr (⊎_elim (λ taken. inl (c.in-Err-put_wanted.is ∙ fault_as c.in-Err-put_wanted.fault NameTaken taken)) (λ many. inr (c.in-Err-put_wanted.is ∙ fault_as c.in-Err-put_wanted.fault CatalogFull many)) rest)) is))
 
-pub returns-in-Err-put_wanted-clause-head : goal.returns-in-Err-put_wanted-clause-head
-returns-in-Err-put_wanted-clause-head g c b is =
+pub returns-clause-head : goal.returns-clause-head
+returns-clause-head g c b is =
     let e = ended_as (c.in-Err-put_wanted.is ∙ fault_as c.in-Err-put_wanted.fault (HeadDamaged b) is) c.put_wanted.ensures.stores in
     (e.last, e.first)
 
-pub returns-in-Err-put_wanted-clause-head_leaves : goal.returns-in-Err-put_wanted-clause-head_leaves
-returns-in-Err-put_wanted-clause-head_leaves g c b is =
+pub returns-clause-head_leaves : goal.returns-clause-head_leaves
+returns-clause-head_leaves g c b is =
     let e = ended_as (c.in-Err-put_wanted.is ∙ fault_as c.in-Err-put_wanted.fault (HeadDamaged b) is) c.put_wanted.ensures.stores in
     (e.untaken_is, e.reads)
 
-pub returns-in-Err-put_wanted-clause-full : goal.returns-in-Err-put_wanted-clause-full
-returns-in-Err-put_wanted-clause-full g c nodes is =
+pub returns-clause-full : goal.returns-clause-full
+returns-clause-full g c nodes is =
     let e = ended_as (c.in-Err-put_wanted.is ∙ fault_as c.in-Err-put_wanted.fault (Full nodes) is) c.put_wanted.ensures.stores in
     (e.nodes_is, (e.over, e.heads))
 
-pub returns-in-Err-put_wanted-clause-head_refused : goal.returns-in-Err-put_wanted-clause-head_refused
-returns-in-Err-put_wanted-clause-head_refused g c told may a damaged =
+pub returns-clause-head_refused : goal.returns-clause-head_refused
+returns-clause-head_refused g c told may a damaged =
     head_refused_by c.in-Err-put_wanted.fault c.in-Err-put_wanted.is c.put_wanted.ensures.stores told a damaged
 
-pub returns-in-Err-put_wanted-clause-full_refused : goal.returns-in-Err-put_wanted-clause-full_refused
-returns-in-Err-put_wanted-clause-full_refused g c bytes is may past =
+pub returns-clause-full_refused : goal.returns-clause-full_refused
+returns-clause-full_refused g c bytes is may past =
     ⊎_elim (λ full. inl (ap Err full)) (λ rest. inr (⊎_elim (λ read. inl (ap Err read)) (λ head. inr head) rest))
     (full_refused_by c.in-Err-put_wanted.fault c.in-Err-put_wanted.is c.put_wanted.ensures.stores)
 
-pub returns-in-Err-put_wanted-clause-complete : goal.returns-in-Err-put_wanted-clause-complete
-returns-in-Err-put_wanted-clause-complete g c told bytes is may intact fits disk source =
+pub returns-clause-complete : goal.returns-clause-complete
+returns-clause-complete g c told bytes is may intact fits disk source =
     inr (ap Err (complete_by c.in-Err-put_wanted.fault c.in-Err-put_wanted.is c.put_wanted.ensures.stores told bytes is intact fits
     (λ bad. disk (c.put_wanted.ensures.writes.cause (c.in-Err-put_wanted.is ∙ ap Err bad))) (λ bad. source (c.put_wanted.ensures.read_cause (c.in-Err-put_wanted.is ∙ ap Err bad)))))
 
-pub returns-in-Err-put_wanted-clause-refused : goal.returns-in-Err-put_wanted-clause-refused
-returns-in-Err-put_wanted-clause-refused g c err fine =
+pub returns-clause-refused : goal.returns-clause-refused
+returns-clause-refused g c err fine =
     (none_by c.in-Err-put_wanted.fault c.in-Err-put_wanted.is c.put_wanted.ensures.stores (λ bad. fine (ap Err bad))).same
 
-pub returns-in-Err-put_wanted-clause-refused_leaves : goal.returns-in-Err-put_wanted-clause-refused_leaves
-returns-in-Err-put_wanted-clause-refused_leaves g c err fine told =
+pub returns-clause-refused_leaves : goal.returns-clause-refused_leaves
+returns-clause-refused_leaves g c err fine told =
     (none_by c.in-Err-put_wanted.fault c.in-Err-put_wanted.is c.put_wanted.ensures.stores (λ bad. fine (ap Err bad))).leaves told
 
-pub returns-in-Err-put_wanted-clause-dead : goal.returns-in-Err-put_wanted-clause-dead
-returns-in-Err-put_wanted-clause-dead g c is =
+pub returns-clause-dead : goal.returns-clause-dead
+returns-clause-dead g c is =
     (ended_as (c.in-Err-put_wanted.is ∙ fault_as c.in-Err-put_wanted.fault DiskFault is) c.put_wanted.ensures.stores).dead
 
-pub returns-in-Err-put_wanted-clause-stopped : goal.returns-in-Err-put_wanted-clause-stopped
-returns-in-Err-put_wanted-clause-stopped g c is told =
+pub returns-clause-stopped : goal.returns-clause-stopped
+returns-clause-stopped g c is told =
     (ended_as (c.in-Err-put_wanted.is ∙ fault_as c.in-Err-put_wanted.fault DiskFault is) c.put_wanted.ensures.stores).stopped told
 
-pub returns-in-Err-put_wanted-clause-read_cause : goal.returns-in-Err-put_wanted-clause-read_cause
-returns-in-Err-put_wanted-clause-read_cause g c is =
+pub returns-clause-read_cause : goal.returns-clause-read_cause
+returns-clause-read_cause g c is =
     c.put_wanted.ensures.read_cause (c.in-Err-put_wanted.is ∙ fault_as c.in-Err-put_wanted.fault ReadFault is)
 
 -- ---- where a reason held for a refusal before the source was read
@@ -129,7 +129,7 @@ pub returns-in-Ok-Some-clause-refused_in_room : goal.returns-in-Ok-Some-clause-r
 returns-in-Ok-Some-clause-refused_in_room g c told reason ready roomy =
     absurd (⊎_elim {C = ⊥} (λ no. no c.in-Ok.ensures.may) (λ some. none_damaged c.args.ledger.now (g.D.Disk.state c.args.disk.now) ((ended_as (c.in-Ok-Some.is ∙ ap Ok c.in-Ok-Some.field-0-is) c.put_wanted.ensures.stores).heads told) some.0 some.1) reason)
 
-pub returns-in-Err-put_wanted-clause-refused_in_room : goal.returns-in-Err-put_wanted-clause-refused_in_room
-returns-in-Err-put_wanted-clause-refused_in_room g c told reason ready roomy =
+pub returns-clause-refused_in_room : goal.returns-clause-refused_in_room
+returns-clause-refused_in_room g c told reason ready roomy =
     ⊎_elim (λ no. absurd (no c.in-Ok.ensures.may))
     (λ some. let never = c.put_wanted.ensures.head_in_room told some.0 some.1 ready roomy in ((λ is. never.0 (c.in-Err-put_wanted.is ∙ fault_as c.in-Err-put_wanted.fault DiskFault is)), never.1)) reason

@@ -16,7 +16,7 @@ use Rattle.aea_append.specs.Causes.{next_end}
 use Rattle.aea_ledger.specs.Taking.{FitsAdding}
 use Rattle.aea_append.proofs.Faults.{ok_no_fault, met_fault}
 use Rattle.aea_disk.proofs.Moments.{during_then_kept}
-use Rattle.aea_archive.specs.Next.{NewObject}
+use Rattle.aea_archive.specs.Next.{NewObject, object_blocks}
 use Rattle.aea_append.specs.Taking.{TakesObject, room_left}
 use Rattle.aea_append.specs.Puts.{AreBlocksWide}
 use Rattle.aea_records.specs.TableLaws.{AreBytes}
@@ -26,7 +26,8 @@ use Rattle.aea_append.proofs.Wanted.{wanted_of, wanted_ledger, not_both}
 use Rattle.aea_append.proofs.Faults.{ok_not_over, read_not_over}
 use Rattle.aea_append.proofs.Rooms.{not_less}
 use Rattle.aea_append.proofs.Leaving.{one_of, cells_wider, stores_none, leaves_ledger, stopped_before, both_write, adds_put, its_later, cells_stay, padded_commit}
-use Rattle.aea_append.proofs.Storing.{next_woven, more_where, added_of, woven_to, next_of, more_of, honest_of}
+use Rattle.aea_append.proofs.Storing.{next_woven, more_where, added_of, woven_to, next_of, more_of, honest_of, digests_to}
+use Rattle.aea_append.proofs.Kept.{kept_after}
 use Rattle.aea_append.proofs.Space.{none_damaged}
 use Rattle.aea_append.proofs.store.put_wanted.Goals as goal
 
@@ -99,14 +100,14 @@ returns-in-Ok-commit_object-clause-writes g c =
     let nodes = c.in-Ok.taken.nodes in
     let digests = c.as_slice.result.now in
     let counted : c.in-Ok.taken.nodes ≡ nodes_for c.args.ledger.now.shape c.in-Ok.taken.length = c.in-Ok.ensures.nodes in
-    let t : TakesObject g.D.Disk.tells c.args.ledger.now.shape c.args.ledger.now.lattice c.args.ledger.now.digests c.in-Ok.taken.length c.in-Ok.taken.digest (g.S.Source.state c.args.source.now).left (g.S.Source.state c.weave_object.new.source).left c.as_slice.result.now (g.D.Disk.state c.args.disk.now).files (g.D.Disk.state c.weave_object.new.disk).files =
-    subst (λ (d : List (List ℕ)). TakesObject tells v.shape v.lattice v.digests k digest left rest d old.files mid.files) (sym c.as_slice.ensures.value) c.in-Ok.ensures.took in
+    let t : TakesObject g.D.Disk.tells c.args.ledger.now.shape c.args.ledger.now.lattice c.args.ledger.now.digests c.in-Ok.taken.length c.in-Ok.taken.digest (g.S.Source.state c.args.source.now).left (g.S.Source.state c.weave_object.new.source).left c.as_slice.result.now (g.D.Disk.state c.args.disk.now).files (g.D.Disk.state c.weave_object.new.disk).files c.in-Ok.taken.heads =
+    subst (λ (d : List (List ℕ)). TakesObject tells v.shape v.lattice v.digests k digest left rest d old.files mid.files c.in-Ok.taken.heads) (sym c.as_slice.ensures.value) c.in-Ok.ensures.took in
     let stored : Stored = next_stored v name k digest nodes digests in
     let bad = c.weave_object.result ≡ Err DiskFault in
-    let last : t.heads.lattice.n ≡ c.args.ledger.now.lattice.n + c.in-Ok.taken.nodes = (let n = t.nodes in omega (arith, n, counted)) in
+    let last : c.in-Ok.taken.heads.lattice.n ≡ c.args.ledger.now.lattice.n + c.in-Ok.taken.nodes = (let n = t.nodes in omega (arith, n, counted)) in
     let end : ℕ = v.end + length (entry (Object stored)) + 1 in
     let long : length c.as_slice.result.now ≡ nodes_for c.args.ledger.now.shape (length t.bytes) * (1 + c.args.ledger.now.shape.alpha) =
-    t.woven.digests_are.long ∙ ap (λ (n : ℕ). n * (1 + v.shape.alpha)) (let e : t.heads.lattice.n - v.lattice.n ≡ nodes_for v.shape (length t.bytes) = (omega (arith, last, counted, ap (nodes_for v.shape) t.long)) in e) in
+    t.woven.digests_are.long ∙ ap (λ (n : ℕ). n * (1 + v.shape.alpha)) (let e : c.in-Ok.taken.heads.lattice.n - v.lattice.n ≡ nodes_for v.shape (length t.bytes) = (omega (arith, last, counted, ap (nodes_for v.shape) t.long)) in e) in
     let fits : v.lattice.n + nodes_for v.shape (length t.bytes) ≤ limit_when v.raised = (let f = c.in-Ok.ensures.fits in omega (arith, f, counted, ap (nodes_for v.shape) t.long)) in
     let size : next_end v.end (length name) (nodes_for v.shape (length t.bytes) * (1 + v.shape.alpha)) ≡ v.end + length (entry (Object stored)) = omega (arith, c.commit_object.ensures.size (ap length t.digest_is ∙ length-sha256 t.bytes), long) in
     writes_as tells _ _ _ _ _ old new (λ is. absurd (let e = is in cc)) (λ is. absurd (ok_no_fault c.in-Ok-commit_object.is is))
@@ -128,14 +129,14 @@ returns-in-Err-DiskFault-commit_object-clause-writes g c =
     let nodes = c.in-Ok.taken.nodes in
     let digests = c.as_slice.result.now in
     let counted : c.in-Ok.taken.nodes ≡ nodes_for c.args.ledger.now.shape c.in-Ok.taken.length = c.in-Ok.ensures.nodes in
-    let t : TakesObject g.D.Disk.tells c.args.ledger.now.shape c.args.ledger.now.lattice c.args.ledger.now.digests c.in-Ok.taken.length c.in-Ok.taken.digest (g.S.Source.state c.args.source.now).left (g.S.Source.state c.weave_object.new.source).left c.as_slice.result.now (g.D.Disk.state c.args.disk.now).files (g.D.Disk.state c.weave_object.new.disk).files =
-    subst (λ (d : List (List ℕ)). TakesObject tells v.shape v.lattice v.digests k digest left rest d old.files mid.files) (sym c.as_slice.ensures.value) c.in-Ok.ensures.took in
+    let t : TakesObject g.D.Disk.tells c.args.ledger.now.shape c.args.ledger.now.lattice c.args.ledger.now.digests c.in-Ok.taken.length c.in-Ok.taken.digest (g.S.Source.state c.args.source.now).left (g.S.Source.state c.weave_object.new.source).left c.as_slice.result.now (g.D.Disk.state c.args.disk.now).files (g.D.Disk.state c.weave_object.new.disk).files c.in-Ok.taken.heads =
+    subst (λ (d : List (List ℕ)). TakesObject tells v.shape v.lattice v.digests k digest left rest d old.files mid.files c.in-Ok.taken.heads) (sym c.as_slice.ensures.value) c.in-Ok.ensures.took in
     let stored : Stored = next_stored v name k digest nodes digests in
     let bad = c.weave_object.result ≡ Err DiskFault in
-    let last : t.heads.lattice.n ≡ c.args.ledger.now.lattice.n + c.in-Ok.taken.nodes = (let n = t.nodes in omega (arith, n, counted)) in
+    let last : c.in-Ok.taken.heads.lattice.n ≡ c.args.ledger.now.lattice.n + c.in-Ok.taken.nodes = (let n = t.nodes in omega (arith, n, counted)) in
     let end : ℕ = v.end + length (entry (Object stored)) + 1 in
     let long : length c.as_slice.result.now ≡ nodes_for c.args.ledger.now.shape (length t.bytes) * (1 + c.args.ledger.now.shape.alpha) =
-    t.woven.digests_are.long ∙ ap (λ (n : ℕ). n * (1 + v.shape.alpha)) (let e : t.heads.lattice.n - v.lattice.n ≡ nodes_for v.shape (length t.bytes) = (omega (arith, last, counted, ap (nodes_for v.shape) t.long)) in e) in
+    t.woven.digests_are.long ∙ ap (λ (n : ℕ). n * (1 + v.shape.alpha)) (let e : c.in-Ok.taken.heads.lattice.n - v.lattice.n ≡ nodes_for v.shape (length t.bytes) = (omega (arith, last, counted, ap (nodes_for v.shape) t.long)) in e) in
     let fits : v.lattice.n + nodes_for v.shape (length t.bytes) ≤ limit_when v.raised = (let f = c.in-Ok.ensures.fits in omega (arith, f, counted, ap (nodes_for v.shape) t.long)) in
     let size : next_end v.end (length name) (nodes_for v.shape (length t.bytes) * (1 + v.shape.alpha)) ≡ v.end + length (entry (Object stored)) = omega (arith, c.commit_object.ensures.size (ap length t.digest_is ∙ length-sha256 t.bytes), long) in
     writes_as tells _ _ _ _ _ old new (λ is. c.in-Err-DiskFault-commit_object.is ∙ ap Err c.in-Err-DiskFault-commit_object.field-0-is) (λ is. cc)
@@ -157,14 +158,14 @@ returns-in-Err-NoMemory-commit_object-clause-writes g c =
     let nodes = c.in-Ok.taken.nodes in
     let digests = c.as_slice.result.now in
     let counted : c.in-Ok.taken.nodes ≡ nodes_for c.args.ledger.now.shape c.in-Ok.taken.length = c.in-Ok.ensures.nodes in
-    let t : TakesObject g.D.Disk.tells c.args.ledger.now.shape c.args.ledger.now.lattice c.args.ledger.now.digests c.in-Ok.taken.length c.in-Ok.taken.digest (g.S.Source.state c.args.source.now).left (g.S.Source.state c.weave_object.new.source).left c.as_slice.result.now (g.D.Disk.state c.args.disk.now).files (g.D.Disk.state c.weave_object.new.disk).files =
-    subst (λ (d : List (List ℕ)). TakesObject tells v.shape v.lattice v.digests k digest left rest d old.files mid.files) (sym c.as_slice.ensures.value) c.in-Ok.ensures.took in
+    let t : TakesObject g.D.Disk.tells c.args.ledger.now.shape c.args.ledger.now.lattice c.args.ledger.now.digests c.in-Ok.taken.length c.in-Ok.taken.digest (g.S.Source.state c.args.source.now).left (g.S.Source.state c.weave_object.new.source).left c.as_slice.result.now (g.D.Disk.state c.args.disk.now).files (g.D.Disk.state c.weave_object.new.disk).files c.in-Ok.taken.heads =
+    subst (λ (d : List (List ℕ)). TakesObject tells v.shape v.lattice v.digests k digest left rest d old.files mid.files c.in-Ok.taken.heads) (sym c.as_slice.ensures.value) c.in-Ok.ensures.took in
     let stored : Stored = next_stored v name k digest nodes digests in
     let bad = c.weave_object.result ≡ Err DiskFault in
-    let last : t.heads.lattice.n ≡ c.args.ledger.now.lattice.n + c.in-Ok.taken.nodes = (let n = t.nodes in omega (arith, n, counted)) in
+    let last : c.in-Ok.taken.heads.lattice.n ≡ c.args.ledger.now.lattice.n + c.in-Ok.taken.nodes = (let n = t.nodes in omega (arith, n, counted)) in
     let end : ℕ = v.end + length (entry (Object stored)) + 1 in
     let long : length c.as_slice.result.now ≡ nodes_for c.args.ledger.now.shape (length t.bytes) * (1 + c.args.ledger.now.shape.alpha) =
-    t.woven.digests_are.long ∙ ap (λ (n : ℕ). n * (1 + v.shape.alpha)) (let e : t.heads.lattice.n - v.lattice.n ≡ nodes_for v.shape (length t.bytes) = (omega (arith, last, counted, ap (nodes_for v.shape) t.long)) in e) in
+    t.woven.digests_are.long ∙ ap (λ (n : ℕ). n * (1 + v.shape.alpha)) (let e : c.in-Ok.taken.heads.lattice.n - v.lattice.n ≡ nodes_for v.shape (length t.bytes) = (omega (arith, last, counted, ap (nodes_for v.shape) t.long)) in e) in
     let fits : v.lattice.n + nodes_for v.shape (length t.bytes) ≤ limit_when v.raised = (let f = c.in-Ok.ensures.fits in omega (arith, f, counted, ap (nodes_for v.shape) t.long)) in
     let size : next_end v.end (length name) (nodes_for v.shape (length t.bytes) * (1 + v.shape.alpha)) ≡ v.end + length (entry (Object stored)) = omega (arith, c.commit_object.ensures.size (ap length t.digest_is ∙ length-sha256 t.bytes), long) in
     writes_as tells _ _ _ _ _ old new (λ is. absurd (let e = is in cc)) (λ is. absurd (let e = met_fault c.in-Err-NoMemory-commit_object.is c.in-Err-NoMemory-commit_object.field-0-is is in cc))
@@ -279,16 +280,16 @@ returns-in-Ok-commit_object-clause-stores g c =
     let nodes = c.in-Ok.taken.nodes in
     let digests = c.as_slice.result.now in
     let counted : c.in-Ok.taken.nodes ≡ nodes_for c.args.ledger.now.shape c.in-Ok.taken.length = c.in-Ok.ensures.nodes in
-    let t : TakesObject g.D.Disk.tells c.args.ledger.now.shape c.args.ledger.now.lattice c.args.ledger.now.digests c.in-Ok.taken.length c.in-Ok.taken.digest (g.S.Source.state c.args.source.now).left (g.S.Source.state c.weave_object.new.source).left c.as_slice.result.now (g.D.Disk.state c.args.disk.now).files (g.D.Disk.state c.weave_object.new.disk).files =
-    subst (λ (d : List (List ℕ)). TakesObject tells v.shape v.lattice v.digests k digest left rest d old.files mid.files) (sym c.as_slice.ensures.value) c.in-Ok.ensures.took in
+    let t : TakesObject g.D.Disk.tells c.args.ledger.now.shape c.args.ledger.now.lattice c.args.ledger.now.digests c.in-Ok.taken.length c.in-Ok.taken.digest (g.S.Source.state c.args.source.now).left (g.S.Source.state c.weave_object.new.source).left c.as_slice.result.now (g.D.Disk.state c.args.disk.now).files (g.D.Disk.state c.weave_object.new.disk).files c.in-Ok.taken.heads =
+    subst (λ (d : List (List ℕ)). TakesObject tells v.shape v.lattice v.digests k digest left rest d old.files mid.files c.in-Ok.taken.heads) (sym c.as_slice.ensures.value) c.in-Ok.ensures.took in
     let stored : Stored = next_stored v name k digest nodes digests in
     let bad = c.weave_object.result ≡ Err DiskFault in
-    let last : t.heads.lattice.n ≡ c.args.ledger.now.lattice.n + c.in-Ok.taken.nodes = (let n = t.nodes in omega (arith, n, counted)) in
+    let last : c.in-Ok.taken.heads.lattice.n ≡ c.args.ledger.now.lattice.n + c.in-Ok.taken.nodes = (let n = t.nodes in omega (arith, n, counted)) in
     let o : NewObject = record { name = name; bytes = t.bytes } in
     let w = c.commit_object.new.ledger in
     let value = c.in-Ok-commit_object.ensures.value in
     let same = c.in-Ok-commit_object.ensures.shape in
-    let woven_is : (records : List Record) → HasRecords v records → t.heads.lattice ≡ w.lattice =
+    let woven_is : (records : List Record) → HasRecords v records → c.in-Ok.taken.heads.lattice ≡ w.lattice =
     λ records has. woven_to tells v w name k nodes digest left rest digests old.files mid.files counted t same records has (value records has) in
     record {
       ended = record {
@@ -317,19 +318,19 @@ returns-in-Ok-commit_object-clause-stores g c =
                 (subst (λ (n : ℕ). AreAtHome v.shape v.lattice.n n t.woven.payload mid.files) last (t.woven.cells told)));
             added = λ told records its.
                 added_of tells v name k nodes digest left rest digests old.files mid.files counted t c.cells_have_lengths.ensures c.cells_have_parts.ensures c.digests_are_counted.ensures records its.has new
-                (cells_stay v.shape v.lattice.n t.heads.lattice.n t.woven.payload mid.files new.files (c.commit_object.ensures.writes.contents told) (t.woven.cells told))
+                (cells_stay v.shape v.lattice.n c.in-Ok.taken.heads.lattice.n t.woven.payload mid.files new.files (c.commit_object.ensures.writes.contents told) (t.woven.cells told))
                 (c.in-Ok-commit_object.ensures.appended told records (its_later tells bad told v records old mid c.weave_object.ensures.writes its)) (c.in-Ok-commit_object.ensures.durable told);
             exactly = λ told.
                 c.in-Ok-commit_object.ensures.exactly told ∙ ap (λ (l : List ℕ). committed l v.end (body (Object stored) ++ 0 ∷ [])) ((c.weave_object.ensures.writes.contents told).stay 0 (inl refl));
             cells = λ told.
                 subst (λ (l : Lattice). AreAtHome v.shape v.lattice.n l.n t.woven.payload new.files) (woven_is c.requires.opened.0 c.requires.opened.1)
-                (cells_stay v.shape v.lattice.n t.heads.lattice.n t.woven.payload mid.files new.files (c.commit_object.ensures.writes.contents told) (t.woven.cells told));
+                (cells_stay v.shape v.lattice.n c.in-Ok.taken.heads.lattice.n t.woven.payload mid.files new.files (c.commit_object.ensures.writes.contents told) (t.woven.cells told));
             records_more = λ told records datas has old_records honest.
                 more_of tells v w name k nodes digest left rest digests old.files mid.files counted t same records has (value records has) c.next_records_more.ensures c.lasts_are_values.ensures told datas old_records honest;
             honest = λ told records datas has old_records honest plain.
                 honest_of tells v w name k nodes digest left rest digests old.files mid.files counted t same records has (value records has) c.next_records_more.ensures c.lasts_are_values.ensures c.survivors_stay_honest.ensures c.digests_are_counted.ensures told datas old_records new.files
                 (subst (λ (l : Lattice). AreAtHome v.shape v.lattice.n l.n t.woven.payload new.files) (woven_to tells v w name k nodes digest left rest digests old.files mid.files counted t same records has (value records has))
-                (cells_stay v.shape v.lattice.n t.heads.lattice.n t.woven.payload mid.files new.files (c.commit_object.ensures.writes.contents told) (t.woven.cells told)))
+                (cells_stay v.shape v.lattice.n c.in-Ok.taken.heads.lattice.n t.woven.payload mid.files new.files (c.commit_object.ensures.writes.contents told) (t.woven.cells told)))
                 (padded_both v.shape (IsBlockIn v.shape v.lattice.n) old.files mid.files new.files (c.weave_object.ensures.padded (λ e. (let is = c.in-Ok.is in cc)) told) (padded_commit v mid.files new.files (c.commit_object.ensures.writes.contents told)))
                 (keeps_intact v.shape (IsBlockIn v.shape v.lattice.n) old.files new.files (((returns-in-Ok-commit_object-clause-writes g c).contents told).homes))
                 honest plain;
@@ -342,7 +343,7 @@ returns-in-Ok-commit_object-clause-stores g c =
             padded_both v.shape (IsBlockIn v.shape v.lattice.n) old.files mid.files new.files (c.weave_object.ensures.padded (λ e. (let is = c.in-Ok.is in cc)) told) (padded_commit v mid.files new.files (c.commit_object.ensures.writes.contents told));
         long = λ told.
             let long : length c.as_slice.result.now ≡ nodes_for c.args.ledger.now.shape (length t.bytes) * (1 + c.args.ledger.now.shape.alpha) =
-            t.woven.digests_are.long ∙ ap (λ (n : ℕ). n * (1 + v.shape.alpha)) (let e : t.heads.lattice.n - v.lattice.n ≡ nodes_for v.shape (length t.bytes) = (omega (arith, last, counted, ap (nodes_for v.shape) t.long)) in e) in
+            t.woven.digests_are.long ∙ ap (λ (n : ℕ). n * (1 + v.shape.alpha)) (let e : c.in-Ok.taken.heads.lattice.n - v.lattice.n ≡ nodes_for v.shape (length t.bytes) = (omega (arith, last, counted, ap (nodes_for v.shape) t.long)) in e) in
             let fits : v.lattice.n + nodes_for v.shape (length t.bytes) ≤ limit_when v.raised = (let f = c.in-Ok.ensures.fits in omega (arith, f, counted, ap (nodes_for v.shape) t.long)) in
             let size : next_end v.end (length name) (nodes_for v.shape (length t.bytes) * (1 + v.shape.alpha)) ≡ v.end + length (entry (Object stored)) = omega (arith, c.commit_object.ensures.size (ap length t.digest_is ∙ length-sha256 t.bytes), long) in
             let same = ap length ((c.weave_object.ensures.writes.contents told).stay 0 (inl refl)) in
@@ -367,11 +368,11 @@ returns-in-Err-DiskFault-commit_object-clause-stores g c =
     let nodes = c.in-Ok.taken.nodes in
     let digests = c.as_slice.result.now in
     let counted : c.in-Ok.taken.nodes ≡ nodes_for c.args.ledger.now.shape c.in-Ok.taken.length = c.in-Ok.ensures.nodes in
-    let t : TakesObject g.D.Disk.tells c.args.ledger.now.shape c.args.ledger.now.lattice c.args.ledger.now.digests c.in-Ok.taken.length c.in-Ok.taken.digest (g.S.Source.state c.args.source.now).left (g.S.Source.state c.weave_object.new.source).left c.as_slice.result.now (g.D.Disk.state c.args.disk.now).files (g.D.Disk.state c.weave_object.new.disk).files =
-    subst (λ (d : List (List ℕ)). TakesObject tells v.shape v.lattice v.digests k digest left rest d old.files mid.files) (sym c.as_slice.ensures.value) c.in-Ok.ensures.took in
+    let t : TakesObject g.D.Disk.tells c.args.ledger.now.shape c.args.ledger.now.lattice c.args.ledger.now.digests c.in-Ok.taken.length c.in-Ok.taken.digest (g.S.Source.state c.args.source.now).left (g.S.Source.state c.weave_object.new.source).left c.as_slice.result.now (g.D.Disk.state c.args.disk.now).files (g.D.Disk.state c.weave_object.new.disk).files c.in-Ok.taken.heads =
+    subst (λ (d : List (List ℕ)). TakesObject tells v.shape v.lattice v.digests k digest left rest d old.files mid.files c.in-Ok.taken.heads) (sym c.as_slice.ensures.value) c.in-Ok.ensures.took in
     let stored : Stored = next_stored v name k digest nodes digests in
     let bad = c.weave_object.result ≡ Err DiskFault in
-    let last : t.heads.lattice.n ≡ c.args.ledger.now.lattice.n + c.in-Ok.taken.nodes = (let n = t.nodes in omega (arith, n, counted)) in
+    let last : c.in-Ok.taken.heads.lattice.n ≡ c.args.ledger.now.lattice.n + c.in-Ok.taken.nodes = (let n = t.nodes in omega (arith, n, counted)) in
     let o : NewObject = record { name = name; bytes = t.bytes } in
     record {
       ended = record {
@@ -385,8 +386,8 @@ returns-in-Err-DiskFault-commit_object-clause-stores g c =
               lasts_wide = λ some. t.woven.lasts_wide;
               bytes = one_of (λ q. AreBytes q.bytes) o t.are;
               added = Object stored ∷ [];
-              lattice = t.heads.lattice;
-              next = (t.heads.lattice, stored, refl, next_woven tells v name k nodes digest left rest digests old.files mid.files counted t, refl);
+              lattice = c.in-Ok.taken.heads.lattice;
+              next = (c.in-Ok.taken.heads.lattice, stored, refl, next_woven tells v name k nodes digest left rest digests old.files mid.files counted t, refl);
               adds = λ records its.
                   adds_put c.ledgers_have_one_reading.ensures tells bad _ _ _ told v records (Object stored) t.woven.payload old mid new its (c.requires.fixed told) c.weave_object.ensures.writes c.commit_object.ensures.writes
                   (c.commit_object.ensures.adds told records t.woven.payload (its_later tells bad told v records old mid c.weave_object.ensures.writes its)
@@ -457,3 +458,35 @@ returns-in-Err-DiskFault-commit_object-clause-head_in_room g c told a damaged re
 pub returns-in-Err-NoMemory-commit_object-clause-head_in_room : goal.returns-in-Err-NoMemory-commit_object-clause-head_in_room
 returns-in-Err-NoMemory-commit_object-clause-head_in_room g c told a damaged ready roomy =
     absurd (none_damaged c.args.ledger.now (g.D.Disk.state c.args.disk.now) (c.in-Ok.ensures.intact told) a damaged)
+
+-- ---- the heads that are kept
+
+pub returns-in-Ok-commit_object-clause-kept : goal.returns-in-Ok-commit_object-clause-kept
+returns-in-Ok-commit_object-clause-kept g c =
+    let old = g.D.Disk.state c.args.disk.now in
+    let mid = g.D.Disk.state c.weave_object.new.disk in
+    let new = g.D.Disk.state c.commit_object.new.disk in
+    let v = c.args.ledger.now in
+    let w = c.commit_object.new.ledger in
+    let name = c.args.name.now in
+    let tells = g.D.Disk.tells in
+    let left = (g.S.Source.state c.args.source.now).left in
+    let rest = (g.S.Source.state c.weave_object.new.source).left in
+    let k = c.in-Ok.taken.length in
+    let digest = c.in-Ok.taken.digest in
+    let nodes = c.in-Ok.taken.nodes in
+    let digests = c.as_slice.result.now in
+    let counted : c.in-Ok.taken.nodes ≡ nodes_for c.args.ledger.now.shape c.in-Ok.taken.length = c.in-Ok.ensures.nodes in
+    let t : TakesObject g.D.Disk.tells c.args.ledger.now.shape c.args.ledger.now.lattice c.args.ledger.now.digests c.in-Ok.taken.length c.in-Ok.taken.digest (g.S.Source.state c.args.source.now).left (g.S.Source.state c.weave_object.new.source).left c.as_slice.result.now (g.D.Disk.state c.args.disk.now).files (g.D.Disk.state c.weave_object.new.disk).files c.in-Ok.taken.heads =
+    subst (λ (d : List (List ℕ)). TakesObject tells v.shape v.lattice v.digests k digest left rest d old.files mid.files c.in-Ok.taken.heads) (sym c.as_slice.ensures.value) c.in-Ok.ensures.took in
+    let same = c.in-Ok-commit_object.ensures.shape in
+    let records = c.requires.opened.0 in
+    let has = c.requires.opened.1 in
+    let now = c.in-Ok-commit_object.ensures.value records has in
+    kept_after c.cells_have_lengths.ensures tells v w old.files mid.files new.files c.in-Ok.taken.heads (object_blocks v.shape t.bytes) digests
+    has.lattice.alpha (ap length has.digests ∙ c.digests_are_counted.ensures v.shape records has.valid ∙ ap (λ (n : ℕ). n * (1 + v.shape.alpha)) (sym has.lattice.n)) same
+    (woven_to tells v w name k nodes digest left rest digests old.files mid.files counted t same records has now)
+    (digests_to tells v w name k nodes digest left rest digests old.files mid.files counted t same records has now)
+    t.size t.woven
+    (λ told. ((returns-in-Ok-commit_object-clause-writes g c).contents told).homes)
+    (λ told. cells_stay v.shape v.lattice.n c.in-Ok.taken.heads.lattice.n t.woven.payload mid.files new.files (c.commit_object.ensures.writes.contents told) (t.woven.cells told))

@@ -1,8 +1,11 @@
-use Rattle.std.proofs.Common.{◌≡◌, ◌≢◌, ℕ, ◌+◌, Err, List, [], ◌∷◌, ◌++◌, sym, ◌∙◌, subst, arith}
+use Rattle.std.proofs.Common.{◌≡◌, ◌≢◌, ℕ, ◌+◌, ◌<◌, ◌^◌, Err, List, [], ◌∷◌, ◌++◌, sym, ◌∙◌, subst, arith}
+use Rattle.std.proofs.lemmas.List.Elements.{All-from_get_or}
 use Rattle.aea_append.specs.declared.fault.PutFault.TheVariants.{DiskFault}
 use Rattle.aea_archive.specs.Cells.{WritesCells}
-use Rattle.aea_append.specs.Weaving.{HasWoven}
+use Rattle.aea_append.specs.Weaving.{HasWoven, IsWovenOf, AreIntactOn}
+use Rattle.aea_shelf.proofs.Cells.{keeps_intact}
 use Rattle.aea_append.proofs.Steps.{woven_step}
+use Rattle.aea_append.proofs.Valued.{values_step, intact_step}
 use Rattle.aea_archive.proofs.Writes.{cells_as}
 use Rattle.aea_append.proofs.weave.weave_node.Goals as goal
 
@@ -45,3 +48,32 @@ returns-in-Ok-clause-woven g c l recorded first datas has =
     (λ same. (let most = on.most in omega (arith, same, node, most)))
     (let size = (c.cells_have_lengths.ensures b bytes).2 in omega (arith, size, wide)) here)
     c.in-Ok.ensures.cells c.in-Ok.ensures.wide)
+
+pub returns-in-Ok-clause-values : goal.returns-in-Ok-clause-values
+returns-in-Ok-clause-values g c l datas more is =
+    let shape = c.args.shape.now in
+    let v = c.args.heads.now in
+    let w = c.step.new.self in
+    let x = c.args.datum.now in
+    let alpha : c.step.new.self.lattice.alpha ≡ c.args.shape.now.alpha = c.step.ensures.weaves.grown.shape.alpha ∙ c.requires.alpha in
+    subst (λ (d : List (List ℕ)). IsWovenOf shape l w datas (more ++ x ∷ []) d) (sym c.in-Ok.ensures.digests)
+    (values_step c.longer_data_keep_values.ensures shape l v w datas more c.args.digests.now.items x c.step.ensures.weaves (c.requires.datum ∙ sym c.requires.size) (All-from_get_or (λ (b : ℕ). b < 2 ^ 8) c.args.datum.now 0 (λ i inside. omega (arith, c.type_inv.datum i))) alpha is)
+
+pub returns-in-Ok-clause-intact : goal.returns-in-Ok-clause-intact
+returns-in-Ok-clause-intact g c before within are =
+    let shape = c.args.shape.now in
+    let v = c.args.heads.now in
+    let w = c.step.new.self in
+    let x = c.args.datum.now in
+    let tells = g.D.Disk.tells in
+    let old = g.D.Disk.state c.args.disk.now in
+    let new = g.D.Disk.state c.write_node.new.disk in
+    let node : c.step.new.self.lattice.n ≡ c.args.heads.now.lattice.n + 1 = c.step.ensures.weaves.grown.nodes in
+    let alpha : c.step.new.self.lattice.alpha ≡ c.args.shape.now.alpha = c.step.ensures.weaves.grown.shape.alpha ∙ c.requires.alpha in
+    subst (λ (d : List (List ℕ)). AreIntactOn tells shape before w.lattice.n d new.files) (sym c.in-Ok.ensures.digests)
+    (intact_step c.cells_have_lengths.ensures c.cells_have_parts.ensures tells shape before v w x c.args.digests.now.items old.files new.files node alpha within
+    (λ told b digest on.
+    keeps_intact shape _ old.files new.files ((c.write_node.ensures.writes w.lattice.n (omega arith)).contents told).homes b digest
+    (record { first = (let a = on.after in omega (arith, a)); last = (let most = on.most in let range = v.lattice.in_range in omega (arith, most, range)); used = on.used })
+    (λ same. (let most = on.most in omega (arith, same, node, most))))
+    c.in-Ok.ensures.cells c.in-Ok.ensures.wide are)

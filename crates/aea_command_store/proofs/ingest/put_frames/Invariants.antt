@@ -1,19 +1,21 @@
 use Rattle.std.proofs.Common.{◌≡◌, ◌-◌, ◌*◌, ◌≤◌, List, length}
 use Rattle.aea_records.specs.Format.{greatest_objects}
 use Rattle.aea_archive.specs.Next.{NewObject}
+use Rattle.aea_append.specs.Keeping.{HasKeptHeads}
 use Rattle.aea_command_store.specs.Ingest.{frames_of}
 use Rattle.aea_command_store.proofs.IngestLemmas.Counting.{most_of_frame}
 use Rattle.aea_command_store.proofs.IngestLemmas.Going.{HasGone}
 use Rattle.aea_command_store.proofs.ingest.put_frames.Given as goal
 
 -- the objects of the first frames were stored, and their lines printed
-abbrev pub invariant-loop-name : goal.invariant-loop-name
-invariant-loop-name g l = record {
+abbrev pub invariant-loop-kept : goal.invariant-loop-kept
+invariant-loop-kept g l = record {
   objects : List NewObject;
   gone : HasGone g.D.Disk.tells (l.disk ≡ l.fn.disk) l.fn.ledger l.ledger (g.S.Source.state l.fn.input).left (g.S.Source.state l.input).left
       (g.D.Disk.state l.fn.disk) (g.D.Disk.state l.disk) (g.O.Sink.state l.fn.out) (g.O.Sink.state l.out) objects;
   counted : l.count ≡ length objects;
   few : l.count ≤ greatest_objects;
+  kept : HasKeptHeads g.D.Disk.tells l.ledger (g.D.Disk.state l.disk).files l.kept;
   at : l.at ≤ l.count * most_of_frame;
   exact : l.at ≡ length (frames_of objects);
   input_kept : (g.S.Source.state l.fn.input).faults ≤ (g.S.Source.state l.input).faults;
@@ -21,5 +23,5 @@ invariant-loop-name g l = record {
   out_kept : (g.O.Sink.state l.fn.out).faults ≤ (g.O.Sink.state l.out).faults;
 }
 
-abbrev pub decreases-loop-name : goal.decreases-loop-name
-decreases-loop-name g l = greatest_objects - l.count
+abbrev pub decreases-loop-kept : goal.decreases-loop-kept
+decreases-loop-kept g l = greatest_objects - l.count

@@ -3,7 +3,7 @@ use Rattle.aea_disk.specs.State.{HasEarlier}
 use Rattle.aea_disk.specs.Frames.{OnlyReads}
 use Rattle.aea_shelf.specs.Places.{cell_size}
 use Rattle.aea_append.specs.Loading.{HasLoaded}
-use Rattle.aea_append.proofs.load.load_heads.Given as goal
+use Rattle.aea_append.proofs.load.load_strands.Given as goal
 
 abbrev pub invariant-loop-place : goal.invariant-loop-place
 invariant-loop-place g l = record {

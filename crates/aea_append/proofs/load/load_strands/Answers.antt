@@ -9,7 +9,7 @@ use Rattle.aea_disk.proofs.Frames.{ok_fine, reads_none, reads_both, reads_as}
 use Rattle.aea_weave.specs.Woven.{strands_before, head_of}
 use Rattle.aea_append.specs.Loading.{IsLesser}
 use Rattle.aea_append.proofs.Loads.{load_none, load_next, loaded_same, found_same, found_inside, found_on_inside}
-use Rattle.aea_append.proofs.load.load_heads.Goals as goal
+use Rattle.aea_append.proofs.load.load_strands.Goals as goal
 
 pub loop-place-init : goal.loop-place-init
 loop-place-init g c = record {

@@ -16,7 +16,7 @@ use Rattle.aea_append.proofs.Takings.{counts_more, counts_then}
 use Rattle.aea_append.proofs.Frames.{behind_head, head_not_end, head_not_cut, head_not_none, cut_not_end, bad_not_end, bad_not_cut, inside_not_end, inside_not_none}
 use Rattle.aea_append.proofs.Ingesting.{nothing_written, leaves_same, may_as, framed_of, rose_before}
 use Rattle.aea_append.proofs.Space.{frame_room}
-use Rattle.aea_append.proofs.ingest.ingest_one.Goals as goal
+use Rattle.aea_append.proofs.ingest.ingest_next.Goals as goal
 
 pub returns-in-Ok-End-clause-writes : goal.returns-in-Ok-End-clause-writes
 returns-in-Ok-End-clause-writes g c =
@@ -383,3 +383,7 @@ returns-in-Ok-Whole-clause-by_name g c stream is r =
     let t = (subst (λ (h : Head). IsHeadOf stream h c.read_head.new.buffer) c.in-Ok-Whole.field-0-is (c.in-Ok-Whole.ensures.told stream is)) in
     let same = c.store_frame.ensures.early_takes (inl r) in
     ((λ bad. absurd (head_not_none stream bad t.0)), (λ head. omega (arith, same.1, w.4, t.3)))
+
+-- the end of the stream, and a refusal before the disk is touched, leave the heads that are kept
+pub returns-in-Ok-Whole-clause-still : goal.returns-in-Ok-Whole-clause-still
+returns-in-Ok-Whole-clause-still g c is = ⊎_elim (λ early. c.store_frame.ensures.still early) (λ end. absurd (c.store_frame.ensures.kind end)) is

@@ -1,5 +1,5 @@
 use Rattle.std.proofs.Common.{◌≡◌, take}
-use Rattle.aea_append.proofs.ingest.text_of.Given as goal
+use Rattle.aea_append.proofs.frame.text_of.Given as goal
 
 -- the bytes so far are in the text
 abbrev pub invariant-loop-byte : goal.invariant-loop-byte

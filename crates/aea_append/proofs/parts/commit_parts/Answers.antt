@@ -1,0 +1,114 @@
+use Rattle.std.proofs.Common.{◌≡◌, ℕ, ◌+◌, List, [], ◌∷◌, ◌++◌, length, take, drop, refl, sym, ◌∙◌, ap, subst, arith}
+use Rattle.std.proofs.lemmas.Result.{on_ok_weaker}
+use Rattle.std.specs.Prelude.{IsErr}
+use Rattle.std.specs.List.{sum_by}
+use Rattle.aea_disk.specs.Files.{Files, ChangesOnly}
+use Rattle.aea_disk.specs.State.{State, KeepsImages, IsReady, IsRoomy}
+use Rattle.aea_disk.proofs.Moments.{during_kept, earlier_kept}
+use Rattle.aea_disk.proofs.Frames.{ok_fine, ready_later, reads_one, reads_then_writes, reads_writes, writes_as, writes_others}
+use Rattle.aea_envelope.specs.Cells.{cell_of}
+use Rattle.aea_shelf.specs.Places.{home_file, home_place}
+use Rattle.aea_shelf.proofs.Runs.{shelf_others, no_home_in_ledger}
+use Rattle.aea_records.specs.Format.{Stored, Joined, nodes_of, body, entry}
+use Rattle.aea_ledger.specs.Next.{next_stored, AreItsRecords}
+use Rattle.aea_ledger.specs.Stops.{HasLedger, committed}
+use Rattle.aea_ledger.specs.Taking.{FitsAdding}
+use Rattle.aea_ledger.proofs.Readying.{adding_later}
+use Rattle.aea_records.proofs.OneMore.{nodes_of-push}
+use Rattle.aea_archive.specs.Blocks.{IsBlockIn}
+use Rattle.aea_archive.proofs.Stretches.{has_ledger, adds_nothing, adds_append, adds_later}
+use Rattle.aea_append.proofs.Parted.{length-parted}
+use Rattle.aea_append.proofs.parts.commit_parts.Goals as goal
+
+-- nothing was written before a sync
+before : (v : List ℕ → Type 0) (old mid : State) → ((c : Files) → old.image old.moment c → c 0 ≡ old.files 0) → v (old.files 0) → (c : Files) → old.image old.moment c → v (c 0)
+before v old mid fixed has c here = subst v (sym (fixed c here)) has
+
+pub returns-in_default-clause-adds : goal.returns-in_default-clause-adds
+returns-in_default-clause-adds g c told records payload its cells =
+    let v = c.args.ledger.now in
+    let r = Joined (next_stored v c.args.name.now c.args.size c.args.digest c.args.count c.args.digests.now) c.args.parts.now in
+    let old = g.D.Disk.state c.args.disk.now in
+    let mid = g.D.Disk.state c.sync.new.self in
+    let ledger = has_ledger v records (old.files 0) its in
+    adds_nothing c.ledgers_have_one_reading.ensures v.shape records (r ∷ []) payload old mid (earlier_kept old mid c.sync.ensures.crash c.sync.ensures.settled c.sync.ensures.time)
+    (during_kept old mid (λ d. HasLedger v.shape records (d 0)) c.sync.ensures.crash (before (HasLedger v.shape records) old mid (c.requires.fixed told) ledger))
+    (subst (HasLedger v.shape records) (sym (ap (λ (f : Files). f 0) (c.sync.ensures.contents told))) ledger)
+
+pub returns-clause-adds : goal.returns-clause-adds
+returns-clause-adds g c told records payload its cells =
+    let v = c.args.ledger.now in
+    let stored = next_stored v c.args.name.now c.args.size c.args.digest c.args.count c.args.digests.now in
+    let r = Joined stored c.args.parts.now in
+    let tells = g.D.Disk.tells in
+    let old = g.D.Disk.state c.args.disk.now in
+    let mid = g.D.Disk.state c.sync.new.self in
+    let new = g.D.Disk.state c.append_parts.new.disk in
+    let same = ap (λ (f : Files). f 0) (c.sync.ensures.contents told) in
+    let mid_its : AreItsRecords v records (mid.files 0) = subst (λ (l : List ℕ). AreItsRecords v records l) (sym same) its in
+    let ledger = has_ledger v records (old.files 0) its in
+    let others = writes_others tells _ _ _ (ChangesOnly 0) 0 mid new (λ d e step f other. step f other) c.append_parts.ensures.writes in
+    let nodes = its.has.lattice.n in
+    let one : sum_by (λ (o : Stored). o.count) (stored ∷ []) ≡ c.args.count = omega arith in
+    adds_later c.ledgers_have_one_reading.ensures tells v.shape records (r ∷ []) payload old mid new c.sync.ensures.time c.append_parts.ensures.writes.time
+    (earlier_kept old mid c.sync.ensures.crash c.sync.ensures.settled c.sync.ensures.time)
+    (during_kept old mid (λ d. HasLedger v.shape records (d 0)) c.sync.ensures.crash (before (HasLedger v.shape records) old mid (c.requires.fixed told) ledger))
+    (subst (HasLedger v.shape records) (sym same) ledger)
+    (shelf_others tells v.shape (IsBlockIn v.shape (nodes_of records)) 0 mid new (λ a block. no_home_in_ledger v.shape a) others)
+    (adds_append tells v.shape records r payload mid new
+    (λ b on d here.
+    let stands = cells b (record { after = (let a = on.after in omega (arith, nodes, a)); most = (let m = on.most in omega (arith, nodes, m, nodes_of-push records r, one)); used = on.used }) in
+    subst (λ (l : List ℕ). take (length (cell_of b (payload b))) (drop (home_place v.shape b) l) ≡ cell_of b (payload b))
+    (sym (c.in-Ok.ensures.durable told d here (home_file v.shape b) ∙ ap (λ (f : Files). f (home_file v.shape b)) (c.sync.ensures.contents told))) stands)
+    (c.append_parts.ensures.leaves.any_moment told records mid_its) (c.append_parts.ensures.leaves.reads told records mid_its) (c.append_parts.ensures.leaves.stays told records mid_its) others)
+
+pub returns-clause-appended : goal.returns-clause-appended
+returns-clause-appended g c =
+    on_ok_weaker c.append_parts.result
+    (λ committed told records its.
+    committed.appended told records (subst (λ (l : List ℕ). AreItsRecords c.args.ledger.now records l) (sym (ap (λ (f : Files). f 0) (c.sync.ensures.contents told))) its))
+    c.append_parts.ensures.committed
+
+pub returns-clause-exactly : goal.returns-clause-exactly
+returns-clause-exactly g c =
+    on_ok_weaker c.append_parts.result
+    (λ done told.
+    done.exactly told
+    ∙ ap (λ (f : Files). committed (f 0) c.args.ledger.now.end (body (Joined (next_stored c.args.ledger.now c.args.name.now c.args.size c.args.digest c.args.count c.args.digests.now) c.args.parts.now) ++ 0 ∷ [])) (c.sync.ensures.contents told))
+    c.append_parts.ensures.committed
+
+pub returns-clause-unchanged : goal.returns-clause-unchanged
+returns-clause-unchanged g c is =
+    let same = c.append_parts.ensures.unchanged is in
+    let old = g.D.Disk.state c.args.disk.now in
+    (same.0, subst (λ (s : State). KeepsImages old s × (g.D.Disk.tells → s.files ≡ old.files)) (sym (ap g.D.Disk.state same.1)) (c.sync.ensures.crash, c.sync.ensures.contents))
+
+-- the space for the record is space to sync
+roomy : (s : State) (end : ℕ) → FitsAdding s 1 end → IsRoomy s
+roomy s end fit = record { some = (0, end + 1, fit.room); sync = fit.now }
+
+pub returns-in_default-clause-writes : goal.returns-in_default-clause-writes
+returns-in_default-clause-writes g c =
+    let old = g.D.Disk.state c.args.disk.now in
+    let mid = g.D.Disk.state c.sync.new.self in
+    let end : ℕ = c.args.ledger.now.end + length (entry (Joined (next_stored c.args.ledger.now c.args.name.now c.args.size c.args.digest c.args.count c.args.digests.now) c.args.parts.now)) in
+    writes_as g.D.Disk.tells (IsReady old) (FitsAdding old 1 end) (IsErr c.sync.result) _ (ChangesOnly 0) old mid (λ is. subst IsErr (sym c.in_default.is) refl) (λ _. refl)
+    (reads_writes g.D.Disk.tells (IsReady old) (FitsAdding old 1 end) (IsErr c.sync.result) (ChangesOnly 0) old mid (λ is. is) (roomy old end) (λ d f other. refl)
+    (reads_one g.D.Disk.tells old mid c.sync.result c.sync.ensures.contents c.sync.ensures.crash c.sync.ensures.settled c.sync.ensures.time c.sync.ensures.cause c.sync.ensures.sure))
+
+pub returns-clause-writes : goal.returns-clause-writes
+returns-clause-writes g c =
+    let old = g.D.Disk.state c.args.disk.now in
+    let mid = g.D.Disk.state c.sync.new.self in
+    let new = g.D.Disk.state c.append_parts.new.disk in
+    let end : ℕ = c.args.ledger.now.end + length (entry (Joined (next_stored c.args.ledger.now c.args.name.now c.args.size c.args.digest c.args.count c.args.digests.now) c.args.parts.now)) in
+    reads_then_writes g.D.Disk.tells (IsReady old) (IsReady mid) (FitsAdding old 1 end) (FitsAdding mid 1 end) (IsErr c.sync.result) _ (ChangesOnly 0) old mid new (ok_fine c.in-Ok.is) (λ d f other. refl)
+    (λ is. is) (λ _ is same goes. ready_later old mid same goes is) (roomy old end) (λ _ fit same time. adding_later old mid 1 end (ap (λ (f : ℕ → List ℕ). f 0) same) time fit)
+    (reads_one g.D.Disk.tells old mid c.sync.result c.sync.ensures.contents c.sync.ensures.crash c.sync.ensures.settled c.sync.ensures.time c.sync.ensures.cause c.sync.ensures.sure)
+    c.append_parts.ensures.writes
+
+pub returns-in_default-clause-size : goal.returns-in_default-clause-size
+returns-in_default-clause-size g c wide = length-parted (next_stored c.args.ledger.now c.args.name.now c.args.size c.args.digest c.args.count c.args.digests.now) c.args.parts.now wide c.told-digests
+
+pub returns-clause-size : goal.returns-clause-size
+returns-clause-size g c wide = length-parted (next_stored c.args.ledger.now c.args.name.now c.args.size c.args.digest c.args.count c.args.digests.now) c.args.parts.now wide c.told-digests

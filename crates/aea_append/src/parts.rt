@@ -1,0 +1,78 @@
+//! The commit of an object in parts, whose new cells are written.
+
+ghost use Rattle.std.specs.Prelude.{◌≡◌, ◌⊎◌, ◌+◌, ◌*◌, ◌≤◌, [], ◌∷◌, ◌++◌, None, true, false, IsTrue, ℕ, List, length, max, OnOk};
+ghost use Rattle.std.specs.FinMap.{get, len};
+ghost use Rattle.aea_lattice.specs.declared.blocks.BlockId.{BlockId};
+ghost use Rattle.aea_disk.specs.Files.{ChangesOnly};
+ghost use Rattle.aea_disk.specs.State.{KeepsImages, IsSynced, IsFixed, IsReady};
+ghost use Rattle.aea_disk.specs.Frames.{OnlyWrites};
+ghost use Rattle.aea_catalog.specs.Names.{IsName};
+ghost use Rattle.aea_records.specs.Format.{Record, Joined, greatest_objects, raised_limit, body, entry};
+ghost use Rattle.aea_records.specs.Fields.{are_parts};
+ghost use Rattle.aea_ledger.specs.Values.{HasRecords, IsThisOne};
+ghost use Rattle.aea_ledger.specs.Taking.{FitsAdding};
+ghost use Rattle.aea_ledger.specs.Next.{next_stored, AreItsRecords};
+ghost use Rattle.aea_ledger.specs.Stops.{HasLedger, committed};
+ghost use Rattle.aea_archive.specs.Cells.{AreAtHome};
+ghost use Rattle.aea_archive.specs.Stretches.{Adds};
+
+use aea_catalog::Extent;
+use aea_disk::Disk;
+use aea_ledger::{AppendFault, Ledger};
+use aea_records::ledgers_have_one_reading;
+
+/// Syncs the cells of new nodes, and then commits the record of an object in parts, which may be of earlier nodes too. All
+/// memory is taken before the record's first write: for the name, the parts, and 32 bytes for each digest, in a list that
+/// grows by doubling.
+pub fn commit_parts<D: Disk>(
+    ledger: &mut Ledger,
+    disk: &mut D,
+    name: &[u8],
+    size: u64,
+    digest: [u8; 32],
+    count: u32,
+    digests: &[[u8; 32]],
+    parts: &[Extent],
+) -> Result<(), AppendFault>
+    requires live { ledger.old.live ≡ true }
+    requires name { IsName name.now }
+    requires absent { get ledger.old.objects name.now ≡ None }
+    requires raised { ledger.old.raised ≡ true }
+    requires fits { ledger.old.lattice.n + count ≤ raised_limit }
+    requires parts { IsTrue (are_parts ledger.old.shape size (ledger.old.lattice.n + count) parts.now) }
+    requires digests { length digests.now ≡ count * (1 + ledger.old.shape.alpha) }
+    requires this { D.tells → IsThisOne ledger.old ((D.state disk.old).files 0) }
+    requires fixed { D.tells → IsFixed (D.state disk.old) 0 }
+
+    // One record more, with the cells that are at their homes.
+    ensures adds { D.tells → (records : List Record) (payload : BlockId → List ℕ) → AreItsRecords ledger.old records ((D.state disk.old).files 0)
+        → AreAtHome ledger.old.shape ledger.old.lattice.n (ledger.old.lattice.n + count) payload (D.state disk.old).files
+        → Adds ledger.old.shape records (Joined (next_stored ledger.old name.now size digest count digests.now) parts.now ∷ []) payload (D.state disk.old) (D.state disk.new) }
+    ensures appended { OnOk result (D.tells → (records : List Record) → AreItsRecords ledger.old records ((D.state disk.old).files 0) → HasLedger ledger.old.shape (records ++ Joined (next_stored ledger.old name.now size digest count digests.now) parts.now ∷ []) ((D.state disk.new).files 0)) }
+    ensures exactly { OnOk result (D.tells → (D.state disk.new).files 0 ≡ committed ((D.state disk.old).files 0) ledger.old.end (body (Joined (next_stored ledger.old name.now size digest count digests.now) parts.now) ++ 0 ∷ [])) }
+    ensures value { OnOk result ((records : List Record) → HasRecords ledger.old records → HasRecords ledger.new (records ++ Joined (next_stored ledger.old name.now size digest count digests.now) parts.now ∷ [])) }
+    ensures shape { OnOk result (ledger.new.shape ≡ ledger.old.shape) }
+    ensures live_on { OnOk result (ledger.new.live ≡ true) }
+    ensures this_one { OnOk result (D.tells → IsThisOne ledger.new ((D.state disk.new).files 0)) }
+    ensures durable { OnOk result (D.tells → IsSynced (D.state disk.new)) }
+
+    // Refusals, and a fault of the disk.
+    ensures full { result ≡ Err AppendFault.CatalogFull → len ledger.old.objects ≡ greatest_objects }
+    ensures full_refused { len ledger.old.objects ≡ greatest_objects → (result ≡ Err AppendFault.CatalogFull) ⊎ (result ≡ Err AppendFault.DiskFault) }
+    ensures unchanged { (result ≡ Err AppendFault.CatalogFull) ⊎ (result ≡ Err AppendFault.NoMemory) → (ledger.new ≡ ledger.old) × (KeepsImages (D.state disk.old) (D.state disk.new) × (D.tells → (D.state disk.new).files ≡ (D.state disk.old).files)) }
+    ensures dead { result ≡ Err AppendFault.DiskFault → ledger.new ≡ record ledger.old { live = false } }
+
+    // How long the record's entry is: a digest has 32 bytes.
+    ensures size { length digest ≡ 32 → length (entry (Joined (next_stored ledger.old name.now size digest count digests.now) parts.now)) ≡ 60 + length name.now + 8 * length parts.now + 32 * length digests.now }
+
+    // No other file changes, none is written past the gate that ends the new ledger, and when the disk is at fault.
+    ensures long { D.tells → length ((D.state disk.new).files 0) ≤ max (length ((D.state disk.old).files 0)) (ledger.old.end + length (entry (Joined (next_stored ledger.old name.now size digest count digests.now) parts.now)) + 1) }
+    ensures writes { OnlyWrites D.tells (IsReady (D.state disk.old)) (FitsAdding (D.state disk.old) 1 (ledger.old.end + length (entry (Joined (next_stored ledger.old name.now size digest count digests.now) parts.now)))) (result ≡ Err AppendFault.DiskFault) (ChangesOnly 0) (D.state disk.old) (D.state disk.new) }
+{
+    ledgers_have_one_reading();
+    let Ok(()) = disk.sync() else {
+        ledger.retire();
+        return Err(AppendFault::DiskFault);
+    };
+    ledger.append_parts(disk, name, size, digest, count, digests, parts)
+}

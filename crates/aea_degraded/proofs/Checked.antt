@@ -1,8 +1,8 @@
 -- What was found out before the second pass, of one block: it has one fate, and was judged where that was computed once.
-use Rattle.std.proofs.Common.{◌≡◌, ℕ, Bool, true, not, List, [], ◌∷◌, Some, Ok, Err, refl, sym, ◌∙◌, ap, subst}
+use Rattle.std.proofs.Common.{◌≡◌, ℕ, Bool, true, not, List, Some, Ok, Err, sym, ◌∙◌, ap, subst}
 use Rattle.std.specs.Prelude.{All, Contains, slice_get, Result, OnOk}
 use Rattle.std.proofs.lemmas.Option.{slice_get_within, get_or_from_slice_get}
-use Rattle.std.proofs.lemmas.List.Elements.{All-nil, All-cons, All-contains}
+use Rattle.std.proofs.lemmas.List.Elements.{All-contains}
 use Rattle.aea_lattice.specs.declared.blocks.BlockId.{BlockId}
 use Rattle.aea_lattice.specs.declared.grid.Lattice.{Lattice}
 use Rattle.aea_lattice.specs.Blocks.{HasBlock}
@@ -22,7 +22,7 @@ use Rattle.aea_fetch.proofs.Firsts.{all_at}
 use Rattle.aea_restore.proofs.Items.{item_has}
 use Rattle.aea_degraded.specs.Summed.{sum_at}
 use Rattle.aea_degraded.specs.Found.{IsSumAt, IsFoundBy}
-use Rattle.aea_degraded.specs.Planned.{AreFatesOf, IsRightPlan, IsChecked}
+use Rattle.aea_degraded.specs.Planned.{AreFatesOf, IsRightPlan, IsChecked, IsPlanned}
 
 -- what all have, one of them has
 pub has_one : (good : BlockId → Type 0) (blocks : List BlockId) (b : BlockId) → IsOneOf blocks b → All good blocks → good b
@@ -45,25 +45,6 @@ right_one v c damaged fates blocks b known one plan = record {
   right = plan.right;
   marked = has_one (λ d. known d ≡ not (is_marked damaged d)) blocks b one plan.marked;
 }
-
-pub right_alone : (v : Opened) (c : Files) (damaged : Marked) (fates : List Fate) (b : BlockId) (known : BlockId → Bool) → IsFoundBy v c damaged fates b known → IsRightPlan v c damaged fates (b ∷ []) known
-right_alone v c damaged fates b known found = record {
-  survivors = found.survivors;
-  right = found.right;
-  marked = All-cons (λ d. known d ≡ not (is_marked damaged d)) b [] found.marked (All-nil (λ d. known d ≡ not (is_marked damaged d)));
-}
-
--- and of a block alone
-pub found_alone : (v : Opened) (c : Files) (damaged : Marked) (fates : List Fate) (b : BlockId) (known : BlockId → Bool) → IsRightPlan v c damaged fates (b ∷ []) known → IsFoundBy v c damaged fates b known
-found_alone v c damaged fates b known plan = right_one v c damaged fates (b ∷ []) b known (record { before = []; after = []; are = refl }) plan
-
--- a plan that is right for all blocks is so for one of them, where the files read the same
-pub plan_of_one : (v : Opened) (c d : Files) (damaged : Marked) (fates : List Fate) (blocks : List BlockId) (b : BlockId) (known : BlockId → Bool) → d ≡ c → IsOneOf blocks b
-    → (TellsSurvivors v.shape v.lattice.n v.digests c known → IsRightPlan v c damaged fates blocks known)
-    → TellsSurvivors v.shape v.lattice.n v.digests d known → IsRightPlan v d damaged fates (b ∷ []) known
-plan_of_one v c d damaged fates blocks b known same one right survivors =
-    let plan = right (subst (λ (f : Files). TellsSurvivors v.shape v.lattice.n v.digests f known) same survivors) in
-    subst (λ (f : Files). IsRightPlan v f damaged fates (b ∷ []) known) (sym same) (right_alone v c damaged fates b known (right_one v c damaged fates blocks b known one plan))
 
 -- ---- the fate of a block
 
@@ -98,6 +79,21 @@ checked_at v c d damaged fates b same checked = subst (λ (f : Files). IsChecked
 
 pub found_at : (v : Opened) (c d : Files) (damaged : Marked) (fates : List Fate) (b : BlockId) (known : BlockId → Bool) → c ≡ d → IsFoundBy v c damaged fates b known → IsFoundBy v d damaged fates b known
 found_at v c d damaged fates b known same found = subst (λ (f : Files). IsFoundBy v f damaged fates b known) same found
+
+-- what may be asked for may be so where the files read the same
+pub planned_at : (tells : Type 0) (v : Opened) (c d : Files) (damaged : Marked) (fates : List Fate) (b : BlockId) → (tells → d ≡ c) → IsPlanned tells v c damaged fates b → IsPlanned tells v d damaged fates b
+planned_at tells v c d damaged fates b same is = record {
+  lattice = is.lattice;
+  are = is.are;
+  given = is.given;
+  right = λ told known survivors.
+      found_at v c d damaged fates b known (sym (same told)) (is.right told known (subst (λ (f : Files). TellsSurvivors v.shape v.lattice.n v.digests f known) (same told) survivors));
+  checked = λ told. checked_at v c d damaged fates b (sym (same told)) (is.checked told);
+}
+
+-- and so of all of some blocks, by marks that are the same
+pub planned_again : (tells : Type 0) (v : Opened) (c d : Files) (m n : Marked) (fates : List Fate) (bs : List BlockId) → n ≡ m → (tells → d ≡ c) → All (IsPlanned tells v c m fates) bs → All (IsPlanned tells v d n fates) bs
+planned_again tells v c d m n fates bs marks same all = subst (λ (k : Marked). All (IsPlanned tells v d k fates) bs) (sym marks) (λ k b below. planned_at tells v c d m fates _ same (all k b below))
 
 -- what is the case for a right plan of all blocks
 abbrev pub UnderPlan : Opened → Files → Marked → List Fate → List BlockId → BlockId → Type 0

@@ -1,6 +1,6 @@
 -- The payloads that the second pass of a fetch prints, and how it fails.
-use Rattle.std.proofs.Common.{◌≡◌, ℕ, Bool, true, false, not, List, length, refl, sym, ◌∙◌, ap, subst, inl, inr}
-use Rattle.std.specs.Prelude.{Some, slice_get}
+use Rattle.std.proofs.Common.{◌≡◌, ℕ, Bool, true, false, not, List, length, refl, sym, ◌∙◌, ap, subst, inl, inr, Ok, Err}
+use Rattle.std.specs.Prelude.{Some, slice_get, Result, IfErr, IsErrAnd}
 use Rattle.aea_io.specs.Streams.{SinkState}
 use Rattle.aea_lattice.specs.declared.blocks.BlockId.{BlockId}
 use Rattle.aea_view.specs.Marked.{Marked, is_marked}
@@ -9,8 +9,8 @@ use Rattle.aea_envelope.specs.Cells.{block_digest}
 use Rattle.aea_gauss.specs.declared.fates.Fate.{Fate}
 use Rattle.aea_ledger.specs.Values.{Opened}
 use Rattle.aea_archive.specs.Blocks.{recorded_in, TellsSurvivors}
-use Rattle.aea_fetch.specs.Copies.{HasCopied, HasCut}
-use Rattle.aea_fetch.proofs.Copies.{copied_as, cut_as}
+use Rattle.aea_fetch.specs.Copies.{HasCut}
+use Rattle.aea_fetch.proofs.Copies.{cut_as}
 use Rattle.aea_restore.specs.Drawn.{IsDrawn, IsOtherDigest}
 use Rattle.aea_degraded.specs.declared.fault.PayloadFault.{PayloadFault}
 use Rattle.aea_degraded.specs.declared.fault.PayloadFault.TheVariants as payload
@@ -19,7 +19,7 @@ use Rattle.aea_degraded.specs.Summed.{sum_at}
 use Rattle.aea_degraded.specs.Found.{IsSumAt}
 use Rattle.aea_degraded.specs.Fetched.{IsFetched}
 use Rattle.aea_degraded.specs.Planned.{IsChecked}
-use Rattle.aea_degraded.specs.Sent.{IsSendFault, fetch_fault}
+use Rattle.aea_degraded.specs.Sent.{IsSendFault, IsPlanFault, fetch_fault}
 use Rattle.aea_degraded.proofs.Checked.{contained}
 
 -- ---- faults
@@ -42,6 +42,18 @@ no_output payload.DiskFault is = cc
 pub send_fault : (f : PayloadFault) → IsSendFault (fetch_fault f)
 send_fault (payload.Clash b recorded other) = inl (b, recorded, other, refl)
 send_fault payload.DiskFault = inr (inr refl)
+
+-- a fault that is of the disk is that one
+pub disk_failed : (r : Result (Unit {0}) PayloadFault) → IsErrAnd r (λ f. f ≡ payload.DiskFault) → r ≡ Err payload.DiskFault
+disk_failed (Ok v) is = absurd is
+disk_failed (Err f) is = ap Err is
+
+-- what a fault says, by what a clash does
+pub plan_fault : (tells : Type 0) (v : Opened) (c : Files) (r : Result (Unit {0}) PayloadFault)
+    → ((d : BlockId) (told computed : List ℕ) → r ≡ Err (payload.Clash d told computed) → IsOtherDigest v d told computed × (tells → ⊥)) → IfErr r (λ fault. (f : Files) → (tells → c ≡ f) → IsPlanFault tells v fault)
+plan_fault tells v c (Ok u) says = tt
+plan_fault tells v c (Err (payload.Clash b recorded other)) says = λ f same. says b recorded other refl
+plan_fault tells v c (Err payload.DiskFault) says = λ f same. tt
 
 -- the block is marked, where it is not known
 pub none_marked : (known marked : Bool) → known ≡ not marked → known ≡ false → marked ≡ true
@@ -76,9 +88,6 @@ module _ (tells : Type 0) (v : Opened) (c d : Files) (same : tells → c ≡ d) 
         subst (λ (f : Files). IsDrawn v known f b p) (same told)
         (is.drawn told known (subst (λ (f : Files). TellsSurvivors v.shape v.lattice.n v.digests f known) (sym (same told)) survivors));
   }
-
-  pub fetched_copied : (bs : List BlockId) (most : ℕ) (a b : SinkState) (p q : List ℕ) → HasCopied (IsFetched tells v c) bs most a p b q → HasCopied (IsFetched tells v d) bs most a p b q
-  fetched_copied bs most a b p q one = copied_as (IsFetched tells v c) (IsFetched tells v d) fetched_also bs most a b p q one
 
   pub fetched_cut : (bs : List BlockId) (most : ℕ) (a b : SinkState) (p : List ℕ) (output : Type 0) → HasCut (IsFetched tells v c) bs most a p b output → HasCut (IsFetched tells v d) bs most a p b output
   fetched_cut bs most a b p output one = cut_as (IsFetched tells v c) (IsFetched tells v d) fetched_also bs most a b p output output (λ is. is) one

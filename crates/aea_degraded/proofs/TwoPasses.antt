@@ -10,13 +10,11 @@ use Rattle.aea_lattice.specs.declared.grid.Lattice.{Lattice}
 use Rattle.aea_lattice.specs.Blocks.{block_of, HasBlock}
 use Rattle.aea_lattice.specs.Data.{IsDataList, Determines, datum_at}
 use Rattle.aea_lattice.specs.LeastWord.{IsWord}
-use Rattle.aea_view.specs.Marked.{Marked}
 use Rattle.aea_disk.specs.Files.{Files}
 use Rattle.aea_catalog.specs.Catalogs.{Placed}
 use Rattle.aea_records.specs.Fields.{are_apart}
 use Rattle.aea_records.specs.Format.{nodes_for}
 use Rattle.aea_fates.specs.Laws.{ListsAreOne}
-use Rattle.aea_gauss.specs.declared.fates.Fate.{Fate}
 use Rattle.aea_ledger.specs.Values.{Opened}
 use Rattle.aea_ledger.specs.Recorded.{IsLatticeOf}
 use Rattle.aea_archive.specs.Blocks.{TellsSurvivors}
@@ -31,9 +29,9 @@ use Rattle.aea_restore.specs.Drawn.{AreAllIntact}
 use Rattle.aea_restore.proofs.Drawing.{block_in_archive, honest_drawn}
 use Rattle.aea_restore.proofs.Ends.{all_intact}
 use Rattle.aea_degraded.specs.declared.fault.FetchFault.{FetchFault}
-use Rattle.aea_degraded.specs.declared.fault.FetchFault.TheVariants.{Undetermined, Clash, DiskFault, NoMemory, WriteFault}
+use Rattle.aea_degraded.specs.declared.fault.FetchFault.TheVariants.{Undetermined, DiskFault, NoMemory, WriteFault}
 use Rattle.aea_degraded.specs.Fetched.{IsFetched, HasFetched, HasFetchedPart, IsFirstOpen, IsClashing, IsOutside}
-use Rattle.aea_degraded.specs.Planned.{IsRightPlan, IsChecked, IsFirstFault}
+use Rattle.aea_degraded.specs.Planned.{IsFirstFault}
 use Rattle.aea_degraded.specs.Sent.{IsSendFault}
 use Rattle.aea_degraded.proofs.Checked.{has_one}
 use Rattle.aea_degraded.proofs.Printed.{fetched_wide, fetched_also, fetched_cut}
@@ -148,35 +146,3 @@ send_complete fault is =
       | inr (inl e) ↦ inr (inl (ap Err e))
       | inr (inr e) ↦ inr (inr (inl (ap Err e)))
     ]
-
--- of the output none is of the first
-pub first_inside : (fault : FetchFault) → IsFirstFault fault → fault ≡ WriteFault → ⊥
-first_inside fault is e =
-    elim is [
-      | inl found ↦ let never : Undetermined found.0 found.1 ≡ WriteFault = sym found.2 ∙ e in cc
-      | inr (inl found) ↦ let never : Clash found.0 found.1 found.2 ≡ WriteFault = sym found.3 ∙ e in cc
-      | inr (inr (inl f)) ↦ let never : DiskFault ≡ WriteFault = sym f ∙ e in cc
-      | inr (inr (inr f)) ↦ let never : NoMemory ≡ WriteFault = sym f ∙ e in cc
-    ]
-
--- none of the second is a block that is not determined
-pub send_determined : (fault : FetchFault) (b : BlockId) (nodes : List ℕ) → IsSendFault fault → fault ≡ Undetermined b nodes → ⊥
-send_determined fault b nodes is e =
-    elim is [
-      | inl found ↦ let never : Clash found.0 found.1 found.2 ≡ Undetermined b nodes = sym found.3 ∙ e in cc
-      | inr (inl f) ↦ let never : WriteFault ≡ Undetermined b nodes = sym f ∙ e in cc
-      | inr (inr f) ↦ let never : DiskFault ≡ Undetermined b nodes = sym f ∙ e in cc
-    ]
-
--- ---- what the first pass found out is so in the second
-
-module _ (tells : Type 0) (v : Opened) (c d : Files) (same : tells → d ≡ c) (m n : Marked) (marks : n ≡ m) (fates : List Fate) (bs : List BlockId) where
-  pub right_again : (tells → (known : BlockId → Bool) → TellsSurvivors v.shape v.lattice.n v.digests c known → IsRightPlan v c m fates bs known)
-      → tells → (known : BlockId → Bool) → TellsSurvivors v.shape v.lattice.n v.digests d known → IsRightPlan v d n fates bs known
-  right_again right told known survivors =
-      subst (λ (f : Files). IsRightPlan v f n fates bs known) (sym (same told))
-      (subst (λ (k : Marked). IsRightPlan v c k fates bs known) (sym marks) (right told known (subst (λ (f : Files). TellsSurvivors v.shape v.lattice.n v.digests f known) (same told) survivors)))
-
-  pub checked_again : (tells → All (IsChecked v c m fates) bs) → tells → All (IsChecked v d n fates) bs
-  checked_again checked told =
-      subst (λ (f : Files). All (IsChecked v f n fates) bs) (sym (same told)) (subst (λ (k : Marked). All (IsChecked v c k fates) bs) (sym marks) (checked told))

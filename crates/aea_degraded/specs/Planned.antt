@@ -12,6 +12,7 @@ use Rattle.aea_gauss.specs.declared.fates.Fate.{Fate}
 use Rattle.aea_gauss.specs.declared.fates.Fate.TheVariants.{Word}
 use Rattle.aea_gauss.specs.Fates.{AreFates, IsFate, block_of_fate}
 use Rattle.aea_degraded.specs.Summed.{sum_at}
+use Rattle.aea_degraded.specs.Found.{IsFoundBy}
 use Rattle.aea_degraded.specs.declared.fault.FetchFault.{FetchFault}
 use Rattle.aea_degraded.specs.declared.fault.FetchFault.TheVariants.{Undetermined, Clash, DiskFault, NoMemory}
 
@@ -34,6 +35,15 @@ pub record IsRightPlan (v : Opened) (c : Files) (damaged : Marked) (fates : List
 abbrev pub IsChecked : Opened → Files → Marked → List Fate → BlockId → Type 0
 IsChecked v c damaged fates b =
     is_marked damaged b ≡ true → (fate : Fate) → Contains fates fate → block_of_fate fate ≡ b → block_digest b (sum_at v.lattice v.shape c fate) ≡ recorded_in v.shape v.digests b
+
+-- The second pass may ask for the block: no fate of it is listed nodes, and where the disk's contents are known, what was found out is
+-- right for the intact blocks, and the block is checked.
+pub record IsPlanned (tells : Type 0) (v : Opened) (c : Files) (damaged : Marked) (fates : List Fate) (b : BlockId) : Type 0 where
+  pub lattice : damaged.lattice ≡ v.lattice
+  pub are : AreFatesOf v.lattice damaged fates
+  pub given : IsGiven fates b
+  pub right : tells → (known : BlockId → Bool) → TellsSurvivors v.shape v.lattice.n v.digests c known → IsFoundBy v c damaged fates b known
+  pub checked : tells → IsChecked v c damaged fates b
 
 -- how the first pass of a fetch fails: a data block is not determined, two digests differ, the disk failed, or memory ran out
 abbrev pub IsFirstFault : FetchFault → Type 0

@@ -1,6 +1,8 @@
--- How the second pass of a fetch fails. No public contract cites this.
+-- How the second pass of a fetch fails. No public contract cites these.
 use Rattle.std.specs.Prelude.{◌≡◌, ◌⊎◌, ℕ, List}
 use Rattle.aea_lattice.specs.declared.blocks.BlockId.{BlockId}
+use Rattle.aea_ledger.specs.Values.{Opened}
+use Rattle.aea_restore.specs.Drawn.{IsOtherDigest}
 use Rattle.aea_degraded.specs.declared.fault.PayloadFault.{PayloadFault}
 use Rattle.aea_degraded.specs.declared.fault.PayloadFault.TheVariants as payload
 use Rattle.aea_degraded.specs.declared.fault.FetchFault.{FetchFault}
@@ -10,6 +12,12 @@ use Rattle.aea_degraded.specs.declared.fault.FetchFault.TheVariants.{Clash, Writ
 abbrev pub IsSendFault : FetchFault → Type 0
 IsSendFault fault =
     ((b : BlockId) × (told : List ℕ) × (computed : List ℕ) × (fault ≡ Clash b told computed)) ⊎ ((fault ≡ WriteFault) ⊎ (fault ≡ DiskFault))
+
+-- What a fault of a payload says: a clash is one of two digests that differ, the first of them the ledger's; and there is none where the
+-- disk's contents are known.
+abbrev pub IsPlanFault : Type 0 → Opened → PayloadFault → Type 0
+IsPlanFault tells v (payload.Clash b recorded computed) = IsOtherDigest v b recorded computed × (tells → ⊥)
+IsPlanFault tells v payload.DiskFault = Unit {0}
 
 -- a fault of a payload as one of a fetch
 abbrev pub fetch_fault : PayloadFault → FetchFault

@@ -12,7 +12,7 @@ ghost use Rattle.aea_archive.specs.Blocks.{TellsSurvivors};
 ghost use Rattle.aea_archive.specs.Objects.{data_under, IsOneOf};
 ghost use Rattle.aea_restore.specs.Drawn.{IsOtherDigest, IsClash};
 ghost use Rattle.aea_degraded.specs.Fetched.{IsFirstOpen, IsOutside};
-ghost use Rattle.aea_degraded.specs.Planned.{AreFatesOf, IsGiven, IsRightPlan, IsChecked, IsFirstFault};
+ghost use Rattle.aea_degraded.specs.Planned.{AreFatesOf, IsRightPlan, IsPlanned, IsFirstFault};
 
 use crate::checking::check_sums;
 use crate::fault::FetchFault;
@@ -95,12 +95,7 @@ pub(crate) fn first_pass<D: Disk>(
 ) -> Result<Plan, FetchFault>
     requires cell { length cell.old ≡ cell_size ledger.now.shape }
     requires sum { length sum.old ≡ ledger.now.shape.block }
-    ensures lattice { IfOk result (λ p. p.search.unknown.lattice ≡ ledger.now.lattice) }
-    ensures fates { IfOk result (λ p. AreFatesOf ledger.now.lattice p.search.unknown p.fates) }
-    ensures right { IfOk result (λ p. D.tells → (known : BlockId → Bool) → TellsSurvivors ledger.now.shape ledger.now.lattice.n ledger.now.digests (D.state disk.old).files known
-        → IsRightPlan ledger.now (D.state disk.old).files p.search.unknown p.fates (data_under (get ledger.now.objects name.now)) known) }
-    ensures given { IfOk result (λ p. All (IsGiven p.fates) (data_under (get ledger.now.objects name.now))) }
-    ensures checked { IfOk result (λ p. D.tells → All (IsChecked ledger.now (D.state disk.old).files p.search.unknown p.fates) (data_under (get ledger.now.objects name.now))) }
+    ensures planned { IfOk result (λ p. All (IsPlanned D.tells ledger.now (D.state disk.old).files p.search.unknown p.fates) (data_under (get ledger.now.objects name.now))) }
 
     // The block that is not determined.
     ensures undetermined { (b : BlockId) (nodes : List ℕ) → result ≡ Err (FetchFault.Undetermined b nodes) → IsOneOf (data_under (get ledger.now.objects name.now)) b × ((test : BlockId → Bool) × IsWord ledger.now.lattice test b nodes)

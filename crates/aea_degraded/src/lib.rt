@@ -13,8 +13,9 @@
 //! `specs/Summed.antt` says of which blocks a sum is made, `Faults.antt` how a fault of `aea_restore` is told, and `Fetched.antt`
 //! what a fetch appends. `Found.antt` has what is known of a block whose payload is read or computed, `Planned.antt` what the
 //! first pass found out, and `Sent.antt` how the second one fails. Read `Fetched` and `Summed` first. It rests on `aea_search`
-//! for the damaged blocks and their fates, on `aea_fetch` for the data blocks of an object and what is written of payloads, and
-//! on `aea_restore` for a payload that is read and judged.
+//! for the damaged blocks and their fates, on `aea_fetch` for the data blocks of an object and for the second pass, which is
+//! `send_payloads` with a source of payloads of its own (`PlanReader`), and on `aea_restore` for a payload that is read and
+//! judged.
 #![tactic(auto)]
 
 mod block;
@@ -26,6 +27,7 @@ mod first;
 mod laws;
 mod left;
 mod planning;
+mod reader;
 mod searching;
 mod sending;
 mod sum;

@@ -1,5 +1,5 @@
 -- How payloads are written one after the other, whatever a payload is: `has b p` says that p is a payload of b. For a loop
--- that prints payloads block by block and then flushes the page, as `get` does: `copied_none` before its first block,
+-- that prints payloads block by block and then flushes the page, as `send_payloads` does: `copied_none` before its first block,
 -- `copied_one` and `copied_then` after each; where it ends early `cut_still` or `cut_one` at the block, `cut_then` for
 -- those before it and `cut_front` for those behind; `sent_all` and `sent_cut` at the end of the page; `long_enough` of an
 -- object's payloads.
@@ -184,9 +184,6 @@ module _ (has : BlockId → List ℕ → Type 0) (bs : List BlockId) (most : ℕ
 -- ---- payloads by another word too
 
 module _ (has other : BlockId → List ℕ → Type 0) (also : (b : BlockId) (p : List ℕ) → has b p → other b p) where
-  pub copied_as : (bs : List BlockId) (most : ℕ) (a b : SinkState) (p q : List ℕ) → HasCopied has bs most a p b q → HasCopied other bs most a p b q
-  copied_as bs most a b p q one = record { payloads = one.payloads; are = payloads_as has other also bs one.payloads one.are; prints = one.prints }
-
   pub sent_as : (bs : List BlockId) (most : ℕ) (a b : SinkState) → HasSent has bs most a b → HasSent other bs most a b
   sent_as bs most a b one = record { payloads = one.payloads; are = payloads_as has other also bs one.payloads one.are; appended = one.appended; kept = one.kept; steady = one.steady }
 

@@ -39,7 +39,7 @@ impl<'a> PayloadSource for CellReader<'a> {
 
     ghost is_disk = { λ fault. fault ≡ DiskFault };
 
-    ghost ready = { λ s tells v c. length s.cell.now ≡ cell_size v.shape };
+    ghost ready = { λ s tells v c b. length s.cell.now ≡ cell_size v.shape };
 
     ghost has_one = { λ s. 48 ≤ length s.cell.now };
 

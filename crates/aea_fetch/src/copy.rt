@@ -37,9 +37,9 @@ fn copy_block<P: PayloadSource, D: Disk, O: Sink>(
     page: &mut Page,
     out: &mut O,
 ) -> Result<(), SendFault<P::Fault>>
-    requires ready { P.ready payloads.old D.tells ledger.now (D.state disk.old).files }
+    requires ready { P.ready payloads.old D.tells ledger.now (D.state disk.old).files b }
     requires block { HasBlock ledger.now.lattice b }
-    ensures ready { P.ready payloads.new D.tells ledger.now (D.state disk.new).files }
+    ensures ready { (d : BlockId) → P.ready payloads.old D.tells ledger.now (D.state disk.old).files d → P.ready payloads.new D.tells ledger.now (D.state disk.new).files d }
     ensures copied { OnOk result ((c : Files) → (D.tells → (D.state disk.old).files ≡ c) → HasCopied (IsWide ledger.now.shape.block (P.has D.tells ledger.now c)) (b ∷ []) most (O.state out.old) page.old (O.state out.new) page.new) }
     ensures cut { IfErr result (λ fault. (c : Files) → (D.tells → (D.state disk.old).files ≡ c) → HasCut (IsWide ledger.now.shape.block (P.has D.tells ledger.now c)) (b ∷ []) most (O.state out.old) page.old (O.state out.new) (fault ≡ SendFault.Output)) }
     ensures why { (fault : P.Fault) → result ≡ Err (SendFault.Payload fault) → (c : Files) → (D.tells → (D.state disk.old).files ≡ c) → P.says D.tells ledger.now c b fault }
@@ -73,9 +73,9 @@ fn copy_blocks<P: PayloadSource, D: Disk, O: Sink>(
     page: &mut Page,
     out: &mut O,
 ) -> Result<(), SendFault<P::Fault>>
-    requires ready { P.ready payloads.old D.tells ledger.now (D.state disk.old).files }
+    requires ready { All (P.ready payloads.old D.tells ledger.now (D.state disk.old).files) blocks }
     requires inside { All (HasBlock ledger.now.lattice) blocks }
-    ensures ready { P.ready payloads.new D.tells ledger.now (D.state disk.new).files }
+    ensures ready { (d : BlockId) → P.ready payloads.old D.tells ledger.now (D.state disk.old).files d → P.ready payloads.new D.tells ledger.now (D.state disk.new).files d }
     ensures copied { OnOk result (HasCopied (IsWide ledger.now.shape.block (P.has D.tells ledger.now (D.state disk.old).files)) blocks.entry most (O.state out.old) page.old (O.state out.new) page.new) }
     ensures cut { IfErr result (λ fault. HasCut (IsWide ledger.now.shape.block (P.has D.tells ledger.now (D.state disk.old).files)) blocks.entry most (O.state out.old) page.old (O.state out.new) (fault ≡ SendFault.Output)) }
     ensures why { (fault : P.Fault) → result ≡ Err (SendFault.Payload fault) → (b : BlockId) × IsOneOf blocks.entry b × P.says D.tells ledger.now (D.state disk.old).files b fault }
@@ -105,9 +105,9 @@ pub fn send_payloads<P: PayloadSource, D: Disk, O: Sink>(
     page: &mut Page,
     out: &mut O,
 ) -> Result<(), SendFault<P::Fault>>
-    requires ready { P.ready payloads.old D.tells ledger.now (D.state disk.old).files }
+    requires ready { All (P.ready payloads.old D.tells ledger.now (D.state disk.old).files) (data_under (get ledger.now.objects name.now)) }
     requires empty { page.old ≡ [] }
-    ensures ready { P.ready payloads.new D.tells ledger.now (D.state disk.new).files }
+    ensures ready { (d : BlockId) → P.ready payloads.old D.tells ledger.now (D.state disk.old).files d → P.ready payloads.new D.tells ledger.now (D.state disk.new).files d }
 
     // Sent.
     ensures sent { OnOk result (HasSent (P.has D.tells ledger.now (D.state disk.old).files) (data_under (get ledger.now.objects name.now)) most (O.state out.old) (O.state out.new)) }

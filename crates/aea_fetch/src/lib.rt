@@ -6,7 +6,9 @@
 //!
 //! `DataBlocks` gives the data blocks of an object one after the other. The two passes of `get` are `check_object` and
 //! `send_object`, for calls that do something between them. `send_payloads` is the second pass for any way to have the
-//! payloads of blocks, a `PayloadSource`; that of `get` is `CellReader`, which reads their cells.
+//! payloads of blocks, a `PayloadSource`, which says of which blocks it may be asked (`ready`), which bytes are a payload to
+//! it (`has`), and what its faults say (`says`). That of `get` is `CellReader`, which reads their cells; that of `fetch`, in
+//! `aea_degraded`, computes the damaged ones.
 //!
 //! `specs/Payloads.antt` has what a payload is to one who reads its cell, `specs/Copies.antt` what is written of payloads,
 //! whatever a payload is, `specs/Gets.antt` what `get` appends, and why it does not, `specs/Cells.antt` why a cell gives no

@@ -25,8 +25,9 @@ pub trait PayloadSource {
     /// The fault is one of the disk.
     ghost is_disk: { Self.Fault → Type 0 };
 
-    /// It is made for an archive with this ledger and these files, where the contents are known or not.
-    ghost ready: { Self → Type 0 → Opened → Files → Type 0 };
+    /// It may be asked for the payload of this block of an archive with this ledger and these files, where the contents are
+    /// known or not.
+    ghost ready: { Self → Type 0 → Opened → Files → BlockId → Type 0 };
 
     /// It has had a payload.
     ghost has_one: { Self → Type 0 };
@@ -35,16 +36,16 @@ pub trait PayloadSource {
     ghost held: { Self → List ℕ };
 
     /// Gets the payload of a block of the archive. Its clauses hold by any files that read as the disk's do, where these are
-    /// known.
+    /// known. What it may be asked for before, it may be asked for after.
     fn get_one<D: Disk>(
         &mut self,
         ledger: &Ledger,
         disk: &mut D,
         b: BlockId,
     ) -> Result<(), Self::Fault>
-        requires ready { ready self.old D.tells ledger.now (D.state disk.old).files }
+        requires ready { ready self.old D.tells ledger.now (D.state disk.old).files b }
         requires block { HasBlock ledger.now.lattice b }
-        ensures ready { ready self.new D.tells ledger.now (D.state disk.new).files }
+        ensures ready { (d : BlockId) → ready self.old D.tells ledger.now (D.state disk.old).files d → ready self.new D.tells ledger.now (D.state disk.new).files d }
         ensures one { OnOk result (has_one self.new) }
         ensures wide { OnOk result (length (held self.new) ≡ ledger.now.shape.block) }
         ensures had { OnOk result ((c : Files) → (D.tells → (D.state disk.old).files ≡ c) → has D.tells ledger.now c b (held self.new)) }

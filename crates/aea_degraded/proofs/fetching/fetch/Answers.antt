@@ -12,7 +12,8 @@ use Rattle.aea_fetch.proofs.Getting.{placed_of}
 use Rattle.aea_restore.proofs.Ends.{never_clash}
 use Rattle.aea_degraded.specs.declared.fault.FetchFault.TheVariants.{Undetermined, Clash, DiskFault, WriteFault}
 use Rattle.aea_degraded.specs.Fetched.{HasFetched, IsFirstOpen}
-use Rattle.aea_degraded.proofs.TwoPasses.{known_of, fetched_sent, fetched_part, own_fetched, never_first, open_fault, all_determined, outside_of, first_complete, send_complete, right_again, checked_again}
+use Rattle.aea_degraded.proofs.Checked.{planned_again}
+use Rattle.aea_degraded.proofs.TwoPasses.{known_of, fetched_sent, fetched_part, own_fetched, never_first, open_fault, all_determined, outside_of, first_complete, send_complete}
 use Rattle.aea_degraded.proofs.fetching.fetch.Goals as goal
 
 pub returns-in_default-clause-reads : goal.returns-in_default-clause-reads
@@ -88,14 +89,13 @@ returns-in-Err-clause-complete g c told p known under_name survivors all =
     never_first v.lattice known under b nodes (subst (All (Determines v.lattice known)) (sym (ap data_under under_name)) all)
     ((c.first_pass.ensures.undetermined b nodes (c.in-Err.is ∙ ap Err e)).2 told known survivors)))
 
-pub send_fetched-requires-clause-right : goal.send_fetched-requires-clause-right
-send_fetched-requires-clause-right g c =
+pub send_fetched-requires-clause-planned : goal.send_fetched-requires-clause-planned
+send_fetched-requires-clause-planned g c =
     let v = c.args.ledger.now in
-    let name = c.args.name.now in
-    let tells = g.D.Disk.tells in
-    let old = g.D.Disk.state c.args.disk.now in
-    let mid = g.D.Disk.state c.first_pass.new.disk in
-    right_again tells v old.files mid.files c.first_pass.ensures.reads.contents c.in-Ok-first_pass.plan.search.unknown c.unknown.result.now c.unknown.ensures.unknown c.in-Ok-first_pass.plan.fates (data_under (get v.objects name)) c.in-Ok-first_pass.ensures.right
+    let old = (g.D.Disk.state c.args.disk.now).files in
+    let mid = (g.D.Disk.state c.first_pass.new.disk).files in
+    let plan = c.in-Ok-first_pass.plan in
+    planned_again g.D.Disk.tells v old mid plan.search.unknown _ plan.fates (data_under (get v.objects c.args.name.now)) c.unknown.ensures.unknown c.first_pass.ensures.reads.contents c.in-Ok-first_pass.ensures.planned
 
 pub returns-in-Ok-send_fetched-clause-fetched : goal.returns-in-Ok-send_fetched-clause-fetched
 returns-in-Ok-send_fetched-clause-fetched g c =
@@ -157,29 +157,17 @@ returns-clause-open_refused g c told p known b nodes under_name survivors first 
 pub returns-clause-clash : goal.returns-clause-clash
 returns-clause-clash g c b told computed e =
     let is : c.in-Err-send_fetched.fault ≡ Clash b told computed = (let h = e in cc) in
-    c.send_fetched.ensures.clash b told computed (c.in-Err-send_fetched.is ∙ ap Err is)
+    (c.send_fetched.ensures.clash b told computed (c.in-Err-send_fetched.is ∙ ap Err is)).0
 
 pub returns-clause-computed : goal.returns-clause-computed
 returns-clause-computed g c tell known survivors b told computed e =
-    let v = c.args.ledger.now in
-    let name = c.args.name.now in
-    let tells = g.D.Disk.tells in
-    let old = g.D.Disk.state c.args.disk.now in
-    let mid = g.D.Disk.state c.first_pass.new.disk in
     let is : c.in-Err-send_fetched.fault ≡ Clash b told computed = (let h = e in cc) in
-    absurd (c.send_fetched.ensures.no_clash b told computed (c.in-Err-send_fetched.is ∙ ap Err is) tell
-    (checked_again tells v old.files mid.files c.first_pass.ensures.reads.contents c.in-Ok-first_pass.plan.search.unknown c.unknown.result.now c.unknown.ensures.unknown c.in-Ok-first_pass.plan.fates (data_under (get v.objects name)) c.in-Ok-first_pass.ensures.checked tell))
+    absurd ((c.send_fetched.ensures.clash b told computed (c.in-Err-send_fetched.is ∙ ap Err is)).1 tell)
 
 pub returns-clause-no_clash : goal.returns-clause-no_clash
 returns-clause-no_clash g c tell records datas has are honest b told computed e =
-    let v = c.args.ledger.now in
-    let name = c.args.name.now in
-    let tells = g.D.Disk.tells in
-    let old = g.D.Disk.state c.args.disk.now in
-    let mid = g.D.Disk.state c.first_pass.new.disk in
     let is : c.in-Err-send_fetched.fault ≡ Clash b told computed = (let h = e in cc) in
-    c.send_fetched.ensures.no_clash b told computed (c.in-Err-send_fetched.is ∙ ap Err is) tell
-    (checked_again tells v old.files mid.files c.first_pass.ensures.reads.contents c.in-Ok-first_pass.plan.search.unknown c.unknown.result.now c.unknown.ensures.unknown c.in-Ok-first_pass.plan.fates (data_under (get v.objects name)) c.in-Ok-first_pass.ensures.checked tell)
+    (c.send_fetched.ensures.clash b told computed (c.in-Err-send_fetched.is ∙ ap Err is)).1 tell
 
 pub returns-clause-complete : goal.returns-clause-complete
 returns-clause-complete g c told p known under_name survivors all =

@@ -68,20 +68,31 @@ returns-in-Some-clause-reads g c =
     (λ e. let other : c.undetermined.result ≡ DiskFault = (let h = e in cc) in let never : Undetermined found.0 found.1 ≡ DiskFault = sym is ∙ other in absurd (cc))
     (λ e. absurd (let ok = c.in-Ok.is in cc)) c.plan_object.ensures.reads
 
-pub returns-in-Ok-check_sums-clause-checked : goal.returns-in-Ok-check_sums-clause-checked
-returns-in-Ok-check_sums-clause-checked g c told =
+pub returns-in-Ok-check_sums-clause-planned : goal.returns-in-Ok-check_sums-clause-planned
+returns-in-Ok-check_sums-clause-planned g c k b below =
     let v = c.args.ledger.now in
     let files = (g.D.Disk.state c.args.disk.now).files in
     let mid = (g.D.Disk.state c.plan_object.new.disk).files in
     let blocks = data_under (get v.objects c.args.name.now) in
     let plan = c.in-Ok.plan in
-    let same : mid ≡ files = c.plan_object.ensures.reads.contents told in
-    let some = c.survivors_are_told.ensures v.shape v.lattice.n v.digests files in
-    subst (λ (f : Files). All (IsChecked v f plan.search.unknown plan.fates) blocks) same
-    (subst (λ (m : Marked). All (IsChecked v mid m plan.fates) blocks) c.unknown.ensures.unknown
-    (c.in-Ok-check_sums.ensures.checked told some.0
-    (subst (λ (m : Marked). IsRightPlan v mid m plan.fates blocks some.0) (sym c.unknown.ensures.unknown)
-    (subst (λ (f : Files). IsRightPlan v f plan.search.unknown plan.fates blocks some.0) (sym same) (c.in-Ok.ensures.right told some.0 some.1)))))
+    record {
+      lattice = c.in-Ok.ensures.lattice;
+      are = c.in-Ok.ensures.fates;
+      given = c.in_default.ensures.none k b below;
+      right = λ told known survivors.
+          let right = c.in-Ok.ensures.right told known survivors in
+          record { survivors = right.survivors; right = right.right; marked = right.marked k b below };
+      checked = λ told.
+          let same : mid ≡ files = c.plan_object.ensures.reads.contents told in
+          let some = c.survivors_are_told.ensures v.shape v.lattice.n v.digests files in
+          let all : All (IsChecked v files plan.search.unknown plan.fates) blocks =
+          subst (λ (f : Files). All (IsChecked v f plan.search.unknown plan.fates) blocks) same
+          (subst (λ (m : Marked). All (IsChecked v mid m plan.fates) blocks) c.unknown.ensures.unknown
+          (c.in-Ok-check_sums.ensures.checked told some.0
+          (subst (λ (m : Marked). IsRightPlan v mid m plan.fates blocks some.0) (sym c.unknown.ensures.unknown)
+          (subst (λ (f : Files). IsRightPlan v f plan.search.unknown plan.fates blocks some.0) (sym same) (c.in-Ok.ensures.right told some.0 some.1))))) in
+          all k b below;
+    }
 
 pub returns-in-Ok-check_sums-clause-determined : goal.returns-in-Ok-check_sums-clause-determined
 returns-in-Ok-check_sums-clause-determined g c told known survivors =

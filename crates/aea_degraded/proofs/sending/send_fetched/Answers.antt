@@ -1,58 +1,42 @@
-use Rattle.std.proofs.Common.{◌≡◌, List, ℕ, [], sym, ◌∙◌, subst}
-use Rattle.std.specs.Prelude.{All}
+use Rattle.std.proofs.Common.{◌≡◌, Err, [], sym, ◌∙◌, ap, subst}
 use Rattle.std.specs.FinMap.{get}
-use Rattle.aea_lattice.specs.declared.blocks.BlockId.{BlockId}
+use Rattle.aea_disk.proofs.Frames.{reads_as}
 use Rattle.aea_archive.specs.Objects.{data_under}
-use Rattle.aea_fetch.specs.Copies.{HasCopied, HasCut}
-use Rattle.aea_fetch.proofs.Copies.{sent_all, sent_cut}
+use Rattle.aea_fetch.specs.Copies.{IsPayloadFault}
+use Rattle.aea_fetch.proofs.Copies.{cut_as}
+use Rattle.aea_degraded.specs.declared.fault.PayloadFault.{PayloadFault}
+use Rattle.aea_degraded.specs.declared.fault.PayloadFault.TheVariants as payload
 use Rattle.aea_degraded.specs.declared.fault.FetchFault.TheVariants.{WriteFault}
 use Rattle.aea_degraded.specs.Fetched.{IsFetched}
-use Rattle.aea_degraded.specs.Planned.{IsGiven, IsRightPlan, IsChecked}
+use Rattle.aea_degraded.specs.Sent.{IsSendFault, IsPlanFault, fetch_fault}
+use Rattle.aea_degraded.proofs.Printed.{clash_from, disk_from, no_output, send_fault}
 use Rattle.aea_degraded.proofs.sending.send_fetched.Goals as goal
 
-pub send_blocks-requires-clause-given : goal.send_blocks-requires-clause-given
-send_blocks-requires-clause-given g c = subst (All (IsGiven c.args.fates.now)) (sym c.new-blocks.ensures.all) c.requires.given
+pub send_payloads-requires-clause-ready : goal.send_payloads-requires-clause-ready
+send_payloads-requires-clause-ready g c k b below = (c.requires.planned k b below, c.requires.cell, c.requires.sum)
 
-pub send_blocks-requires-clause-right : goal.send_blocks-requires-clause-right
-send_blocks-requires-clause-right g c told known survivors =
-    subst (λ (bs : List BlockId). IsRightPlan c.args.ledger.now (g.D.Disk.state c.args.disk.now).files c.args.damaged.now c.args.fates.now bs known) (sym c.new-blocks.ensures.all)
-    (c.requires.right told known survivors)
+-- ---- a payload was not had
 
-pub returns-in-Err-clause-cut : goal.returns-in-Err-clause-cut
-returns-in-Err-clause-cut g c =
-    let has = IsFetched g.D.Disk.tells c.args.ledger.now (g.D.Disk.state c.args.disk.now).files in
-    let sink = g.O.Sink.state c.args.out.now in
-    let later = g.O.Sink.state c.send_blocks.new.out in
-    subst (λ (bs : List BlockId). HasCut has bs c.args.most sink [] later (c.in-Err.fault ≡ WriteFault)) c.new-blocks.ensures.all
-    (subst (λ (l : List ℕ). HasCut has c.new-blocks.result c.args.most sink l later (c.in-Err.fault ≡ WriteFault)) c.requires.empty c.in-Err.ensures.cut)
-
-pub returns-in-Err-clause-clash : goal.returns-in-Err-clause-clash
-returns-in-Err-clause-clash g c d told computed is = c.send_blocks.ensures.clash d told computed (c.in-Err.is ∙ is)
-
-pub returns-in-Err-clause-no_clash : goal.returns-in-Err-clause-no_clash
-returns-in-Err-clause-no_clash g c d told computed is tells checked =
-    c.send_blocks.ensures.no_clash d told computed (c.in-Err.is ∙ is) tells
-    (subst (All (IsChecked c.args.ledger.now (g.D.Disk.state c.args.disk.now).files c.args.damaged.now c.args.fates.now)) (sym c.new-blocks.ensures.all) checked)
-
-pub returns-in-Err-finish-clause-cut : goal.returns-in-Err-finish-clause-cut
-returns-in-Err-finish-clause-cut g c =
+pub returns-in-Err-Payload-clause-cut : goal.returns-in-Err-Payload-clause-cut
+returns-in-Err-Payload-clause-cut g c =
     let v = c.args.ledger.now in
     let has = IsFetched g.D.Disk.tells v (g.D.Disk.state c.args.disk.now).files in
-    let sink = g.O.Sink.state c.args.out.now in
-    let mid = g.O.Sink.state c.send_blocks.new.out in
-    let blocks = data_under (get v.objects c.args.name.now) in
-    let copied = subst (λ (bs : List BlockId). HasCopied has bs c.args.most sink [] mid c.send_blocks.new.page) c.new-blocks.ensures.all
-    (subst (λ (l : List ℕ). HasCopied has c.new-blocks.result c.args.most sink l mid c.send_blocks.new.page) c.requires.empty c.in-Ok.ensures.copied) in
-    sent_cut has blocks c.args.most sink mid (g.O.Sink.state c.finish.new.out) c.send_blocks.new.page copied (WriteFault ≡ WriteFault) c.in-Err-finish.ensures.prints
+    cut_as has has (λ b p is. is) (data_under (get v.objects c.args.name.now)) c.args.most (g.O.Sink.state c.args.out.now) (g.O.Sink.state c.send_payloads.new.out) [] _ (c.from.result ≡ WriteFault)
+    (λ e. absurd (no_output c.in-Err-Payload.fault (sym c.from.ensures ∙ e))) c.in-Err-Payload.ensures.cut
 
-pub returns-in-Ok-finish-clause-sent : goal.returns-in-Ok-finish-clause-sent
-returns-in-Ok-finish-clause-sent g c =
-    let v = c.args.ledger.now in
-    let has = IsFetched g.D.Disk.tells v (g.D.Disk.state c.args.disk.now).files in
-    let sink = g.O.Sink.state c.args.out.now in
-    let mid = g.O.Sink.state c.send_blocks.new.out in
-    let blocks = data_under (get v.objects c.args.name.now) in
-    let copied = subst (λ (bs : List BlockId). HasCopied has bs c.args.most sink [] mid c.send_blocks.new.page) c.new-blocks.ensures.all
-    (subst (λ (l : List ℕ). HasCopied has c.new-blocks.result c.args.most sink l mid c.send_blocks.new.page) c.requires.empty c.in-Ok.ensures.copied) in
-    sent_all has blocks c.args.most sink mid (g.O.Sink.state c.finish.new.out) c.send_blocks.new.page copied
-    (rw c.in-Ok-finish.ensures.empty at c.in-Ok-finish.ensures.prints)
+pub returns-in-Err-Payload-clause-faults : goal.returns-in-Err-Payload-clause-faults
+returns-in-Err-Payload-clause-faults g c = subst IsSendFault (sym c.from.ensures) (send_fault c.in-Err-Payload.fault)
+
+pub returns-in-Err-Payload-clause-clash : goal.returns-in-Err-Payload-clause-clash
+returns-in-Err-Payload-clause-clash g c d told computed is =
+    let fault : c.in-Err-Payload.fault ≡ payload.Clash d told computed = clash_from c.in-Err-Payload.fault d told computed (sym c.from.ensures ∙ (let h = is in cc)) in
+    let said = c.send_payloads.ensures.why c.in-Err-Payload.fault (c.in-Err-Payload.is ∙ ap Err c.in-Err-Payload.field-0-is) in
+    subst (IsPlanFault g.D.Disk.tells c.args.ledger.now) fault said.2
+
+pub returns-in-Err-Payload-clause-reads : goal.returns-in-Err-Payload-clause-reads
+returns-in-Err-Payload-clause-reads g c =
+    let kind = λ (f : PayloadFault). f ≡ payload.DiskFault in
+    let failed = c.in-Err-Payload.is ∙ ap Err c.in-Err-Payload.field-0-is in
+    reads_as g.D.Disk.tells (IsPayloadFault kind c.send_payloads.result) _ (g.D.Disk.state c.args.disk.now) (g.D.Disk.state c.send_payloads.new.disk)
+    (λ is. subst (IsPayloadFault kind) (sym failed) (disk_from c.in-Err-Payload.fault (sym c.from.ensures ∙ (let h = is in cc))))
+    (λ is. ap Err (c.from.ensures ∙ ap fetch_fault (subst (IsPayloadFault kind) failed is))) c.send_payloads.ensures.reads

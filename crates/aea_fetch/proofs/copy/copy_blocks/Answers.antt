@@ -8,6 +8,7 @@ use Rattle.aea_disk.proofs.Frames.{reads_none, reads_both, reads_as}
 use Rattle.aea_fetch.specs.Copies.{IsWide, IsPayloadFault}
 use Rattle.aea_fetch.specs.declared.source.SendFault.{SendFault}
 use Rattle.aea_fetch.specs.declared.source.SendFault.TheVariants.{Output}
+use Rattle.aea_fetch.proofs.Firsts.{all_at}
 use Rattle.aea_fetch.proofs.Loops.{HasReached, reached_none, reached_more, reached_cut, reached_one, reached_all}
 use Rattle.aea_fetch.proofs.copy.copy_blocks.Goals as goal
 
@@ -19,7 +20,7 @@ pub loop-b-init : goal.loop-b-init
 loop-b-init g c =
     let v = c.args.ledger.now in
     record {
-      ready = c.requires.ready;
+      ready = λ d is. is;
       inside = c.requires.inside;
       reached = reached_none (IsWide v.shape.block (g.P.PayloadSource.has g.D.Disk.tells v (g.D.Disk.state c.args.disk.now).files)) v.shape.block (λ b p is. is.1) c.args.blocks c.args.most (g.O.Sink.state c.args.out.now) c.args.page.now;
       still = refl;
@@ -30,6 +31,18 @@ pub copy_block-requires-clause-block : goal.copy_block-requires-clause-block
 copy_block-requires-clause-block g c =
     let l = c.args.ledger.now.lattice in
     All-head (HasBlock l) c.in-Some.b c.next.new.self (subst (All (HasBlock l)) c.in-Some.ensures c.loop-b.invariant.inside)
+
+pub copy_block-requires-clause-ready : goal.copy_block-requires-clause-ready
+copy_block-requires-clause-ready g c =
+    let v = c.args.ledger.now in
+    let files = (g.D.Disk.state c.args.disk.now).files in
+    let has = IsWide v.shape.block (g.P.PayloadSource.has g.D.Disk.tells v files) in
+    let ready = g.P.PayloadSource.ready c.args.payloads.now g.D.Disk.tells v files in
+    let sink = g.O.Sink.state c.args.out.now in
+    let here = g.O.Sink.state c.loop-b.out in
+    let reached = subst (λ (bs : List BlockId). HasReached has v.shape.block c.args.blocks bs c.args.most c.loop-b.left sink c.args.page.now here c.loop-b.page) c.in-Some.ensures c.loop-b.invariant.reached in
+    let one = reached_one has v.shape.block (λ b p is. is.1) c.args.blocks c.next.new.self c.in-Some.b c.args.most c.loop-b.left sink here c.args.page.now c.loop-b.page reached in
+    c.loop-b.invariant.ready c.in-Some.b (all_at ready one.before one.after c.in-Some.b (subst (All ready) one.are c.requires.ready))
 
 pub loop-b-smaller : goal.loop-b-smaller
 loop-b-smaller g c = let long = ap length c.in-Some.ensures in omega (arith, long)
@@ -48,7 +61,7 @@ loop-b-preserved g c =
     let reached = subst (λ (bs : List BlockId). HasReached has v.shape.block c.args.blocks bs c.args.most c.loop-b.left sink c.args.page.now here c.loop-b.page) c.in-Some.ensures c.loop-b.invariant.reached in
     let size : c.block-size.result ≡ v.shape.block = c.block-size.ensures ∙ ap (λ (s : Shape). s.block) c.shape.ensures.value in
     record {
-      ready = c.copy_block.ensures.ready;
+      ready = λ d is. c.copy_block.ensures.ready d (c.loop-b.invariant.ready d is);
       inside = All-tail (HasBlock v.lattice) c.in-Some.b c.next.new.self (subst (All (HasBlock v.lattice)) c.in-Some.ensures c.loop-b.invariant.inside);
       reached = reached_more has v.shape.block (λ b p is. is.1) c.args.blocks c.next.new.self c.in-Some.b c.args.most c.loop-b.left c.left_behind-left.result sink here later c.args.page.now c.loop-b.page c.copy_block.new.page reached
           (c.in-Ok.ensures.copied old.files c.loop-b.invariant.reads.contents)

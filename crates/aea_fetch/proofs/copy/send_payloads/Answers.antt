@@ -1,4 +1,5 @@
-use Rattle.std.proofs.Common.{◌≡◌, ℕ, List, [], ◌∙◌, subst}
+use Rattle.std.proofs.Common.{◌≡◌, ℕ, List, [], sym, ◌∙◌, subst}
+use Rattle.std.specs.Prelude.{All}
 use Rattle.std.specs.FinMap.{get}
 use Rattle.aea_lattice.specs.declared.blocks.BlockId.{BlockId}
 use Rattle.aea_archive.specs.Objects.{data_under, IsOneOf}
@@ -6,6 +7,10 @@ use Rattle.aea_fetch.specs.Copies.{HasCopied, HasCut, IsWide}
 use Rattle.aea_fetch.specs.declared.source.SendFault.TheVariants.{Output}
 use Rattle.aea_fetch.proofs.Copies.{sent_all, sent_cut, sent_as, cut_as}
 use Rattle.aea_fetch.proofs.copy.send_payloads.Goals as goal
+
+pub copy_blocks-requires-clause-ready : goal.copy_blocks-requires-clause-ready
+copy_blocks-requires-clause-ready g c =
+    subst (All (g.P.PayloadSource.ready c.args.payloads.now g.D.Disk.tells c.args.ledger.now (g.D.Disk.state c.args.disk.now).files)) (sym c.new-blocks.ensures.all) c.requires.ready
 
 pub returns-in-Err-clause-cut : goal.returns-in-Err-clause-cut
 returns-in-Err-clause-cut g c =

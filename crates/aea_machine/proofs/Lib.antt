@@ -1,0 +1,6 @@
+mod Closings
+mod Examples
+mod Holding
+mod Machines
+mod Names
+mod Runs

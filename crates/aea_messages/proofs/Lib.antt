@@ -1,0 +1,4 @@
+mod Decode
+mod Parts
+mod Starts
+mod Taken

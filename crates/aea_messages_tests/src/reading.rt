@@ -1,0 +1,305 @@
+//! Streams of messages in memory.
+
+use aea_io::{Source, SureSource};
+use aea_messages::{Message, MessageFault, read_message};
+use std::alloc::Global;
+
+/// What is wanted of a message.
+#[derive(Clone, Copy)]
+pub enum Wanted<'a> {
+    Open { slot: u8, name: &'a [u8] },
+    Chunk { slot: u8, bytes: &'a [u8] },
+    Close { slot: u8 },
+    Abort { slot: u8 },
+    Read { name: &'a [u8] },
+    Patrol { first: u32, count: u32 },
+}
+
+impl Wanted<'_> {
+    /// Whether the message is this one.
+    pub fn is(&self, message: &Message) -> bool {
+        match (self, message) {
+            (Wanted::Open { slot, name }, Message::Open { slot: s, name: n }) => {
+                slot == s && *name == n.bytes()
+            }
+            (Wanted::Chunk { slot, bytes }, Message::Chunk { slot: s, bytes: b }) => {
+                slot == s && *bytes == b.bytes()
+            }
+            (Wanted::Close { slot }, Message::Close { slot: s }) => slot == s,
+            (Wanted::Abort { slot }, Message::Abort { slot: s }) => slot == s,
+            (Wanted::Read { name }, Message::Read { name: n }) => *name == n.bytes(),
+            (Wanted::Patrol { first, count }, Message::Patrol { first: f, count: c }) => {
+                first == f && count == c
+            }
+            _ => false,
+        }
+    }
+}
+
+/// What was read of a stream: how many of the wanted messages came first, why no further one did, if it did not end, and
+/// how many bytes were taken.
+#[derive(Clone, Copy, PartialEq, Eq)]
+pub struct Found {
+    pub count: usize,
+    pub fault: Option<MessageFault>,
+    pub taken: u64,
+}
+
+// What no reading answers: a message that is not the wanted one.
+const OTHER: MessageFault = MessageFault::BadMessage { at: u64::MAX };
+
+// More bytes than a stream of these tests has.
+const LONGEST: u64 = 1_000_000;
+
+/// Reads the wanted messages, and then up to what is none.
+pub fn read_all<S: Source>(alloc: Global, source: &mut S, wanted: &[Wanted]) -> Found {
+    let mut taken = 0;
+    let mut count = 0;
+    for _ in 0..=wanted.len() {
+        if taken > LONGEST {
+            break;
+        }
+        let fault = match read_message(alloc, source, &mut taken) {
+            Ok(Some(message)) => {
+                if count < wanted.len() && wanted[count].is(&message) {
+                    count += 1;
+                    continue;
+                }
+                Some(OTHER)
+            }
+            Ok(None) => None,
+            Err(fault) => Some(fault),
+        };
+        return Found {
+            count,
+            fault,
+            taken,
+        };
+    }
+    Found {
+        count,
+        fault: Some(OTHER),
+        taken,
+    }
+}
+
+/// Reads a stream in memory.
+pub fn read_bytes(alloc: Global, bytes: &[u8], wanted: &[Wanted]) -> Found {
+    let mut source = SureSource::new(bytes);
+    read_all(alloc, &mut source, wanted)
+}
+
+/// A stream with two uploads whose messages fall between each other, an abort, a read and a patrol.
+pub fn stream() -> &'static [u8] {
+    b"\x01\0\0\x01a\x01\x01\0\x02bc\x02\0\0\0\0\x03xyz\x02\x01\0\0\0\x10qrstqrstqrstqrst\x03\0\
+\x04\x01\x05\0\x01a\x06\0\x01\x02\x03\0\0\x10\0"
+}
+
+/// Its messages.
+pub fn messages() -> [Wanted<'static>; 8] {
+    [
+        Wanted::Open {
+            slot: 0,
+            name: b"a",
+        },
+        Wanted::Open {
+            slot: 1,
+            name: b"bc",
+        },
+        Wanted::Chunk {
+            slot: 0,
+            bytes: b"xyz",
+        },
+        Wanted::Chunk {
+            slot: 1,
+            bytes: b"qrstqrstqrstqrst",
+        },
+        Wanted::Close { slot: 0 },
+        Wanted::Abort { slot: 1 },
+        Wanted::Read { name: b"a" },
+        Wanted::Patrol {
+            first: 66_051,
+            count: 4096,
+        },
+    ]
+}
+
+/// Where its messages end.
+pub fn ends() -> [u64; 9] {
+    [0, 5, 11, 20, 42, 44, 46, 50, 59]
+}
+
+/// What is found where it is cut behind so many bytes.
+pub fn cut_at(end: usize) -> Found {
+    let taken = end as u64;
+    let mut count = 0;
+    let mut whole = false;
+    for (k, place) in ends().iter().enumerate() {
+        if *place <= taken {
+            count = k;
+            whole = *place == taken;
+        }
+    }
+    let fault = if whole {
+        None
+    } else {
+        Some(MessageFault::BadStream { at: taken })
+    };
+    Found {
+        count,
+        fault,
+        taken,
+    }
+}
+
+#[test]
+fn a_stream_is_read_whole_and_cut_at_each_byte(rt: HostRuntime) {
+    let bytes = stream();
+    let wanted = messages();
+    for end in 0..=bytes.len() {
+        assert!(rt;
+            read_bytes(rt.alloc(), &bytes[..end], &wanted) == cut_at(end),
+            "{end}"
+        );
+    }
+}
+
+#[test]
+fn bad_and_cut_messages_have_their_places(rt: HostRuntime) {
+    let rows: [(&[u8], Option<MessageFault>, u64); 12] = [
+        (b"", None, 0),
+        (b"\x07\x04\0", Some(MessageFault::BadMessage { at: 0 }), 1),
+        (b"\0", Some(MessageFault::BadMessage { at: 0 }), 1),
+        (b"\x04", Some(MessageFault::BadStream { at: 1 }), 1),
+        (
+            b"\x02\0\0\x01\0\x01\0",
+            Some(MessageFault::BadMessage { at: 2 }),
+            6,
+        ),
+        (
+            b"\x02\0\xff\xff\xff\xff",
+            Some(MessageFault::BadMessage { at: 2 }),
+            6,
+        ),
+        (
+            b"\x02\0\xff\xff\xff",
+            Some(MessageFault::BadStream { at: 5 }),
+            5,
+        ),
+        (
+            b"\x02\0\0\x01\0\0",
+            Some(MessageFault::BadStream { at: 6 }),
+            6,
+        ),
+        (
+            b"\x02\0\0\0\0\x03ab",
+            Some(MessageFault::BadStream { at: 8 }),
+            8,
+        ),
+        (
+            b"\x05\xff\xffabc",
+            Some(MessageFault::BadStream { at: 6 }),
+            6,
+        ),
+        (b"\x01\0\0\x02a", Some(MessageFault::BadStream { at: 5 }), 5),
+        (
+            b"\x06\0\0\0\0\0\0\0",
+            Some(MessageFault::BadStream { at: 8 }),
+            8,
+        ),
+    ];
+    for (bytes, fault, taken) in rows {
+        let want = Found {
+            count: 0,
+            fault,
+            taken,
+        };
+        assert!(rt; read_bytes(rt.alloc(), bytes, &[]) == want);
+    }
+}
+
+#[test]
+fn places_are_those_in_the_whole_stream(rt: HostRuntime) {
+    let wanted = [Wanted::Abort { slot: 9 }];
+    let rows: [(&[u8], MessageFault, u64); 4] = [
+        (b"\x04\x09\xff", MessageFault::BadMessage { at: 2 }, 3),
+        (
+            b"\x04\x09\x02\0\0\x02\0\0",
+            MessageFault::BadMessage { at: 4 },
+            8,
+        ),
+        (b"\x04\x09\x03", MessageFault::BadStream { at: 3 }, 3),
+        (b"\x04\x09\x02\0\0", MessageFault::BadStream { at: 5 }, 5),
+    ];
+    for (bytes, fault, taken) in rows {
+        let want = Found {
+            count: 1,
+            fault: Some(fault),
+            taken,
+        };
+        assert!(rt; read_bytes(rt.alloc(), bytes, &wanted) == want);
+    }
+}
+
+#[test]
+fn slots_and_names_are_not_judged(rt: HostRuntime) {
+    let bytes = b"\x01\xff\0\0\x05\0\x02\0\xff\x06\0\0\0\0\0\0\0\0\x02\x10\0\0\0\0";
+    let wanted = [
+        Wanted::Open {
+            slot: 255,
+            name: b"",
+        },
+        Wanted::Read { name: b"\0\xff" },
+        Wanted::Patrol { first: 0, count: 0 },
+        Wanted::Chunk {
+            slot: 16,
+            bytes: b"",
+        },
+    ];
+    let want = Found {
+        count: 4,
+        fault: None,
+        taken: 24,
+    };
+    assert!(rt; read_bytes(rt.alloc(), bytes, &wanted) == want);
+}
+
+#[test]
+fn examples_that_are_bad_or_cut_have_their_places(rt: HostRuntime) {
+    let wanted = [
+        Wanted::Open {
+            slot: 0,
+            name: b"a",
+        },
+        Wanted::Open {
+            slot: 0,
+            name: b"b",
+        },
+        Wanted::Chunk {
+            slot: 3,
+            bytes: b"",
+        },
+        Wanted::Open {
+            slot: 16,
+            name: b"c",
+        },
+    ];
+    let rows: [(&[u8], MessageFault); 2] = [
+        (
+            b"\x01\0\0\x01a\x01\0\0\x01b\x02\x03\0\0\0\0\x01\x10\0\x01c\x07",
+            MessageFault::BadMessage { at: 21 },
+        ),
+        (
+            b"\x01\0\0\x01a\x01\0\0\x01b\x02\x03\0\0\0\0\x01\x10\0\x01c\x03",
+            MessageFault::BadStream { at: 22 },
+        ),
+    ];
+    for (bytes, fault) in rows {
+        let want = Found {
+            count: 4,
+            fault: Some(fault),
+            taken: 22,
+        };
+        assert!(rt; read_bytes(rt.alloc(), bytes, &wanted) == want);
+    }
+}

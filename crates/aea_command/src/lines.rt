@@ -131,6 +131,14 @@ fn print_copies_bad<E: Sink>(
     print_counted(err, page, b" and ", second)
 }
 
+// Prints the line where so many nodes are all that an archive may have.
+fn print_full<E: Sink>(err: &mut E, page: &mut Page, nodes: u32) -> Result<(), WriteFault>
+    ensures { Prints (E.state err.old) page.old (E.state err.new) page.new result (refusal_line (Refusal.Full nodes)) }
+{
+    print_number(err, page, b"refused: full at ", u64::from(nodes))?;
+    print(err, page, b" nodes\n")
+}
+
 // Prints the line of a refusal.
 //
 // One arm for each refusal, in the order of `Refusal`: words alone; words and a number after them (`print_counted`); words
@@ -152,10 +160,7 @@ fn print_refusal<E: Sink>(err: &mut E, page: &mut Page, why: &Refusal) -> Result
         Refusal::HeadDamaged { block } => {
             print_with_block(err, page, b"refused: head damaged ", *block)
         }
-        Refusal::Full { nodes } => {
-            print_number(err, page, b"refused: full at ", u64::from(*nodes))?;
-            print(err, page, b" nodes\n")
-        }
+        Refusal::Full { nodes } => print_full(err, page, *nodes),
         Refusal::BadStream { at } => print_counted(err, page, b"refused: bad stream at ", *at),
         Refusal::AlreadyFenced { nodes } => {
             print_counted(err, page, b"refused: already fenced at ", u64::from(*nodes))

@@ -1,5 +1,3 @@
-use Rattle.std.proofs.Common.{codes}
-use Rattle.aea_io.proofs.Printing.{prints_then, prints_stopped}
 use Rattle.aea_command.proofs.lines.print_refusal.Goals as goal
 
 pub returns-in-InputTooLong : goal.returns-in-InputTooLong
@@ -41,13 +39,8 @@ returns-in-TooManyMessages g c = rw c.in-TooManyMessages.is c.print-in-TooManyMe
 pub returns-in-CopiesAreOn : goal.returns-in-CopiesAreOn
 returns-in-CopiesAreOn g c = rw c.in-CopiesAreOn.is c.print-in-CopiesAreOn.ensures
 
-pub returns-in_err-print_number-in-Full : goal.returns-in_err-print_number-in-Full
-returns-in_err-print_number-in-Full g c =
-    rw c.in-Full.is (prints_stopped (codes " nodes\n") c.from_residual.ensures.0 (rw c.from-in-Full.ensures at c.in_err-print_number-in-Full.ensures))
-
-pub returns-in_ok-print_number-in-Full : goal.returns-in_ok-print_number-in-Full
-returns-in_ok-print_number-in-Full g c =
-    rw c.in-Full.is (prints_then (rw c.from-in-Full.ensures at c.in_ok-print_number-in-Full.ensures) c.print-in-Full.ensures)
+pub returns-in-Full : goal.returns-in-Full
+returns-in-Full g c = rw c.in-Full.is c.print_full.ensures
 
 pub returns-in-BadBlock : goal.returns-in-BadBlock
 returns-in-BadBlock g c = rw c.in-BadBlock.is (rw c.from.ensures at c.print_counted.ensures)

@@ -2,6 +2,8 @@
 #![tactic(auto)]
 
 #[cfg(test)]
+mod parting;
+#[cfg(test)]
 mod putting;
 #[cfg(test)]
 mod scrubbing;

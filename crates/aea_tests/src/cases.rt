@@ -213,7 +213,7 @@ pub const INGEST: Case = Case {
     out: "stored 2 17 8378b19d693ee89e2ca594b6ec0abfaadc4fe1831eaca2f748f0b71ede38892e b\n\
         stored 1 3 ba7816bf8f01cfea414140de5dae2223b00361a396177a9cb410ff61f20015ad c\nend 2\n",
     pieces: 3,
-    calls: 41,
+    calls: 34,
     commits: &[
         Commit {
             reads: 28,
@@ -222,7 +222,7 @@ pub const INGEST: Case = Case {
         },
         Commit {
             reads: 42,
-            calls: 41,
+            calls: 34,
             line: STORED_C,
         },
     ],

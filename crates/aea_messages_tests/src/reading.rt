@@ -164,9 +164,9 @@ fn a_stream_is_read_whole_and_cut_at_each_byte(rt: HostRuntime) {
     }
 }
 
-#[test]
-fn bad_and_cut_messages_have_their_places(rt: HostRuntime) {
-    let rows: [(&[u8], Option<MessageFault>, u64); 12] = [
+// Streams that begin no message, what is told of each, and how many bytes of it are taken.
+fn no_messages() -> [(&'static [u8], Option<MessageFault>, u64); 12] {
+    [
         (b"", None, 0),
         (b"\x07\x04\0", Some(MessageFault::BadMessage { at: 0 }), 1),
         (b"\0", Some(MessageFault::BadMessage { at: 0 }), 1),
@@ -207,8 +207,12 @@ fn bad_and_cut_messages_have_their_places(rt: HostRuntime) {
             Some(MessageFault::BadStream { at: 8 }),
             8,
         ),
-    ];
-    for (bytes, fault, taken) in rows {
+    ]
+}
+
+#[test]
+fn bad_and_cut_messages_have_their_places(rt: HostRuntime) {
+    for (bytes, fault, taken) in no_messages() {
         let want = Found {
             count: 0,
             fault,

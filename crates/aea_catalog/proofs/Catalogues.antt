@@ -5,12 +5,13 @@ use Rattle.std.specs.Ordering.{is_eq, ordering_reverse}
 use Rattle.std.proofs.lemmas.Bool.{cases_lt}
 use Rattle.std.specs.Cmp.Lexicographic.{nat_list_cmp_total}
 use Rattle.std.specs.List.{insert}
+use Rattle.std.specs.Option.{option_map}
 use Rattle.std.specs.FinMap.{FinMap, from_sorted, entries, entries-from_sorted, entries-insert, get-from_sorted, same_entries_map, slice_cmp-IsAntisymmetric, nat_cmp-IsAntisymmetric}
 use Rattle.std.specs.FinMap as finite
 use Rattle.std.specs.FinMap.Entries.{put, is_sorted, is_sorted-put}
 use Rattle.std.proofs.lemmas.Cmp.{tied_itself}
 use Rattle.std.proofs.lemmas.List.{length-map, get_or-map, get_or_default}
-use Rattle.std.proofs.lemmas.Option.{slice_get-get_or, slice_get_past}
+use Rattle.std.proofs.lemmas.Option.{slice_get-get_or, slice_get_within, slice_get-map, get_or_from_slice_get}
 use Rattle.std.proofs.lemmas.List.Edits.{length-insert}
 use Rattle.std.proofs.lemmas.List.Elements.{All-push, All-weaker}
 use Rattle.aea_catalog.specs.Catalogs.{Placed}
@@ -38,7 +39,7 @@ objects_of-nil = finite.empty_of_len (objects_of [] []) (finite.len-entries (obj
 
 module _ (pairs : List Pair) (order : List ℕ) (kept : IsKept pairs order) where
   -- the names rise, in the form that the lemmas on maps take
-  rising : T (is_sorted name_cmp (listed pairs order))
+  pub rising : T (is_sorted name_cmp (listed pairs order))
   rising = T-from_true _ kept.rising
 
   -- its entries are those, in this order
@@ -132,15 +133,22 @@ module _ (pairs : List Pair) (order : List ℕ) (kept : IsKept pairs order) wher
       ∙ ap (λ (x : Pair). Some x.1) (pair_listed place k pair (omega (arith, at.in_range, length-map order (pair_at pairs))) index read)
 
   -- and the map has the entry at that place
-  pub entry_at : (place k : ℕ) (pair : Pair) → place < length order → k ≡ get_or order place k → pair ≡ get_or pairs k pair → slice_get (entries (objects_of pairs order)) place ≡ Some pair
+  entry_at : (place k : ℕ) (pair : Pair) → place < length order → k ≡ get_or order place k → pair ≡ get_or pairs k pair → slice_get (entries (objects_of pairs order)) place ≡ Some pair
   entry_at place k pair within index read =
       ap (λ es. slice_get es place) (entries_of pairs order kept)
       ∙ slice_get-get_or (listed pairs order) place no_pair (omega (arith, length-map order (pair_at pairs)))
       ∙ ap Some (pair_listed place k pair within index read)
 
-  -- and past the last index there is none
-  pub entry_past : (place : ℕ) → length order ≤ place → slice_get (entries (objects_of pairs order)) place ≡ None
-  entry_past place past = ap (λ es. slice_get es place) (entries_of pairs order kept) ∙ slice_get_past (listed pairs order) place (omega (arith, length-map order (pair_at pairs)))
+  -- by what is read of the indices, there or not
+  pub entry_read : (place k : ℕ) (pair : Pair) → Some k ≡ slice_get order place → pair ≡ get_or pairs k pair → slice_get (entries (objects_of pairs order)) place ≡ Some pair
+  entry_read place k pair index read = entry_at place k pair (slice_get_within order place k (sym index)) (sym (get_or_from_slice_get order place k k (sym index))) read
+
+  pub entry_none : (place : ℕ) → None ≡ slice_get order place → slice_get (entries (objects_of pairs order)) place ≡ None
+  entry_none place none = ap (λ es. slice_get es place) (entries_of pairs order kept) ∙ slice_get-map (pair_at pairs) order place ∙ ap (option_map (pair_at pairs)) (sym none)
+
+  -- an index that is read is that of an entry
+  pub index_within : (place k : ℕ) → Some k ≡ slice_get order place → k < length pairs
+  index_within place k index = subst (λ (x : ℕ). x < length pairs) (get_or_from_slice_get order place k 0 (sym index)) (kept.in_range place 0 (slice_get_within order place k (sym index)))
 
   -- one entry more in the vectors
   module _ (pair : Pair) (i n : ℕ) (name : IsName pair.0) (gap : IsGapFor (listed pairs order) pair.0 i) (last : n ≡ length pairs)

@@ -1,4 +1,6 @@
 pub mod Places
 pub mod Orders
+pub mod Pieces
 pub mod Catalogues
+pub mod Searches
 pub mod Texts

@@ -1,3 +1,4 @@
 pub mod Names
 pub mod Catalogs
+pub mod Pieces
 pub mod Kept

@@ -1,13 +1,15 @@
 //! The catalogue of an archive.
 
-ghost use Rattle.std.specs.Prelude.{◌≡◌, ◌==◌, ◌+◌, ◌<◌, ◌≤◌, ◌^◌, List, ℕ, None, length, insert, vec_len, vec_capacity, slice_get, slice_index_or, option_map, IsTrue, IfOk, IfErr, IfSome, OnOk, OnErr};
+ghost use Rattle.std.specs.Prelude.{◌≡◌, ◌==◌, ◌+◌, ◌-◌, ◌<◌, ◌≤◌, List, ℕ, [], None, All, length, slice_get, slice_index_or, option_map, IfOk, IfErr, IfSome, OnOk, OnErr};
 ghost use Rattle.std.specs.FinMap as map;
 ghost use Rattle.std.specs.List.{sum_by};
 ghost use Rattle.aea_catalog.specs.Names.{IsName};
 ghost use Rattle.aea_catalog.specs.Catalogs.{placed_alone, named_object, part_at};
-ghost use Rattle.aea_catalog.specs.Kept.{IsKept, IsAt, IsGapFor, listed, name_at, name_cmp};
+ghost use Rattle.aea_catalog.specs.Pieces.{joined, IsFilled};
+ghost use Rattle.aea_catalog.specs.Kept.{IsKept, IsAt, IsPieceFor, IsFoundIn, IsGapIn, HasName, HasGap, listed, name_at, name_cmp};
 
 use crate::objects::{Extent, ObjectRef};
+use crate::order::{Order, Piece, Place};
 use std::alloc::{AllocError, Global};
 use std::cmp::Ordering;
 use std::marker::Model;
@@ -63,28 +65,31 @@ impl Entry {
 
 /// The objects of an archive under their names, in the order of the names' bytes.
 ///
-/// A name is found in logarithmic time, and the object at a place in constant time. There are at most 2^32 objects.
+/// A name is found in logarithmic time. The order is kept in pieces of at most 1,024 objects, and all but the last have at
+/// least 512: an insert moves 4 bytes for each object of one piece, and where that is full, 24 bytes for each piece; the
+/// object at a place is found by going over the pieces. There are at most 2^32 objects.
 #[derive(Debug, Drop)]
 pub struct Catalog {
     // in the order in which they came
     entries: Vec<Entry>,
     // the indices of the entries, in the order of the names' bytes
-    order: Vec<u32>,
+    order: Order,
 }
 
 impl Model for Catalog {
     ghost use Rattle.std.specs.Prelude.{vec_len, vec_capacity};
     ghost use Rattle.std.specs.FinMap.{from_sorted};
     ghost use Rattle.aea_catalog.specs.Catalogs.{CatalogValue, catalog_code};
+    ghost use Rattle.aea_catalog.specs.Pieces.{joined};
     ghost use Rattle.aea_catalog.specs.Kept.{IsKept, listed, room_of};
 
     ghost Value = { CatalogValue };
 
     ghost coded = { catalog_code };
 
-    ghost view = { λ c. record { objects = from_sorted (listed c.entries.items c.order.items); room = room_of (vec_len c.order) (vec_capacity c.entries) (vec_capacity c.order) } };
+    ghost view = { λ c. record { objects = from_sorted (listed c.entries.items (joined c.order.pieces)); room = room_of (vec_len c.entries) (vec_capacity c.entries) c.order.room } };
 
-    ghost invariant = { λ c. IsKept c.entries.items c.order.items };
+    ghost invariant = { λ c. IsKept c.entries.items (joined c.order.pieces) };
 }
 
 // How the name of the entry with this index compares with the name.
@@ -96,17 +101,44 @@ fn compare_at(entries: &[Entry], index: u32, name: &[u8]) -> Ordering
     entry.name.as_slice().cmp(&name)
 }
 
-// Where the name is among the names in order, or else where it would go.
-fn place_of(entries: &[Entry], order: &[u32], name: &[u8]) -> Result<usize, usize>
-    requires { IsKept entries.now order.now }
-    ensures found { IfOk result (IsAt (listed entries.now order.now) name.now) }
-    ensures absent { IfErr result (IsGapFor (listed entries.now order.now) name.now) }
+// The last piece whose first name is not greater than the name, or else the first piece.
+fn piece_of(entries: &[Entry], pieces: &[Piece], name: &[u8]) -> usize
+    requires kept { IsKept entries.now (joined pieces.now) }
+    requires filled { All IsFilled pieces.now }
+    ensures { IsPieceFor entries.now pieces.now name.now result }
 {
     let mut low = 0;
-    let mut high = order.len();
+    let mut high = pieces.len();
+    while low + 1 < high {
+        let middle = low + (high - low) / 2;
+        match compare_at(entries, pieces[middle].indices()[0], name) {
+            Ordering::Less => low = middle,
+            Ordering::Equal => low = middle,
+            Ordering::Greater => high = middle,
+        }
+    }
+    low
+}
+
+// Where the name is in its piece, or else where it would go.
+fn place_within(
+    entries: &[Entry],
+    pieces: &[Piece],
+    piece: usize,
+    name: &[u8],
+) -> Result<usize, usize>
+    requires kept { IsKept entries.now (joined pieces.now) }
+    requires piece { IsPieceFor entries.now pieces.now name.now piece }
+    requires within { piece < length pieces.now }
+    ensures found { IfOk result (IsFoundIn entries.now pieces.now name.now piece) }
+    ensures absent { IfErr result (IsGapIn entries.now pieces.now name.now piece) }
+{
+    let indices = pieces[piece].indices();
+    let mut low = 0;
+    let mut high = indices.len();
     while low < high {
         let middle = low + (high - low) / 2;
-        match compare_at(entries, order[middle], name) {
+        match compare_at(entries, indices[middle], name) {
             Ordering::Less => low = middle + 1,
             Ordering::Equal => return Ok(middle),
             Ordering::Greater => high = middle,
@@ -115,14 +147,21 @@ fn place_of(entries: &[Entry], order: &[u32], name: &[u8]) -> Result<usize, usiz
     Err(low)
 }
 
-// Puts an index at a place of the order, which has space for it.
-fn insert_index(order: &mut Vec<u32>, place: usize, index: u32)
-    requires place { place ≤ vec_len order.old }
-    requires room { vec_len order.old < vec_capacity order.old }
-    ensures items { order.new.items ≡ insert order.old.items place index }
+// Where the name is among the names in order, or else where it would go.
+fn place_of(entries: &[Entry], pieces: &[Piece], name: &[u8]) -> Result<Place, Place>
+    requires kept { IsKept entries.now (joined pieces.now) }
+    requires filled { All IsFilled pieces.now }
+    ensures found { IfOk result (HasName entries.now pieces.now name.now) }
+    ensures absent { IfErr result (HasGap entries.now pieces.now name.now) }
 {
-    let inserted = order.insert(place, index);
-    prove!(inserted.is_ok());
+    let piece = piece_of(entries, pieces, name);
+    if pieces.is_empty() {
+        return Err(Place { piece, at: 0 });
+    }
+    match place_within(entries, pieces, piece, name) {
+        Ok(at) => Ok(Place { piece, at }),
+        Err(at) => Err(Place { piece, at }),
+    }
 }
 
 impl Catalog {
@@ -133,7 +172,7 @@ impl Catalog {
     {
         Catalog {
             entries: Vec::new(alloc),
-            order: Vec::new(alloc),
+            order: Order::new(alloc),
         }
     }
 
@@ -141,9 +180,9 @@ impl Catalog {
     fn entry_of(&self, name: &[u8]) -> Option<&Entry>
         ensures { option_map (λ e. e.now.1) result ≡ map.get self.now.objects name.now }
     {
-        match place_of(&self.entries, &self.order, name) {
+        match place_of(&self.entries, self.order.pieces(), name) {
             Ok(place) => {
-                let entry = &self.entries[self.order[place] as usize];
+                let entry = &self.entries[self.order.at(place) as usize];
                 Some(entry)
             }
             Err(_) => None,
@@ -175,14 +214,14 @@ impl Catalog {
     pub fn len(&self) -> usize
         ensures { result ≡ map.len self.now.objects }
     {
-        self.order.len()
+        self.entries.len()
     }
 
     /// Whether there is no object.
     pub fn is_empty(&self) -> bool
         ensures { result ≡ (map.len self.now.objects == 0) }
     {
-        self.order.is_empty()
+        self.entries.is_empty()
     }
 
     /// The name and the object at this place in the order of the names' bytes.
@@ -190,7 +229,7 @@ impl Catalog {
         ensures entry { option_map (λ e. (e.0.now, e.1)) result ≡ option_map named_object (slice_get (map.entries self.now.objects) k) }
         ensures name { IfSome result (λ e. IsName e.0.now) }
     {
-        let index = *self.order.get(k)?;
+        let index = self.order.get(k)?;
         let entry = &self.entries[index as usize];
         Some((entry.name.as_slice(), entry.object))
     }
@@ -200,11 +239,11 @@ impl Catalog {
         ensures objects { self.new.objects ≡ self.old.objects }
         ensures ok { OnOk result (1 ≤ self.new.room) }
     {
-        if self.order.len() > u32::MAX as usize {
+        if self.entries.len() > u32::MAX as usize {
             return Err(AllocError);
         }
         self.entries.reserve(1)?;
-        self.order.reserve(1)
+        self.order.reserve()
     }
 
     /// Puts an object under a name of its own; its nodes are its one part. It fails also where there are 2^32 objects.
@@ -277,11 +316,11 @@ impl Catalog {
         requires room { 1 ≤ self.old.room }
         ensures objects { self.new.objects ≡ map.insert self.old.objects entry.0 entry.1 }
     {
-        let Err(place) = place_of(&self.entries, &self.order, &entry.name) else {
+        let Err(place) = place_of(&self.entries, self.order.pieces(), &entry.name) else {
             unreachable!();
         };
         let index = self.entries.len() as u32;
         self.entries.push_reserved(entry);
-        insert_index(&mut self.order, place, index);
+        self.order.insert(place, index);
     }
 }

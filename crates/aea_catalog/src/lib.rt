@@ -15,6 +15,7 @@ mod catalog;
 mod name_text;
 mod names;
 mod objects;
+mod order;
 
 pub use catalog::Catalog;
 pub use name_text::NameText;

@@ -1,6 +1,6 @@
 //! A text that is written byte by byte.
 
-ghost use Rattle.std.specs.Prelude.{◌≡◌, ◌==◌, [], ◌∷◌, ◌++◌, length, slice_get, OnOk, OnErr};
+ghost use Rattle.std.specs.Prelude.{◌≡◌, ◌==◌, [], ◌∷◌, ◌++◌, length, slice_get, IfOk, OnOk, OnErr};
 
 use std::alloc::{AllocError, Global};
 use std::marker::Model;
@@ -27,6 +27,14 @@ impl NameText {
         NameText {
             bytes: Vec::new(alloc),
         }
+    }
+
+    /// A text of these bytes. It takes the memory for them, once.
+    pub fn copied(alloc: Global, name: &[u8]) -> Result<NameText, AllocError>
+        ensures { IfOk result (λ text. text ≡ name.now) }
+    {
+        let bytes = Vec::from_slice(alloc, name)?;
+        Ok(NameText { bytes })
     }
 
     /// How many bytes there are.

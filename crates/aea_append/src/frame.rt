@@ -1,4 +1,4 @@
-//! The head of a frame, and its name.
+//! The head of a frame.
 
 ghost use Rattle.std.specs.Prelude.{◌≡◌, ◌⊎◌, ◌+◌, ◌<◌, ◌≤◌, ◌^◌, true, false, ℕ, List, length, take, Some, IfOk, IfErr};
 ghost use Rattle.std.specs.Io.KnownBytes.{Consumes, IsAtEnd};
@@ -7,9 +7,7 @@ ghost use Rattle.aea_io.specs.Taken.{Counts};
 ghost use Rattle.aea_records.specs.TableLaws.{AreBytes};
 ghost use Rattle.aea_append.specs.Frames.{IsHeadOf, HasNameLength, name_length, frame_head};
 
-use aea_catalog::NameText;
 use aea_io::{ReadFault, Source, read_full};
-use std::alloc::{AllocError, Global};
 
 /// What a stream begins with.
 #[derive(Clone, Copy)]
@@ -93,15 +91,4 @@ pub(crate) fn read_head<S: Source>(
     are_bytes(&eight);
     let size = u64::from_be_bytes(eight);
     Ok(Head::Whole { long, size })
-}
-
-/// The name as a text of its own.
-pub(crate) fn text_of(alloc: Global, name: &[u8]) -> Result<NameText, AllocError>
-    ensures { IfOk result (λ text. text ≡ name.now) }
-{
-    let mut text = NameText::new(alloc);
-    for byte in name {
-        text.push(*byte)?;
-    }
-    Ok(text)
 }

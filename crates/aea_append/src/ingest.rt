@@ -25,7 +25,7 @@ ghost use Rattle.aea_append.specs.Frames.{IsFramed, HasHead, HasNoName, HasBadNa
 ghost use Rattle.aea_append.specs.declared.store.Stored.{Stored};
 
 use crate::fault::PutFault;
-use crate::frame::{Head, read_head, text_of};
+use crate::frame::{Head, read_head};
 use crate::store::{Stored, may_enter, put_wanted};
 use aea_catalog::NameText;
 use aea_disk::Disk;
@@ -192,7 +192,7 @@ fn store_frame<D: Disk, S: Source>(
         Err(PutFault::CatalogFull) => return Err(IngestFault::CatalogFull),
         Err(_) => unreachable!(),
     }
-    let text = match text_of(alloc, name) {
+    let text = match NameText::copied(alloc, name) {
         Ok(text) => text,
         Err(_) => return Err(IngestFault::NoMemory),
     };

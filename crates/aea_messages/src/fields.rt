@@ -10,7 +10,7 @@ use crate::fault::MessageFault;
 use crate::message::ChunkBytes;
 use aea_catalog::NameText;
 use aea_io::{FillFault, Source, fill};
-use std::alloc::{AllocError, Global};
+use std::alloc::Global;
 
 // These are bytes.
 fn are_bytes(bytes: &[u8])
@@ -111,17 +111,6 @@ fn take_bytes<S: Source>(
     }
 }
 
-// The bytes of a name as a text.
-fn text_of(alloc: Global, name: &[u8]) -> Result<NameText, AllocError>
-    ensures { IfOk result (λ text. text ≡ name.now) }
-{
-    let mut text = NameText::new(alloc);
-    for byte in name {
-        text.push(*byte)?;
-    }
-    Ok(text)
-}
-
 // A name of so many bytes.
 pub(crate) fn take_name<S: Source>(
     alloc: Global,
@@ -142,7 +131,7 @@ pub(crate) fn take_name<S: Source>(
         Ok(bytes) => bytes,
         Err(fault) => return Err(fault),
     };
-    match text_of(alloc, &bytes) {
+    match NameText::copied(alloc, &bytes) {
         Ok(name) => Ok(name),
         Err(_) => Err(MessageFault::NoMemory),
     }

@@ -25,24 +25,13 @@ pub struct Slot {
     pub have: usize,
 }
 
-// The bytes of a name as a text.
-fn text_of(alloc: Global, name: &[u8]) -> Result<NameText, AllocError>
-    ensures { IfOk result (λ text. text ≡ name.now) }
-{
-    let mut text = NameText::new(alloc);
-    for byte in name {
-        text.push(*byte)?;
-    }
-    Ok(text)
-}
-
 impl Slot {
     /// An upload under this name that has no byte yet. It takes the memory of the name and of one block, B bytes; want of it is
     /// the only error.
     pub fn new(alloc: Global, shape: &Shape, name: &[u8]) -> Result<Slot, AllocError>
         ensures keeps { IfOk result (λ slot. (datas : List (List ℕ)) → Keeps shape.now datas slot (opened name.now)) }
     {
-        let text = text_of(alloc, name)?;
+        let text = NameText::copied(alloc, name)?;
         let block = vec![in alloc; 0u8; shape.block() as usize]?;
         Ok(Slot {
             name: text,

@@ -62,20 +62,20 @@ pub returns-in-Err-CatalogFull-clause-counted : goal.returns-in-Err-CatalogFull-
 returns-in-Err-CatalogFull-clause-counted g c =
     counts_none (g.S.Source.state c.args.source.now).left c.args.at.now (min c.args.size (room_left c.args.ledger.now))
 
-pub returns-in-Err-text_of-clause-writes : goal.returns-in-Err-text_of-clause-writes
-returns-in-Err-text_of-clause-writes g c =
+pub returns-in-Err-copied-clause-writes : goal.returns-in-Err-copied-clause-writes
+returns-in-Err-copied-clause-writes g c =
     nothing_written g.D.Disk.tells _ _ _ c.args.ledger.now (g.D.Disk.state c.args.disk.now) (λ is. absurd (let e = is in cc))
 
-pub returns-in-Err-text_of-clause-refused_leaves : goal.returns-in-Err-text_of-clause-refused_leaves
-returns-in-Err-text_of-clause-refused_leaves g c fine other told =
+pub returns-in-Err-copied-clause-refused_leaves : goal.returns-in-Err-copied-clause-refused_leaves
+returns-in-Err-copied-clause-refused_leaves g c fine other told =
     leaves_same g.D.Disk.tells told c.args.ledger.now (g.D.Disk.state c.args.disk.now) (c.requires.fixed told)
 
-pub returns-in-Err-text_of-clause-padded : goal.returns-in-Err-text_of-clause-padded
-returns-in-Err-text_of-clause-padded g c fine told =
+pub returns-in-Err-copied-clause-padded : goal.returns-in-Err-copied-clause-padded
+returns-in-Err-copied-clause-padded g c fine told =
     padded_none c.args.ledger.now.shape (IsBlockIn c.args.ledger.now.shape c.args.ledger.now.lattice.n) (g.D.Disk.state c.args.disk.now).files
 
-pub returns-in-Err-text_of-clause-counted : goal.returns-in-Err-text_of-clause-counted
-returns-in-Err-text_of-clause-counted g c =
+pub returns-in-Err-copied-clause-counted : goal.returns-in-Err-copied-clause-counted
+returns-in-Err-copied-clause-counted g c =
     counts_none (g.S.Source.state c.args.source.now).left c.args.at.now (min c.args.size (room_left c.args.ledger.now))
 
 -- ---- where it was stored
@@ -102,7 +102,7 @@ returns-in-Ok-Some-clause-complete g c told bytes is may there intact fits disk 
 
 pub returns-in-Ok-Some-clause-stored : goal.returns-in-Ok-Some-clause-stored
 returns-in-Ok-Some-clause-stored g c text stored is =
-    (sym (same_text _ text _ stored is) ∙ c.in-Ok-text_of.ensures, subst (HasKept g.D.Disk.tells c.args.ledger.now c.put_wanted.new.ledger c.args.name.now (Some c.args.size) (g.S.Source.state c.args.source.now).left (g.S.Source.state c.put_wanted.new.source).left (g.D.Disk.state c.args.disk.now) (g.D.Disk.state c.put_wanted.new.disk)) (sym c.in-Ok-Some.stored-is ∙ same_stored _ text _ stored is) (ended_as (c.in-Ok-Some.is ∙ ap Ok c.in-Ok-Some.field-0-is) c.put_wanted.ensures.stores).kept)
+    (sym (same_text _ text _ stored is) ∙ c.in-Ok-copied.ensures, subst (HasKept g.D.Disk.tells c.args.ledger.now c.put_wanted.new.ledger c.args.name.now (Some c.args.size) (g.S.Source.state c.args.source.now).left (g.S.Source.state c.put_wanted.new.source).left (g.D.Disk.state c.args.disk.now) (g.D.Disk.state c.put_wanted.new.disk)) (sym c.in-Ok-Some.stored-is ∙ same_stored _ text _ stored is) (ended_as (c.in-Ok-Some.is ∙ ap Ok c.in-Ok-Some.field-0-is) c.put_wanted.ensures.stores).kept)
 
 pub returns-in-Ok-Some-clause-exact : goal.returns-in-Ok-Some-clause-exact
 returns-in-Ok-Some-clause-exact g c text stored is =

@@ -9,7 +9,7 @@ use Rattle.aea_lattice.specs.Growth.{IsGrown}
 use Rattle.aea_catalog.specs.Catalogs.{Objects}
 use Rattle.aea_records.specs.Format.{Record, Stored, Joined}
 use Rattle.aea_records.specs.Catalogued.{with_record}
-use Rattle.aea_archive.specs.Next.{HoldsData, IsWovenAfter, AreDigestsOn}
+use Rattle.aea_archive.specs.Next.{AreDigestsOn}
 use Rattle.aea_messages.specs.declared.message.Message.{Message}
 use Rattle.aea_messages.specs.declared.message.Message.TheVariants.{Close}
 use Rattle.aea_machine.specs.Machine.{Upload, Machine, Answer, Closed, step, after, in_slot, last_block, closed_nodes, runs_of, placed_by}
@@ -37,8 +37,10 @@ abbrev pub closings_of : Shape → Machine → List Message → List Closing
 closings_of shape m [] = []
 closings_of shape m (message ∷ messages) = closing_in shape m message ++ closings_of shape (step shape m message).state messages
 
--- The next record of a close, where the lattice l of the archive grows to m and the blocks have these payloads. The new blocks
--- are those that the close adds, which are not those of its object alone.
+-- The next record of a close, where the lattice l of the archive grows to m and these are the payloads of the new blocks, as they
+-- are at their homes. The new blocks are those that the close adds, which are not those of its object alone. A session knows its
+-- blocks by their digests, so the record says of the payloads that they have the digests, and no more; that a data list that was
+-- recorded goes on with the blocks of the close is said beside it.
 pub record IsNextClosed (shape : Shape) (l m : Lattice) (payload : BlockId → List ℕ) (c : Closing) (o : Stored) : Type 0 where
   pub name_is : o.name ≡ c.name
   pub size : o.size ≡ length c.bytes
@@ -46,8 +48,6 @@ pub record IsNextClosed (shape : Shape) (l m : Lattice) (payload : BlockId → L
   pub first : o.first ≡ l.n + 1
   pub count : o.count ≡ length c.blocks
   pub grown : IsGrown l (l.n + o.count) m
-  pub blocks : HoldsData l.n c.blocks payload
-  pub woven : IsWovenAfter m l.n payload
   pub digests : AreDigestsOn shape l.n m.n payload o.digests
 
 -- The records are those of these closes, one after the other, each in its parts, and the lattice grows from l to m.

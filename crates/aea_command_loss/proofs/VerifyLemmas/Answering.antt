@@ -57,6 +57,14 @@ never_output fault.ReadFault e = let h : failure.Input ≡ failure.Output = e in
 never_output fault.DiskFault e = let h : failure.Disk ≡ failure.Output = e in cc
 never_output fault.NoMemory e = let h : failure.Memory ≡ failure.Output = e in cc
 
+-- where the failure is not of the input, the check's fault is not that of a read
+pub not_by_input : {T : Type 0} (answer : Result T Failure) (f : VerifyFault) → answer ≡ Err (verify_failure f) → answer ≢ Err failure.Input
+    → (let r : Result Verdict VerifyFault = Err f in r ≢ Err fault.ReadFault)
+not_by_input answer f is other e =
+    let h : (let r : Result Verdict VerifyFault = Err f in r ≡ Err fault.ReadFault) = e in
+    let same : f ≡ fault.ReadFault = cc in
+    other (is ∙ ap (λ (g : VerifyFault). Err (verify_failure g)) same)
+
 pub from_disk : (r : Result Verdict VerifyFault) (before after : SinkState) (answer : Answer) → IsAnswerTo r before after answer → answer ≡ Err failure.Disk → r ≡ Err fault.DiskFault
 from_disk (Ok verdict) before after answer to e =
     absurd (printed_never verdict before after answer failure.Disk to.prints (λ d. let h : failure.Disk ≡ failure.Output = d in cc) e)

@@ -91,11 +91,12 @@ fn put_frames<D: Disk, S: Source, O: Sink>(
     survivors_stay_honest();
     let mut at: u64 = 0;
     let mut kept = None;
+    let mut page = Page::new();
     let mut count: u32 = 0;
     while let Ingest::Stored { name, stored } = ingest_next(
         alloc, ledger, disk, input, &mut at, &mut kept,
     )? {
-        write_line(out, &stored, name.bytes())?;
+        write_line(out, &mut page, &stored, name.bytes())?;
         count += 1;
     }
     write_end(out, count)?;

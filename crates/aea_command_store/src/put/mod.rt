@@ -13,7 +13,7 @@ use aea_append::{Stored, put};
 use aea_archive::survivors_stay_honest;
 use aea_command::{Failure, Status, open};
 use aea_disk::Disk;
-use aea_io::{Sink, Source};
+use aea_io::{Page, Sink, Source};
 use aea_lattice::numbers_tell_blocks;
 use aea_records::{
     digests_are_counted, ledgers_have_one_reading, new_names_are_free, objects_are_counted,
@@ -75,6 +75,7 @@ pub fn put_input<D: Disk, S: Source, O: Sink>(
     ensures out_still { result ≢ Err Failure.Output → (O.state out.new).faults ≡ (O.state out.old).faults }
 {
     let stored = add_object(alloc, name, disk, input)?;
-    write_line(out, &stored, name)?;
+    let mut page = Page::new();
+    write_line(out, &mut page, &stored, name)?;
     Ok(Status::Done)
 }

@@ -5,7 +5,7 @@ use Rattle.aea_command.specs.Failures.{verify_failure}
 use Rattle.aea_command.proofs.OpeningCases.{err_with}
 use Rattle.aea_command.proofs.Texts.{text_printed, text_broken}
 use Rattle.aea_command_loss.proofs.VerifyLemmas.{HasChecked, verifies_checked, verifies_unopened}
-use Rattle.aea_command_loss.proofs.VerifyLemmas.Answering.{IsAnswerTo, unopened_verify, checked_refuses}
+use Rattle.aea_command_loss.proofs.VerifyLemmas.Answering.{IsAnswerTo, unopened_verify, checked_refuses, not_by_input}
 use Rattle.aea_command_loss.proofs.verify.verify_report.Goals as goal
 
 pub returns-in_err-ledger-clause-verifies : goal.returns-in_err-ledger-clause-verifies
@@ -53,6 +53,11 @@ returns-in_err-verdict-clause-refuses g c =
 
 pub returns-in_err-verdict-clause-reads : goal.returns-in_err-verdict-clause-reads
 returns-in_err-verdict-clause-reads g c = (returns-in_err-verdict-clause-verifies g c).reads
+
+pub returns-in_err-verdict-clause-input_still : goal.returns-in_err-verdict-clause-input_still
+returns-in_err-verdict-clause-input_still g c other =
+    let fault = c.in_err-verdict.field-0.0 in
+    c.in_err-verdict.ensures.source_still (not_by_input c.from_residual-in_err-verdict.result fault (err_with c.from_residual-in_err-verdict.result (verify_failure fault) c.from_residual-in_err-verdict.ensures.1) other)
 
 pub returns-in_err-put_verdict-clause-verifies : goal.returns-in_err-put_verdict-clause-verifies
 returns-in_err-put_verdict-clause-verifies g c =

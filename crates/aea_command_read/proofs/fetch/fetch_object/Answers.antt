@@ -1,4 +1,8 @@
-use Rattle.std.proofs.Common.{inl, inr, ap, Ok, Err}
+use Rattle.std.proofs.Common.{◌≡◌, ◌≢◌, ℕ, inl, inr, ap, ◌∙◌, Result, Ok, Err}
+use Rattle.aea_degraded.specs.declared.fault.FetchFault.{FetchFault}
+use Rattle.aea_degraded.specs.declared.fault.FetchFault.TheVariants as fault
+use Rattle.aea_command.specs.declared.refusal.Failure.{Failure}
+use Rattle.aea_command.specs.declared.refusal.Failure.TheVariants as failure
 use Rattle.aea_command.specs.Failures.{fetch_failure}
 use Rattle.aea_command_read.proofs.FetchLemmas.{HasFetching, fetches_fetched, fetches_unopened}
 use Rattle.aea_command_read.proofs.FetchLemmas.Causing.{unopened_fetch, fetched_refuses}
@@ -107,3 +111,16 @@ returns-clause-refuses g c =
 
 pub returns-clause-reads : goal.returns-clause-reads
 returns-clause-reads g c = (returns-clause-fetches g c).reads
+
+-- where the failure is not of the output, the fault is not that of a write
+not_by_output : {T : Type 0} (answer : Result T Failure) (f : FetchFault) → answer ≡ Err (fetch_failure f) → answer ≢ Err failure.Output
+    → (let r : Result ℕ FetchFault = Err f in r ≢ Err fault.WriteFault)
+not_by_output answer f is other e =
+    let h : (let r : Result ℕ FetchFault = Err f in r ≡ Err fault.WriteFault) = e in
+    let same : f ≡ fault.WriteFault = cc in
+    other (is ∙ ap (λ (x : FetchFault). Err (fetch_failure x)) same)
+
+pub returns-in_err-fetch-clause-out_still : goal.returns-in_err-fetch-clause-out_still
+returns-in_err-fetch-clause-out_still g c other =
+    let f = c.in_err-fetch.field-0.0 in
+    c.in_err-fetch.ensures.out_still (not_by_output c.from_residual-in_err-fetch.result f (err_with c.from_residual-in_err-fetch.result (fetch_failure f) c.from_residual-in_err-fetch.ensures.1) other)

@@ -1,4 +1,8 @@
-use Rattle.std.proofs.Common.{inl, inr, ap, Ok, Err}
+use Rattle.std.proofs.Common.{◌≡◌, ◌≢◌, ℕ, inl, inr, ap, ◌∙◌, Result, Ok, Err}
+use Rattle.aea_fetch.specs.declared.fault.GetFault.{GetFault}
+use Rattle.aea_fetch.specs.declared.fault.GetFault.TheVariants as fault
+use Rattle.aea_command.specs.declared.refusal.Failure.{Failure}
+use Rattle.aea_command.specs.declared.refusal.Failure.TheVariants as failure
 use Rattle.aea_command.specs.Failures.{get_failure}
 use Rattle.aea_command_read.proofs.GetLemmas.{HasFetching, gets_fetched, gets_unopened}
 use Rattle.aea_command_read.proofs.GetLemmas.Causing.{unopened_get, fetched_refuses}
@@ -95,3 +99,16 @@ returns-clause-refuses g c =
 
 pub returns-clause-reads : goal.returns-clause-reads
 returns-clause-reads g c = (returns-clause-gets g c).reads
+
+-- where the failure is not of the output, the fault is not that of a write
+not_by_output : {T : Type 0} (answer : Result T Failure) (f : GetFault) → answer ≡ Err (get_failure f) → answer ≢ Err failure.Output
+    → (let r : Result ℕ GetFault = Err f in r ≢ Err fault.WriteFault)
+not_by_output answer f is other e =
+    let h : (let r : Result ℕ GetFault = Err f in r ≡ Err fault.WriteFault) = e in
+    let same : f ≡ fault.WriteFault = cc in
+    other (is ∙ ap (λ (x : GetFault). Err (get_failure x)) same)
+
+pub returns-in_err-get-clause-out_still : goal.returns-in_err-get-clause-out_still
+returns-in_err-get-clause-out_still g c other =
+    let f = c.in_err-get.field-0.0 in
+    c.in_err-get.ensures.out_still (not_by_output c.from_residual-in_err-get.result f (err_with c.from_residual-in_err-get.result (get_failure f) c.from_residual-in_err-get.ensures.1) other)

@@ -55,6 +55,11 @@ returns-in_err-put_damage-clause-scrubs g c =
     (scrubs_marked c.ledgers_have_one_reading.ensures g.D.Disk.tells (g.D.Disk.state c.args.disk.now) mid new (g.O.Sink.state c.args.out.now) (g.O.Sink.state c.put_damage.new.out) c.in_ok-ledger.ledger c.in_ok-damaged.damaged c.lattice.result (Err failure.Output)
     c.lattice.ensures.value marked (inr (inl refl)) (λ e. let h : Err failure.Output ≡ Err failure.Disk = e in cc) (marked_broken c.lattice.result c.in_ok-damaged.damaged c.in_err-put_damage.ensures.prints))
 
+pub returns-in_err-put_damage-clause-refuses : goal.returns-in_err-put_damage-clause-refuses
+returns-in_err-put_damage-clause-refuses g c =
+    rw (err_with c.from_residual-in_err-put_damage.result failure.Output c.from_residual-in_err-put_damage.ensures.1)
+    (refuses_done g.D.Disk.tells (OpeningCauses ((g.D.Disk.state c.args.disk.now).files 0)) c.in_ok-ledger.ledger (Err failure.Output) (λ why e. let h : Err failure.Output ≡ Err (failure.Refused why) = e in cc) c.in_ok-ledger.ensures.refuses)
+
 pub returns-in_err-put_damage-clause-reads : goal.returns-in_err-put_damage-clause-reads
 returns-in_err-put_damage-clause-reads g c = (returns-in_err-put_damage-clause-scrubs g c).reads
 

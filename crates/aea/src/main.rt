@@ -4,6 +4,7 @@
 use aea_cli::{Status, run};
 use aea_disk::DirDisk;
 use aea_io::{StdSink, StdSource};
+use std::io::{BufReader, Read};
 use std::process::ExitCode;
 use std::{env, io};
 
@@ -18,21 +19,24 @@ fn words(rt: &HostRuntime) -> io::Result<Vec<String>> {
     Ok(words)
 }
 
-// Runs the command that the words mean over the current folder and the standard streams.
-fn run_words(rt: &HostRuntime, words: &[String]) -> Status {
+// Runs the command that the words mean over the current folder, this input and the standard streams.
+fn run_words<R: Read + Drop>(rt: &HostRuntime, words: &[String], reader: R) -> Status {
     let mut disk = DirDisk::new(rt);
-    let mut input = StdSource::new(rt.stdin());
+    let mut input = StdSource::new(reader);
     let mut out = StdSink::new(rt.stdout());
     let mut err = StdSink::new(rt.stderr());
     run(rt.alloc(), words, &mut disk, &mut input, &mut out, &mut err)
 }
 
-// The exit code where the system does not hand over the words.
-const NO_WORDS: u8 = 9;
+// The exit code where the system does not hand over the words, or no memory for what is read of the input at once, 8 KiB.
+const NO_START: u8 = 9;
 
 fn main(rt: HostRuntime) -> ExitCode {
-    match words(&rt) {
-        Ok(words) => ExitCode::from(run_words(&rt, words.as_slice()).code()),
-        Err(_) => ExitCode::from(NO_WORDS),
+    let Ok(words) = words(&rt) else {
+        return ExitCode::from(NO_START);
+    };
+    match BufReader::new(rt.alloc(), rt.stdin()) {
+        Ok(reader) => ExitCode::from(run_words(&rt, words.as_slice(), reader).code()),
+        Err(_) => ExitCode::from(NO_START),
     }
 }

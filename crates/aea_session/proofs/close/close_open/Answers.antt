@@ -1,0 +1,565 @@
+use Rattle.std.proofs.Common.{◌≡◌, ◌≢◌, inl, inr, ℕ, ◌+◌, ◌-◌, ◌*◌, ◌≤◌, max, List, [], ◌∷◌, ◌++◌, length, None, Some, Err, refl, sym, ◌∙◌, ap, subst, arith}
+use Rattle.std.specs.Prelude.{slice_index_or, slice_set, IsTrue}
+use Rattle.std.specs.FinMap.{get}
+use Rattle.std.proofs.lemmas.List.{get_or_read}
+use Rattle.sha2.specs.Sha256.{sha256}
+use Rattle.sha2.proofs.Facts256.{length-sha256}
+use Rattle.aea_lattice.specs.declared.grid.Lattice.{Lattice}
+use Rattle.aea_lattice.specs.declared.shape.Shape.{Shape}
+use Rattle.aea_lattice.specs.Profile.{greatest_nodes}
+use Rattle.aea_disk.specs.State.{IsReady}
+use Rattle.aea_disk.proofs.Frames.{writes_as}
+use Rattle.aea_shelf.specs.Writes.{KeepsPadded}
+use Rattle.aea_catalog.specs.declared.objects.Extent.{Extent}
+use Rattle.aea_catalog.specs.Names.{IsName}
+use Rattle.aea_records.specs.Fields.{are_parts}
+use Rattle.aea_records.specs.Format.{Record, Joined, nodes_for, raised_limit, body, entry}
+use Rattle.aea_ledger.specs.Values.{HasRecords, IsThisOne}
+use Rattle.aea_ledger.specs.Next.{next_stored}
+use Rattle.aea_ledger.specs.Stops.{HasLedger, committed}
+use Rattle.aea_archive.specs.Cells.{WritesCells, FitsRows, IsNoSite}
+use Rattle.aea_archive.specs.Stretches.{Adds}
+use Rattle.aea_archive.proofs.Cells.{fixed_kept}
+use Rattle.aea_machine.specs.Closings.{Closing}
+use Rattle.aea_uploads.specs.Gathering.{Finishes}
+use Rattle.aea_uploads.specs.Slots.{KeepsSome}
+use Rattle.aea_session.specs.declared.fault.StepFault.TheVariants.{DiskFault}
+use Rattle.aea_session.specs.Closes.{MayHaveClosed}
+use Rattle.aea_session.proofs.CloseFaults.{ok_no_fault, met_fault, fault_as}
+use Rattle.aea_session.proofs.CloseWoven.{Readied, more_of}
+use Rattle.aea_session.proofs.CloseOpen.{opened_of, some_kept, ready_of, count_is, named, absent, are_in_parts, nodes_are, nodes_few, digests_long, closing_is, room_is}
+use Rattle.aea_session.proofs.CloseRecord.{joined_by}
+use Rattle.aea_session.proofs.CloseKeeps.{steps_after, this_after}
+use Rattle.aea_session.proofs.CloseAdds.{Cells, Leaves, cells_wider, both_write, padded_cells, padded_commit, leaves_ledger, leaves_commit, adds_none, adds_closes, has_closed, closed_as}
+use Rattle.aea_session.proofs.close.close_open.Goals as goal
+
+pub weave_rest-requires-clause-keeps : goal.weave_rest-requires-clause-keeps
+weave_rest-requires-clause-keeps g c =
+    let v = c.args.work.now in
+    let slot = c.args.slot in
+    let s = c.in-Some.kept in
+    let m = c.requires.keeps.0 in
+    let kept = c.requires.keeps.1 in
+    let many = kept.many in
+    let below = c.requires.may.below in
+    let there : slice_index_or v.slots slot None ≡ Some s = sym (get_or_read v.slots _ _ (omega (arith, many, below)) c.index-work-slot.is None) ∙ c.index-work-slot.is ∙ sym c.take.ensures.value ∙ c.in-Some.is in
+    let o = opened_of v m slot s kept there in
+    subst (λ (x : Shape). KeepsSome x v.heads.lattice.n s) (sym c.shape-shape.ensures.value) (some_kept v m slot s kept o)
+
+pub returns-in-Err-clause-stopped : goal.returns-in-Err-clause-stopped
+returns-in-Err-clause-stopped g c is told m kept =
+    let old = g.D.Disk.state c.args.disk.now in
+    let mid = g.D.Disk.state c.weave_rest.new.disk in
+    let tells = g.D.Disk.tells in
+    let v = c.args.work.now in
+    let slot = c.args.slot in
+    let s = c.in-Some.kept in
+    let t = c.weave_rest.new.slot in
+    let k = c.weave_rest.new.heads in
+    let es = c.weave_rest.new.digests.items in
+    let bad = c.weave_rest.result ≡ Err DiskFault in
+    let cells : Cells tells bad v old mid = subst (λ (x : Shape). WritesCells tells x raised_limit (λ a. a.node ≢ v.heads.lattice.n + 1) bad old mid) c.shape-shape.ensures.value c.weave_rest.ensures.writes in
+    inl (adds_none c.ledgers_have_one_reading.ensures tells bad told v m old mid (c.requires.fixed told) cells)
+
+pub returns-in-Err-clause-quiet : goal.returns-in-Err-clause-quiet
+returns-in-Err-clause-quiet g c is told =
+    let old = g.D.Disk.state c.args.disk.now in
+    let mid = g.D.Disk.state c.weave_rest.new.disk in
+    let tells = g.D.Disk.tells in
+    let v = c.args.work.now in
+    let slot = c.args.slot in
+    let s = c.in-Some.kept in
+    let t = c.weave_rest.new.slot in
+    let k = c.weave_rest.new.heads in
+    let es = c.weave_rest.new.digests.items in
+    let bad = c.weave_rest.result ≡ Err DiskFault in
+    let cells : Cells tells bad v old mid = subst (λ (x : Shape). WritesCells tells x raised_limit (λ a. a.node ≢ v.heads.lattice.n + 1) bad old mid) c.shape-shape.ensures.value c.weave_rest.ensures.writes in
+    leaves_ledger tells bad told v old mid (c.requires.fixed told) cells
+
+pub returns-in-Err-clause-writes : goal.returns-in-Err-clause-writes
+returns-in-Err-clause-writes g c =
+    let old = g.D.Disk.state c.args.disk.now in
+    let mid = g.D.Disk.state c.weave_rest.new.disk in
+    let tells = g.D.Disk.tells in
+    let v = c.args.work.now in
+    let slot = c.args.slot in
+    let s = c.in-Some.kept in
+    let t = c.weave_rest.new.slot in
+    let k = c.weave_rest.new.heads in
+    let es = c.weave_rest.new.digests.items in
+    let bad = c.weave_rest.result ≡ Err DiskFault in
+    let cells : Cells tells bad v old mid = subst (λ (x : Shape). WritesCells tells x raised_limit (λ a. a.node ≢ v.heads.lattice.n + 1) bad old mid) c.shape-shape.ensures.value c.weave_rest.ensures.writes in
+    writes_as tells _ _ bad _ (Leaves v) old mid (λ is. c.in-Err.is ∙ fault_as c.in-Err.fault DiskFault is) (λ is. fault_as c.in-Err.fault DiskFault (sym c.in-Err.is ∙ is)) (cells_wider tells bad v slot old mid cells)
+
+pub returns-in-Err-clause-padded : goal.returns-in-Err-clause-padded
+returns-in-Err-clause-padded g c other told =
+    let old = g.D.Disk.state c.args.disk.now in
+    let mid = g.D.Disk.state c.weave_rest.new.disk in
+    let tells = g.D.Disk.tells in
+    let v = c.args.work.now in
+    let slot = c.args.slot in
+    let s = c.in-Some.kept in
+    let t = c.weave_rest.new.slot in
+    let k = c.weave_rest.new.heads in
+    let es = c.weave_rest.new.digests.items in
+    let bad = c.weave_rest.result ≡ Err DiskFault in
+    let padded : KeepsPadded v.ledger.shape (λ a. a.node ≢ v.heads.lattice.n + 1) old.files mid.files = subst (λ (x : Shape). KeepsPadded x (λ a. a.node ≢ v.heads.lattice.n + 1) old.files mid.files) c.shape-shape.ensures.value (c.weave_rest.ensures.padded (λ e. other (fault_as c.in-Err.fault DiskFault (sym c.in-Err.is ∙ e))) told) in
+    padded_cells v old.files mid.files padded
+
+pub nodes_taken-nodes-requires : goal.nodes_taken-nodes-requires
+nodes_taken-nodes-requires g c =
+    let old = g.D.Disk.state c.args.disk.now in
+    let mid = g.D.Disk.state c.weave_rest.new.disk in
+    let tells = g.D.Disk.tells in
+    let v = c.args.work.now in
+    let slot = c.args.slot in
+    let s = c.in-Some.kept in
+    let t = c.weave_rest.new.slot in
+    let k = c.weave_rest.new.heads in
+    let es = c.weave_rest.new.digests.items in
+    let bad = c.weave_rest.result ≡ Err DiskFault in
+    let m = c.requires.keeps.0 in
+    let kept = c.requires.keeps.1 in
+    let many = kept.many in
+    let below = c.requires.may.below in
+    let there : slice_index_or v.slots slot None ≡ Some s = sym (get_or_read v.slots _ _ (omega (arith, many, below)) c.index-work-slot.is None) ∙ c.index-work-slot.is ∙ sym c.take.ensures.value ∙ c.in-Some.is in
+    let o = opened_of v m slot s kept there in
+    let f : Finishes tells v.ledger.shape v.heads k s t v.digests.items es old.files mid.files = subst (λ (x : Shape). Finishes tells x v.heads k s t v.digests.items es old.files mid.files) c.shape-shape.ensures.value c.in-Ok.ensures.finishes in
+    let ready : Readied tells v m o.upload t k es mid.files = ready_of c.last_is_the_machines.ensures c.filled_are_counted.ensures tells v m slot s t k es old.files mid.files kept c.requires.this c.requires.may there f o in
+    record { few = subst (λ (x : Shape). nodes_for x t.length ≤ greatest_nodes) (sym c.shape-shape.ensures.value) (nodes_few tells v m slot s t k es mid.files kept o ready c.closed_are_parts.ensures) }
+
+pub commit_parts-requires-clause-name : goal.commit_parts-requires-clause-name
+commit_parts-requires-clause-name g c =
+    let old = g.D.Disk.state c.args.disk.now in
+    let mid = g.D.Disk.state c.weave_rest.new.disk in
+    let tells = g.D.Disk.tells in
+    let v = c.args.work.now in
+    let slot = c.args.slot in
+    let s = c.in-Some.kept in
+    let t = c.weave_rest.new.slot in
+    let k = c.weave_rest.new.heads in
+    let es = c.weave_rest.new.digests.items in
+    let bad = c.weave_rest.result ≡ Err DiskFault in
+    let m = c.requires.keeps.0 in
+    let kept = c.requires.keeps.1 in
+    let many = kept.many in
+    let below = c.requires.may.below in
+    let there : slice_index_or v.slots slot None ≡ Some s = sym (get_or_read v.slots _ _ (omega (arith, many, below)) c.index-work-slot.is None) ∙ c.index-work-slot.is ∙ sym c.take.ensures.value ∙ c.in-Some.is in
+    let o = opened_of v m slot s kept there in
+    let f : Finishes tells v.ledger.shape v.heads k s t v.digests.items es old.files mid.files = subst (λ (x : Shape). Finishes tells x v.heads k s t v.digests.items es old.files mid.files) c.shape-shape.ensures.value c.in-Ok.ensures.finishes in
+    let ready : Readied tells v m o.upload t k es mid.files = ready_of c.last_is_the_machines.ensures c.filled_are_counted.ensures tells v m slot s t k es old.files mid.files kept c.requires.this c.requires.may there f o in
+    subst IsName (sym c.bytes.ensures) (named tells v m slot s t k es mid.files kept o ready)
+
+pub commit_parts-requires-clause-absent : goal.commit_parts-requires-clause-absent
+commit_parts-requires-clause-absent g c =
+    let old = g.D.Disk.state c.args.disk.now in
+    let mid = g.D.Disk.state c.weave_rest.new.disk in
+    let tells = g.D.Disk.tells in
+    let v = c.args.work.now in
+    let slot = c.args.slot in
+    let s = c.in-Some.kept in
+    let t = c.weave_rest.new.slot in
+    let k = c.weave_rest.new.heads in
+    let es = c.weave_rest.new.digests.items in
+    let bad = c.weave_rest.result ≡ Err DiskFault in
+    let m = c.requires.keeps.0 in
+    let kept = c.requires.keeps.1 in
+    let many = kept.many in
+    let below = c.requires.may.below in
+    let there : slice_index_or v.slots slot None ≡ Some s = sym (get_or_read v.slots _ _ (omega (arith, many, below)) c.index-work-slot.is None) ∙ c.index-work-slot.is ∙ sym c.take.ensures.value ∙ c.in-Some.is in
+    let o = opened_of v m slot s kept there in
+    let f : Finishes tells v.ledger.shape v.heads k s t v.digests.items es old.files mid.files = subst (λ (x : Shape). Finishes tells x v.heads k s t v.digests.items es old.files mid.files) c.shape-shape.ensures.value c.in-Ok.ensures.finishes in
+    let ready : Readied tells v m o.upload t k es mid.files = ready_of c.last_is_the_machines.ensures c.filled_are_counted.ensures tells v m slot s t k es old.files mid.files kept c.requires.this c.requires.may there f o in
+    ap (get v.ledger.objects) c.bytes.ensures ∙ absent tells v m slot s t k es mid.files kept o ready
+
+pub commit_parts-requires-clause-parts : goal.commit_parts-requires-clause-parts
+commit_parts-requires-clause-parts g c =
+    let old = g.D.Disk.state c.args.disk.now in
+    let mid = g.D.Disk.state c.weave_rest.new.disk in
+    let tells = g.D.Disk.tells in
+    let v = c.args.work.now in
+    let slot = c.args.slot in
+    let s = c.in-Some.kept in
+    let t = c.weave_rest.new.slot in
+    let k = c.weave_rest.new.heads in
+    let es = c.weave_rest.new.digests.items in
+    let bad = c.weave_rest.result ≡ Err DiskFault in
+    let m = c.requires.keeps.0 in
+    let kept = c.requires.keeps.1 in
+    let many = kept.many in
+    let below = c.requires.may.below in
+    let there : slice_index_or v.slots slot None ≡ Some s = sym (get_or_read v.slots _ _ (omega (arith, many, below)) c.index-work-slot.is None) ∙ c.index-work-slot.is ∙ sym c.take.ensures.value ∙ c.in-Some.is in
+    let o = opened_of v m slot s kept there in
+    let f : Finishes tells v.ledger.shape v.heads k s t v.digests.items es old.files mid.files = subst (λ (x : Shape). Finishes tells x v.heads k s t v.digests.items es old.files mid.files) c.shape-shape.ensures.value c.in-Ok.ensures.finishes in
+    let ready : Readied tells v m o.upload t k es mid.files = ready_of c.last_is_the_machines.ensures c.filled_are_counted.ensures tells v m slot s t k es old.files mid.files kept c.requires.this c.requires.may there f o in
+    let count : ℕ = c.next_node.result - 1 - c.n.result in
+    let node : c.next_node.result ≡ k.lattice.n + 1 = c.next_node.ensures in
+    let n : c.n.result ≡ v.ledger.lattice.n = c.n.ensures ∙ ap (λ (l : Lattice). l.n) c.lattice.ensures.value in
+    let counted : count ≡ length (more_of v.ledger.shape m o.upload) = (let e = count_is tells v m slot s t k es mid.files kept o ready in omega (arith, e, node, n)) in
+    subst (λ (l : List Extent). IsTrue (are_parts v.ledger.shape t.length (v.ledger.lattice.n + count) l)) (sym c.as_slice-2.ensures.value) (are_in_parts tells v m slot s t k es mid.files kept o ready c.closed_are_parts.ensures count counted)
+
+pub commit_parts-requires-clause-digests : goal.commit_parts-requires-clause-digests
+commit_parts-requires-clause-digests g c =
+    let old = g.D.Disk.state c.args.disk.now in
+    let mid = g.D.Disk.state c.weave_rest.new.disk in
+    let tells = g.D.Disk.tells in
+    let v = c.args.work.now in
+    let slot = c.args.slot in
+    let s = c.in-Some.kept in
+    let t = c.weave_rest.new.slot in
+    let k = c.weave_rest.new.heads in
+    let es = c.weave_rest.new.digests.items in
+    let bad = c.weave_rest.result ≡ Err DiskFault in
+    let m = c.requires.keeps.0 in
+    let kept = c.requires.keeps.1 in
+    let many = kept.many in
+    let below = c.requires.may.below in
+    let there : slice_index_or v.slots slot None ≡ Some s = sym (get_or_read v.slots _ _ (omega (arith, many, below)) c.index-work-slot.is None) ∙ c.index-work-slot.is ∙ sym c.take.ensures.value ∙ c.in-Some.is in
+    let o = opened_of v m slot s kept there in
+    let f : Finishes tells v.ledger.shape v.heads k s t v.digests.items es old.files mid.files = subst (λ (x : Shape). Finishes tells x v.heads k s t v.digests.items es old.files mid.files) c.shape-shape.ensures.value c.in-Ok.ensures.finishes in
+    let ready : Readied tells v m o.upload t k es mid.files = ready_of c.last_is_the_machines.ensures c.filled_are_counted.ensures tells v m slot s t k es old.files mid.files kept c.requires.this c.requires.may there f o in
+    let count : ℕ = c.next_node.result - 1 - c.n.result in
+    let node : c.next_node.result ≡ k.lattice.n + 1 = c.next_node.ensures in
+    let n : c.n.result ≡ v.ledger.lattice.n = c.n.ensures ∙ ap (λ (l : Lattice). l.n) c.lattice.ensures.value in
+    let counted : count ≡ length (more_of v.ledger.shape m o.upload) = (let e = count_is tells v m slot s t k es mid.files kept o ready in omega (arith, e, node, n)) in
+    ap length c.as_slice.ensures.value ∙ digests_long tells v m slot s t k es mid.files kept o ready count counted
+
+pub commit_parts-requires-clause-this : goal.commit_parts-requires-clause-this
+commit_parts-requires-clause-this g c told =
+    let old = g.D.Disk.state c.args.disk.now in
+    let mid = g.D.Disk.state c.weave_rest.new.disk in
+    let tells = g.D.Disk.tells in
+    let v = c.args.work.now in
+    let slot = c.args.slot in
+    let s = c.in-Some.kept in
+    let t = c.weave_rest.new.slot in
+    let k = c.weave_rest.new.heads in
+    let es = c.weave_rest.new.digests.items in
+    let bad = c.weave_rest.result ≡ Err DiskFault in
+    let cells : Cells tells bad v old mid = subst (λ (x : Shape). WritesCells tells x raised_limit (λ a. a.node ≢ v.heads.lattice.n + 1) bad old mid) c.shape-shape.ensures.value c.weave_rest.ensures.writes in
+    subst (IsThisOne v.ledger) (sym ((cells.contents told).stay 0 (inl refl))) (c.requires.this told).ledger
+
+pub commit_parts-requires-clause-fixed : goal.commit_parts-requires-clause-fixed
+commit_parts-requires-clause-fixed g c told =
+    let old = g.D.Disk.state c.args.disk.now in
+    let mid = g.D.Disk.state c.weave_rest.new.disk in
+    let tells = g.D.Disk.tells in
+    let v = c.args.work.now in
+    let slot = c.args.slot in
+    let s = c.in-Some.kept in
+    let t = c.weave_rest.new.slot in
+    let k = c.weave_rest.new.heads in
+    let es = c.weave_rest.new.digests.items in
+    let bad = c.weave_rest.result ≡ Err DiskFault in
+    let cells : Cells tells bad v old mid = subst (λ (x : Shape). WritesCells tells x raised_limit (λ a. a.node ≢ v.heads.lattice.n + 1) bad old mid) c.shape-shape.ensures.value c.weave_rest.ensures.writes in
+    fixed_kept tells (IsReady old) (FitsRows v.ledger.shape raised_limit old) bad v.ledger.shape raised_limit (λ a. a.node ≢ v.heads.lattice.n + 1) (IsNoSite v.ledger.shape) old mid 0 told (inl refl) cells (c.requires.fixed told)
+
+pub returns-in-Ok-commit_parts-clause-steps : goal.returns-in-Ok-commit_parts-clause-steps
+returns-in-Ok-commit_parts-clause-steps g c m kept =
+    let old = g.D.Disk.state c.args.disk.now in
+    let mid = g.D.Disk.state c.weave_rest.new.disk in
+    let tells = g.D.Disk.tells in
+    let v = c.args.work.now in
+    let slot = c.args.slot in
+    let s = c.in-Some.kept in
+    let t = c.weave_rest.new.slot in
+    let k = c.weave_rest.new.heads in
+    let es = c.weave_rest.new.digests.items in
+    let bad = c.weave_rest.result ≡ Err DiskFault in
+    let many = kept.many in
+    let below = c.requires.may.below in
+    let there : slice_index_or v.slots slot None ≡ Some s = sym (get_or_read v.slots _ _ (omega (arith, many, below)) c.index-work-slot.is None) ∙ c.index-work-slot.is ∙ sym c.take.ensures.value ∙ c.in-Some.is in
+    let o = opened_of v m slot s kept there in
+    let f : Finishes tells v.ledger.shape v.heads k s t v.digests.items es old.files mid.files = subst (λ (x : Shape). Finishes tells x v.heads k s t v.digests.items es old.files mid.files) c.shape-shape.ensures.value c.in-Ok.ensures.finishes in
+    let ready : Readied tells v m o.upload t k es mid.files = ready_of c.last_is_the_machines.ensures c.filled_are_counted.ensures tells v m slot s t k es old.files mid.files kept c.requires.this c.requires.may there f o in
+    let count : ℕ = c.next_node.result - 1 - c.n.result in
+    let node : c.next_node.result ≡ k.lattice.n + 1 = c.next_node.ensures in
+    let n : c.n.result ≡ v.ledger.lattice.n = c.n.ensures ∙ ap (λ (l : Lattice). l.n) c.lattice.ensures.value in
+    let counted : count ≡ length (more_of v.ledger.shape m o.upload) = (let e = count_is tells v m slot s t k es mid.files kept o ready in omega (arith, e, node, n)) in
+    let new = g.D.Disk.state c.commit_parts.new.disk in
+    let digest = c.finalize-digest.result in
+    let hashed : digest ≡ sha256 o.upload.bytes = c.finalize-digest.ensures o.upload.bytes ready.closes.hash in
+    let nm : c.bytes.result.now ≡ t.name = c.bytes.ensures in
+    let dg : c.as_slice.result.now ≡ es = c.as_slice.ensures.value in
+    let pt : c.as_slice-2.result.now ≡ t.parts.items = c.as_slice-2.ensures.value in
+    let given : Record = Joined (next_stored v.ledger c.bytes.result.now t.length digest count c.as_slice.result.now) c.as_slice-2.result.now in
+    let is : given ≡ joined_by v.ledger t digest count es = λ i. Joined (next_stored v.ledger (nm i) t.length digest count (dg i)) (pt i) in
+    steps_after tells v m slot o.upload t k es mid.files ready digest hashed count counted kept c.requires.may o.there _ c.in-Ok-commit_parts.ensures.shape c.shape-shape.ensures.records
+    (λ records has. subst (λ (r : Record). HasRecords c.commit_parts.new.ledger (records ++ r ∷ [])) is (c.in-Ok-commit_parts.ensures.value records has))
+    refl c.clear.ensures.items (ap (slice_set v.slots slot) c.take.ensures.after) c.weave_rest.ensures.cell
+    c.kept_with_more.ensures c.closed_are_placed.ensures c.names_stay_own.ensures c.limits_stay.ensures c.closed_are_next.ensures c.parts_record_more.ensures _
+    (c.nodes_taken-nodes.ensures ∙ ap (λ (x : Shape). nodes_for x t.length) c.shape-shape.ensures.value ∙ nodes_are tells v m slot s t k es mid.files kept o ready c.closed_are_parts.ensures c.runs_are_longest.ensures) refl refl
+
+pub returns-in-Ok-commit_parts-clause-closed : goal.returns-in-Ok-commit_parts-clause-closed
+returns-in-Ok-commit_parts-clause-closed g c told m kept =
+    let old = g.D.Disk.state c.args.disk.now in
+    let mid = g.D.Disk.state c.weave_rest.new.disk in
+    let tells = g.D.Disk.tells in
+    let v = c.args.work.now in
+    let slot = c.args.slot in
+    let s = c.in-Some.kept in
+    let t = c.weave_rest.new.slot in
+    let k = c.weave_rest.new.heads in
+    let es = c.weave_rest.new.digests.items in
+    let bad = c.weave_rest.result ≡ Err DiskFault in
+    let cells : Cells tells bad v old mid = subst (λ (x : Shape). WritesCells tells x raised_limit (λ a. a.node ≢ v.heads.lattice.n + 1) bad old mid) c.shape-shape.ensures.value c.weave_rest.ensures.writes in
+    let many = kept.many in
+    let below = c.requires.may.below in
+    let there : slice_index_or v.slots slot None ≡ Some s = sym (get_or_read v.slots _ _ (omega (arith, many, below)) c.index-work-slot.is None) ∙ c.index-work-slot.is ∙ sym c.take.ensures.value ∙ c.in-Some.is in
+    let o = opened_of v m slot s kept there in
+    let f : Finishes tells v.ledger.shape v.heads k s t v.digests.items es old.files mid.files = subst (λ (x : Shape). Finishes tells x v.heads k s t v.digests.items es old.files mid.files) c.shape-shape.ensures.value c.in-Ok.ensures.finishes in
+    let ready : Readied tells v m o.upload t k es mid.files = ready_of c.last_is_the_machines.ensures c.filled_are_counted.ensures tells v m slot s t k es old.files mid.files kept c.requires.this c.requires.may there f o in
+    let count : ℕ = c.next_node.result - 1 - c.n.result in
+    let node : c.next_node.result ≡ k.lattice.n + 1 = c.next_node.ensures in
+    let n : c.n.result ≡ v.ledger.lattice.n = c.n.ensures ∙ ap (λ (l : Lattice). l.n) c.lattice.ensures.value in
+    let counted : count ≡ length (more_of v.ledger.shape m o.upload) = (let e = count_is tells v m slot s t k es mid.files kept o ready in omega (arith, e, node, n)) in
+    let new = g.D.Disk.state c.commit_parts.new.disk in
+    let digest = c.finalize-digest.result in
+    let hashed : digest ≡ sha256 o.upload.bytes = c.finalize-digest.ensures o.upload.bytes ready.closes.hash in
+    let nm : c.bytes.result.now ≡ t.name = c.bytes.ensures in
+    let dg : c.as_slice.result.now ≡ es = c.as_slice.ensures.value in
+    let pt : c.as_slice-2.result.now ≡ t.parts.items = c.as_slice-2.ensures.value in
+    let given : Record = Joined (next_stored v.ledger c.bytes.result.now t.length digest count c.as_slice.result.now) c.as_slice-2.result.now in
+    let is : given ≡ joined_by v.ledger t digest count es = λ i. Joined (next_stored v.ledger (nm i) t.length digest count (dg i)) (pt i) in
+    closed_as v _ m _ _ old new (closing_is tells v m slot s t k es mid.files kept o ready c.requires.may)
+    (has_closed c.cells_have_lengths.ensures c.cells_have_parts.ensures c.ledgers_have_one_reading.ensures c.closed_are_next.ensures c.parts_record_more.ensures tells bad _ _ _ told v m o.upload t k es old mid new ready digest hashed count counted (c.requires.fixed told) cells c.commit_parts.ensures.writes
+    (λ records payload its at. subst (λ (r : Record). Adds v.ledger.shape records (r ∷ []) payload mid new) is (c.commit_parts.ensures.adds told records payload its at))
+    (subst (λ (r : Record). length (new.files 0) ≤ max (length (mid.files 0)) (v.ledger.end + length (entry r) + 1)) is (c.commit_parts.ensures.long told))
+    _ c.digests_are_counted.ensures c.in-Ok-commit_parts.ensures.shape c.shape-shape.ensures.records
+    (λ records has. subst (λ (r : Record). HasRecords c.commit_parts.new.ledger (records ++ r ∷ [])) is (c.in-Ok-commit_parts.ensures.value records has))
+    (λ records its. subst (λ (r : Record). HasLedger v.ledger.shape (records ++ r ∷ []) (new.files 0)) is (c.in-Ok-commit_parts.ensures.appended told records its))
+    (subst (λ (r : Record). new.files 0 ≡ committed (mid.files 0) v.ledger.end (body r ++ 0 ∷ [])) is (c.in-Ok-commit_parts.ensures.exactly told)) (c.in-Ok-commit_parts.ensures.durable told))
+
+pub returns-in-Ok-commit_parts-clause-this : goal.returns-in-Ok-commit_parts-clause-this
+returns-in-Ok-commit_parts-clause-this g c told =
+    let old = g.D.Disk.state c.args.disk.now in
+    let mid = g.D.Disk.state c.weave_rest.new.disk in
+    let tells = g.D.Disk.tells in
+    let v = c.args.work.now in
+    let slot = c.args.slot in
+    let s = c.in-Some.kept in
+    let t = c.weave_rest.new.slot in
+    let k = c.weave_rest.new.heads in
+    let es = c.weave_rest.new.digests.items in
+    let bad = c.weave_rest.result ≡ Err DiskFault in
+    let m = c.requires.keeps.0 in
+    let kept = c.requires.keeps.1 in
+    let many = kept.many in
+    let below = c.requires.may.below in
+    let there : slice_index_or v.slots slot None ≡ Some s = sym (get_or_read v.slots _ _ (omega (arith, many, below)) c.index-work-slot.is None) ∙ c.index-work-slot.is ∙ sym c.take.ensures.value ∙ c.in-Some.is in
+    let o = opened_of v m slot s kept there in
+    let f : Finishes tells v.ledger.shape v.heads k s t v.digests.items es old.files mid.files = subst (λ (x : Shape). Finishes tells x v.heads k s t v.digests.items es old.files mid.files) c.shape-shape.ensures.value c.in-Ok.ensures.finishes in
+    let ready : Readied tells v m o.upload t k es mid.files = ready_of c.last_is_the_machines.ensures c.filled_are_counted.ensures tells v m slot s t k es old.files mid.files kept c.requires.this c.requires.may there f o in
+    let count : ℕ = c.next_node.result - 1 - c.n.result in
+    let node : c.next_node.result ≡ k.lattice.n + 1 = c.next_node.ensures in
+    let n : c.n.result ≡ v.ledger.lattice.n = c.n.ensures ∙ ap (λ (l : Lattice). l.n) c.lattice.ensures.value in
+    let counted : count ≡ length (more_of v.ledger.shape m o.upload) = (let e = count_is tells v m slot s t k es mid.files kept o ready in omega (arith, e, node, n)) in
+    let new = g.D.Disk.state c.commit_parts.new.disk in
+    let digest = c.finalize-digest.result in
+    let hashed : digest ≡ sha256 o.upload.bytes = c.finalize-digest.ensures o.upload.bytes ready.closes.hash in
+    let nm : c.bytes.result.now ≡ t.name = c.bytes.ensures in
+    let dg : c.as_slice.result.now ≡ es = c.as_slice.ensures.value in
+    let pt : c.as_slice-2.result.now ≡ t.parts.items = c.as_slice-2.ensures.value in
+    let given : Record = Joined (next_stored v.ledger c.bytes.result.now t.length digest count c.as_slice.result.now) c.as_slice-2.result.now in
+    let is : given ≡ joined_by v.ledger t digest count es = λ i. Joined (next_stored v.ledger (nm i) t.length digest count (dg i)) (pt i) in
+    this_after tells v m slot o.upload t k es mid.files ready digest hashed count counted kept c.requires.may o.there _ c.in-Ok-commit_parts.ensures.shape c.shape-shape.ensures.records
+    (λ records has. subst (λ (r : Record). HasRecords c.commit_parts.new.ledger (records ++ r ∷ [])) is (c.in-Ok-commit_parts.ensures.value records has))
+    refl c.clear.ensures.items (ap (slice_set v.slots slot) c.take.ensures.after) c.weave_rest.ensures.cell
+    new.files (c.in-Ok-commit_parts.ensures.this_one told)
+
+pub returns-in-Ok-commit_parts-clause-writes : goal.returns-in-Ok-commit_parts-clause-writes
+returns-in-Ok-commit_parts-clause-writes g c =
+    let old = g.D.Disk.state c.args.disk.now in
+    let mid = g.D.Disk.state c.weave_rest.new.disk in
+    let tells = g.D.Disk.tells in
+    let v = c.args.work.now in
+    let slot = c.args.slot in
+    let s = c.in-Some.kept in
+    let t = c.weave_rest.new.slot in
+    let k = c.weave_rest.new.heads in
+    let es = c.weave_rest.new.digests.items in
+    let bad = c.weave_rest.result ≡ Err DiskFault in
+    let cells : Cells tells bad v old mid = subst (λ (x : Shape). WritesCells tells x raised_limit (λ a. a.node ≢ v.heads.lattice.n + 1) bad old mid) c.shape-shape.ensures.value c.weave_rest.ensures.writes in
+    let m = c.requires.keeps.0 in
+    let kept = c.requires.keeps.1 in
+    let many = kept.many in
+    let below = c.requires.may.below in
+    let there : slice_index_or v.slots slot None ≡ Some s = sym (get_or_read v.slots _ _ (omega (arith, many, below)) c.index-work-slot.is None) ∙ c.index-work-slot.is ∙ sym c.take.ensures.value ∙ c.in-Some.is in
+    let o = opened_of v m slot s kept there in
+    let f : Finishes tells v.ledger.shape v.heads k s t v.digests.items es old.files mid.files = subst (λ (x : Shape). Finishes tells x v.heads k s t v.digests.items es old.files mid.files) c.shape-shape.ensures.value c.in-Ok.ensures.finishes in
+    let ready : Readied tells v m o.upload t k es mid.files = ready_of c.last_is_the_machines.ensures c.filled_are_counted.ensures tells v m slot s t k es old.files mid.files kept c.requires.this c.requires.may there f o in
+    let count : ℕ = c.next_node.result - 1 - c.n.result in
+    let node : c.next_node.result ≡ k.lattice.n + 1 = c.next_node.ensures in
+    let n : c.n.result ≡ v.ledger.lattice.n = c.n.ensures ∙ ap (λ (l : Lattice). l.n) c.lattice.ensures.value in
+    let counted : count ≡ length (more_of v.ledger.shape m o.upload) = (let e = count_is tells v m slot s t k es mid.files kept o ready in omega (arith, e, node, n)) in
+    let new = g.D.Disk.state c.commit_parts.new.disk in
+    let digest = c.finalize-digest.result in
+    let hashed : digest ≡ sha256 o.upload.bytes = c.finalize-digest.ensures o.upload.bytes ready.closes.hash in
+    let nm : c.bytes.result.now ≡ t.name = c.bytes.ensures in
+    let dg : c.as_slice.result.now ≡ es = c.as_slice.ensures.value in
+    let pt : c.as_slice-2.result.now ≡ t.parts.items = c.as_slice-2.ensures.value in
+    let given : Record = Joined (next_stored v.ledger c.bytes.result.now t.length digest count c.as_slice.result.now) c.as_slice-2.result.now in
+    let is : given ≡ joined_by v.ledger t digest count es = λ i. Joined (next_stored v.ledger (nm i) t.length digest count (dg i)) (pt i) in
+    let size : length (entry given) ≡ 60 + length t.name + 8 * length t.parts.items + 32 * length es = c.commit_parts.ensures.size (ap length hashed ∙ length-sha256 o.upload.bytes) ∙ (λ i. 60 + length (nm i) + 8 * length (pt i) + 32 * length (dg i)) in
+    writes_as tells _ _ _ _ (Leaves v) old new (λ is. absurd (let e = is in cc)) (λ is. absurd (ok_no_fault c.in-Ok-commit_parts.is is))
+    (both_write tells bad _ v slot (v.ledger.end + length (entry given)) old mid new (ok_no_fault c.in-Ok.is) cells c.commit_parts.ensures.writes (λ told room. room_is tells v m slot s t k es mid.files kept o ready c.requires.may old (length (entry given)) size room))
+
+pub returns-in-Ok-commit_parts-clause-padded : goal.returns-in-Ok-commit_parts-clause-padded
+returns-in-Ok-commit_parts-clause-padded g c other told =
+    let old = g.D.Disk.state c.args.disk.now in
+    let mid = g.D.Disk.state c.weave_rest.new.disk in
+    let tells = g.D.Disk.tells in
+    let v = c.args.work.now in
+    let slot = c.args.slot in
+    let s = c.in-Some.kept in
+    let t = c.weave_rest.new.slot in
+    let k = c.weave_rest.new.heads in
+    let es = c.weave_rest.new.digests.items in
+    let bad = c.weave_rest.result ≡ Err DiskFault in
+    let padded : KeepsPadded v.ledger.shape (λ a. a.node ≢ v.heads.lattice.n + 1) old.files mid.files = subst (λ (x : Shape). KeepsPadded x (λ a. a.node ≢ v.heads.lattice.n + 1) old.files mid.files) c.shape-shape.ensures.value (c.weave_rest.ensures.padded (ok_no_fault c.in-Ok.is) told) in
+    padded_commit v old.files mid.files (g.D.Disk.state c.commit_parts.new.disk).files padded (c.commit_parts.ensures.writes.contents told)
+
+pub returns-in-Err-DiskFault-clause-stopped : goal.returns-in-Err-DiskFault-clause-stopped
+returns-in-Err-DiskFault-clause-stopped g c _ told m kept =
+    let old = g.D.Disk.state c.args.disk.now in
+    let mid = g.D.Disk.state c.weave_rest.new.disk in
+    let tells = g.D.Disk.tells in
+    let v = c.args.work.now in
+    let slot = c.args.slot in
+    let s = c.in-Some.kept in
+    let t = c.weave_rest.new.slot in
+    let k = c.weave_rest.new.heads in
+    let es = c.weave_rest.new.digests.items in
+    let bad = c.weave_rest.result ≡ Err DiskFault in
+    let cells : Cells tells bad v old mid = subst (λ (x : Shape). WritesCells tells x raised_limit (λ a. a.node ≢ v.heads.lattice.n + 1) bad old mid) c.shape-shape.ensures.value c.weave_rest.ensures.writes in
+    let many = kept.many in
+    let below = c.requires.may.below in
+    let there : slice_index_or v.slots slot None ≡ Some s = sym (get_or_read v.slots _ _ (omega (arith, many, below)) c.index-work-slot.is None) ∙ c.index-work-slot.is ∙ sym c.take.ensures.value ∙ c.in-Some.is in
+    let o = opened_of v m slot s kept there in
+    let f : Finishes tells v.ledger.shape v.heads k s t v.digests.items es old.files mid.files = subst (λ (x : Shape). Finishes tells x v.heads k s t v.digests.items es old.files mid.files) c.shape-shape.ensures.value c.in-Ok.ensures.finishes in
+    let ready : Readied tells v m o.upload t k es mid.files = ready_of c.last_is_the_machines.ensures c.filled_are_counted.ensures tells v m slot s t k es old.files mid.files kept c.requires.this c.requires.may there f o in
+    let count : ℕ = c.next_node.result - 1 - c.n.result in
+    let node : c.next_node.result ≡ k.lattice.n + 1 = c.next_node.ensures in
+    let n : c.n.result ≡ v.ledger.lattice.n = c.n.ensures ∙ ap (λ (l : Lattice). l.n) c.lattice.ensures.value in
+    let counted : count ≡ length (more_of v.ledger.shape m o.upload) = (let e = count_is tells v m slot s t k es mid.files kept o ready in omega (arith, e, node, n)) in
+    let new = g.D.Disk.state c.commit_parts.new.disk in
+    let digest = c.finalize-digest.result in
+    let hashed : digest ≡ sha256 o.upload.bytes = c.finalize-digest.ensures o.upload.bytes ready.closes.hash in
+    let nm : c.bytes.result.now ≡ t.name = c.bytes.ensures in
+    let dg : c.as_slice.result.now ≡ es = c.as_slice.ensures.value in
+    let pt : c.as_slice-2.result.now ≡ t.parts.items = c.as_slice-2.ensures.value in
+    let given : Record = Joined (next_stored v.ledger c.bytes.result.now t.length digest count c.as_slice.result.now) c.as_slice-2.result.now in
+    let is : given ≡ joined_by v.ledger t digest count es = λ i. Joined (next_stored v.ledger (nm i) t.length digest count (dg i)) (pt i) in
+    subst (λ (cl : List Closing). MayHaveClosed v m cl old new) (sym (closing_is tells v m slot s t k es mid.files kept o ready c.requires.may))
+    (inr (
+      joined_by v.ledger t digest count es,
+      adds_closes c.cells_have_lengths.ensures c.cells_have_parts.ensures c.ledgers_have_one_reading.ensures c.closed_are_next.ensures c.parts_record_more.ensures tells bad _ _ _ told v m o.upload t k es old mid new ready digest hashed count counted (c.requires.fixed told) cells c.commit_parts.ensures.writes
+          (λ records payload its at. subst (λ (r : Record). Adds v.ledger.shape records (r ∷ []) payload mid new) is (c.commit_parts.ensures.adds told records payload its at))
+          (subst (λ (r : Record). length (new.files 0) ≤ max (length (mid.files 0)) (v.ledger.end + length (entry r) + 1)) is (c.commit_parts.ensures.long told)),
+    ))
+
+pub returns-in-Err-DiskFault-clause-writes : goal.returns-in-Err-DiskFault-clause-writes
+returns-in-Err-DiskFault-clause-writes g c =
+    let old = g.D.Disk.state c.args.disk.now in
+    let mid = g.D.Disk.state c.weave_rest.new.disk in
+    let tells = g.D.Disk.tells in
+    let v = c.args.work.now in
+    let slot = c.args.slot in
+    let s = c.in-Some.kept in
+    let t = c.weave_rest.new.slot in
+    let k = c.weave_rest.new.heads in
+    let es = c.weave_rest.new.digests.items in
+    let bad = c.weave_rest.result ≡ Err DiskFault in
+    let cells : Cells tells bad v old mid = subst (λ (x : Shape). WritesCells tells x raised_limit (λ a. a.node ≢ v.heads.lattice.n + 1) bad old mid) c.shape-shape.ensures.value c.weave_rest.ensures.writes in
+    let m = c.requires.keeps.0 in
+    let kept = c.requires.keeps.1 in
+    let many = kept.many in
+    let below = c.requires.may.below in
+    let there : slice_index_or v.slots slot None ≡ Some s = sym (get_or_read v.slots _ _ (omega (arith, many, below)) c.index-work-slot.is None) ∙ c.index-work-slot.is ∙ sym c.take.ensures.value ∙ c.in-Some.is in
+    let o = opened_of v m slot s kept there in
+    let f : Finishes tells v.ledger.shape v.heads k s t v.digests.items es old.files mid.files = subst (λ (x : Shape). Finishes tells x v.heads k s t v.digests.items es old.files mid.files) c.shape-shape.ensures.value c.in-Ok.ensures.finishes in
+    let ready : Readied tells v m o.upload t k es mid.files = ready_of c.last_is_the_machines.ensures c.filled_are_counted.ensures tells v m slot s t k es old.files mid.files kept c.requires.this c.requires.may there f o in
+    let count : ℕ = c.next_node.result - 1 - c.n.result in
+    let node : c.next_node.result ≡ k.lattice.n + 1 = c.next_node.ensures in
+    let n : c.n.result ≡ v.ledger.lattice.n = c.n.ensures ∙ ap (λ (l : Lattice). l.n) c.lattice.ensures.value in
+    let counted : count ≡ length (more_of v.ledger.shape m o.upload) = (let e = count_is tells v m slot s t k es mid.files kept o ready in omega (arith, e, node, n)) in
+    let new = g.D.Disk.state c.commit_parts.new.disk in
+    let digest = c.finalize-digest.result in
+    let hashed : digest ≡ sha256 o.upload.bytes = c.finalize-digest.ensures o.upload.bytes ready.closes.hash in
+    let nm : c.bytes.result.now ≡ t.name = c.bytes.ensures in
+    let dg : c.as_slice.result.now ≡ es = c.as_slice.ensures.value in
+    let pt : c.as_slice-2.result.now ≡ t.parts.items = c.as_slice-2.ensures.value in
+    let given : Record = Joined (next_stored v.ledger c.bytes.result.now t.length digest count c.as_slice.result.now) c.as_slice-2.result.now in
+    let is : given ≡ joined_by v.ledger t digest count es = λ i. Joined (next_stored v.ledger (nm i) t.length digest count (dg i)) (pt i) in
+    let size : length (entry given) ≡ 60 + length t.name + 8 * length t.parts.items + 32 * length es = c.commit_parts.ensures.size (ap length hashed ∙ length-sha256 o.upload.bytes) ∙ (λ i. 60 + length (nm i) + 8 * length (pt i) + 32 * length (dg i)) in
+    writes_as tells _ _ _ _ (Leaves v) old new (λ is. c.in-Err-DiskFault.is ∙ ap Err c.in-Err-DiskFault.field-0-is) (λ is. refl)
+    (both_write tells bad _ v slot (v.ledger.end + length (entry given)) old mid new (ok_no_fault c.in-Ok.is) cells c.commit_parts.ensures.writes (λ told room. room_is tells v m slot s t k es mid.files kept o ready c.requires.may old (length (entry given)) size room))
+
+pub returns-in-Err-NoMemory-clause-quiet : goal.returns-in-Err-NoMemory-clause-quiet
+returns-in-Err-NoMemory-clause-quiet g c _ told =
+    let old = g.D.Disk.state c.args.disk.now in
+    let mid = g.D.Disk.state c.weave_rest.new.disk in
+    let tells = g.D.Disk.tells in
+    let v = c.args.work.now in
+    let slot = c.args.slot in
+    let s = c.in-Some.kept in
+    let t = c.weave_rest.new.slot in
+    let k = c.weave_rest.new.heads in
+    let es = c.weave_rest.new.digests.items in
+    let bad = c.weave_rest.result ≡ Err DiskFault in
+    let cells : Cells tells bad v old mid = subst (λ (x : Shape). WritesCells tells x raised_limit (λ a. a.node ≢ v.heads.lattice.n + 1) bad old mid) c.shape-shape.ensures.value c.weave_rest.ensures.writes in
+    let new = g.D.Disk.state c.commit_parts.new.disk in
+    let same = c.commit_parts.ensures.unchanged (inr (c.in-Err-NoMemory.is ∙ ap Err c.in-Err-NoMemory.field-0-is)) in
+    leaves_commit tells bad told v old mid new (c.requires.fixed told) cells c.commit_parts.ensures.writes.time same.1.0 (same.1.1 told)
+
+pub returns-in-Err-NoMemory-clause-writes : goal.returns-in-Err-NoMemory-clause-writes
+returns-in-Err-NoMemory-clause-writes g c =
+    let old = g.D.Disk.state c.args.disk.now in
+    let mid = g.D.Disk.state c.weave_rest.new.disk in
+    let tells = g.D.Disk.tells in
+    let v = c.args.work.now in
+    let slot = c.args.slot in
+    let s = c.in-Some.kept in
+    let t = c.weave_rest.new.slot in
+    let k = c.weave_rest.new.heads in
+    let es = c.weave_rest.new.digests.items in
+    let bad = c.weave_rest.result ≡ Err DiskFault in
+    let cells : Cells tells bad v old mid = subst (λ (x : Shape). WritesCells tells x raised_limit (λ a. a.node ≢ v.heads.lattice.n + 1) bad old mid) c.shape-shape.ensures.value c.weave_rest.ensures.writes in
+    let m = c.requires.keeps.0 in
+    let kept = c.requires.keeps.1 in
+    let many = kept.many in
+    let below = c.requires.may.below in
+    let there : slice_index_or v.slots slot None ≡ Some s = sym (get_or_read v.slots _ _ (omega (arith, many, below)) c.index-work-slot.is None) ∙ c.index-work-slot.is ∙ sym c.take.ensures.value ∙ c.in-Some.is in
+    let o = opened_of v m slot s kept there in
+    let f : Finishes tells v.ledger.shape v.heads k s t v.digests.items es old.files mid.files = subst (λ (x : Shape). Finishes tells x v.heads k s t v.digests.items es old.files mid.files) c.shape-shape.ensures.value c.in-Ok.ensures.finishes in
+    let ready : Readied tells v m o.upload t k es mid.files = ready_of c.last_is_the_machines.ensures c.filled_are_counted.ensures tells v m slot s t k es old.files mid.files kept c.requires.this c.requires.may there f o in
+    let count : ℕ = c.next_node.result - 1 - c.n.result in
+    let node : c.next_node.result ≡ k.lattice.n + 1 = c.next_node.ensures in
+    let n : c.n.result ≡ v.ledger.lattice.n = c.n.ensures ∙ ap (λ (l : Lattice). l.n) c.lattice.ensures.value in
+    let counted : count ≡ length (more_of v.ledger.shape m o.upload) = (let e = count_is tells v m slot s t k es mid.files kept o ready in omega (arith, e, node, n)) in
+    let new = g.D.Disk.state c.commit_parts.new.disk in
+    let digest = c.finalize-digest.result in
+    let hashed : digest ≡ sha256 o.upload.bytes = c.finalize-digest.ensures o.upload.bytes ready.closes.hash in
+    let nm : c.bytes.result.now ≡ t.name = c.bytes.ensures in
+    let dg : c.as_slice.result.now ≡ es = c.as_slice.ensures.value in
+    let pt : c.as_slice-2.result.now ≡ t.parts.items = c.as_slice-2.ensures.value in
+    let given : Record = Joined (next_stored v.ledger c.bytes.result.now t.length digest count c.as_slice.result.now) c.as_slice-2.result.now in
+    let is : given ≡ joined_by v.ledger t digest count es = λ i. Joined (next_stored v.ledger (nm i) t.length digest count (dg i)) (pt i) in
+    let size : length (entry given) ≡ 60 + length t.name + 8 * length t.parts.items + 32 * length es = c.commit_parts.ensures.size (ap length hashed ∙ length-sha256 o.upload.bytes) ∙ (λ i. 60 + length (nm i) + 8 * length (pt i) + 32 * length (dg i)) in
+    writes_as tells _ _ _ _ (Leaves v) old new (λ is. absurd (let e = is in cc)) (λ is. absurd (let e = met_fault c.in-Err-NoMemory.is c.in-Err-NoMemory.field-0-is is in cc))
+    (both_write tells bad _ v slot (v.ledger.end + length (entry given)) old mid new (ok_no_fault c.in-Ok.is) cells c.commit_parts.ensures.writes (λ told room. room_is tells v m slot s t k es mid.files kept o ready c.requires.may old (length (entry given)) size room))
+
+pub returns-in-Err-NoMemory-clause-padded : goal.returns-in-Err-NoMemory-clause-padded
+returns-in-Err-NoMemory-clause-padded g c other told =
+    let old = g.D.Disk.state c.args.disk.now in
+    let mid = g.D.Disk.state c.weave_rest.new.disk in
+    let tells = g.D.Disk.tells in
+    let v = c.args.work.now in
+    let slot = c.args.slot in
+    let s = c.in-Some.kept in
+    let t = c.weave_rest.new.slot in
+    let k = c.weave_rest.new.heads in
+    let es = c.weave_rest.new.digests.items in
+    let bad = c.weave_rest.result ≡ Err DiskFault in
+    let padded : KeepsPadded v.ledger.shape (λ a. a.node ≢ v.heads.lattice.n + 1) old.files mid.files = subst (λ (x : Shape). KeepsPadded x (λ a. a.node ≢ v.heads.lattice.n + 1) old.files mid.files) c.shape-shape.ensures.value (c.weave_rest.ensures.padded (ok_no_fault c.in-Ok.is) told) in
+    padded_commit v old.files mid.files (g.D.Disk.state c.commit_parts.new.disk).files padded (c.commit_parts.ensures.writes.contents told)

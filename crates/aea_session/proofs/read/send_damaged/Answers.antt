@@ -1,0 +1,14 @@
+use Rattle.aea_io.proofs.Printing.{prints_then_nothing, prints_failed}
+use Rattle.aea_session.proofs.read.send_damaged.Goals as goal
+
+pub returns-in_err-print_damaged-clause-prints : goal.returns-in_err-print_damaged-clause-prints
+returns-in_err-print_damaged-clause-prints g c = prints_failed c.from_residual.ensures.0 (rw c.new-page.ensures at c.in_err-print_damaged.ensures)
+
+pub returns-in_err-finish-clause-prints : goal.returns-in_err-finish-clause-prints
+returns-in_err-finish-clause-prints g c =
+    prints_failed {T = Unit {0}} c.from_residual-in_err-finish.ensures.0
+    (prints_then_nothing (rw c.new-page.ensures at c.in_ok-print_damaged.ensures) c.in_err-finish.ensures.prints)
+
+pub returns-clause-prints : goal.returns-clause-prints
+returns-clause-prints g c =
+    prints_then_nothing (rw c.new-page.ensures at c.in_ok-print_damaged.ensures) (rw c.in_ok-finish.ensures.empty at c.in_ok-finish.ensures.prints)

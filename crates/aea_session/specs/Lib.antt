@@ -1,0 +1,12 @@
+pub mod Chunks
+pub mod Closes
+pub mod Faults
+pub mod Looks
+pub mod May
+pub mod Opening
+pub mod Serving
+pub mod Sessions
+pub mod Stands
+pub mod Steps
+pub mod Takes
+pub mod Traces

@@ -1,0 +1,87 @@
+//! Worked examples.
+
+use crate::sessions::{
+    Ended, WITH_A, contents, make, raised, replies, replies_again, serves, stream,
+};
+use aea_disk::{MemDisk, SureDisk};
+use aea_ledger::create_ledger;
+use aea_session::{BeginFault, Stop};
+use aea_test_helpers::SMALL;
+use std::test::Fail;
+
+#[test]
+fn the_first_example(rt: HostRuntime) -> Result<(), Fail> {
+    let alloc = rt.alloc();
+    let mut disk = MemDisk::new(alloc, 1, 4096, 1024, 400, 8192)?;
+    assert!(rt; make(alloc, &mut disk));
+    assert!(rt; serves(alloc, &mut disk, stream(), Ended::Done, replies())?);
+    assert!(rt; contents(alloc, &mut disk) == WITH_A);
+    assert!(rt; serves(alloc, &mut disk, stream(), Ended::Done, replies_again())?);
+    assert!(rt; contents(alloc, &mut disk) == WITH_A);
+    Ok(())
+}
+
+// Sessions over an archive, each with how it ends, and its replies.
+fn sessions() -> [(&'static [u8], Ended, &'static [u8]); 7] {
+    [
+        // refusals, and then what begins no message
+        (
+            b"\x01\0\0\x01a\x01\0\0\x01b\x02\x03\0\0\0\0\x01\x10\0\x01c\x07",
+            Ended::Stopped(Stop::BadMessage { at: 21 }),
+            b"\x01\0\x01\x02\x02\x03\x01\x01",
+        ),
+        // the same, and then a message that is cut
+        (
+            b"\x01\0\0\x01a\x01\0\0\x01b\x02\x03\0\0\0\0\x01\x10\0\x01c\x03",
+            Ended::Stopped(Stop::BadStream { at: 22 }),
+            b"\x01\0\x01\x02\x02\x03\x01\x01",
+        ),
+        // no message
+        (b"", Ended::Done, b""),
+        // the first example
+        (stream(), Ended::Done, replies()),
+        // a name that is taken, one that is not known, and a range that is too long
+        (
+            b"\x01\0\0\x01a\x05\0\x01b\x06\0\0\0\0\0\0\0\x05",
+            Ended::Done,
+            b"\x01\x05\x05\x09\x06\x0b",
+        ),
+        // an object of no byte, and a name that another slot has
+        (
+            b"\x01\x0f\0\x01e\x01\x02\0\x01e\x03\x0f\x05\0\x01e",
+            Ended::Done,
+            b"\x01\0\x01\x06\x03\0\0\0\0\0\0\0\0\0\0\0\0\0\
+\xe3\xb0\xc4\x42\x98\xfc\x1c\x14\x9a\xfb\xf4\xc8\x99\x6f\xb9\x24\
+\x27\xae\x41\xe4\x64\x9b\x93\x4c\xa4\x95\x99\x1b\x78\x52\xb8\x55\
+\x05\0\0\0\0\0\0\0\0\0",
+        ),
+        // names that are none, a free slot, and empty ranges
+        (
+            b"\x01\0\0\0\x01\0\0\x01\x7f\x04\x07\x06\0\0\0\0\0\0\0\0\x06\0\0\0\x04\0\0\0\x01",
+            Ended::Done,
+            b"\x01\x04\x01\x04\x04\x03\x06\x0b\x06\x0b",
+        ),
+    ]
+}
+
+#[test]
+fn sessions_one_after_the_other(rt: HostRuntime) -> Result<(), Fail> {
+    let alloc = rt.alloc();
+    let mut disk = raised(alloc)?;
+    let mut case = 0;
+    for (bytes, ended, wanted) in sessions() {
+        assert!(rt; serves(alloc, &mut disk, bytes, ended, wanted)?, "{case}");
+        case = if case < 9 { case + 1 } else { case };
+    }
+    Ok(())
+}
+
+#[test]
+fn an_archive_that_was_not_raised(rt: HostRuntime) -> Result<(), Fail> {
+    let alloc = rt.alloc();
+    let mut disk = SureDisk::new(alloc, 1, 4096, 1024)?;
+    assert!(rt; create_ledger(&mut disk, &SMALL).is_ok());
+    let ended = Ended::NotBegun(BeginFault::NotUpgraded);
+    assert!(rt; serves(alloc, &mut disk, stream(), ended, &[])?);
+    Ok(())
+}

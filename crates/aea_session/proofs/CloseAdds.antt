@@ -28,7 +28,7 @@ use Rattle.aea_archive.specs.Cells.{IsBesides, IsNoSite, ChangesArchive, FitsRow
 use Rattle.aea_archive.specs.Laws.{PartsRecordMore}
 use Rattle.aea_archive.specs.Stretches.{Adds}
 use Rattle.aea_archive.proofs.Cells.{changes_both, changes_less, changes_ledger, file_kept}
-use Rattle.aea_archive.proofs.Stretches.{has_ledger, adds_nothing, adds_later}
+use Rattle.aea_archive.proofs.Stretches.{has_ledger, adds_later}
 use Rattle.aea_machine.specs.Closings.{Closing}
 use Rattle.aea_machine.specs.Machine.{Upload, Machine}
 use Rattle.aea_append.specs.Puts.{LeavesLedger}
@@ -40,6 +40,7 @@ use Rattle.aea_session.proofs.CloseSteps.{the_closing}
 use Rattle.aea_session.proofs.CloseWoven.{Readied, more_of}
 use Rattle.aea_session.proofs.CloseHomes.{homes_are, digests_are, held_are}
 use Rattle.aea_session.proofs.CloseRecord.{stored_by, joined_by, joined_is, next_closed, more_recorded, nodes_to, digests_to}
+use Rattle.aea_session.proofs.Taking.{adds_none as adds_nothing_more}
 
 -- ---- frames
 
@@ -109,21 +110,7 @@ leaves_commit tells first told v old mid new fixed writes time kept same =
 
 -- nothing was added
 pub adds_none : HasOneReading → (tells fault : Type 0) → tells → (v : Work) (m : Machine) (old mid : State) → IsFixed old 0 → Cells tells fault v old mid → AddsCloses v m [] [] old mid
-adds_none one tells fault told v m old mid fixed writes =
-    let leaves = leaves_ledger tells fault told v old mid fixed writes in
-    record {
-      payload = λ b. [];
-      longer = v.ledger.lattice;
-      are = refl;
-      adds = λ records its.
-          let ledger = has_ledger v.ledger records (old.files 0) its in
-          adds_nothing one v.ledger.shape records [] (λ b. []) old mid writes.earlier
-          (during_more old mid (λ c. c 0 ≡ old.files 0) (λ c. HasLedger v.ledger.shape records (c 0)) (λ c same. subst (HasLedger v.ledger.shape records) (sym same) ledger) leaves.images)
-          (subst (HasLedger v.ledger.shape records) (sym leaves.reads) ledger);
-      more = λ records has recorded woven valid.
-          subst (λ (ds : List (List ℕ)). AreRecordsOf v.ledger.shape (records ++ []) ds) (sym (append-nil m.datas)) (subst (λ (rs : List Record). AreRecordsOf v.ledger.shape rs m.datas) (sym (append-nil records)) recorded);
-      long = (let same = ap length leaves.reads in omega (arith, same));
-    }
+adds_none one tells fault told v m old mid fixed writes = adds_nothing_more one v m old mid writes.earlier (leaves_ledger tells fault told v old mid fixed writes)
 
 -- its records are those of the file after the cells
 its_later : (tells fault : Type 0) → tells → (v : Work) (records : List Record) (old mid : State) → Cells tells fault v old mid → AreItsRecords v.ledger records (old.files 0) → AreItsRecords v.ledger records (mid.files 0)

@@ -22,7 +22,7 @@ use Rattle.aea_session.specs.declared.fault.TakeFault.TheVariants.{Damaged, Disk
 use Rattle.aea_session.specs.declared.work.Work.{Work}
 use Rattle.aea_session.specs.Looks.{KeepsAllButCell, LooksKeep, IsReplyTo, MayBegin, Replies, RepliesPart, greatest_reply}
 use Rattle.aea_session.specs.Stands.{KeepsMachine, KeepsSomeMachine, StandsFor, IsTheSessions}
-use Rattle.aea_session.specs.Takes.{Moves, Takes}
+use Rattle.aea_session.specs.Takes.{IsRead, Moves, Takes}
 use Rattle.aea_session.proofs.LookingPrinted.{err_with}
 use Rattle.aea_session.proofs.Taking.{leaves_read, fixed_read}
 
@@ -87,7 +87,7 @@ pub record Looked (tells : Type 0) (v w : Work) (message : Message) (old new : S
   pub replies : IfOk result (λ code. (m : Machine) → KeepsMachine v m → Replies (IsReplyTo tells v.ledger m old.files message code) before after)
   pub flushed : OnOk result (IsFlushed after)
   pub part : IfErr result (λ fault. (m : Machine) → KeepsMachine v m → untouched ⊎ RepliesPart (MayBegin tells v.ledger m old.files message) before after)
-  pub damaged : (b : BlockId) → result ≡ Err (Damaged b) → tells → ⊥
+  pub damaged : (b : BlockId) → result ≡ Err (Damaged b) → IsRead v message b × (tells → ⊥)
   pub reads : OnlyReads tells (result ≡ Err DiskFault) old new
   pub out_kept : before.faults ≤ after.faults
   pub out_cause : result ≡ Err WriteFault → Rose before.faults after.faults

@@ -1,5 +1,6 @@
 -- What a session does for a message: the step of the machine, the reply, and what it leaves of the disk.
 use Rattle.std.specs.Prelude.{◌≡◌, ◌≢◌, ◌⊎◌, ◌≤◌, ℕ, true, [], ◌∷◌, Some, Result, Err, IsOk, IfOk, IfErr, OnOk}
+use Rattle.std.specs.FinMap.{get}
 use Rattle.aea_faults.specs.Faults.{Rose}
 use Rattle.aea_io.specs.Streams.{SinkState}
 use Rattle.aea_io.specs.Written.{IsFlushed}
@@ -9,9 +10,10 @@ use Rattle.aea_disk.specs.State.{State, IsFixed, IsReady}
 use Rattle.aea_shelf.specs.Writes.{KeepsPadded}
 use Rattle.aea_records.specs.Format.{raised_limit}
 use Rattle.aea_archive.specs.Blocks.{IsBlockIn}
+use Rattle.aea_archive.specs.Objects.{data_under, IsOneOf}
 use Rattle.aea_archive.specs.Cells.{IsBesides, ChangesArchive, HaveSitesRoom}
 use Rattle.aea_messages.specs.declared.message.Message.{Message}
-use Rattle.aea_messages.specs.declared.message.Message.TheVariants.{Close}
+use Rattle.aea_messages.specs.declared.message.Message.TheVariants.{Close, Read}
 use Rattle.aea_machine.specs.Closings.{Closing, closing_in}
 use Rattle.aea_machine.specs.Machine.{Machine, step}
 use Rattle.aea_append.specs.Puts.{LeavesLedger}
@@ -26,6 +28,11 @@ use Rattle.aea_session.specs.Looks.{IsReplyTo, MayBegin, Replies, RepliesPart, g
 abbrev pub HasTakeRoom : Work → Message → State → Type 0
 HasTakeRoom v (Close slot) s = HasCloseRoom v slot s
 HasTakeRoom v message s = HaveSitesRoom v.ledger.shape raised_limit s × s.keeps (s.files 0)
+
+-- the block is a data block of the object that the message reads
+abbrev pub IsRead : Work → Message → BlockId → Type 0
+IsRead v (Read name) b = IsOneOf (data_under (get v.ledger.objects name)) b
+IsRead v message b = ⊥
 
 -- Where a message was taken: the session, and the disk, before and after it.
 pub record Moves (tells : Type 0) (v w : Work) (message : Message) (old new : State) : Type 0 where
@@ -59,8 +66,8 @@ pub record Takes (tells : Type 0) (v w : Work) (message : Message) (old new : St
   pub flushed : OnOk result (IsFlushed after)
   -- what is left of the disk; a close whose reply failed was made
   pub leaves : Leaves tells v w message old new (IsOk result ⊎ (result ≡ Err WriteFault)) (result ≡ Err DiskFault) (result ≡ Err NoMemory)
-  -- where the disk's contents are known no cell is intact and then damaged
-  pub damaged : (b : BlockId) → result ≡ Err (Damaged b) → tells → ⊥
+  -- only a block of an object that is read, and never where the disk's contents are known, is intact and then damaged
+  pub damaged : (b : BlockId) → result ≡ Err (Damaged b) → IsRead v message b × (tells → ⊥)
   -- when the output is at fault
   pub out_kept : before.faults ≤ after.faults
   pub out_cause : result ≡ Err WriteFault → Rose before.faults after.faults

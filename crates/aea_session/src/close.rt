@@ -11,11 +11,17 @@ ghost use Rattle.aea_archive.specs.Blocks.{IsBlockIn};
 ghost use Rattle.aea_archive.specs.Cells.{IsBesides, ChangesArchive, WritesCells};
 ghost use Rattle.aea_append.specs.Puts.{LeavesLedger};
 ghost use Rattle.aea_messages.specs.declared.message.Message.TheVariants.{Close};
-ghost use Rattle.aea_machine.specs.Closings.{closing_in};
+ghost use Rattle.aea_machine.specs.Closings.{closing_in, ClosedArePlaced};
 ghost use Rattle.aea_machine.specs.Machine.{Machine, step, stays};
 ghost use Rattle.aea_machine.specs.Refusals.{refused_by};
 ghost use Rattle.aea_uploads.specs.Gathering.{Finishes};
 ghost use Rattle.aea_uploads.specs.Slots.{KeepsSome};
+ghost use Rattle.aea_envelope.specs.Facts.{CellsHaveLengths, CellsHaveParts};
+ghost use Rattle.aea_records.specs.Laws.{DigestsAreCounted, HasOneReading};
+ghost use Rattle.aea_archive.specs.Laws.{PartsRecordMore};
+ghost use Rattle.aea_machine.specs.Sound.{NamesStayOwn, LimitsStay};
+ghost use Rattle.aea_machine.specs.Runs.{RunsAreLongest};
+ghost use Rattle.aea_uploads.specs.Laws.{ClosedAreNext, ClosedAreParts, FilledAreCounted, KeepsMore, LastIsTheMachines};
 ghost use Rattle.aea_session.specs.Closes.{HasClosed, MayHaveClosed, HasCloseRoom};
 ghost use Rattle.aea_session.specs.May.{MayClose};
 ghost use Rattle.aea_session.specs.Stands.{KeepsMachine, KeepsSomeMachine, IsTheSessions};
@@ -103,6 +109,39 @@ fn weave_rest<D: Disk>(
     }
 }
 
+// The laws by which a close is what its contract says.
+fn close_laws()
+    ensures cells_have_lengths { CellsHaveLengths }
+    ensures cells_have_parts { CellsHaveParts }
+    ensures digests_are_counted { DigestsAreCounted }
+    ensures ledgers_have_one_reading { HasOneReading }
+    ensures parts_record_more { PartsRecordMore }
+    ensures closed_are_placed { ClosedArePlaced }
+    ensures names_stay_own { NamesStayOwn }
+    ensures limits_stay { LimitsStay }
+    ensures runs_are_longest { RunsAreLongest }
+    ensures closed_are_next { ClosedAreNext }
+    ensures closed_are_parts { ClosedAreParts }
+    ensures filled_are_counted { FilledAreCounted }
+    ensures kept_with_more { KeepsMore }
+    ensures last_is_the_machines { LastIsTheMachines }
+{
+    cells_have_lengths();
+    cells_have_parts();
+    digests_are_counted();
+    ledgers_have_one_reading();
+    parts_record_more();
+    closed_are_placed();
+    names_stay_own();
+    limits_stay();
+    runs_are_longest();
+    closed_are_next();
+    closed_are_parts();
+    filled_are_counted();
+    kept_with_more();
+    last_is_the_machines();
+}
+
 // Closes an upload where no refusal applies.
 fn close_open<D: Disk>(disk: &mut D, work: &mut Work, slot: u8) -> Result<Stored, StepFault>
     requires keeps { KeepsSomeMachine work.old }
@@ -120,20 +159,7 @@ fn close_open<D: Disk>(disk: &mut D, work: &mut Work, slot: u8) -> Result<Stored
     ensures writes { OnlyWrites D.tells (IsReady (D.state disk.old)) (HasCloseRoom work.old slot (D.state disk.old)) (result ≡ Err StepFault.DiskFault) (ChangesArchive work.old.ledger.shape raised_limit (IsBlockIn work.old.ledger.shape work.old.heads.lattice.n) (IsBesides work.old.ledger.shape)) (D.state disk.old) (D.state disk.new) }
     ensures padded { result ≢ Err StepFault.DiskFault → D.tells → KeepsPadded work.old.ledger.shape (IsBlockIn work.old.ledger.shape work.old.heads.lattice.n) (D.state disk.old).files (D.state disk.new).files }
 {
-    cells_have_lengths();
-    cells_have_parts();
-    digests_are_counted();
-    ledgers_have_one_reading();
-    parts_record_more();
-    closed_are_placed();
-    names_stay_own();
-    limits_stay();
-    runs_are_longest();
-    closed_are_next();
-    closed_are_parts();
-    filled_are_counted();
-    kept_with_more();
-    last_is_the_machines();
+    close_laws();
     let shape = work.ledger.shape();
     let Some(mut kept) = work.slots[slot as usize].take() else {
         unreachable!()
@@ -151,29 +177,22 @@ fn close_open<D: Disk>(disk: &mut D, work: &mut Work, slot: u8) -> Result<Stored
     }
     let count = work.heads.next_node() - 1 - work.ledger.lattice().n();
     let nodes = nodes_taken(&shape, kept.length);
-    let Slot {
-        name,
-        parts,
-        length,
-        hasher,
-        ..
-    } = kept;
-    let digest = hasher.finalize();
+    let digest = kept.hasher.finalize();
     match commit_parts(
         &mut work.ledger,
         disk,
-        name.bytes(),
-        length,
+        kept.name.bytes(),
+        kept.length,
         digest,
         count,
         work.digests.as_slice(),
-        parts.as_slice(),
+        kept.parts.as_slice(),
     ) {
         Ok(()) => {
             work.digests.clear();
             Ok(Stored {
                 nodes,
-                length,
+                length: kept.length,
                 digest,
             })
         }

@@ -41,7 +41,7 @@ mod take;
 mod work;
 
 pub use begin::BeginFault;
-pub use fault::{StepFault, TakeFault};
+pub use fault::TakeFault;
 pub use laws::{served_are_after, served_as_one, served_in_two};
 pub use serving::{Stop, serve};
 pub use session::Session;

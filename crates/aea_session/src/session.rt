@@ -131,7 +131,7 @@ impl Session {
     /// of a chunk is woven, and its cell written, when the chunk is taken; a close makes the cells of all blocks that were woven
     /// since the last one sure, and then records them in one commit, before it replies. After a fault the session is of no use.
     /// It takes memory as the message does: an open that of the name, some 120 bytes and a block; a chunk 32 bytes for each block
-    /// that is woven, up to four times that while the list grows, and 8 for each part; a close that of the name, the parts and the
+    /// that is woven, up to three times that while the list grows and once more until it is taken, and 8 for each part; a close that of the name, the parts and the
     /// digests in the ledger; a read 64 KiB and a patrol 4 bytes a block while they last.
     pub fn take<D: Disk, O: Sink>(
         &mut self,

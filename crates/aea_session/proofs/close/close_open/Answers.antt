@@ -59,7 +59,7 @@ returns-in-Err-clause-stopped g c is told m kept =
     let es = c.weave_rest.new.digests.items in
     let bad = c.weave_rest.result ≡ Err DiskFault in
     let cells : Cells tells bad v old mid = subst (λ (x : Shape). WritesCells tells x raised_limit (λ a. a.node ≢ v.heads.lattice.n + 1) bad old mid) c.shape-shape.ensures.value c.weave_rest.ensures.writes in
-    inl (adds_none c.ledgers_have_one_reading.ensures tells bad told v m old mid (c.requires.fixed told) cells)
+    inl (adds_none c.close_laws.ensures.ledgers_have_one_reading tells bad told v m old mid (c.requires.fixed told) cells)
 
 pub returns-in-Err-clause-quiet : goal.returns-in-Err-clause-quiet
 returns-in-Err-clause-quiet g c is told =
@@ -125,8 +125,8 @@ nodes_taken-nodes-requires g c =
     let there : slice_index_or v.slots slot None ≡ Some s = sym (get_or_read v.slots _ _ (omega (arith, many, below)) c.index-work-slot.is None) ∙ c.index-work-slot.is ∙ sym c.take.ensures.value ∙ c.in-Some.is in
     let o = opened_of v m slot s kept there in
     let f : Finishes tells v.ledger.shape v.heads k s t v.digests.items es old.files mid.files = subst (λ (x : Shape). Finishes tells x v.heads k s t v.digests.items es old.files mid.files) c.shape-shape.ensures.value c.in-Ok.ensures.finishes in
-    let ready : Readied tells v m o.upload t k es mid.files = ready_of c.last_is_the_machines.ensures c.filled_are_counted.ensures tells v m slot s t k es old.files mid.files kept c.requires.this c.requires.may there f o in
-    record { few = subst (λ (x : Shape). nodes_for x t.length ≤ greatest_nodes) (sym c.shape-shape.ensures.value) (nodes_few tells v m slot s t k es mid.files kept o ready c.closed_are_parts.ensures) }
+    let ready : Readied tells v m o.upload t k es mid.files = ready_of c.close_laws.ensures.last_is_the_machines c.close_laws.ensures.filled_are_counted tells v m slot s t k es old.files mid.files kept c.requires.this c.requires.may there f o in
+    record { few = subst (λ (x : Shape). nodes_for x t.length ≤ greatest_nodes) (sym c.shape-shape.ensures.value) (nodes_few tells v m slot s t k es mid.files kept o ready c.close_laws.ensures.closed_are_parts) }
 
 pub commit_parts-requires-clause-name : goal.commit_parts-requires-clause-name
 commit_parts-requires-clause-name g c =
@@ -147,7 +147,7 @@ commit_parts-requires-clause-name g c =
     let there : slice_index_or v.slots slot None ≡ Some s = sym (get_or_read v.slots _ _ (omega (arith, many, below)) c.index-work-slot.is None) ∙ c.index-work-slot.is ∙ sym c.take.ensures.value ∙ c.in-Some.is in
     let o = opened_of v m slot s kept there in
     let f : Finishes tells v.ledger.shape v.heads k s t v.digests.items es old.files mid.files = subst (λ (x : Shape). Finishes tells x v.heads k s t v.digests.items es old.files mid.files) c.shape-shape.ensures.value c.in-Ok.ensures.finishes in
-    let ready : Readied tells v m o.upload t k es mid.files = ready_of c.last_is_the_machines.ensures c.filled_are_counted.ensures tells v m slot s t k es old.files mid.files kept c.requires.this c.requires.may there f o in
+    let ready : Readied tells v m o.upload t k es mid.files = ready_of c.close_laws.ensures.last_is_the_machines c.close_laws.ensures.filled_are_counted tells v m slot s t k es old.files mid.files kept c.requires.this c.requires.may there f o in
     subst IsName (sym c.bytes.ensures) (named tells v m slot s t k es mid.files kept o ready)
 
 pub commit_parts-requires-clause-absent : goal.commit_parts-requires-clause-absent
@@ -169,7 +169,7 @@ commit_parts-requires-clause-absent g c =
     let there : slice_index_or v.slots slot None ≡ Some s = sym (get_or_read v.slots _ _ (omega (arith, many, below)) c.index-work-slot.is None) ∙ c.index-work-slot.is ∙ sym c.take.ensures.value ∙ c.in-Some.is in
     let o = opened_of v m slot s kept there in
     let f : Finishes tells v.ledger.shape v.heads k s t v.digests.items es old.files mid.files = subst (λ (x : Shape). Finishes tells x v.heads k s t v.digests.items es old.files mid.files) c.shape-shape.ensures.value c.in-Ok.ensures.finishes in
-    let ready : Readied tells v m o.upload t k es mid.files = ready_of c.last_is_the_machines.ensures c.filled_are_counted.ensures tells v m slot s t k es old.files mid.files kept c.requires.this c.requires.may there f o in
+    let ready : Readied tells v m o.upload t k es mid.files = ready_of c.close_laws.ensures.last_is_the_machines c.close_laws.ensures.filled_are_counted tells v m slot s t k es old.files mid.files kept c.requires.this c.requires.may there f o in
     ap (get v.ledger.objects) c.bytes.ensures ∙ absent tells v m slot s t k es mid.files kept o ready
 
 pub commit_parts-requires-clause-parts : goal.commit_parts-requires-clause-parts
@@ -191,12 +191,12 @@ commit_parts-requires-clause-parts g c =
     let there : slice_index_or v.slots slot None ≡ Some s = sym (get_or_read v.slots _ _ (omega (arith, many, below)) c.index-work-slot.is None) ∙ c.index-work-slot.is ∙ sym c.take.ensures.value ∙ c.in-Some.is in
     let o = opened_of v m slot s kept there in
     let f : Finishes tells v.ledger.shape v.heads k s t v.digests.items es old.files mid.files = subst (λ (x : Shape). Finishes tells x v.heads k s t v.digests.items es old.files mid.files) c.shape-shape.ensures.value c.in-Ok.ensures.finishes in
-    let ready : Readied tells v m o.upload t k es mid.files = ready_of c.last_is_the_machines.ensures c.filled_are_counted.ensures tells v m slot s t k es old.files mid.files kept c.requires.this c.requires.may there f o in
+    let ready : Readied tells v m o.upload t k es mid.files = ready_of c.close_laws.ensures.last_is_the_machines c.close_laws.ensures.filled_are_counted tells v m slot s t k es old.files mid.files kept c.requires.this c.requires.may there f o in
     let count : ℕ = c.next_node.result - 1 - c.n.result in
     let node : c.next_node.result ≡ k.lattice.n + 1 = c.next_node.ensures in
     let n : c.n.result ≡ v.ledger.lattice.n = c.n.ensures ∙ ap (λ (l : Lattice). l.n) c.lattice.ensures.value in
     let counted : count ≡ length (more_of v.ledger.shape m o.upload) = (let e = count_is tells v m slot s t k es mid.files kept o ready in omega (arith, e, node, n)) in
-    subst (λ (l : List Extent). IsTrue (are_parts v.ledger.shape t.length (v.ledger.lattice.n + count) l)) (sym c.as_slice-2.ensures.value) (are_in_parts tells v m slot s t k es mid.files kept o ready c.closed_are_parts.ensures count counted)
+    subst (λ (l : List Extent). IsTrue (are_parts v.ledger.shape t.length (v.ledger.lattice.n + count) l)) (sym c.as_slice-2.ensures.value) (are_in_parts tells v m slot s t k es mid.files kept o ready c.close_laws.ensures.closed_are_parts count counted)
 
 pub commit_parts-requires-clause-digests : goal.commit_parts-requires-clause-digests
 commit_parts-requires-clause-digests g c =
@@ -217,7 +217,7 @@ commit_parts-requires-clause-digests g c =
     let there : slice_index_or v.slots slot None ≡ Some s = sym (get_or_read v.slots _ _ (omega (arith, many, below)) c.index-work-slot.is None) ∙ c.index-work-slot.is ∙ sym c.take.ensures.value ∙ c.in-Some.is in
     let o = opened_of v m slot s kept there in
     let f : Finishes tells v.ledger.shape v.heads k s t v.digests.items es old.files mid.files = subst (λ (x : Shape). Finishes tells x v.heads k s t v.digests.items es old.files mid.files) c.shape-shape.ensures.value c.in-Ok.ensures.finishes in
-    let ready : Readied tells v m o.upload t k es mid.files = ready_of c.last_is_the_machines.ensures c.filled_are_counted.ensures tells v m slot s t k es old.files mid.files kept c.requires.this c.requires.may there f o in
+    let ready : Readied tells v m o.upload t k es mid.files = ready_of c.close_laws.ensures.last_is_the_machines c.close_laws.ensures.filled_are_counted tells v m slot s t k es old.files mid.files kept c.requires.this c.requires.may there f o in
     let count : ℕ = c.next_node.result - 1 - c.n.result in
     let node : c.next_node.result ≡ k.lattice.n + 1 = c.next_node.ensures in
     let n : c.n.result ≡ v.ledger.lattice.n = c.n.ensures ∙ ap (λ (l : Lattice). l.n) c.lattice.ensures.value in
@@ -271,7 +271,7 @@ returns-in-Ok-commit_parts-clause-steps g c m kept =
     let there : slice_index_or v.slots slot None ≡ Some s = sym (get_or_read v.slots _ _ (omega (arith, many, below)) c.index-work-slot.is None) ∙ c.index-work-slot.is ∙ sym c.take.ensures.value ∙ c.in-Some.is in
     let o = opened_of v m slot s kept there in
     let f : Finishes tells v.ledger.shape v.heads k s t v.digests.items es old.files mid.files = subst (λ (x : Shape). Finishes tells x v.heads k s t v.digests.items es old.files mid.files) c.shape-shape.ensures.value c.in-Ok.ensures.finishes in
-    let ready : Readied tells v m o.upload t k es mid.files = ready_of c.last_is_the_machines.ensures c.filled_are_counted.ensures tells v m slot s t k es old.files mid.files kept c.requires.this c.requires.may there f o in
+    let ready : Readied tells v m o.upload t k es mid.files = ready_of c.close_laws.ensures.last_is_the_machines c.close_laws.ensures.filled_are_counted tells v m slot s t k es old.files mid.files kept c.requires.this c.requires.may there f o in
     let count : ℕ = c.next_node.result - 1 - c.n.result in
     let node : c.next_node.result ≡ k.lattice.n + 1 = c.next_node.ensures in
     let n : c.n.result ≡ v.ledger.lattice.n = c.n.ensures ∙ ap (λ (l : Lattice). l.n) c.lattice.ensures.value in
@@ -287,8 +287,8 @@ returns-in-Ok-commit_parts-clause-steps g c m kept =
     steps_after tells v m slot o.upload t k es mid.files ready digest hashed count counted kept c.requires.may o.there _ c.in-Ok-commit_parts.ensures.shape c.shape-shape.ensures.records
     (λ records has. subst (λ (r : Record). HasRecords c.commit_parts.new.ledger (records ++ r ∷ [])) is (c.in-Ok-commit_parts.ensures.value records has))
     refl c.clear.ensures.items (ap (slice_set v.slots slot) c.take.ensures.after) c.weave_rest.ensures.cell
-    c.kept_with_more.ensures c.closed_are_placed.ensures c.names_stay_own.ensures c.limits_stay.ensures c.closed_are_next.ensures c.parts_record_more.ensures _
-    (c.nodes_taken-nodes.ensures ∙ ap (λ (x : Shape). nodes_for x t.length) c.shape-shape.ensures.value ∙ nodes_are tells v m slot s t k es mid.files kept o ready c.closed_are_parts.ensures c.runs_are_longest.ensures) refl refl
+    c.close_laws.ensures.kept_with_more c.close_laws.ensures.closed_are_placed c.close_laws.ensures.names_stay_own c.close_laws.ensures.limits_stay c.close_laws.ensures.closed_are_next c.close_laws.ensures.parts_record_more _
+    (c.nodes_taken-nodes.ensures ∙ ap (λ (x : Shape). nodes_for x t.length) c.shape-shape.ensures.value ∙ nodes_are tells v m slot s t k es mid.files kept o ready c.close_laws.ensures.closed_are_parts c.close_laws.ensures.runs_are_longest) refl refl
 
 pub returns-in-Ok-commit_parts-clause-closed : goal.returns-in-Ok-commit_parts-clause-closed
 returns-in-Ok-commit_parts-clause-closed g c told m kept =
@@ -308,7 +308,7 @@ returns-in-Ok-commit_parts-clause-closed g c told m kept =
     let there : slice_index_or v.slots slot None ≡ Some s = sym (get_or_read v.slots _ _ (omega (arith, many, below)) c.index-work-slot.is None) ∙ c.index-work-slot.is ∙ sym c.take.ensures.value ∙ c.in-Some.is in
     let o = opened_of v m slot s kept there in
     let f : Finishes tells v.ledger.shape v.heads k s t v.digests.items es old.files mid.files = subst (λ (x : Shape). Finishes tells x v.heads k s t v.digests.items es old.files mid.files) c.shape-shape.ensures.value c.in-Ok.ensures.finishes in
-    let ready : Readied tells v m o.upload t k es mid.files = ready_of c.last_is_the_machines.ensures c.filled_are_counted.ensures tells v m slot s t k es old.files mid.files kept c.requires.this c.requires.may there f o in
+    let ready : Readied tells v m o.upload t k es mid.files = ready_of c.close_laws.ensures.last_is_the_machines c.close_laws.ensures.filled_are_counted tells v m slot s t k es old.files mid.files kept c.requires.this c.requires.may there f o in
     let count : ℕ = c.next_node.result - 1 - c.n.result in
     let node : c.next_node.result ≡ k.lattice.n + 1 = c.next_node.ensures in
     let n : c.n.result ≡ v.ledger.lattice.n = c.n.ensures ∙ ap (λ (l : Lattice). l.n) c.lattice.ensures.value in
@@ -322,10 +322,10 @@ returns-in-Ok-commit_parts-clause-closed g c told m kept =
     let given : Record = Joined (next_stored v.ledger c.bytes.result.now t.length digest count c.as_slice.result.now) c.as_slice-2.result.now in
     let is : given ≡ joined_by v.ledger t digest count es = λ i. Joined (next_stored v.ledger (nm i) t.length digest count (dg i)) (pt i) in
     closed_as v _ m _ _ old new (closing_is tells v m slot s t k es mid.files kept o ready c.requires.may)
-    (has_closed c.cells_have_lengths.ensures c.cells_have_parts.ensures c.ledgers_have_one_reading.ensures c.closed_are_next.ensures c.parts_record_more.ensures tells bad _ _ _ told v m o.upload t k es old mid new ready digest hashed count counted (c.requires.fixed told) cells c.commit_parts.ensures.writes
+    (has_closed c.close_laws.ensures.cells_have_lengths c.close_laws.ensures.cells_have_parts c.close_laws.ensures.ledgers_have_one_reading c.close_laws.ensures.closed_are_next c.close_laws.ensures.parts_record_more tells bad _ _ _ told v m o.upload t k es old mid new ready digest hashed count counted (c.requires.fixed told) cells c.commit_parts.ensures.writes
     (λ records payload its at. subst (λ (r : Record). Adds v.ledger.shape records (r ∷ []) payload mid new) is (c.commit_parts.ensures.adds told records payload its at))
     (subst (λ (r : Record). length (new.files 0) ≤ max (length (mid.files 0)) (v.ledger.end + length (entry r) + 1)) is (c.commit_parts.ensures.long told))
-    _ c.digests_are_counted.ensures c.in-Ok-commit_parts.ensures.shape c.shape-shape.ensures.records
+    _ c.close_laws.ensures.digests_are_counted c.in-Ok-commit_parts.ensures.shape c.shape-shape.ensures.records
     (λ records has. subst (λ (r : Record). HasRecords c.commit_parts.new.ledger (records ++ r ∷ [])) is (c.in-Ok-commit_parts.ensures.value records has))
     (λ records its. subst (λ (r : Record). HasLedger v.ledger.shape (records ++ r ∷ []) (new.files 0)) is (c.in-Ok-commit_parts.ensures.appended told records its))
     (subst (λ (r : Record). new.files 0 ≡ committed (mid.files 0) v.ledger.end (body r ++ 0 ∷ [])) is (c.in-Ok-commit_parts.ensures.exactly told)) (c.in-Ok-commit_parts.ensures.durable told))
@@ -349,7 +349,7 @@ returns-in-Ok-commit_parts-clause-this g c told =
     let there : slice_index_or v.slots slot None ≡ Some s = sym (get_or_read v.slots _ _ (omega (arith, many, below)) c.index-work-slot.is None) ∙ c.index-work-slot.is ∙ sym c.take.ensures.value ∙ c.in-Some.is in
     let o = opened_of v m slot s kept there in
     let f : Finishes tells v.ledger.shape v.heads k s t v.digests.items es old.files mid.files = subst (λ (x : Shape). Finishes tells x v.heads k s t v.digests.items es old.files mid.files) c.shape-shape.ensures.value c.in-Ok.ensures.finishes in
-    let ready : Readied tells v m o.upload t k es mid.files = ready_of c.last_is_the_machines.ensures c.filled_are_counted.ensures tells v m slot s t k es old.files mid.files kept c.requires.this c.requires.may there f o in
+    let ready : Readied tells v m o.upload t k es mid.files = ready_of c.close_laws.ensures.last_is_the_machines c.close_laws.ensures.filled_are_counted tells v m slot s t k es old.files mid.files kept c.requires.this c.requires.may there f o in
     let count : ℕ = c.next_node.result - 1 - c.n.result in
     let node : c.next_node.result ≡ k.lattice.n + 1 = c.next_node.ensures in
     let n : c.n.result ≡ v.ledger.lattice.n = c.n.ensures ∙ ap (λ (l : Lattice). l.n) c.lattice.ensures.value in
@@ -387,7 +387,7 @@ returns-in-Ok-commit_parts-clause-writes g c =
     let there : slice_index_or v.slots slot None ≡ Some s = sym (get_or_read v.slots _ _ (omega (arith, many, below)) c.index-work-slot.is None) ∙ c.index-work-slot.is ∙ sym c.take.ensures.value ∙ c.in-Some.is in
     let o = opened_of v m slot s kept there in
     let f : Finishes tells v.ledger.shape v.heads k s t v.digests.items es old.files mid.files = subst (λ (x : Shape). Finishes tells x v.heads k s t v.digests.items es old.files mid.files) c.shape-shape.ensures.value c.in-Ok.ensures.finishes in
-    let ready : Readied tells v m o.upload t k es mid.files = ready_of c.last_is_the_machines.ensures c.filled_are_counted.ensures tells v m slot s t k es old.files mid.files kept c.requires.this c.requires.may there f o in
+    let ready : Readied tells v m o.upload t k es mid.files = ready_of c.close_laws.ensures.last_is_the_machines c.close_laws.ensures.filled_are_counted tells v m slot s t k es old.files mid.files kept c.requires.this c.requires.may there f o in
     let count : ℕ = c.next_node.result - 1 - c.n.result in
     let node : c.next_node.result ≡ k.lattice.n + 1 = c.next_node.ensures in
     let n : c.n.result ≡ v.ledger.lattice.n = c.n.ensures ∙ ap (λ (l : Lattice). l.n) c.lattice.ensures.value in
@@ -437,7 +437,7 @@ returns-in-Err-DiskFault-clause-stopped g c _ told m kept =
     let there : slice_index_or v.slots slot None ≡ Some s = sym (get_or_read v.slots _ _ (omega (arith, many, below)) c.index-work-slot.is None) ∙ c.index-work-slot.is ∙ sym c.take.ensures.value ∙ c.in-Some.is in
     let o = opened_of v m slot s kept there in
     let f : Finishes tells v.ledger.shape v.heads k s t v.digests.items es old.files mid.files = subst (λ (x : Shape). Finishes tells x v.heads k s t v.digests.items es old.files mid.files) c.shape-shape.ensures.value c.in-Ok.ensures.finishes in
-    let ready : Readied tells v m o.upload t k es mid.files = ready_of c.last_is_the_machines.ensures c.filled_are_counted.ensures tells v m slot s t k es old.files mid.files kept c.requires.this c.requires.may there f o in
+    let ready : Readied tells v m o.upload t k es mid.files = ready_of c.close_laws.ensures.last_is_the_machines c.close_laws.ensures.filled_are_counted tells v m slot s t k es old.files mid.files kept c.requires.this c.requires.may there f o in
     let count : ℕ = c.next_node.result - 1 - c.n.result in
     let node : c.next_node.result ≡ k.lattice.n + 1 = c.next_node.ensures in
     let n : c.n.result ≡ v.ledger.lattice.n = c.n.ensures ∙ ap (λ (l : Lattice). l.n) c.lattice.ensures.value in
@@ -453,7 +453,7 @@ returns-in-Err-DiskFault-clause-stopped g c _ told m kept =
     subst (λ (cl : List Closing). MayHaveClosed v m cl old new) (sym (closing_is tells v m slot s t k es mid.files kept o ready c.requires.may))
     (inr (
       joined_by v.ledger t digest count es,
-      adds_closes c.cells_have_lengths.ensures c.cells_have_parts.ensures c.ledgers_have_one_reading.ensures c.closed_are_next.ensures c.parts_record_more.ensures tells bad _ _ _ told v m o.upload t k es old mid new ready digest hashed count counted (c.requires.fixed told) cells c.commit_parts.ensures.writes
+      adds_closes c.close_laws.ensures.cells_have_lengths c.close_laws.ensures.cells_have_parts c.close_laws.ensures.ledgers_have_one_reading c.close_laws.ensures.closed_are_next c.close_laws.ensures.parts_record_more tells bad _ _ _ told v m o.upload t k es old mid new ready digest hashed count counted (c.requires.fixed told) cells c.commit_parts.ensures.writes
           (λ records payload its at. subst (λ (r : Record). Adds v.ledger.shape records (r ∷ []) payload mid new) is (c.commit_parts.ensures.adds told records payload its at))
           (subst (λ (r : Record). length (new.files 0) ≤ max (length (mid.files 0)) (v.ledger.end + length (entry r) + 1)) is (c.commit_parts.ensures.long told)),
     ))
@@ -478,7 +478,7 @@ returns-in-Err-DiskFault-clause-writes g c =
     let there : slice_index_or v.slots slot None ≡ Some s = sym (get_or_read v.slots _ _ (omega (arith, many, below)) c.index-work-slot.is None) ∙ c.index-work-slot.is ∙ sym c.take.ensures.value ∙ c.in-Some.is in
     let o = opened_of v m slot s kept there in
     let f : Finishes tells v.ledger.shape v.heads k s t v.digests.items es old.files mid.files = subst (λ (x : Shape). Finishes tells x v.heads k s t v.digests.items es old.files mid.files) c.shape-shape.ensures.value c.in-Ok.ensures.finishes in
-    let ready : Readied tells v m o.upload t k es mid.files = ready_of c.last_is_the_machines.ensures c.filled_are_counted.ensures tells v m slot s t k es old.files mid.files kept c.requires.this c.requires.may there f o in
+    let ready : Readied tells v m o.upload t k es mid.files = ready_of c.close_laws.ensures.last_is_the_machines c.close_laws.ensures.filled_are_counted tells v m slot s t k es old.files mid.files kept c.requires.this c.requires.may there f o in
     let count : ℕ = c.next_node.result - 1 - c.n.result in
     let node : c.next_node.result ≡ k.lattice.n + 1 = c.next_node.ensures in
     let n : c.n.result ≡ v.ledger.lattice.n = c.n.ensures ∙ ap (λ (l : Lattice). l.n) c.lattice.ensures.value in
@@ -532,7 +532,7 @@ returns-in-Err-NoMemory-clause-writes g c =
     let there : slice_index_or v.slots slot None ≡ Some s = sym (get_or_read v.slots _ _ (omega (arith, many, below)) c.index-work-slot.is None) ∙ c.index-work-slot.is ∙ sym c.take.ensures.value ∙ c.in-Some.is in
     let o = opened_of v m slot s kept there in
     let f : Finishes tells v.ledger.shape v.heads k s t v.digests.items es old.files mid.files = subst (λ (x : Shape). Finishes tells x v.heads k s t v.digests.items es old.files mid.files) c.shape-shape.ensures.value c.in-Ok.ensures.finishes in
-    let ready : Readied tells v m o.upload t k es mid.files = ready_of c.last_is_the_machines.ensures c.filled_are_counted.ensures tells v m slot s t k es old.files mid.files kept c.requires.this c.requires.may there f o in
+    let ready : Readied tells v m o.upload t k es mid.files = ready_of c.close_laws.ensures.last_is_the_machines c.close_laws.ensures.filled_are_counted tells v m slot s t k es old.files mid.files kept c.requires.this c.requires.may there f o in
     let count : ℕ = c.next_node.result - 1 - c.n.result in
     let node : c.next_node.result ≡ k.lattice.n + 1 = c.next_node.ensures in
     let n : c.n.result ≡ v.ledger.lattice.n = c.n.ensures ∙ ap (λ (l : Lattice). l.n) c.lattice.ensures.value in

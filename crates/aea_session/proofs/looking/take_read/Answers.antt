@@ -1,4 +1,6 @@
-use Rattle.std.proofs.Common.{◌≡◌, ap}
+use Rattle.std.proofs.Common.{◌≡◌, sym, ap, subst}
+use Rattle.aea_messages.specs.declared.message.Message.{Message}
+use Rattle.aea_session.specs.Takes.{IsRead}
 use Rattle.aea_session.proofs.Watching.{read_looks, takes_looked}
 use Rattle.aea_session.proofs.looking.take_read.Goals as goal
 
@@ -13,7 +15,7 @@ returns g c = record {
         replies = c.read.ensures.replies;
         flushed = c.read.ensures.flushed;
         part = c.read.ensures.part;
-        damaged = λ b is. (c.read.ensures.damaged b is).1;
+        damaged = λ b is. let by = c.read.ensures.damaged b is in (subst (λ (m : Message). IsRead c.args.work.now m b) (sym c.requires.kind) by.0, by.1);
         reads = c.read.ensures.reads;
         out_kept = c.read.ensures.out_kept;
         out_cause = c.read.ensures.out_cause;

@@ -57,11 +57,11 @@ pub enum Refusal {
     /// A data block of the object is not determined by the intact blocks: the first one, with the nodes of a codeword that
     /// contains it and touches no intact block.
     Undetermined { block: BlockId, nodes: NodeList },
-    /// The limit on nodes was not raised. No command returns it yet.
+    /// The limit on nodes was not raised.
     NotUpgraded,
-    /// At this byte of the input, counted from 0, there is no message. No command returns it yet.
+    /// At this byte of the input, counted from 0, there is no message.
     BadMessage { at: u64 },
-    /// There is a message more than a session takes, which are 16,777,216. No command returns it yet.
+    /// There is a message more than a session takes, which are 16,777,216.
     TooManyMessages,
     /// The archive has copies of its ledger. No command returns it yet.
     CopiesAreOn,

@@ -38,7 +38,7 @@ use Rattle.aea_session.specs.declared.work.Work.{Work}
 use Rattle.aea_session.specs.Closes.{AddsCloses, HasClosed, HasCloseRoom}
 use Rattle.aea_session.proofs.CloseSteps.{the_closing}
 use Rattle.aea_session.proofs.CloseWoven.{Readied, more_of}
-use Rattle.aea_session.proofs.CloseHomes.{homes_are, digests_are, held_are}
+use Rattle.aea_session.proofs.CloseHomes.{homes_are, digests_are, held_are, wides_are}
 use Rattle.aea_session.proofs.CloseRecord.{stored_by, joined_by, joined_is, next_closed, more_recorded, nodes_to, digests_to}
 use Rattle.aea_session.proofs.Taking.{adds_none as adds_nothing_more}
 
@@ -158,6 +158,7 @@ module _ (lengths : CellsHaveLengths) (parts : CellsHaveParts) (one : HasOneRead
       next_closed tells v m u t k es mid.files ready digest hashed count counted (payload_at v.ledger.shape mid.files) (digests_are lengths parts tells v.ledger.shape v.ledger.lattice.n k.lattice.n es mid.files told ready.intact),
       refl,
     );
+    wide = wides_are lengths parts tells v.ledger.shape v.ledger.lattice.n k.lattice.n es mid.files told ready.intact;
     adds = λ records its.
         adds_close one tells first second taken fits told v records r (payload_at v.ledger.shape mid.files) old mid new its fixed cells commit
         (commit_adds records (payload_at v.ledger.shape mid.files) (its_later tells first told v records old mid cells its)

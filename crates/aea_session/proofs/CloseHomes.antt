@@ -16,12 +16,14 @@ use Rattle.aea_shelf.proofs.Runs.{no_home_in_ledger, synced_held}
 use Rattle.aea_archive.specs.Blocks.{IsBlockOn, IsHeldBy, recorded_in}
 use Rattle.aea_archive.specs.Cells.{AreAtHome}
 use Rattle.aea_archive.specs.Next.{AreDigestsOn}
+use Rattle.aea_append.specs.Puts.{AreBlocksWide}
 use Rattle.aea_append.specs.Weaving.{AreIntactOn}
 
--- The payload that stands at the home of an intact block has the digest, and its cell is there.
+-- The payload that stands at the home of an intact block has the digest and the bytes of a block, and its cell is there.
 pub record Stands (shape : Shape) (b : BlockId) (recorded : List ℕ) (c : Files) : Type 0 where
   pub cell : HasAtHome shape b (cell_of b (payload_at shape c b)) c
   pub digest : block_digest b (payload_at shape c b) ≡ recorded
+  pub wide : length (payload_at shape c b) ≡ shape.block
 
 pub intact_stands : CellsHaveLengths → CellsHaveParts → (shape : Shape) (b : BlockId) (recorded : List ℕ) (c : Files) → IsIntact shape b recorded c → Stands shape b recorded c
 intact_stands lengths parts shape b recorded c intact =
@@ -35,11 +37,15 @@ intact_stands lengths parts shape b recorded c intact =
     record {
       cell = subst (λ (l : List ℕ). HasAtHome shape b l c) (cell ∙ ap (cell_of b) (sym is)) (at_intact shape b recorded c intact);
       digest = ap (block_digest b) is ∙ intact.here.digest;
+      wide = ap length is ∙ long;
     }
 
 module _ (lengths : CellsHaveLengths) (parts : CellsHaveParts) (tells : Type 0) (shape : Shape) (before last : ℕ) (digests : List (List ℕ)) (c : Files) (told : tells) (are : AreIntactOn tells shape before last digests c) where
   pub homes_are : AreAtHome shape before last (payload_at shape c) c
   homes_are b on = (intact_stands lengths parts shape b _ c (are.each told b on)).cell
+
+  pub wides_are : AreBlocksWide shape before last (payload_at shape c)
+  wides_are b on = (intact_stands lengths parts shape b _ c (are.each told b on)).wide
 
   pub digests_are : AreDigestsOn shape before last (payload_at shape c) digests
   digests_are = record { long = are.long; each = λ b on. sym (intact_stands lengths parts shape b _ c (are.each told b on)).digest }

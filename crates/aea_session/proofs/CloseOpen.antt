@@ -25,7 +25,7 @@ use Rattle.aea_uploads.specs.Gathering.{Finishes}
 use Rattle.aea_uploads.specs.Laws.{ClosedAreParts, FilledAreCounted, LastIsTheMachines}
 use Rattle.aea_uploads.specs.Slots.{Keeps, KeepsSome}
 use Rattle.aea_session.specs.declared.work.Work.{Work}
-use Rattle.aea_session.specs.Closes.{HasCloseRoom}
+use Rattle.aea_session.specs.Closes.{close_entry, HasCloseRoom}
 use Rattle.aea_session.specs.May.{MayClose}
 use Rattle.aea_session.specs.Stands.{IsKept, KeepsMachine, IsTheSessions}
 use Rattle.aea_session.proofs.CloseSteps.{the_closing, closing-made}
@@ -118,11 +118,22 @@ module _ (tells : Type 0) (v : Work) (m : Machine) (slot : ℕ) (s t : Slot) (k 
   pub closing_is : MayClose v slot → closing_in shape m (Close slot) ≡ the_closing shape m o.upload ∷ []
   closing_is may = closing-made shape m slot o.upload may.below o.there (λ e. may.few (ap (λ (os : Objects). len os) (sym kept.objects) ∙ e)) ready.fits
 
-  -- and the space for its record
-  pub room_is : MayClose v slot → (old : State) (long : ℕ) → long ≡ 60 + length t.name + 8 * length t.parts.items + 32 * length es → HasCloseRoom v slot old → FitsAdding old 1 (v.ledger.end + long)
-  room_is may old long size room =
+  -- its entry is as long as that of the record
+  entry_is : (long : ℕ) → long ≡ 60 + length t.name + 8 * length t.parts.items + 32 * length es → close_entry shape (the_closing shape m o.upload) ≡ long
+  entry_is long size =
       let names = ap length ready.closes.name in
       let runs = ap length ready.closes.parts in
       let digests = ready.long in
-      subst (FitsAdding old 1) (let e : v.ledger.end + (60 + length o.upload.name + 8 * length (runs_of (closed_nodes shape m o.upload)) + 32 * (length (more_of shape m o.upload) * (1 + shape.alpha))) ≡ v.ledger.end + long = omega (arith, size, names, runs, digests) in e)
-      (room.ledger m (the_closing shape m o.upload) kept (closing_is may))
+      let e : 60 + length o.upload.name + 8 * length (runs_of (closed_nodes shape m o.upload)) + 32 * (length (more_of shape m o.upload) * (1 + shape.alpha)) ≡ long = omega (arith, size, names, runs, digests) in
+      e
+
+-- the space for the close has that for its record, whichever state of the machine it was asked of
+pub room_is : LastIsTheMachines → FilledAreCounted → (tells : Type 0) (v : Work) (slot : ℕ) (s t : Slot) (k : Woven) (es : List (List ℕ)) (old : State) (mid : Files) → (tells → IsTheSessions v old.files) → MayClose v slot
+    → slice_index_or v.slots slot None ≡ Some s → Finishes tells v.ledger.shape v.heads k s t v.digests.items es old.files mid → (long : ℕ) → long ≡ 60 + length t.name + 8 * length t.parts.items + 32 * length es
+    → HasCloseRoom v slot old → FitsAdding old 1 (v.ledger.end + long)
+room_is last counted tells v slot s t k es old mid this may there f long size room =
+    let m : Machine = room.machine in
+    let o = opened_of v m slot s room.keeps there in
+    let ready = ready_of last counted tells v m slot s t k es old.files mid room.keeps this may there f o in
+    subst (λ (n : ℕ). FitsAdding old 1 (v.ledger.end + n)) (entry_is tells v m slot s t k es mid room.keeps o ready long size)
+    (room.ledger (the_closing v.ledger.shape m o.upload) (closing_is tells v m slot s t k es mid room.keeps o ready may))

@@ -28,6 +28,7 @@ use Rattle.aea_append.specs.Weaving.{IsWovenOf}
 use Rattle.aea_uploads.specs.declared.slot.Slot.{Slot}
 use Rattle.aea_uploads.specs.Laws.{ClosedAreNext}
 use Rattle.aea_session.specs.declared.work.Work.{Work}
+use Rattle.aea_session.specs.Closes.{IsRecordOfClose, GoesOn}
 use Rattle.aea_session.proofs.CloseSteps.{the_closing}
 use Rattle.aea_session.proofs.CloseWoven.{Readied, more_of}
 
@@ -67,6 +68,13 @@ module _ (tells : Type 0) (v : Work) (m : Machine) (u : Upload) (t : Slot) (k : 
     grown = subst (λ (n : ℕ). IsGrown v.ledger.lattice (v.ledger.lattice.n + n) k.lattice) (sym counted) ready.grown;
     digests = digests;
   }
+
+  -- whatever the payloads are, it is that of the close, by which the ledger goes on
+  pub record_is : IsRecordOfClose (the_closing v.ledger.shape m u) joined
+  record_is = (stored, joined_is, ready.closes.name, ready.closes.long, hashed, counted)
+
+  pub goes_on : (w : Opened) (records : List Record) → HasRecords w (records ++ joined ∷ []) → GoesOn v.ledger w (the_closing v.ledger.shape m u ∷ []) records
+  goes_on w records new = record { added = joined ∷ []; are = (record_is, tt); has = new }
 
   -- and where the session stands for X and W it is the next one in its parts
   pub next_parts : ClosedAreNext → IsWovenOf v.ledger.shape v.ledger.lattice v.heads m.datas m.woven v.digests.items

@@ -4,13 +4,13 @@ use Rattle.std.specs.Prelude.{IfOk, IfErr, OnOk, option_map}
 use Rattle.std.specs.FinMap.{get}
 use Rattle.std.specs.Int.{w32, w64, to_be_bytes}
 use Rattle.std.specs.Io.KnownBytes.{Appends}
-use Rattle.std.proofs.KnownBytes.{Appends-trans}
 use Rattle.std.proofs.lemmas.List.{append-nil}
 use Rattle.std.proofs.lemmas.Bool.{false≢true}
 use Rattle.aea_faults.specs.Faults.{Rose}
 use Rattle.aea_io.specs.Streams.{SinkState}
 use Rattle.aea_io.specs.Written.{AppendsPart}
 use Rattle.aea_io.specs.Pages.{Prints}
+use Rattle.aea_io.proofs.Printing.{prints_then}
 use Rattle.aea_io.proofs.Puts.{AppendsPart-then}
 use Rattle.aea_lattice.specs.declared.blocks.BlockId.{BlockId}
 use Rattle.aea_lattice.specs.Shapes.{number_in}
@@ -22,7 +22,7 @@ use Rattle.aea_ledger.specs.Values.{Opened}
 use Rattle.aea_archive.specs.Blocks.{IsIntactBy}
 use Rattle.aea_archive.specs.Objects.{data_of, data_under, ArePayloads, joined, IsFront, IsOneOf}
 use Rattle.aea_fetch.specs.Payloads.{IsPayload}
-use Rattle.aea_fetch.specs.Copies.{HasCut, HasSent}
+use Rattle.aea_fetch.specs.Copies.{HasCopied, HasCut}
 use Rattle.aea_fetch.specs.Gets.{IsFound}
 use Rattle.aea_fetch.proofs.Broken.{payload_wide, payloads_at}
 use Rattle.aea_fetch.proofs.Copies.{long_enough, most_bytes}
@@ -31,11 +31,12 @@ use Rattle.aea_messages.specs.declared.message.Message.{Message}
 use Rattle.aea_messages.specs.declared.message.Message.TheVariants.{Read}
 use Rattle.aea_machine.specs.Machine.{Machine, Answer, step, read_in}
 use Rattle.aea_machine.specs.Replies.{reply, damaged_code, IsReply}
-use Rattle.aea_session.specs.Looks.{HasSentBehind, IsReplyOfObject, BeginsObject, MayBeginObject, IsReplyTo, MayBegin, Replies, RepliesPart, greatest_reply}
+use Rattle.aea_session.specs.Looks.{TakesSpace, HasSentBehind, IsReplyOfObject, BeginsObject, MayBeginObject, IsReplyTo, MayBegin, Replies, RepliesPart, greatest_reply}
 use Rattle.aea_session.specs.declared.fault.TakeFault.{TakeFault}
 use Rattle.aea_session.specs.declared.fault.TakeFault.TheVariants.{WriteFault}
 use Rattle.aea_session.specs.declared.work.Work.{Work}
 use Rattle.aea_session.specs.Stands.{KeepsMachine}
+use Rattle.aea_session.proofs.Spaces.{space_printed}
 use Rattle.aea_session.proofs.LookingPrinted.{printed_all, printed_part, ok_with, ok_as, err_with, at_err, kept_with}
 
 take_nothing : (most : ℕ) → take most (joined []) ≡ []
@@ -62,12 +63,10 @@ module _ (has : BlockId → List ℕ → Type 0) (blocks : List BlockId) (most :
 
   module _ {T E : Type 0} {v : T} (a b d : SinkState) (first : Prints {E = E} a [] b [] (Ok v) head) where
     -- the head was printed, and then all payloads
-    pub sent_behind : HasSent has blocks most b d → HasSentBehind has blocks most head a d
-    sent_behind sent = record {
-      payloads = sent.payloads;
-      are = sent.are;
-      appended = Appends-trans a.written b.written d.written head (take most (joined sent.payloads)) (printed_all first) sent.appended;
-    }
+    pub sent_behind : HasCopied has blocks most b [] d [] → HasSentBehind has blocks most head a d
+    sent_behind copied =
+        let whole : Prints {T = Unit {0}} {E = Unit {0}} a [] d [] (Ok tt) (head ++ take most (joined copied.payloads)) = prints_then first copied.prints in
+        record { payloads = copied.payloads; are = copied.are; appended = printed_all whole; space = space_printed whole }
 
     -- and then they were cut short
     pub cut_behind : (output : Type 0) → HasCut has blocks most b [] d output → HasCut has blocks most a head d output
@@ -127,6 +126,7 @@ module _ (tells : Type 0) (v : Opened) (c : Files) (message : Message) (o : Opti
             refl,
           ),
           subst (λ (l : List ℕ). Appends a.written b.written l) text sent.appended,
+          subst (λ (l : List ℕ). TakesSpace a b (length l)) text sent.space,
         )
 
     -- or were cut short
@@ -234,7 +234,7 @@ module _ (tells : Type 0) (w : Work) (c : Files) (message : Message) (name : Lis
   session_replies one =
       ok_as result (λ code. (q : Placed) → get w.ledger.objects name ≡ Some q → Replies (IsReplyOfObject tells w.ledger c message q code) a b)
       (λ code. (m : Machine) → KeepsMachine w m → Replies (IsReplyTo tells w.ledger m c message code) a b)
-      (λ code all m keeps. let r = all p is in (r.0, object_to w m keeps message name kind p is tells c code r.0 r.1, r.2)) one
+      (λ code all m keeps. let r = all p is in (r.0, object_to w m keeps message name kind p is tells c code r.0 r.1, r.2, r.3)) one
 
   pub session_parts : (P : Type 0) → IfErr result (λ fault. (q : Placed) → get w.ledger.objects name ≡ Some q → P ⊎ RepliesPart (MayBeginObject tells w.ledger c message q) a b)
       → IfErr result (λ fault. (m : Machine) → KeepsMachine w m → P ⊎ RepliesPart (MayBegin tells w.ledger m c message) a b)

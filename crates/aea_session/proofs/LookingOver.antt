@@ -193,7 +193,7 @@ module _ (tells : Type 0) (w : Work) (c : Files) (message : Message) (first coun
   session_range one =
       ok_as result (λ code. Replies (IsReplyOfRange tells w.ledger c message first n code) a b)
       (λ code. (m : Machine) → KeepsMachine w m → Replies (IsReplyTo tells w.ledger m c message code) a b)
-      (λ code r m keeps. (r.0, range_to w m keeps message first count kind tells c n code r.0 has is r.1, r.2)) one
+      (λ code r m keeps. (r.0, range_to w m keeps message first count kind tells c n code r.0 has is r.1, r.2, r.3)) one
 
   pub session_range_part : (P : Type 0) → IfErr result (λ fault. P ⊎ RepliesPart (λ bytes. (code : ℕ) × IsReplyOfRange tells w.ledger c message first n code bytes) a b)
       → IfErr result (λ fault. (m : Machine) → KeepsMachine w m → P ⊎ RepliesPart (MayBegin tells w.ledger m c message) a b)

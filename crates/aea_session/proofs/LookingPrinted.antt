@@ -11,6 +11,7 @@ use Rattle.aea_io.specs.Pages.{Prints}
 use Rattle.aea_session.specs.declared.fault.TakeFault.{TakeFault}
 use Rattle.aea_session.specs.declared.fault.TakeFault.TheVariants.{WriteFault}
 use Rattle.aea_session.specs.Looks.{Replies, RepliesPart}
+use Rattle.aea_session.proofs.Spaces.{space_printed}
 
 -- ---- what is printed with nothing gathered before and after
 
@@ -30,7 +31,7 @@ printed_part prints = prints.bytes
 module _ {X : Type 0} (Y : X → Type 0) (a b : SinkState) (k : ℕ) (text : List ℕ) where
   pub replied : (is : X → ℕ → List ℕ → Type 0) (result : Result ℕ TakeFault) → IfOk result (λ code. code ≡ k) → Prints a [] b [] result text → ((x : X) → Y x → is x k text)
       → IfOk result (λ code. (x : X) → Y x → Replies (is x code) a b)
-  replied is (Ok code) at prints are = λ x has. (text, subst (λ (n : ℕ). is x n text) (sym at) (are x has), printed_all prints)
+  replied is (Ok code) at prints are = λ x has. (text, subst (λ (n : ℕ). is x n text) (sym at) (are x has), printed_all prints, space_printed prints)
   replied is (Err e) at prints are = tt
 
   pub replied_part : (P : Type 0) (may : X → List ℕ → Type 0) (result : Result ℕ TakeFault) → Prints a [] b [] result text → ((x : X) → Y x → may x text)
@@ -89,7 +90,7 @@ kept_with (Err e) P from all still = from e all
 -- a reply of one code that is printed, whatever else holds
 module _ (a b : SinkState) (k : ℕ) (text : List ℕ) where
   pub replied_alone : (is : ℕ → List ℕ → Type 0) (result : Result ℕ TakeFault) → IfOk result (λ code. code ≡ k) → Prints a [] b [] result text → is k text → IfOk result (λ code. Replies (is code) a b)
-  replied_alone is (Ok code) at prints are = (text, subst (λ (n : ℕ). is n text) (sym at) are, printed_all prints)
+  replied_alone is (Ok code) at prints are = (text, subst (λ (n : ℕ). is n text) (sym at) are, printed_all prints, space_printed prints)
   replied_alone is (Err e) at prints are = tt
 
   pub part_alone : (P : Type 0) (may : List ℕ → Type 0) (result : Result ℕ TakeFault) → Prints a [] b [] result text → may text → IfErr result (λ fault. P ⊎ RepliesPart may a b)

@@ -18,7 +18,7 @@ use Rattle.aea_session.specs.declared.work.Work.{Work}
 use Rattle.aea_session.specs.Stands.{KeepsSomeMachine, IsTheSessions}
 use Rattle.aea_session.specs.Steps.{MakesStep, KeepsArchive, answer_by, made_by}
 use Rattle.aea_session.specs.Takes.{Takes}
-use Rattle.aea_session.proofs.Taking.{ClosesNone, reply_to, reply_made, long_made, moves_made, leaves_same, takes_put, takes_unwritten, takes_dry}
+use Rattle.aea_session.proofs.Taking.{ClosesNone, reply_to, reply_made, long_made, goes_same, moves_made, leaves_same, takes_put, takes_unwritten, takes_dry}
 
 -- a disk that is the session's stays so where the session keeps what it has of its archive
 this_kept : (v w : Work) (c : Files) → KeepsArchive v w → IsTheSessions v c → IsTheSessions w c
@@ -43,12 +43,12 @@ module _ (one : HasOneReading) (tells : Type 0) (v w : Work) (message : Message)
         subst (λ (n : ℕ). Takes tells v w message old old before after (Ok n)) (sym is)
         (takes_put tells v w message old old before after (Unit {0}) ⊥ ⊥ (code_of (answer_by made_by made)) (reply_to message (answer_by made_by made))
         (leaves_same one tells v w message old none fixed (Unit {0}) ⊥) tt (λ bad. bad)
-        (moves_made tells made_by v w message old old made some makes (ap (λ (l : Opened). l.live) archive.ledger ∙ live) (λ told. this_kept v w old.files archive (this told)) fixed)
+        (moves_made tells made_by v w message old old made some makes (ap (λ (l : Opened). l.live) archive.ledger ∙ live) (goes_same v w message archive.ledger none) (λ told. this_kept v w old.files archive (this told)) fixed)
         (reply_made tells v w old.files message made makes) flushed prints)
 
     -- it failed
     pub quietly_unwritten : {T E : Type 0} {value : E} → Prints {T = T} before [] after [] (Err value) (reply_to message (answer_by made_by made)) → Takes tells v w message old old before after (Err WriteFault)
     quietly_unwritten prints =
         takes_unwritten tells v w message old old before after (Unit {0}) ⊥ ⊥ (code_of (answer_by made_by made)) (reply_to message (answer_by made_by made))
-        (leaves_same one tells v w message old none fixed (Unit {0}) ⊥) tt (λ bad. bad) some
+        (leaves_same one tells v w message old none fixed (Unit {0}) ⊥) tt (λ bad. bad)
         (reply_made tells v w old.files message made makes) (long_made v w message made makes) prints

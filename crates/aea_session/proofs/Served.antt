@@ -23,9 +23,11 @@ use Rattle.aea_session.specs.declared.fault.TakeFault.TheVariants.{DiskFault, Wr
 use Rattle.aea_session.specs.declared.serving.Stop.{Stop}
 use Rattle.aea_session.specs.declared.serving.Stop.TheVariants as stop
 use Rattle.aea_session.specs.declared.work.Work.{Work}
+use Rattle.aea_session.specs.Looks.{TakesSpace}
 use Rattle.aea_session.specs.Stands.{KeepsMachine}
 use Rattle.aea_session.specs.Takes.{HasTakeRoom, Leaves, Takes}
 use Rattle.aea_session.specs.Serving.{greatest_messages, Answers, HasServed, ReadsNext, TailOf, EndsThere, ServesAll}
+use Rattle.aea_session.proofs.Spaces.{space_none, space_joined}
 
 -- ---- lists of messages
 
@@ -70,7 +72,8 @@ leaves_fine tells v w message old new made fault dry is fine leaves = record {
 
 -- the reply and the step, in each state of the machine that the session kept
 pub taken_answers : (tells : Type 0) (v w : Work) (message : Message) (old new : State) (before then : SinkState) (code : ℕ) (m : Machine) → KeepsMachine v m
-    → Takes tells v w message old new before then (Ok code) → (reply : List ℕ) × Answers tells m v w message old new code reply × Appends before.written then.written reply
+    → Takes tells v w message old new before then (Ok code)
+    → (reply : List ℕ) × Answers tells m v w message old new code reply × Appends before.written then.written reply × TakesSpace before then (length reply)
 taken_answers tells v w message old new before then code m keeps takes =
     let replied = takes.replies m keeps in (
       replied.0,
@@ -80,6 +83,7 @@ taken_answers tells v w message old new before then code m keeps takes =
         leaves = leaves_fine tells v w message old new (IsOk {E = TakeFault} (Ok code) ⊎ (Ok code ≡ Err WriteFault)) (Ok code ≡ Err DiskFault) (Ok code ≡ Err NoMemory) (inl refl) (λ is. absurd (cc)) takes.leaves;
       },
       replied.2,
+      replied.3,
     )
 
 -- ---- the messages so far
@@ -116,6 +120,7 @@ module _ (tells : Type 0) {D : Type 0} (state : D → State) where
   abbrev pub HasTraced : Machine → Work → Work → D → D → SinkState → SinkState → List Message → Type 0
   HasTraced m v w d e before now messages =
       (bytes : List ℕ) × HasServed tells state m v d messages bytes w e × KeepsMachine w (after v.ledger.shape m messages) × Appends before.written now.written bytes
+      × TakesSpace before now (length bytes)
 
   -- What a run has done so far.
   pub record HasGone (v w : Work) (d e : D) (left rest : Option (List ℕ)) (before now : SinkState) (count at : ℕ) : Type 0 where
@@ -133,7 +138,7 @@ module _ (tells : Type 0) {D : Type 0} (state : D → State) where
   gone_none v d left before = record {
     messages = [];
     shape = refl;
-    served = λ m keeps. ([], (refl, refl, refl), keeps, Appends-nil before.written);
+    served = λ m keeps. ([], (refl, refl, refl), keeps, Appends-nil before.written, space_none before);
     flushed = inl (refl, refl);
     are = tt;
     counted = refl;
@@ -153,6 +158,7 @@ module _ (tells : Type 0) {D : Type 0} (state : D → State) where
         served_more m v u w d e f messages gone.0 message code answered.0 gone.1 answered.1,
         subst (KeepsMachine w) (ap (λ (s : Shape). (step s k message).state) same ∙ sym (after_more v.ledger.shape m messages message)) (takes.moves.keeps k gone.2),
         Appends-trans before.written now.written then.written gone.0 answered.0 gone.3 answered.2,
+        space_joined before now then gone.0 answered.0 gone.4 answered.3,
       )
 
   -- and with the next message
@@ -189,7 +195,7 @@ module _ (tells : Type 0) {D : Type 0} (state : D → State) where
     here = w;
     there = e;
     mid = now;
-    served = λ m keeps. let traced = gone.served m keeps in (traced.0, traced.1, traced.3);
+    served = λ m keeps. let traced = gone.served m keeps in (traced.0, traced.1, traced.3, traced.4);
     flushed = gone.flushed;
     last = (refl, refl, refl);
   }
@@ -245,7 +251,7 @@ module _ (tells : Type 0) {D : Type 0} (state : D → State) where
     here = w;
     there = e;
     mid = now;
-    served = λ m keeps. let traced = gone.served m keeps in (traced.0, traced.1, traced.3);
+    served = λ m keeps. let traced = gone.served m keeps in (traced.0, traced.1, traced.3, traced.4);
     flushed = gone.flushed;
     last = last_none w e rest more at next count (tail_of rest more at next count fault reads) now fault reads;
   }
@@ -262,7 +268,7 @@ module _ (tells : Type 0) {D : Type 0} (state : D → State) where
     here = u;
     there = e;
     mid = now;
-    served = λ m keeps. let traced = gone.served m keeps in (traced.0, traced.1, traced.3);
+    served = λ m keeps. let traced = gone.served m keeps in (traced.0, traced.1, traced.3, traced.4);
     flushed = gone.flushed;
-    last = (message, refl, takes);
+    last = (message, reads.0, refl, takes);
   }

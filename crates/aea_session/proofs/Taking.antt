@@ -20,6 +20,7 @@ use Rattle.aea_records.specs.Format.{Record, raised_limit}
 use Rattle.aea_records.specs.Laws.{HasOneReading}
 use Rattle.aea_ledger.specs.Recorded.{AreRecordsOf}
 use Rattle.aea_ledger.specs.Stops.{HasLedger}
+use Rattle.aea_ledger.specs.Values.{Opened, HasRecords}
 use Rattle.aea_archive.specs.Blocks.{IsBlockIn}
 use Rattle.aea_archive.specs.Cells.{IsBesides, IsNoSite, ChangesArchive, FitsRows, WritesCells}
 use Rattle.aea_archive.proofs.Cells.{changes_none, changes_less, file_kept, fixed_kept, rows_roomy}
@@ -29,7 +30,7 @@ use Rattle.aea_messages.specs.declared.message.Message.{Message}
 use Rattle.aea_messages.specs.declared.message.Message.TheVariants.{Open, Chunk, Close, Abort, Read, Patrol}
 use Rattle.aea_machine.specs.declared.refusal.Refusal.{Refusal}
 use Rattle.aea_machine.specs.declared.refusal.Refusal.TheVariants as refusal
-use Rattle.aea_machine.specs.Closings.{closing_by, closing_in}
+use Rattle.aea_machine.specs.Closings.{Closing, closing_by, closing_in}
 use Rattle.aea_machine.specs.Machine.{Upload, Machine, Answer, Made, Closed, Reads, Patrols, BadSlot, SlotTaken, SlotFree, BadName, NameTaken, NameOpen, Full, CatalogFull, UnknownName, BadRange, step, in_slot}
 use Rattle.aea_machine.specs.Refusals.{refused_by}
 use Rattle.aea_machine.specs.Replies.{reply, code_of, body_of, IsReply}
@@ -39,12 +40,13 @@ use Rattle.aea_session.specs.declared.fault.StepFault.{StepFault}
 use Rattle.aea_session.specs.declared.fault.StepFault.TheVariants as stopped
 use Rattle.aea_session.specs.declared.fault.TakeFault.TheVariants.{DiskFault, WriteFault, NoMemory}
 use Rattle.aea_session.specs.declared.work.Work.{Work}
-use Rattle.aea_session.specs.Closes.{AddsCloses}
+use Rattle.aea_session.specs.Closes.{GoesOn, AddsCloses}
 use Rattle.aea_session.specs.Faults.{fault_by}
 use Rattle.aea_session.specs.Looks.{IsReplyTo, greatest_reply}
 use Rattle.aea_session.specs.Stands.{KeepsMachine, KeepsSomeMachine, IsTheSessions}
 use Rattle.aea_session.specs.Steps.{MakesStep, answer_by, made_by, closed_by}
 use Rattle.aea_session.specs.Takes.{HasTakeRoom, Moves, Leaves, Takes}
+use Rattle.aea_session.proofs.Spaces.{space_printed}
 
 -- ---- replies to messages that ask for no block
 
@@ -142,14 +144,33 @@ long_closed v w message closed makes m kept = long_plain v m message (answer_by 
 
 -- ---- where a message was taken
 
+-- it closes nothing, in any state that the session keeps
+abbrev pub ClosesNone : Work → Message → Type 0
+ClosesNone v message = (m : Machine) → KeepsMachine v m → closing_in v.ledger.shape m message ≡ []
+
+-- its ledger goes on by the closes of the message
+abbrev pub GoesOnBy : Work → Work → Message → Type 0
+GoesOnBy v w message = (m : Machine) → KeepsMachine v m → (records : List Record) → HasRecords v.ledger records → GoesOn v.ledger w.ledger (closing_in v.ledger.shape m message) records
+
+-- where it stays, and nothing closes
+pub goes_same : (v w : Work) (message : Message) → w.ledger ≡ v.ledger → ClosesNone v message → GoesOnBy v w message
+goes_same v w message same none m kept records has =
+    subst (λ (closings : List Closing). GoesOn v.ledger w.ledger closings records) (sym (none m kept))
+    record {
+      added = [];
+      are = tt;
+      has = subst (HasRecords w.ledger) (sym (append-nil records)) (subst (λ (l : Opened). HasRecords l records) (sym same) has);
+    }
+
 -- it made the step, and the disk is its own
 pub moves_made : {T : Type 0} (tells : Type 0) (done : T → Answer) (v w : Work) (message : Message) (old new : State) (made : Result T Refusal) → KeepsSomeMachine v → MakesStep done v w message made
-    → w.ledger.live ≡ true → (tells → IsTheSessions w new.files) → (tells → IsFixed new 0) → Moves tells v w message old new
-moves_made tells done v w message old new made some makes live this fixed = record {
+    → w.ledger.live ≡ true → GoesOnBy v w message → (tells → IsTheSessions w new.files) → (tells → IsFixed new 0) → Moves tells v w message old new
+moves_made tells done v w message old new made some makes live goes this fixed = record {
   keeps = λ m kept. (makes m kept).keeps;
   stands = λ m kept. (makes m kept).stands;
   shape = (makes some.0 some.1).shape;
   live = live;
+  goes = goes;
   this = this;
   fixed = fixed;
 }
@@ -181,6 +202,7 @@ takes_put tells v w message old new before after made fault dry code bytes leave
     bytes,
     replies m kept,
     (let g : Gathers before [] after [] bytes = prints.bytes in subst (Appends before.written after.written) (sym (g.2 ∙ append-nil g.0)) g.1),
+    space_printed prints,
   );
   part = tt;
   flushed = flushed;
@@ -189,17 +211,17 @@ takes_put tells v w message old new before after made fault dry code bytes leave
   out_kept = prints.cause.kept;
   out_cause = λ e. absurd (let bad = e in cc);
   out_still = λ _. prints.cause.still;
-  in_room = λ room told enough e. absurd (let bad = e in cc);
+  in_room = λ room told m kept enough e. absurd (let bad = e in cc);
 }
 
 -- the reply failed: the step was made
 pub takes_unwritten : {T E : Type 0} {value : E} (tells : Type 0) (v w : Work) (message : Message) (old new : State) (before after : SinkState) (made fault dry : Type 0) (code : ℕ) (bytes : List ℕ)
-    → Leaves tells v w message old new made fault dry → made → (fault → ⊥) → KeepsSomeMachine v
+    → Leaves tells v w message old new made fault dry → made → (fault → ⊥)
     → ((m : Machine) → KeepsMachine v m → IsReplyTo tells v.ledger m old.files message code bytes)
     → ((m : Machine) → KeepsMachine v m → length bytes ≡ greatest_reply (step v.ledger.shape m message).answer)
     → Prints {T = T} before [] after [] (Err value) bytes
     → Takes tells v w message old new before after (Err WriteFault)
-takes_unwritten tells v w message old new before after made fault dry code bytes leaves is fine some replies long prints = record {
+takes_unwritten tells v w message old new before after made fault dry code bytes leaves is fine replies long prints = record {
   moves = tt;
   replies = tt;
   part = λ m kept. inr (bytes, inl (code, replies m kept), prints.bytes);
@@ -209,8 +231,8 @@ takes_unwritten tells v w message old new before after made fault dry code bytes
   out_kept = prints.cause.kept;
   out_cause = λ _. prints.cause.rose;
   out_still = λ other. absurd (other refl);
-  in_room = λ room told enough _.
-      absurd (let ok = prints.fits room told (let e = enough some.0 some.1 in let l = long some.0 some.1 in omega (arith, e, l)) in cc);
+  in_room = λ room told m kept enough _.
+      absurd (let ok = prints.fits room told (let l = long m kept in omega (arith, enough, l)) in cc);
 }
 
 -- the step failed for the disk: nothing was said
@@ -227,7 +249,7 @@ takes_fault tells v w message old new out made fault dry leaves is = record {
   out_kept = omega arith;
   out_cause = λ e. absurd (let bad = e in cc);
   out_still = λ _. refl;
-  in_room = λ room told enough e. absurd (let bad = e in cc);
+  in_room = λ room told m kept enough e. absurd (let bad = e in cc);
 }
 
 -- and for want of memory
@@ -244,7 +266,7 @@ takes_dry tells v w message old new out made fault dry leaves is fine = record {
   out_kept = omega arith;
   out_cause = λ e. absurd (let bad = e in cc);
   out_still = λ _. refl;
-  in_room = λ room told enough e. absurd (let bad = e in cc);
+  in_room = λ room told m kept enough e. absurd (let bad = e in cc);
 }
 
 -- the step failed, for either of both
@@ -263,6 +285,7 @@ adds_none one v m old new earlier leaves = record {
   payload = λ b. [];
   longer = v.ledger.lattice;
   are = refl;
+  wide = λ b on. let a = on.after in let m = on.most in absurd (omega (arith, a, m));
   adds = λ records its.
       let ledger = has_ledger v.ledger records (old.files 0) its in
       adds_nothing one v.ledger.shape records [] (λ b. []) old new earlier
@@ -272,10 +295,6 @@ adds_none one v m old new earlier leaves = record {
       subst (λ (ds : List (List ℕ)). AreRecordsOf v.ledger.shape (records ++ []) ds) (sym (append-nil m.datas)) (subst (λ (rs : List Record). AreRecordsOf v.ledger.shape rs m.datas) (sym (append-nil records)) recorded);
   long = (let same = ap length leaves.reads in omega (arith, same));
 }
-
--- the message closes nothing, in any state that the session keeps
-abbrev pub ClosesNone : Work → Message → Type 0
-ClosesNone v message = (m : Machine) → KeepsMachine v m → closing_in v.ledger.shape m message ≡ []
 
 refused_none : (shape : Shape) (m : Machine) (o : Option Upload) (r : Refusal) → closing_by shape m o (refused_by r) ≡ []
 refused_none shape m None r = refl

@@ -21,10 +21,10 @@ use Rattle.aea_session.specs.declared.fault.TakeFault.{TakeFault}
 use Rattle.aea_session.specs.declared.fault.TakeFault.TheVariants.{Damaged, DiskFault, WriteFault}
 use Rattle.aea_session.specs.declared.work.Work.{Work}
 use Rattle.aea_session.specs.Looks.{KeepsAllButCell, LooksKeep, IsReplyTo, MayBegin, Replies, RepliesPart, greatest_reply}
-use Rattle.aea_session.specs.Stands.{KeepsMachine, KeepsSomeMachine, StandsFor, IsTheSessions}
+use Rattle.aea_session.specs.Stands.{KeepsMachine, StandsFor, IsTheSessions}
 use Rattle.aea_session.specs.Takes.{IsRead, Moves, Takes}
 use Rattle.aea_session.proofs.LookingPrinted.{err_with}
-use Rattle.aea_session.proofs.Taking.{leaves_read, fixed_read}
+use Rattle.aea_session.proofs.Taking.{goes_same, leaves_read, fixed_read}
 
 -- ---- what the machine does for them
 
@@ -63,6 +63,7 @@ moves_looked keep tells fault v w message old new looks live this fixed same rea
   stands = λ m kept stood. subst (StandsFor w) (sym (looks.stays v.ledger.shape m)) ((keep v w same).1 m stood);
   shape = ap (λ (l : Opened). l.shape) same.ledger;
   live = ap (λ (l : Opened). l.live) same.ledger ∙ live;
+  goes = goes_same v w message same.ledger (λ m kept. looks.none v.ledger.shape m);
   this = λ told. subst (IsTheSessions w) (sym (reads.contents told)) ((keep v w same).2 old.files (this told));
   fixed = λ told. fixed_read tells fault old new told (fixed told) reads;
 }
@@ -97,9 +98,9 @@ pub record Looked (tells : Type 0) (v w : Work) (message : Message) (old new : S
 
 -- the message was taken
 pub takes_looked : HasOneReading → HomesAreOnItsSites → LooksKeep → (tells : Type 0) (v w : Work) (message : Message) (old new : State) (before after : SinkState) (untouched : Type 0) (result : Result ℕ TakeFault)
-    → OnlyLooks message → KeepsSomeMachine v → v.ledger.live ≡ true → (tells → IsTheSessions v old.files) → (tells → IsFixed old 0) → (untouched → after ≡ before)
+    → OnlyLooks message → v.ledger.live ≡ true → (tells → IsTheSessions v old.files) → (tells → IsFixed old 0) → (untouched → after ≡ before)
     → Looked tells v w message old new before after untouched result → Takes tells v w message old new before after result
-takes_looked one sites keep tells v w message old new before after untouched result looks some live this fixed so looked = record {
+takes_looked one sites keep tells v w message old new before after untouched result looks live this fixed so looked = record {
   moves = on_any result (Moves tells v w message old new) (moves_looked keep tells (result ≡ Err DiskFault) v w message old new looks live this fixed looked.same looked.reads);
   replies = looked.replies;
   part = part_of result v untouched (after ≡ before) (λ m. RepliesPart (MayBegin tells v.ledger m old.files message) before after) so looked.part;
@@ -109,5 +110,5 @@ takes_looked one sites keep tells v w message old new before after untouched res
   out_kept = looked.out_kept;
   out_cause = looked.out_cause;
   out_still = looked.out_still;
-  in_room = λ room told enough. (looked.in_room some.0 room some.1 told (enough some.0 some.1)).0;
+  in_room = λ room told m kept enough. (looked.in_room m room kept told enough).0;
 }

@@ -1,5 +1,5 @@
 -- The messages that only look: what they leave of the session, which bytes are their replies, and which begin one.
-use Rattle.std.specs.Prelude.{◌≡◌, ◌⊎◌, ℕ, ◌+◌, ◌*◌, Bool, not, ◌&&◌, nat_le, List, ◌++◌, length, take, filter, All}
+use Rattle.std.specs.Prelude.{◌≡◌, ◌⊎◌, ◌≤◌, ℕ, ◌+◌, ◌-◌, ◌*◌, Bool, not, ◌&&◌, nat_le, List, ◌++◌, length, take, filter, Some, All}
 use Rattle.std.specs.List.{range_with_len}
 use Rattle.std.specs.Io.KnownBytes.{Appends}
 use Rattle.aea_io.specs.Streams.{SinkState}
@@ -33,13 +33,18 @@ LooksKeep =
     × ((m : Machine) → StandsFor v m → StandsFor w m)
     × ((c : Files) → IsTheSessions v c → IsTheSessions w c)
 
+-- so many bytes were taken from the sink's space, where it reveals it
+abbrev pub TakesSpace : SinkState → SinkState → ℕ → Type 0
+TakesSpace old new count = (room : ℕ) → old.room ≡ Some room → count ≤ room → new.room ≡ Some (room - count)
+
 -- ---- replies over an opened ledger and these files
 
--- The payloads of the blocks were appended behind this head, of them the first bytes, so many.
+-- The payloads of the blocks were appended behind this head, of them the first bytes, so many, and taken from the sink's space.
 pub record HasSentBehind (has : BlockId → List ℕ → Type 0) (blocks : List BlockId) (most : ℕ) (head : List ℕ) (old new : SinkState) : Type 0 where
   pub payloads : List (List ℕ)
   pub are : ArePayloads has blocks payloads
   pub appended : Appends old.written new.written (head ++ take most (joined payloads))
+  pub space : TakesSpace old new (length (head ++ take most (joined payloads)))
 
 -- the reply is that of the object, read from its cells
 abbrev pub IsReplyOfObject : Type 0 → Opened → Files → Message → Placed → ℕ → List ℕ → Type 0
@@ -87,9 +92,9 @@ MayBegin tells v m c message bytes =
     ((code : ℕ) × IsReplyTo tells v m c message code bytes)
     ⊎ ((placed : Placed) × ((step v.shape m message).answer ≡ Reads placed) × BeginsObject tells v c message placed bytes)
 
--- such bytes were appended
+-- such bytes were appended, and taken from the sink's space
 abbrev pub Replies : (List ℕ → Type 0) → SinkState → SinkState → Type 0
-Replies is old new = (bytes : List ℕ) × is bytes × Appends old.written new.written bytes
+Replies is old new = (bytes : List ℕ) × is bytes × Appends old.written new.written bytes × TakesSpace old new (length bytes)
 
 -- or a first part of such bytes
 abbrev pub RepliesPart : (List ℕ → Type 0) → SinkState → SinkState → Type 0

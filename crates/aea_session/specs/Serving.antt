@@ -11,7 +11,7 @@ use Rattle.aea_machine.specs.Machine.{Machine, step}
 use Rattle.aea_session.specs.declared.serving.Stop.{Stop}
 use Rattle.aea_session.specs.declared.serving.Stop.TheVariants as stop
 use Rattle.aea_session.specs.declared.work.Work.{Work}
-use Rattle.aea_session.specs.Looks.{IsReplyTo}
+use Rattle.aea_session.specs.Looks.{IsReplyTo, TakesSpace}
 use Rattle.aea_session.specs.Stands.{KeepsMachine}
 use Rattle.aea_session.specs.Takes.{Moves, Leaves, Takes}
 
@@ -59,7 +59,7 @@ TailOf rest start count tail (Err (stop.Taken fault)) = (message : Message) × I
 -- What came after the messages that were taken: where the next one was not taken, what that call left; else nothing.
 abbrev pub EndsThere : Type 0 → {D : Type 0} → (D → State) → Work → Work → D → D → List ℕ → SinkState → SinkState → Result (Unit {0}) Stop → Type 0
 EndsThere tells state v w d e tail before after (Err (stop.Taken fault)) =
-    (message : Message) × (tail ≡ spelled message) × Takes tells v w message (state d) (state e) before after (Err fault)
+    (message : Message) × IsMessage message × (tail ≡ spelled message) × Takes tells v w message (state d) (state e) before after (Err fault)
 EndsThere tells state v w d e tail before after result = (w ≡ v) × (e ≡ d) × (after ≡ before)
 
 -- Of a run over a stream, with the session, the disk, the stream and the output before and after it: the messages that were taken,
@@ -76,7 +76,7 @@ pub record ServesAll (tells : Type 0) {D : Type 0} (state : D → State) (v w : 
   pub here : Work
   pub there : D
   pub mid : SinkState
-  pub served : (m : Machine) → KeepsMachine v m → (bytes : List ℕ) × HasServed tells state m v d handled bytes here there × Appends before.written mid.written bytes
+  pub served : (m : Machine) → KeepsMachine v m → (bytes : List ℕ) × HasServed tells state m v d handled bytes here there × Appends before.written mid.written bytes × TakesSpace before mid (length bytes)
   -- each reply was flushed
   pub flushed : ((handled ≡ []) × (mid ≡ before)) ⊎ IsFlushed mid
   pub last : EndsThere tells state here w there e tail mid after result

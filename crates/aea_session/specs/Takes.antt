@@ -1,5 +1,5 @@
 -- What a session does for a message: the step of the machine, the reply, and what it leaves of the disk.
-use Rattle.std.specs.Prelude.{◌≡◌, ◌≢◌, ◌⊎◌, ◌≤◌, ℕ, true, [], ◌∷◌, Some, Result, Err, IsOk, IfOk, IfErr, OnOk}
+use Rattle.std.specs.Prelude.{◌≡◌, ◌≢◌, ◌⊎◌, ◌≤◌, ℕ, true, List, [], ◌∷◌, Some, Result, Err, IsOk, IfOk, IfErr, OnOk}
 use Rattle.std.specs.FinMap.{get}
 use Rattle.aea_faults.specs.Faults.{Rose}
 use Rattle.aea_io.specs.Streams.{SinkState}
@@ -8,7 +8,8 @@ use Rattle.aea_lattice.specs.declared.blocks.BlockId.{BlockId}
 use Rattle.aea_disk.specs.Frames.{OnlyWrites}
 use Rattle.aea_disk.specs.State.{State, IsFixed, IsReady}
 use Rattle.aea_shelf.specs.Writes.{KeepsPadded}
-use Rattle.aea_records.specs.Format.{raised_limit}
+use Rattle.aea_records.specs.Format.{Record, raised_limit}
+use Rattle.aea_ledger.specs.Values.{HasRecords}
 use Rattle.aea_archive.specs.Blocks.{IsBlockIn}
 use Rattle.aea_archive.specs.Objects.{data_under, IsOneOf}
 use Rattle.aea_archive.specs.Cells.{IsBesides, ChangesArchive, HaveSitesRoom}
@@ -21,7 +22,7 @@ use Rattle.aea_session.specs.declared.fault.TakeFault.{TakeFault}
 use Rattle.aea_session.specs.declared.fault.TakeFault.TheVariants.{Damaged, DiskFault, WriteFault, NoMemory}
 use Rattle.aea_session.specs.declared.work.Work.{Work}
 use Rattle.aea_session.specs.Stands.{KeepsMachine, StandsFor, IsTheSessions}
-use Rattle.aea_session.specs.Closes.{HasClosed, MayHaveClosed, HasCloseRoom}
+use Rattle.aea_session.specs.Closes.{GoesOn, HasClosed, MayHaveClosed, HasCloseRoom}
 use Rattle.aea_session.specs.Looks.{IsReplyTo, MayBegin, Replies, RepliesPart, greatest_reply}
 
 -- the disk has space for the message: that of a close for its record, that of a chunk for its cells
@@ -41,6 +42,8 @@ pub record Moves (tells : Type 0) (v w : Work) (message : Message) (old new : St
   pub stands : (m : Machine) → KeepsMachine v m → StandsFor v m → StandsFor w (step v.ledger.shape m message).state
   pub shape : w.ledger.shape ≡ v.ledger.shape
   pub live : w.ledger.live ≡ true
+  -- the records of the ledger, whatever the disk
+  pub goes : (m : Machine) → KeepsMachine v m → (records : List Record) → HasRecords v.ledger records → GoesOn v.ledger w.ledger (closing_in v.ledger.shape m message) records
   -- the disk is the session's again, and nothing is pending on its ledger
   pub this : tells → IsTheSessions w new.files
   pub fixed : tells → IsFixed new 0
@@ -68,9 +71,9 @@ pub record Takes (tells : Type 0) (v w : Work) (message : Message) (old new : St
   pub leaves : Leaves tells v w message old new (IsOk result ⊎ (result ≡ Err WriteFault)) (result ≡ Err DiskFault) (result ≡ Err NoMemory)
   -- only a block of an object that is read, and never where the disk's contents are known, is intact and then damaged
   pub damaged : (b : BlockId) → result ≡ Err (Damaged b) → IsRead v message b × (tells → ⊥)
-  -- when the output is at fault
+  -- when the output is at fault: not where there is space for the reply to some state that the session keeps
   pub out_kept : before.faults ≤ after.faults
   pub out_cause : result ≡ Err WriteFault → Rose before.faults after.faults
   pub out_still : result ≢ Err WriteFault → after.faults ≡ before.faults
-  pub in_room : (room : ℕ) → before.room ≡ Some room → ((m : Machine) → KeepsMachine v m → greatest_reply (step v.ledger.shape m message).answer ≤ room)
+  pub in_room : (room : ℕ) → before.room ≡ Some room → (m : Machine) → KeepsMachine v m → greatest_reply (step v.ledger.shape m message).answer ≤ room
       → result ≢ Err WriteFault

@@ -1,12 +1,13 @@
 //! The close of an upload.
 
-ghost use Rattle.std.specs.Prelude.{◌≡◌, ◌≢◌, ◌+◌, ◌≤◌, true, length, Ok, Err, IfOk, OnOk};
+ghost use Rattle.std.specs.Prelude.{◌≡◌, ◌≢◌, ◌+◌, ◌≤◌, true, List, length, Ok, Err, IfOk, OnOk};
 ghost use Rattle.aea_lattice.specs.Profile.{greatest_nodes};
 ghost use Rattle.aea_disk.specs.State.{IsFixed, IsReady, IsSynced};
 ghost use Rattle.aea_disk.specs.Frames.{OnlyWrites};
 ghost use Rattle.aea_shelf.specs.Places.{cell_size};
 ghost use Rattle.aea_shelf.specs.Writes.{KeepsPadded};
-ghost use Rattle.aea_records.specs.Format.{nodes_for, raised_limit};
+ghost use Rattle.aea_records.specs.Format.{Record, nodes_for, raised_limit};
+ghost use Rattle.aea_ledger.specs.Values.{HasRecords};
 ghost use Rattle.aea_archive.specs.Blocks.{IsBlockIn};
 ghost use Rattle.aea_archive.specs.Cells.{IsBesides, ChangesArchive, WritesCells};
 ghost use Rattle.aea_append.specs.Puts.{LeavesLedger};
@@ -22,7 +23,7 @@ ghost use Rattle.aea_archive.specs.Laws.{PartsRecordMore};
 ghost use Rattle.aea_machine.specs.Sound.{NamesStayOwn, LimitsStay};
 ghost use Rattle.aea_machine.specs.Runs.{RunsAreLongest};
 ghost use Rattle.aea_uploads.specs.Laws.{ClosedAreNext, ClosedAreParts, FilledAreCounted, KeepsMore, LastIsTheMachines};
-ghost use Rattle.aea_session.specs.Closes.{HasClosed, MayHaveClosed, HasCloseRoom};
+ghost use Rattle.aea_session.specs.Closes.{GoesOn, HasClosed, MayHaveClosed, HasCloseRoom};
 ghost use Rattle.aea_session.specs.May.{MayClose};
 ghost use Rattle.aea_session.specs.Stands.{KeepsMachine, KeepsSomeMachine, IsTheSessions};
 ghost use Rattle.aea_session.specs.Steps.{MakesStep, closed_by};
@@ -150,6 +151,7 @@ fn close_open<D: Disk>(disk: &mut D, work: &mut Work, slot: u8) -> Result<Stored
     requires this { D.tells → IsTheSessions work.old (D.state disk.old).files }
     requires fixed { D.tells → IsFixed (D.state disk.old) 0 }
     ensures steps { IfOk result (λ stored. MakesStep closed_by work.old work.new (Close slot) (Ok stored)) }
+    ensures goes { OnOk result ((m : Machine) → KeepsMachine work.old m → (records : List Record) → HasRecords work.old.ledger records → GoesOn work.old.ledger work.new.ledger (closing_in work.old.ledger.shape m (Close slot)) records) }
     ensures closed { OnOk result (D.tells → (m : Machine) → KeepsMachine work.old m → HasClosed work.old work.new m (closing_in work.old.ledger.shape m (Close slot)) (D.state disk.old) (D.state disk.new)) }
     ensures this { OnOk result (D.tells → IsTheSessions work.new (D.state disk.new).files) }
     ensures live_on { OnOk result (work.new.ledger.live ≡ true) }
@@ -222,7 +224,9 @@ pub fn close_upload<D: Disk>(
     ensures steps { IfOk result (λ stored. MakesStep closed_by work.old work.new (Close slot) stored) }
     ensures refused { (refusal : Refusal) → result ≡ Ok (Err refusal) → (work.new ≡ work.old) × (disk.new ≡ disk.old) }
 
-    // The ledger in each image: with the record, or, where the disk failed, as it was or with the record.
+    // The ledger goes on by the record of a close that is made. In each image it has the record, or, where the disk failed, it is
+    // as it was or has the record.
+    ensures goes { OnOk result ((m : Machine) → KeepsMachine work.old m → (records : List Record) → HasRecords work.old.ledger records → GoesOn work.old.ledger work.new.ledger (closing_in work.old.ledger.shape m (Close slot)) records) }
     ensures closed { (stored : Stored) → result ≡ Ok (Ok stored) → D.tells → (m : Machine) → KeepsMachine work.old m → HasClosed work.old work.new m (closing_in work.old.ledger.shape m (Close slot)) (D.state disk.old) (D.state disk.new) }
     ensures this { OnOk result (D.tells → IsTheSessions work.new (D.state disk.new).files) }
     ensures live_on { OnOk result (work.new.ledger.live ≡ true) }

@@ -17,7 +17,7 @@
 //! `Traces` (messages of a stream); `Chunks`, `May`, `Opening` and `Faults` are for private functions.
 //!
 //! Read `Stands`, `Takes` and `Serving` first. It rests on the laws of `aea_machine` and `aea_uploads`, on `load_heads` and
-//! `commit_parts` of `aea_append`, and on the passes of `aea_fetch`.
+//! `commit_parts` of `aea_append`, and on the first pass, `DataBlocks` and `CellReader` of `aea_fetch`.
 #![tactic(auto)]
 
 mod abort;
@@ -28,6 +28,7 @@ mod chunk;
 mod chunking;
 mod close;
 mod closing;
+mod copy;
 mod fault;
 mod laws;
 mod looking;

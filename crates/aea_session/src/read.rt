@@ -23,10 +23,11 @@ ghost use Rattle.aea_machine.specs.Replies.{reply, body_of, code_of, damaged_cod
 ghost use Rattle.aea_session.specs.Looks.{KeepsAllButCell, LooksKeep, HasSentBehind, IsReplyOfObject, MayBeginObject, IsReplyTo, MayBegin, Replies, RepliesPart, greatest_reply};
 ghost use Rattle.aea_session.specs.Stands.{KeepsMachine, KeepsSomeMachine};
 
+use crate::copy::send_blocks;
 use crate::fault::TakeFault;
 use crate::work::Work;
 use aea_disk::Disk;
-use aea_fetch::{GetFault, check_object, send_object};
+use aea_fetch::{GetFault, check_object};
 use aea_io::{Page, Sink, WriteFault, finish, send};
 use aea_lattice::BlockId;
 use aea_ledger::Ledger;
@@ -149,7 +150,7 @@ fn put_object<D: Disk, O: Sink>(
         Ok(()) => (),
         Err(_) => return Err(TakeFault::WriteFault),
     }
-    match send_object(disk, ledger, name, size, cell, page, out) {
+    match send_blocks(disk, ledger, name, size, cell, page, out) {
         Ok(()) => Ok(0),
         Err(fault) => Err(pass_fault(fault)),
     }

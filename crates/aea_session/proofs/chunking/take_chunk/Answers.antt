@@ -7,7 +7,7 @@ use Rattle.aea_session.specs.declared.fault.StepFault.TheVariants.{DiskFault, No
 use Rattle.aea_session.specs.declared.fault.TakeFault.{TakeFault}
 use Rattle.aea_session.specs.Steps.{MakesStep, answer_by, made_by}
 use Rattle.aea_session.specs.Takes.{Takes}
-use Rattle.aea_session.proofs.Taking.{reply_to, reply_made, long_made, moves_made, leaves_cells, fixed_cells, takes_put, takes_unwritten, takes_stopped}
+use Rattle.aea_session.proofs.Taking.{reply_to, reply_made, long_made, goes_same, moves_made, leaves_cells, fixed_cells, takes_put, takes_unwritten, takes_stopped}
 use Rattle.aea_session.proofs.chunking.take_chunk.Goals as goal
 
 pub returns-in-Err : goal.returns-in-Err
@@ -47,6 +47,7 @@ returns-in-Ok-put_made g c =
           (leaves_cells c.ledgers_have_one_reading.ensures tells v w message old new bad (λ m kept. ap (closing_in v.ledger.shape m) c.requires.kind) c.requires.fixed
           c.add_chunk.ensures.writes c.add_chunk.ensures.padded (Unit {0}) ⊥) tt (λ is. absurd (let e = sym c.in-Ok.is ∙ is in cc))
           (moves_made tells made_by v w message old new c.in-Ok.made c.requires.keeps makes (ap (λ (l : Opened). l.live) c.add_chunk.ensures.ledger ∙ c.requires.live)
+          (goes_same v w message c.add_chunk.ensures.ledger (λ m kept. ap (closing_in v.ledger.shape m) c.requires.kind))
           (λ told. c.in-Ok.ensures.this told (c.requires.this told)) (λ told. fixed_cells tells bad v old new told (c.requires.fixed told) c.add_chunk.ensures.writes))
           (reply_made tells v w old.files message c.in-Ok.made makes) c.in-Ok-put_made.ensures.flushed c.in-Ok-put_made.ensures.prints);
     }
@@ -67,6 +68,6 @@ returns-in-Err-put_made g c =
     record {
       takes = takes_unwritten tells v w message old new before after (Unit {0}) bad ⊥ (code_of answer) (reply_to message answer)
           (leaves_cells c.ledgers_have_one_reading.ensures tells v w message old new bad (λ m kept. ap (closing_in v.ledger.shape m) c.requires.kind) c.requires.fixed
-          c.add_chunk.ensures.writes c.add_chunk.ensures.padded (Unit {0}) ⊥) tt (λ is. absurd (let e = sym c.in-Ok.is ∙ is in cc)) c.requires.keeps
+          c.add_chunk.ensures.writes c.add_chunk.ensures.padded (Unit {0}) ⊥) tt (λ is. absurd (let e = sym c.in-Ok.is ∙ is in cc))
           (reply_made tells v w old.files message c.in-Ok.made makes) (long_made v w message c.in-Ok.made makes) c.in-Err-put_made.ensures.prints;
     }

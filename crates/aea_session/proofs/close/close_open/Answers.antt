@@ -24,11 +24,11 @@ use Rattle.aea_machine.specs.Closings.{Closing}
 use Rattle.aea_uploads.specs.Gathering.{Finishes}
 use Rattle.aea_uploads.specs.Slots.{KeepsSome}
 use Rattle.aea_session.specs.declared.fault.StepFault.TheVariants.{DiskFault}
-use Rattle.aea_session.specs.Closes.{MayHaveClosed}
+use Rattle.aea_session.specs.Closes.{GoesOn, MayHaveClosed}
 use Rattle.aea_session.proofs.CloseFaults.{ok_no_fault, met_fault, fault_as}
 use Rattle.aea_session.proofs.CloseWoven.{Readied, more_of}
 use Rattle.aea_session.proofs.CloseOpen.{opened_of, some_kept, ready_of, count_is, named, absent, are_in_parts, nodes_are, nodes_few, digests_long, closing_is, room_is}
-use Rattle.aea_session.proofs.CloseRecord.{joined_by}
+use Rattle.aea_session.proofs.CloseRecord.{joined_by, goes_on}
 use Rattle.aea_session.proofs.CloseKeeps.{steps_after, this_after}
 use Rattle.aea_session.proofs.CloseAdds.{Cells, Leaves, cells_wider, both_write, padded_cells, padded_commit, leaves_ledger, leaves_commit, adds_none, adds_closes, has_closed, closed_as}
 use Rattle.aea_session.proofs.close.close_open.Goals as goal
@@ -290,6 +290,40 @@ returns-in-Ok-commit_parts-clause-steps g c m kept =
     c.close_laws.ensures.kept_with_more c.close_laws.ensures.closed_are_placed c.close_laws.ensures.names_stay_own c.close_laws.ensures.limits_stay c.close_laws.ensures.closed_are_next c.close_laws.ensures.parts_record_more _
     (c.nodes_taken-nodes.ensures ∙ ap (λ (x : Shape). nodes_for x t.length) c.shape-shape.ensures.value ∙ nodes_are tells v m slot s t k es mid.files kept o ready c.close_laws.ensures.closed_are_parts c.close_laws.ensures.runs_are_longest) refl refl
 
+pub returns-in-Ok-commit_parts-clause-goes : goal.returns-in-Ok-commit_parts-clause-goes
+returns-in-Ok-commit_parts-clause-goes g c m kept records has =
+    let old = g.D.Disk.state c.args.disk.now in
+    let mid = g.D.Disk.state c.weave_rest.new.disk in
+    let tells = g.D.Disk.tells in
+    let v = c.args.work.now in
+    let slot = c.args.slot in
+    let s = c.in-Some.kept in
+    let t = c.weave_rest.new.slot in
+    let k = c.weave_rest.new.heads in
+    let es = c.weave_rest.new.digests.items in
+    let bad = c.weave_rest.result ≡ Err DiskFault in
+    let many = kept.many in
+    let below = c.requires.may.below in
+    let there : slice_index_or v.slots slot None ≡ Some s = sym (get_or_read v.slots _ _ (omega (arith, many, below)) c.index-work-slot.is None) ∙ c.index-work-slot.is ∙ sym c.take.ensures.value ∙ c.in-Some.is in
+    let o = opened_of v m slot s kept there in
+    let f : Finishes tells v.ledger.shape v.heads k s t v.digests.items es old.files mid.files = subst (λ (x : Shape). Finishes tells x v.heads k s t v.digests.items es old.files mid.files) c.shape-shape.ensures.value c.in-Ok.ensures.finishes in
+    let ready : Readied tells v m o.upload t k es mid.files = ready_of c.close_laws.ensures.last_is_the_machines c.close_laws.ensures.filled_are_counted tells v m slot s t k es old.files mid.files kept c.requires.this c.requires.may there f o in
+    let count : ℕ = c.next_node.result - 1 - c.n.result in
+    let node : c.next_node.result ≡ k.lattice.n + 1 = c.next_node.ensures in
+    let n : c.n.result ≡ v.ledger.lattice.n = c.n.ensures ∙ ap (λ (l : Lattice). l.n) c.lattice.ensures.value in
+    let counted : count ≡ length (more_of v.ledger.shape m o.upload) = (let e = count_is tells v m slot s t k es mid.files kept o ready in omega (arith, e, node, n)) in
+    let new = g.D.Disk.state c.commit_parts.new.disk in
+    let digest = c.finalize-digest.result in
+    let hashed : digest ≡ sha256 o.upload.bytes = c.finalize-digest.ensures o.upload.bytes ready.closes.hash in
+    let nm : c.bytes.result.now ≡ t.name = c.bytes.ensures in
+    let dg : c.as_slice.result.now ≡ es = c.as_slice.ensures.value in
+    let pt : c.as_slice-2.result.now ≡ t.parts.items = c.as_slice-2.ensures.value in
+    let given : Record = Joined (next_stored v.ledger c.bytes.result.now t.length digest count c.as_slice.result.now) c.as_slice-2.result.now in
+    let is : given ≡ joined_by v.ledger t digest count es = λ i. Joined (next_stored v.ledger (nm i) t.length digest count (dg i)) (pt i) in
+    subst (λ (cl : List Closing). GoesOn v.ledger c.commit_parts.new.ledger cl records) (sym (closing_is tells v m slot s t k es mid.files kept o ready c.requires.may))
+    (goes_on tells v m o.upload t k es mid.files ready digest hashed count counted c.commit_parts.new.ledger records
+    (subst (λ (r : Record). HasRecords c.commit_parts.new.ledger (records ++ r ∷ [])) is (c.in-Ok-commit_parts.ensures.value records has)))
+
 pub returns-in-Ok-commit_parts-clause-closed : goal.returns-in-Ok-commit_parts-clause-closed
 returns-in-Ok-commit_parts-clause-closed g c told m kept =
     let old = g.D.Disk.state c.args.disk.now in
@@ -402,7 +436,7 @@ returns-in-Ok-commit_parts-clause-writes g c =
     let is : given ≡ joined_by v.ledger t digest count es = λ i. Joined (next_stored v.ledger (nm i) t.length digest count (dg i)) (pt i) in
     let size : length (entry given) ≡ 60 + length t.name + 8 * length t.parts.items + 32 * length es = c.commit_parts.ensures.size (ap length hashed ∙ length-sha256 o.upload.bytes) ∙ (λ i. 60 + length (nm i) + 8 * length (pt i) + 32 * length (dg i)) in
     writes_as tells _ _ _ _ (Leaves v) old new (λ is. absurd (let e = is in cc)) (λ is. absurd (ok_no_fault c.in-Ok-commit_parts.is is))
-    (both_write tells bad _ v slot (v.ledger.end + length (entry given)) old mid new (ok_no_fault c.in-Ok.is) cells c.commit_parts.ensures.writes (λ told room. room_is tells v m slot s t k es mid.files kept o ready c.requires.may old (length (entry given)) size room))
+    (both_write tells bad _ v slot (v.ledger.end + length (entry given)) old mid new (ok_no_fault c.in-Ok.is) cells c.commit_parts.ensures.writes (λ told room. room_is c.close_laws.ensures.last_is_the_machines c.close_laws.ensures.filled_are_counted tells v slot s t k es old mid.files c.requires.this c.requires.may there f (length (entry given)) size room))
 
 pub returns-in-Ok-commit_parts-clause-padded : goal.returns-in-Ok-commit_parts-clause-padded
 returns-in-Ok-commit_parts-clause-padded g c other told =
@@ -493,7 +527,7 @@ returns-in-Err-DiskFault-clause-writes g c =
     let is : given ≡ joined_by v.ledger t digest count es = λ i. Joined (next_stored v.ledger (nm i) t.length digest count (dg i)) (pt i) in
     let size : length (entry given) ≡ 60 + length t.name + 8 * length t.parts.items + 32 * length es = c.commit_parts.ensures.size (ap length hashed ∙ length-sha256 o.upload.bytes) ∙ (λ i. 60 + length (nm i) + 8 * length (pt i) + 32 * length (dg i)) in
     writes_as tells _ _ _ _ (Leaves v) old new (λ is. c.in-Err-DiskFault.is ∙ ap Err c.in-Err-DiskFault.field-0-is) (λ is. refl)
-    (both_write tells bad _ v slot (v.ledger.end + length (entry given)) old mid new (ok_no_fault c.in-Ok.is) cells c.commit_parts.ensures.writes (λ told room. room_is tells v m slot s t k es mid.files kept o ready c.requires.may old (length (entry given)) size room))
+    (both_write tells bad _ v slot (v.ledger.end + length (entry given)) old mid new (ok_no_fault c.in-Ok.is) cells c.commit_parts.ensures.writes (λ told room. room_is c.close_laws.ensures.last_is_the_machines c.close_laws.ensures.filled_are_counted tells v slot s t k es old mid.files c.requires.this c.requires.may there f (length (entry given)) size room))
 
 pub returns-in-Err-NoMemory-clause-quiet : goal.returns-in-Err-NoMemory-clause-quiet
 returns-in-Err-NoMemory-clause-quiet g c _ told =
@@ -547,7 +581,7 @@ returns-in-Err-NoMemory-clause-writes g c =
     let is : given ≡ joined_by v.ledger t digest count es = λ i. Joined (next_stored v.ledger (nm i) t.length digest count (dg i)) (pt i) in
     let size : length (entry given) ≡ 60 + length t.name + 8 * length t.parts.items + 32 * length es = c.commit_parts.ensures.size (ap length hashed ∙ length-sha256 o.upload.bytes) ∙ (λ i. 60 + length (nm i) + 8 * length (pt i) + 32 * length (dg i)) in
     writes_as tells _ _ _ _ (Leaves v) old new (λ is. absurd (let e = is in cc)) (λ is. absurd (let e = met_fault c.in-Err-NoMemory.is c.in-Err-NoMemory.field-0-is is in cc))
-    (both_write tells bad _ v slot (v.ledger.end + length (entry given)) old mid new (ok_no_fault c.in-Ok.is) cells c.commit_parts.ensures.writes (λ told room. room_is tells v m slot s t k es mid.files kept o ready c.requires.may old (length (entry given)) size room))
+    (both_write tells bad _ v slot (v.ledger.end + length (entry given)) old mid new (ok_no_fault c.in-Ok.is) cells c.commit_parts.ensures.writes (λ told room. room_is c.close_laws.ensures.last_is_the_machines c.close_laws.ensures.filled_are_counted tells v slot s t k es old mid.files c.requires.this c.requires.may there f (length (entry given)) size room))
 
 pub returns-in-Err-NoMemory-clause-padded : goal.returns-in-Err-NoMemory-clause-padded
 returns-in-Err-NoMemory-clause-padded g c other told =

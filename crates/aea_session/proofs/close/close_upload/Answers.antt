@@ -1,19 +1,27 @@
-use Rattle.std.proofs.Common.{◌≡◌, Err, sym, ◌∙◌}
+use Rattle.std.proofs.Common.{◌≡◌, Err, refl, sym, ◌∙◌}
 use Rattle.aea_disk.specs.State.{IsReady}
 use Rattle.aea_disk.proofs.Frames.{writes_as, writes_none}
 use Rattle.aea_records.specs.Format.{raised_limit}
 use Rattle.aea_archive.specs.Blocks.{IsBlockIn}
 use Rattle.aea_archive.specs.Cells.{IsBesides}
 use Rattle.aea_archive.proofs.Cells.{changes_none}
+use Rattle.aea_messages.specs.declared.message.Message.TheVariants.{Close}
 use Rattle.aea_session.specs.declared.fault.StepFault.TheVariants.{DiskFault}
 use Rattle.aea_session.specs.Closes.{HasCloseRoom}
 use Rattle.aea_session.proofs.CloseFaults.{ok_no_fault, fault_as}
 use Rattle.aea_session.proofs.CloseFull.{refused_step}
 use Rattle.aea_session.proofs.CloseAdds.{Leaves}
+use Rattle.aea_session.proofs.Taking.{goes_same, refused_closes}
 use Rattle.aea_session.proofs.close.close_upload.Goals as goal
 
 pub returns-in-Err-clause-steps : goal.returns-in-Err-clause-steps
 returns-in-Err-clause-steps g c = refused_step c.args.work.now c.args.slot c.in-Err.refusal (c.decide.ensures.refused c.in-Err.refusal c.in-Err.is)
+
+pub returns-in-Err-clause-goes : goal.returns-in-Err-clause-goes
+returns-in-Err-clause-goes g c =
+    let v = c.args.work.now in
+    let makes = refused_step v c.args.slot c.in-Err.refusal (c.decide.ensures.refused c.in-Err.refusal c.in-Err.is) in
+    goes_same v v (Close c.args.slot) refl (refused_closes v v c.args.slot c.in-Err.refusal makes)
 
 pub returns-in-Err-clause-writes : goal.returns-in-Err-clause-writes
 returns-in-Err-clause-writes g c =

@@ -5,7 +5,7 @@ use Rattle.aea_session.specs.declared.fault.StepFault.TheVariants.{DiskFault}
 use Rattle.aea_session.specs.declared.fault.TakeFault.{TakeFault}
 use Rattle.aea_session.specs.Steps.{MakesStep, answer_by, closed_by}
 use Rattle.aea_session.specs.Takes.{Takes}
-use Rattle.aea_session.proofs.Taking.{reply_to, reply_closed, long_closed, moves_made, takes_put, takes_unwritten, takes_stopped}
+use Rattle.aea_session.proofs.Taking.{GoesOnBy, reply_to, reply_closed, long_closed, moves_made, takes_put, takes_unwritten, takes_stopped}
 use Rattle.aea_session.proofs.ClosedTaking.{leaves_answered, fixed_answered, leaves_failed}
 use Rattle.aea_session.proofs.closing.take_close.Goals as goal
 
@@ -46,7 +46,7 @@ returns-in-Ok-put_closed g c =
           (leaves_answered c.ledgers_have_one_reading.ensures tells g.D.Disk.state v w message c.args.slot c.requires.kind c.args.disk.now c.close_upload.new.disk c.requires.fixed
           closed (λ p is. c.close_upload.ensures.refused p (c.in-Ok.is ∙ ap Ok is)) bad fine c.in-Ok.ensures.steps (λ stored is. c.close_upload.ensures.closed stored (c.in-Ok.is ∙ ap Ok is))
           c.close_upload.ensures.writes c.close_upload.ensures.padded) tt fine
-          (moves_made tells closed_by v w message old new closed c.requires.keeps makes c.in-Ok.ensures.live_on c.in-Ok.ensures.this
+          (moves_made tells closed_by v w message old new closed c.requires.keeps makes c.in-Ok.ensures.live_on (subst (GoesOnBy v w) (sym c.requires.kind) c.in-Ok.ensures.goes) c.in-Ok.ensures.this
           (fixed_answered c.ledgers_have_one_reading.ensures tells g.D.Disk.state v w message c.args.slot c.requires.kind c.args.disk.now c.close_upload.new.disk c.requires.fixed
           closed (λ p is. c.close_upload.ensures.refused p (c.in-Ok.is ∙ ap Ok is)) (λ stored is. c.close_upload.ensures.synced stored (c.in-Ok.is ∙ ap Ok is))))
           (reply_closed tells v w old.files message closed makes) c.in-Ok-put_closed.ensures.flushed c.in-Ok-put_closed.ensures.prints);
@@ -71,6 +71,6 @@ returns-in-Err-put_closed g c =
       takes = takes_unwritten tells v w message old new before after (Unit {0}) bad ⊥ (code_of answer) (reply_to message answer)
           (leaves_answered c.ledgers_have_one_reading.ensures tells g.D.Disk.state v w message c.args.slot c.requires.kind c.args.disk.now c.close_upload.new.disk c.requires.fixed
           closed (λ p is. c.close_upload.ensures.refused p (c.in-Ok.is ∙ ap Ok is)) bad fine c.in-Ok.ensures.steps (λ stored is. c.close_upload.ensures.closed stored (c.in-Ok.is ∙ ap Ok is))
-          c.close_upload.ensures.writes c.close_upload.ensures.padded) tt fine c.requires.keeps
+          c.close_upload.ensures.writes c.close_upload.ensures.padded) tt fine
           (reply_closed tells v w old.files message closed makes) (long_closed v w message closed makes) c.in-Err-put_closed.ensures.prints;
     }

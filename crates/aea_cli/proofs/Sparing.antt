@@ -23,7 +23,7 @@ use Rattle.aea_command.specs.Worlds.{world}
 use Rattle.aea_command.proofs.OpeningCases.{opening_more}
 use Rattle.aea_command.proofs.Reading.{by_reading}
 use Rattle.aea_command_loss.specs.Repair.{IsUnopened, RepairsThen}
-use Rattle.aea_command_store.specs.GoingOn.{KeepsBlocks}
+use Rattle.aea_stops.specs.GoingOn.{KeepsBlocks}
 use Rattle.aea_cli.specs.declared.command.Command.{Command}
 use Rattle.aea_cli.specs.declared.command.Command.TheVariants.{Repair}
 use Rattle.aea_cli.specs.Does.{Runs}

@@ -2,7 +2,7 @@
 use Rattle.std.proofs.Common.{◌⊎◌, inl, inr}
 use Rattle.aea_cli.specs.declared.command.Command.{Command}
 use Rattle.aea_cli.specs.declared.command.Command.TheVariants as command
-use Rattle.aea_cli.specs.declared.command.Command.TheVariants.{Drill, Create, Stat, Put, Ingest, Get, Fetch, Fence, Upgrade, Scrub, Repair, Explain, Verify, Rehearse, Sites}
+use Rattle.aea_cli.specs.declared.command.Command.TheVariants.{Drill, Create, Stat, Put, Ingest, Get, Fetch, Fence, Upgrade, Scrub, Repair, Explain, Verify, Rehearse, Sites, Session}
 use Rattle.aea_cli.specs.Does.{UsesDisk}
 
 -- a command uses the disk or not
@@ -23,3 +23,4 @@ uses_or_not (Explain word) = inl tt
 uses_or_not Verify = inl tt
 uses_or_not (Rehearse number nodes permille) = inr (λ none. none)
 uses_or_not Sites = inl tt
+uses_or_not Session = inl tt

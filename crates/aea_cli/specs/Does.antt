@@ -10,7 +10,7 @@ use Rattle.aea_ledger.specs.Taking.{FitsMaking}
 use Rattle.aea_ledger.specs.Stops.{HasOpening, HasLedger}
 use Rattle.aea_cli.specs.declared.command.Command.{Command}
 use Rattle.aea_cli.specs.declared.command.Command.TheVariants as command
-use Rattle.aea_cli.specs.declared.command.Command.TheVariants.{Drill, Create, Stat, Put, Ingest, Get, Fetch, Fence, Upgrade, Scrub, Repair, Explain, Verify, Rehearse, Sites}
+use Rattle.aea_cli.specs.declared.command.Command.TheVariants.{Drill, Create, Stat, Put, Ingest, Get, Fetch, Fence, Upgrade, Scrub, Repair, Explain, Verify, Rehearse, Sites, Session}
 use Rattle.aea_command.specs.declared.refusal.Refusal.{Refusal}
 use Rattle.aea_command.specs.declared.refusal.Failure.TheVariants as failure
 use Rattle.aea_command.specs.declared.status.Status.{Status}
@@ -35,6 +35,10 @@ use Rattle.aea_command_loss.specs.Verify.{Verifies, VerifyCauses, IsVerdictText}
 use Rattle.aea_rehearse.specs.declared.rehearsal.Rehearsal.{Rehearsal}
 use Rattle.aea_command_loss.specs.Rehearse.{Rehearses, IsRehearsalOf, rehearsal_line}
 use Rattle.aea_command_loss.specs.Sites.{SumsUpSites, AreFirstLines}
+use Rattle.aea_command_session.specs.Causes as session
+use Rattle.aea_command_session.specs.Causes.{SessionCauses}
+use Rattle.aea_command_session.specs.Session.{Sessions}
+use Rattle.aea_command_session.specs.Space.{FitsSession, FitsReplies}
 use Rattle.aea_command.specs.Causes.{RefusesBy, IsDecided}
 use Rattle.aea_command.specs.Failures.{Answer, NeverClashes}
 use Rattle.aea_command.specs.Honest.{HasHonestSurvivors}
@@ -59,6 +63,7 @@ ReadsInput (Explain word) = ⊥
 ReadsInput Verify = Unit {0}
 ReadsInput (Rehearse number nodes permille) = ⊥
 ReadsInput Sites = ⊥
+ReadsInput Session = Unit {0}
 
 -- the command makes calls of the disk
 abbrev pub UsesDisk : Command → Type 0
@@ -78,6 +83,7 @@ UsesDisk (Explain word) = Unit {0}
 UsesDisk Verify = Unit {0}
 UsesDisk (Rehearse number nodes permille) = ⊥
 UsesDisk Sites = Unit {0}
+UsesDisk Session = Unit {0}
 
 -- the command may change the file
 abbrev pub MayChange : Command → ℕ → Type 0
@@ -97,6 +103,7 @@ MayChange (Explain word) file = ⊥
 MayChange Verify file = ⊥
 MayChange (Rehearse number nodes permille) file = ⊥
 MayChange Sites file = ⊥
+MayChange Session file = file ≤ greatest_sites
 
 -- the input is a part of what decides this refusal of the command
 abbrev pub IsByInput : Command → Refusal → Type 0
@@ -116,6 +123,7 @@ IsByInput (Explain word) why = ⊥
 IsByInput Verify why = IsAfterOpening why
 IsByInput (Rehearse number nodes permille) why = ⊥
 IsByInput Sites why = ⊥
+IsByInput Session why = session.IsByInput why
 
 -- it leaves the file
 abbrev pub Keeps : Command → ℕ → Type 0
@@ -147,6 +155,7 @@ Causes (Explain word) w = ExplainCauses word (w.disk.files 0)
 Causes Verify w = VerifyCauses (w.disk.files 0) (input_of w)
 Causes (Rehearse number nodes permille) w = NeverRefused
 Causes Sites w = OpeningCauses (w.disk.files 0)
+Causes Session w = SessionCauses w.disk.files (input_of w)
 
 -- the disk has space for all that a run of the command writes, and to sync
 abbrev pub FitsDisk : Command → World → Type 0
@@ -166,6 +175,7 @@ FitsDisk (Explain word) w = IsRoomy w.disk
 FitsDisk Verify w = IsRoomy w.disk
 FitsDisk (Rehearse number nodes permille) w = Unit {0}
 FitsDisk Sites w = IsRoomy w.disk
+FitsDisk Session w = FitsSession w.tells w.input.left w.disk
 
 -- no reason for a refusal of the command holds
 abbrev pub IsUnrefused : Command → World → Type 0
@@ -189,6 +199,7 @@ FitsOutput (Explain word) w = (text : List ℕ) → IsExplanationText w.disk.fil
 FitsOutput Verify w = (text : List ℕ) → IsVerdictText w.disk.files (input_of w) text → FitsText w.out text
 FitsOutput (Rehearse number nodes permille) w = (r : Rehearsal) → IsRehearsalOf number nodes permille r → FitsText w.out (rehearsal_line nodes r)
 FitsOutput Sites w = (text : List ℕ) → AreFirstLines (w.disk.files 0) text → FitsText w.out text
+FitsOutput Session w = FitsReplies w.disk.files (input_of w) w.out
 
 -- what a run of the command did
 abbrev pub Does : Command → World → World → Answer → Type 0
@@ -208,6 +219,7 @@ Does (Explain word) old new answer = ExplainsOrNot word old.tells old.disk new.d
 Does Verify old new answer = Verifies old.tells old.disk new.disk old.input new.input old.out new.out answer
 Does (Rehearse number nodes permille) old new answer = Rehearses number nodes permille old.out new.out answer
 Does Sites old new answer = SumsUpSites old.tells old.disk new.disk old.out new.out answer
+Does Session old new answer = Sessions old.tells old.disk new.disk old.input.left new.input.left old.out new.out answer
 
 -- where the intact blocks are honest no digests clash: of a repair and of a fetch for some data list that the ledger records,
 -- and no other command compares digests that it computes
@@ -219,6 +231,7 @@ IsHonest command w = Unit {0}
 -- a run of the command prints before it has met all reasons for refusal: where the output fails first, it ends by that
 abbrev pub PrintsEarly : Command → Type 0
 PrintsEarly Ingest = Unit {0}
+PrintsEarly Session = Unit {0}
 PrintsEarly command = ⊥
 
 -- what decides this refusal of the command is known: of the disk, if it uses it, and of the input, if that is a part of it

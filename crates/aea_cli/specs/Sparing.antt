@@ -7,7 +7,7 @@ use Rattle.aea_cli.specs.declared.command.Command.TheVariants.{Repair}
 use Rattle.aea_cli.specs.Does.{MayChange, Runs}
 use Rattle.aea_command.specs.Failures.{Answer}
 use Rattle.aea_command.specs.Worlds.{world}
-use Rattle.aea_command_store.specs.GoingOn.{Leaving, DoesRun, LeavesBlocks}
+use Rattle.aea_stops.specs.GoingOn.{Leaving, DoesRun, LeavesBlocks}
 
 -- the command may change no file, or is `repair`
 abbrev pub IsSparing : Command → Type 0

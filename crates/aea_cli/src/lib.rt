@@ -5,7 +5,7 @@
 //! `run_surely`: completeness; and `stops_keep_puts`, of many runs, with `runs_spare_blocks`, of those that leave the ledger.
 //!
 //! Read first in `specs/`: `Ends`, then `Does` (the table: a line a command, and `Runs`) and `Words` (`Means`). What a command
-//! does is in its room: `aea_command_store`, `aea_command_read` or `aea_command_loss`, over `aea_command`.
+//! does is in its room: `aea_command_store`, `aea_command_read`, `aea_command_loss` or `aea_command_session`, over `aea_command`.
 #![tactic(auto)]
 
 mod command;
@@ -19,7 +19,7 @@ mod surely;
 mod words;
 
 pub use aea_command::{Refusal, Status};
-pub use aea_command_store::stops_keep_puts;
+pub use aea_stops::stops_keep_puts;
 pub use command::{Command, parse_words};
 pub use program::run;
 pub use spares::runs_spare_blocks;

@@ -21,6 +21,7 @@ use aea_command_read::list::list;
 use aea_command_read::scrub::scrub;
 use aea_command_read::stat::stat;
 use aea_command_read::{fetch_object, get_object};
+use aea_command_session::session::session;
 use aea_command_store::create::create;
 use aea_command_store::fence::fence;
 use aea_command_store::ingest::ingest;
@@ -72,6 +73,7 @@ fn carry_out<D: Disk, S: Source, O: Sink>(
             permille,
         } => rehearse_line(alloc, *number, *nodes, *permille, out),
         Command::Sites => sum_up_sites(alloc, disk, out),
+        Command::Session => session(alloc, disk, input, out),
     }
 }
 
@@ -109,7 +111,7 @@ fn execute<D: Disk, S: Source, O: Sink>(
 /// Does all that the program does: takes the words of the command line, the disk and the three streams, and returns
 /// the status. What is printed is on `out`, and a line that says why a command did not end well on `err`. That memory
 /// ran out may be returned at any time before the first byte is printed, and by `ingest` and `sites` after each of their lines:
-/// then these lines are on `out`, and nothing else.
+/// then these lines are on `out`, and nothing else; and by `session` at any time, with a first part of its replies on `out`.
 pub fn run<D: Disk, S: Source, O: Sink, E: Sink>(
     alloc: Global,
     words: &[String],

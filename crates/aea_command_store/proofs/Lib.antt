@@ -8,6 +8,4 @@ pub mod Wides
 pub mod PutLemmas
 pub mod FromOpening
 pub mod Staying
-pub mod KeptBlocks
-pub mod GoingOn
 pub mod IngestLemmas

@@ -237,8 +237,8 @@ pub record FitsLines (files : Files) (input : List ℕ) (out : SinkState) : Type
 -- what is read.
 pub record GrowsSurely (shape : Shape) (records : List Record) (objects : List NewObject) (k : ℕ) (old new : State) : Type 0 where
   pub grows : Grows shape records objects old new
-  pub first : EveryImage new (λ c. HasAtLeast shape records grows.added k (c 0))
-  pub reads : HasAtLeast shape records grows.added k (new.files 0)
+  pub first : EveryImage new (λ c. HasAtLeast shape records grows.by.added k (c 0))
+  pub reads : HasAtLeast shape records grows.by.added k (new.files 0)
 
 -- No object more than those whose lines were printed; or, where the output failed, the one whose line was begun.
 abbrev pub MayBeMore : {T : Type 0} → Result T Failure → List NewObject → Type 0

@@ -40,14 +40,14 @@ module _ (reading : HasOneReading) (lengths : CellsHaveLengths) (parts : CellsHa
       (λ none. (none.0, subst (λ (s : State). HasDamagedHead s.files b) (still none.2) (head_here reading w now.files one_now b first)))
       (λ some.
       let g : StaysGrown v.shape one.records objects old now = some.1.0.stays in
-      let longer = grown_lattice v.shape one.records g.grows.lattice g.grows.longer g.grows.payload objects g.grows.added g.grows.is_lattice g.grows.next in
-      let mine : IsLatticeOf v.shape (nodes_of (one.records ++ g.grows.added)) (fences_of (one.records ++ g.grows.added)) w.lattice =
+      let longer = grown_lattice v.shape one.records g.grows.by.lattice g.grows.by.longer g.grows.by.payload objects g.grows.by.added g.grows.by.is_lattice g.grows.by.next in
+      let mine : IsLatticeOf v.shape (nodes_of (one.records ++ g.grows.by.added)) (fences_of (one.records ++ g.grows.by.added)) w.lattice =
       subst (λ (l : List Record). IsLatticeOf v.shape (nodes_of (one.records ++ l)) (fences_of (one.records ++ l)) w.lattice) (sym some.1.1)
       (subst (λ (s : Shape). IsLatticeOf s (nodes_of (one.records ++ gone.added)) (fences_of (one.records ++ gone.added)) w.lattice) gone.same_shape its_now.has.lattice) in
-      let lattice : g.grows.longer ≡ w.lattice = one_lattice v.shape (nodes_of (one.records ++ g.grows.added)) (fences_of (one.records ++ g.grows.added)) g.grows.longer w.lattice longer mine in
-      let last : IsLastParity g.grows.longer b = subst (λ (l : Lattice). IsLastParity l b) (sym lattice) first.damaged.last in
+      let lattice : g.grows.by.longer ≡ w.lattice = one_lattice v.shape (nodes_of (one.records ++ g.grows.by.added)) (fences_of (one.records ++ g.grows.by.added)) g.grows.by.longer w.lattice longer mine in
+      let last : IsLastParity g.grows.by.longer b = subst (λ (l : Lattice). IsLastParity l b) (sym lattice) first.damaged.last in
       let intact = lasts_are_intact lengths parts counts v.shape one.records one.has.valid objects some.0 old now g b last in
-      let digests : digests_of (one.records ++ g.grows.added) ≡ w.digests = ap (λ (l : List Record). digests_of (one.records ++ l)) some.1.1 ∙ sym its_now.has.digests in
+      let digests : digests_of (one.records ++ g.grows.by.added) ≡ w.digests = ap (λ (l : List Record). digests_of (one.records ++ l)) some.1.1 ∙ sym its_now.has.digests in
       absurd (first.damaged.damaged (subst (λ (s : Shape). IsIntactBy s w.digests now.files b) (sym gone.same_shape) (subst (λ (ds : List (List ℕ)). IsIntactBy v.shape ds now.files b) digests intact))))
       (gone.grew told one.records its)
 
@@ -58,8 +58,8 @@ module _ (reading : HasOneReading) (lengths : CellsHaveLengths) (parts : CellsHa
       (λ some.
       let g : StaysGrown v.shape one.records objects old now = some.1.0.stays in
       let first = head_there reading v old.files one b damaged in
-      let lattice : g.grows.lattice ≡ v.lattice = one_lattice v.shape (nodes_of one.records) (fences_of one.records) g.grows.lattice v.lattice g.grows.is_lattice one.has.lattice in
-      let last : IsLastParity g.grows.lattice b = subst (λ (l : Lattice). IsLastParity l b) (sym lattice) first.damaged.last in
+      let lattice : g.grows.by.lattice ≡ v.lattice = one_lattice v.shape (nodes_of one.records) (fences_of one.records) g.grows.by.lattice v.lattice g.grows.by.is_lattice one.has.lattice in
+      let last : IsLastParity g.grows.by.lattice b = subst (λ (l : Lattice). IsLastParity l b) (sym lattice) first.damaged.last in
       let intact = lasts_were_intact lengths parts counts v.shape one.records one.has.valid objects some.0 old now g b last in
       absurd (first.damaged.damaged (subst (λ (ds : List (List ℕ)). IsIntactBy v.shape ds old.files b) (sym one.has.digests) intact)))
       (gone.grew told one.records its)

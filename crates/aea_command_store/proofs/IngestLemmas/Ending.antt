@@ -99,11 +99,11 @@ grown_none tells told v list s reading its synced =
     record { stays = stays; synced = synced }
 
 -- all that grew is in every image
-surely_all : (shape : Shape) (list : List Record) (objects : List NewObject) (old new : State) → (g : StaysGrown shape list objects old new) → length g.grows.added ≡ length objects → GrowsSurely shape list objects (length objects) old new
+surely_all : (shape : Shape) (list : List Record) (objects : List NewObject) (old new : State) → (g : StaysGrown shape list objects old new) → length g.grows.by.added ≡ length objects → GrowsSurely shape list objects (length objects) old new
 surely_all shape list objects old new g long = record {
   grows = g.grows;
-  first = λ c here. at_all shape list g.grows.added (length objects) (c 0) (omega (arith, long)) (g.images c here);
-  reads = at_all shape list g.grows.added (length objects) (new.files 0) (omega (arith, long)) g.ledger;
+  first = λ c here. at_all shape list g.grows.by.added (length objects) (c 0) (omega (arith, long)) (g.images c here);
+  reads = at_all shape list g.grows.by.added (length objects) (new.files 0) (omega (arith, long)) g.ledger;
 }
 
 -- ---- what was printed
@@ -280,7 +280,7 @@ module _ (reading : HasOneReading) (lengths : CellsHaveLengths) (parts : CellsHa
           stays = λ differs told list its. (grew told list its).0.stays;
           stops = λ told list its.
               let all = grew told list its in
-              let many : length all.0.stays.grows.added ≡ length (objects ++ o ∷ []) =
+              let many : length all.0.stays.grows.by.added ≡ length (objects ++ o ∷ []) =
               (let n = are_many v.shape objects gone.added gone.are in omega (arith, ap length all.1, length-append gone.added (Object has.r ∷ []), length-append objects (o ∷ []), n)) in (
                 [],
                 inl refl,
@@ -316,7 +316,7 @@ module _ (reading : HasOneReading) (lengths : CellsHaveLengths) (parts : CellsHa
       let grows = grows_no_more tells told v list old old its start (IsReady old) ⊥ ⊥ writes reading leaves in
       subst (λ (xs : List NewObject). GrowsSurely v.shape list xs (length xs) old now) (sym none.0)
       (subst (λ (s : State). GrowsSurely v.shape list [] 0 old s) (sym (still none.2))
-      (record { grows = grows; first = λ c here. grows.adds.prefix old.moment c (omega arith) (omega arith) here; reads = grows.adds.reads })))
+      (record { grows = grows; first = λ c here. grows.by.adds.prefix old.moment c (omega arith) (omega arith) here; reads = grows.by.adds.reads })))
       (λ some_more. surely_all v.shape list objects old now some_more.1.0.stays (ap length some_more.1.1 ∙ are_many v.shape objects gone.added gone.are))
       (gone.grew told list its)
 

@@ -88,7 +88,7 @@ no_raise shape records (x ∷ objects) (q ∷ added) are =
 -- the archive grew by the objects, by these records; or there is none, and the disk is the same
 abbrev pub IsGone : Type 0 → Shape → List Record → State → State → List NewObject → List Record → Type 0
 IsGone same shape records old now objects added =
-    ((objects ≡ []) × (added ≡ []) × same) ⊎ ((objects ≢ []) × ((g : HasGrown shape records objects old now) × (g.stays.grows.added ≡ added)))
+    ((objects ≡ []) × (added ≡ []) × same) ⊎ ((objects ≢ []) × ((g : HasGrown shape records objects old now) × (g.stays.grows.by.added ≡ added)))
 
 -- Of a run that stored the objects of the first frames, one after the other, and printed their lines: the opened ledger at
 -- its beginning and now, the input, the disk and the output.
@@ -177,7 +177,7 @@ module _ (tells same : Type 0) (v w : Opened) (some : HasSomeRecords v) (left re
       (subst (λ (ds : List (List ℕ)). IsIntactBy v.shape ds now.files b) digests (subst (λ (s : Shape). IsIntactBy s w.digests now.files b) gone.same_shape here)))
       (λ some.
       let g : StaysGrown v.shape one.records objects old now = some.1.0.stays in
-      let lattice : g.grows.lattice ≡ v.lattice = one_lattice v.shape (nodes_of one.records) (fences_of one.records) g.grows.lattice v.lattice g.grows.is_lattice one.has.lattice in
+      let lattice : g.grows.by.lattice ≡ v.lattice = one_lattice v.shape (nodes_of one.records) (fences_of one.records) g.grows.by.lattice v.lattice g.grows.by.is_lattice one.has.lattice in
       let here = lasts_were_intact lengths parts counts v.shape one.records one.has.valid objects some.0 old now g b (subst (λ (l : Lattice). IsLastParity l b) (sym lattice) last) in
       subst (λ (ds : List (List ℕ)). IsIntactBy v.shape ds old.files b) (sym one.has.digests) here)
       (gone.grew told one.records (its_start told))
@@ -245,25 +245,25 @@ module _ (tells same : Type 0) (v w : Opened) (some : HasSomeRecords v) (left re
         subst (λ (xs : List NewObject). GrowsSurely v.shape list (xs ++ ys) (length xs) old next) (sym none.0)
         (record {
           grows = late;
-          first = λ c here. late.adds.prefix next.moment c time.later (omega arith) here;
-          reads = late.adds.reads;
+          first = λ c here. late.by.adds.prefix next.moment c time.later (omega arith) here;
+          reads = late.by.adds.reads;
         }))
         (λ some.
         let first = some.1.0.stays in
         let is = some.1.1 in
-        let late : Grows v.shape (list ++ first.grows.added) ys now next =
+        let late : Grows v.shape (list ++ first.grows.by.added) ys now next =
         subst (λ (l : List Record). Grows v.shape (list ++ l) ys now next) (sym is) (subst (λ (s : Shape). Grows s (list ++ gone.added) ys now next) gone.same_shape second) in
-        let nodes : w.lattice.n ≡ nodes_of (list ++ first.grows.added) = (gone.its told list its).has.lattice.n ∙ ap (λ (l : List Record). nodes_of (list ++ l)) (sym is) in
+        let nodes : w.lattice.n ≡ nodes_of (list ++ first.grows.by.added) = (gone.its told list its).has.lattice.n ∙ ap (λ (l : List Record). nodes_of (list ++ l)) (sym is) in
         let shelf = subst (λ (n : ℕ). KeepsShelf tells v.shape (IsBlockIn v.shape n) now next) nodes
         (subst (λ (s : Shape). KeepsShelf tells s (IsBlockIn s w.lattice.n) now next) gone.same_shape (changes_shelf tells _ (HasFrameRoom w rest now) fault w.shape (limit_when w.raised) (IsBlockIn w.shape w.lattice.n) (IsBesides w.shape) now next writes)) in
-        let few : length objects ≤ length first.grows.added = (let n = are_many v.shape objects gone.added gone.are in omega (arith, n, ap length is)) in
+        let few : length objects ≤ length first.grows.by.added = (let n = are_many v.shape objects gone.added gone.are in omega (arith, n, ap length is)) in
         record {
           grows = grows_both reading lengths parts values record_more counts tells v.shape list objects ys some.0 old now next gone.writes.time writes.time gone.writes.earlier first late shelf;
           first = λ c here.
               first_of_both reading lengths parts values record_more counts tells v.shape list objects ys some.0 old now next gone.writes.time writes.time gone.writes.earlier first late shelf
-              (length objects) (c 0) few (late.adds.prefix next.moment c writes.time.later (omega arith) here);
+              (length objects) (c 0) few (late.by.adds.prefix next.moment c writes.time.later (omega arith) here);
           reads = first_of_both reading lengths parts values record_more counts tells v.shape list objects ys some.0 old now next gone.writes.time writes.time gone.writes.earlier first late shelf
-              (length objects) (next.files 0) few late.adds.reads;
+              (length objects) (next.files 0) few late.by.adds.reads;
         })
         (gone.grew told list its)
 
@@ -278,9 +278,9 @@ module _ (tells same : Type 0) (v w : Opened) (some : HasSomeRecords v) (left re
         (λ some.
         let first = some.1.0.stays in
         let is = some.1.1 in
-        let late : StaysGrown v.shape (list ++ first.grows.added) [] now next =
+        let late : StaysGrown v.shape (list ++ first.grows.by.added) [] now next =
         subst (λ (l : List Record). StaysGrown v.shape (list ++ l) [] now next) (sym is) (subst (λ (s : Shape). StaysGrown s (list ++ gone.added) [] now next) gone.same_shape second) in
-        let nodes : w.lattice.n ≡ nodes_of (list ++ first.grows.added) = (gone.its told list its).has.lattice.n ∙ ap (λ (l : List Record). nodes_of (list ++ l)) (sym is) in
+        let nodes : w.lattice.n ≡ nodes_of (list ++ first.grows.by.added) = (gone.its told list its).has.lattice.n ∙ ap (λ (l : List Record). nodes_of (list ++ l)) (sym is) in
         let shelf = subst (λ (n : ℕ). KeepsShelf tells v.shape (IsBlockIn v.shape n) now next) nodes
         (subst (λ (s : Shape). KeepsShelf tells s (IsBlockIn s w.lattice.n) now next) gone.same_shape (changes_shelf tells _ (HasFrameRoom w rest now) fault w.shape (limit_when w.raised) (IsBlockIn w.shape w.lattice.n) (IsBesides w.shape) now next writes)) in
         grown_both reading lengths parts values record_more counts tells told v.shape list objects [] some.0 old now next gone.writes.time writes.time gone.writes.earlier first late shelf)
@@ -291,30 +291,30 @@ module _ (tells same : Type 0) (v w : Opened) (some : HasSomeRecords v) (left re
   module _ (reading : HasOneReading) (lengths : CellsHaveLengths) (parts : CellsHaveParts) (values : LastsAreValues) (record_more : ObjectsRecordMore) (counts : DigestsAreCounted)
       (w2 : Opened) (o : NewObject) (next : State) (stored : Stored) (has : HasStored tells w w2 o now next stored) (fault : Type 0) (writes : OnlyWrites tells (IsReady now) (HasFrameRoom w rest now) fault (changes w) now next) where
     -- the stretch of this frame
-    second : (told : tells) (list : List Record) → AreItsRecords v list (old.files 0) → (g : HasGrown v.shape (list ++ gone.added) (o ∷ []) now next) × (g.stays.grows.added ≡ Object has.r ∷ [])
+    second : (told : tells) (list : List Record) → AreItsRecords v list (old.files 0) → (g : HasGrown v.shape (list ++ gone.added) (o ∷ []) now next) × (g.stays.grows.by.added ≡ Object has.r ∷ [])
     second told list its =
-        subst (λ (s : Shape). (g : HasGrown s (list ++ gone.added) (o ∷ []) now next) × (g.stays.grows.added ≡ Object has.r ∷ [])) gone.same_shape
+        subst (λ (s : Shape). (g : HasGrown s (list ++ gone.added) (o ∷ []) now next) × (g.stays.grows.by.added ≡ Object has.r ∷ [])) gone.same_shape
         (grown_by_one tells told w (list ++ gone.added) now next (gone.its told list its) (gone.synced told) (IsReady now) (HasFrameRoom w rest now) fault writes w2 o stored has)
 
-    pub grew_more : (told : tells) (list : List Record) → AreItsRecords v list (old.files 0) → (g : HasGrown v.shape list (objects ++ o ∷ []) old next) × (g.stays.grows.added ≡ gone.added ++ Object has.r ∷ [])
+    pub grew_more : (told : tells) (list : List Record) → AreItsRecords v list (old.files 0) → (g : HasGrown v.shape list (objects ++ o ∷ []) old next) × (g.stays.grows.by.added ≡ gone.added ++ Object has.r ∷ [])
     grew_more told list its = ⊎_elim
         (λ none.
         let nil : list ++ gone.added ≡ list = ap (λ (l : List Record). list ++ l) none.1 ∙ append-nil list in
         let as_objects : o ∷ [] ≡ objects ++ o ∷ [] = ap (λ (l : List NewObject). l ++ o ∷ []) (sym none.0) in
         let as_added : Object has.r ∷ [] ≡ gone.added ++ Object has.r ∷ [] = ap (λ (l : List Record). l ++ Object has.r ∷ []) (sym none.1) in
-        subst (λ (l : List Record). (g : HasGrown v.shape list (objects ++ o ∷ []) old next) × (g.stays.grows.added ≡ l)) as_added
-        (subst (λ (xs : List NewObject). (g : HasGrown v.shape list xs old next) × (g.stays.grows.added ≡ Object has.r ∷ [])) as_objects
-        (subst (λ (s : State). (g : HasGrown v.shape list (o ∷ []) s next) × (g.stays.grows.added ≡ Object has.r ∷ [])) (still none.2)
-        (subst (λ (rs : List Record). (g : HasGrown v.shape rs (o ∷ []) now next) × (g.stays.grows.added ≡ Object has.r ∷ [])) nil (second told list its)))))
+        subst (λ (l : List Record). (g : HasGrown v.shape list (objects ++ o ∷ []) old next) × (g.stays.grows.by.added ≡ l)) as_added
+        (subst (λ (xs : List NewObject). (g : HasGrown v.shape list xs old next) × (g.stays.grows.by.added ≡ Object has.r ∷ [])) as_objects
+        (subst (λ (s : State). (g : HasGrown v.shape list (o ∷ []) s next) × (g.stays.grows.by.added ≡ Object has.r ∷ [])) (still none.2)
+        (subst (λ (rs : List Record). (g : HasGrown v.shape rs (o ∷ []) now next) × (g.stays.grows.by.added ≡ Object has.r ∷ [])) nil (second told list its)))))
         (λ some.
         let first = some.1.0 in
         let is = some.1.1 in
-        let late = subst (λ (l : List Record). (g : HasGrown v.shape (list ++ l) (o ∷ []) now next) × (g.stays.grows.added ≡ Object has.r ∷ [])) (sym is) (second told list its) in
-        let nodes : w.lattice.n ≡ nodes_of (list ++ first.stays.grows.added) = (gone.its told list its).has.lattice.n ∙ ap (λ (l : List Record). nodes_of (list ++ l)) (sym is) in
+        let late = subst (λ (l : List Record). (g : HasGrown v.shape (list ++ l) (o ∷ []) now next) × (g.stays.grows.by.added ≡ Object has.r ∷ [])) (sym is) (second told list its) in
+        let nodes : w.lattice.n ≡ nodes_of (list ++ first.stays.grows.by.added) = (gone.its told list its).has.lattice.n ∙ ap (λ (l : List Record). nodes_of (list ++ l)) (sym is) in
         let shelf = subst (λ (n : ℕ). KeepsShelf tells v.shape (IsBlockIn v.shape n) now next) nodes
         (subst (λ (s : Shape). KeepsShelf tells s (IsBlockIn s w.lattice.n) now next) gone.same_shape (changes_shelf tells _ (HasFrameRoom w rest now) fault w.shape (limit_when w.raised) (IsBlockIn w.shape w.lattice.n) (IsBesides w.shape) now next writes)) in
         let both = all_both reading lengths parts values record_more counts tells told v.shape list objects (o ∷ []) some.0 old now next gone.writes.time writes.time gone.writes.earlier first late.0 shelf in
-        (both.0, both.1 ∙ ap (λ (l : List Record). first.stays.grows.added ++ l) late.1 ∙ ap (λ (l : List Record). l ++ Object has.r ∷ []) is))
+        (both.0, both.1 ∙ ap (λ (l : List Record). first.stays.grows.by.added ++ l) late.1 ∙ ap (λ (l : List Record). l ++ Object has.r ∷ []) is))
         (gone.grew told list its)
 
     synced_more : tells → IsSynced next

@@ -43,48 +43,52 @@ module _ (tells : Type 0) (told : tells) (w : Opened) (rs : List Record) (now ne
   grows_no_more reading leaves =
       let ledger = has_ledger w rs (now.files 0) its in
       record {
-        lattice = w.lattice;
-        is_lattice = its.has.lattice;
-        longer = w.lattice;
-        payload = λ b. [];
+        by = record {
+          lattice = w.lattice;
+          is_lattice = its.has.lattice;
+          longer = w.lattice;
+          payload = λ b. [];
+          added = [];
+          next = refl;
+          adds = adds_nothing reading w.shape rs [] (λ b. []) now next writes.earlier
+              (during_more now next (λ c. c 0 ≡ now.files 0) (λ c. HasLedger w.shape rs (c 0)) (λ c same. subst (HasLedger w.shape rs) (sym same) ledger) leaves.images)
+              (subst (HasLedger w.shape rs) (sym leaves.reads) ledger);
+          leaves = leaves_from;
+          reads = reads_from;
+          long = (let same = ap length leaves.reads in omega (arith, same));
+        };
         homes = λ some. absurd (some refl);
         lasts_wide = λ some. absurd (some refl);
         wide = λ b on. absurd (let a = on.after in let m = on.most in omega (arith, a, m));
         bytes = λ k d inside. absurd (omega (arith, inside));
-        added = [];
-        next = refl;
-        adds = adds_nothing reading w.shape rs [] (λ b. []) now next writes.earlier
-            (during_more now next (λ c. c 0 ≡ now.files 0) (λ c. HasLedger w.shape rs (c 0)) (λ c same. subst (HasLedger w.shape rs) (sym same) ledger) leaves.images)
-            (subst (HasLedger w.shape rs) (sym leaves.reads) ledger);
-        leaves = leaves_from;
-        reads = reads_from;
-        long = (let same = ap length leaves.reads in omega (arith, same));
         records_more = λ datas valid recorded honest. none_more w.shape rs datas w.lattice (λ b. []) recorded;
       }
 
   -- an object was stored, or none
   pub grows_maybe : (Fits : NewObject → Type 0) (may : MayHaveStored w Fits now next) → Grows w.shape rs may.objects now next
   grows_maybe Fits may = record {
-    lattice = w.lattice;
-    is_lattice = its.has.lattice;
-    longer = may.lattice;
-    payload = may.payload;
+    by = record {
+      lattice = w.lattice;
+      is_lattice = its.has.lattice;
+      longer = may.lattice;
+      payload = may.payload;
+      added = may.added;
+      next = may.next;
+      adds = may.adds rs its;
+      leaves = leaves_from;
+      reads = reads_from;
+      long = long_behind w.shape rs may.added w.end (length (now.files 0)) (length (next.files 0)) its.has.end may.long;
+    };
     homes = may.homes;
     lasts_wide = may.lasts_wide;
     wide = wide_next w.shape w.lattice may.lattice may.payload may.objects may.added its.has.lattice.alpha may.lasts_wide may.bytes may.next;
     bytes = may.bytes;
-    added = may.added;
-    next = may.next;
-    adds = may.adds rs its;
-    leaves = leaves_from;
-    reads = reads_from;
-    long = long_behind w.shape rs may.added w.end (length (now.files 0)) (length (next.files 0)) its.has.end may.long;
     records_more = λ datas valid recorded honest.
         may.records_more rs datas its.has valid recorded (subst (λ (ds : List (List ℕ)). AreLastsHonest w.shape w.lattice ds datas now.files) (sym its.has.digests) honest);
   }
 
   -- it was
-  pub grown_by_one : (w2 : Opened) (o : NewObject) (stored : Stored) (has : HasStored tells w w2 o now next stored) → (g : HasGrown w.shape rs (o ∷ []) now next) × (g.stays.grows.added ≡ Object has.r ∷ [])
+  pub grown_by_one : (w2 : Opened) (o : NewObject) (stored : Stored) (has : HasStored tells w w2 o now next stored) → (g : HasGrown w.shape rs (o ∷ []) now next) × (g.stays.grows.by.added ≡ Object has.r ∷ [])
   grown_by_one w2 o stored has =
       let blocks = object_blocks w.shape o.bytes in
       let alone : blocks ≡ blocks ++ [] = sym (append-nil blocks) in
@@ -93,20 +97,22 @@ module _ (tells : Type 0) (told : tells) (w : Opened) (rs : List Record) (now ne
       let exactly : next.files 0 ≡ committed_all w.shape rs (now.files 0) (Object has.r ∷ []) = has.exactly told ∙ ap (λ (n : ℕ). committed (now.files 0) n (body (Object has.r) ++ 0 ∷ [])) its.has.end in
       let stays : StaysGrown w.shape rs (o ∷ []) now next = record {
         grows = record {
-          lattice = w.lattice;
-          is_lattice = its.has.lattice;
-          longer = w2.lattice;
-          payload = has.payload;
+          by = record {
+            lattice = w.lattice;
+            is_lattice = its.has.lattice;
+            longer = w2.lattice;
+            payload = has.payload;
+            added = Object has.r ∷ [];
+            next = (w2.lattice, has.r, refl, has.next, refl);
+            adds = has.adds told rs its;
+            leaves = leaves_from;
+            reads = reads_from;
+            long = long_exactly w.shape rs (Object has.r ∷ []) (now.files 0) (next.files 0) exactly;
+          };
           homes = λ some. has.homes told;
           lasts_wide = λ some. has.lasts_wide;
           wide = has.wide;
           bytes = All-cons (λ q. AreBytes q.bytes) o [] has.bytes (λ k d inside. absurd (omega (arith, inside)));
-          added = Object has.r ∷ [];
-          next = (w2.lattice, has.r, refl, has.next, refl);
-          adds = has.adds told rs its;
-          leaves = leaves_from;
-          reads = reads_from;
-          long = long_exactly w.shape rs (Object has.r ∷ []) (now.files 0) (next.files 0) exactly;
           records_more = λ datas valid recorded honest.
               subst (λ (more : List (List ℕ)). RecordsMore w.shape rs (Object has.r ∷ []) datas more w.lattice w2.lattice has.payload) alone
               (has.records_more told rs datas its.has recorded (subst (λ (ds : List (List ℕ)). AreLastsHonest w.shape w.lattice ds datas now.files) (sym its.has.digests) honest));

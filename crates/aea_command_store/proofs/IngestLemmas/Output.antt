@@ -50,8 +50,8 @@ module _ (reading : HasOneReading) (lengths : CellsHaveLengths) (parts : CellsHa
   none_was_damaged : objects ≢ [] → (b : BlockId) → HasDamagedHead old.files b → ⊥
   none_was_damaged some b damaged =
       let first = head_there reading v old.files one b damaged in
-      let lattice : g.grows.lattice ≡ v.lattice = one_lattice v.shape (nodes_of one.records) (fences_of one.records) g.grows.lattice v.lattice g.grows.is_lattice one.has.lattice in
-      let last : IsLastParity g.grows.lattice b = subst (λ (l : Lattice). IsLastParity l b) (sym lattice) first.damaged.last in
+      let lattice : g.grows.by.lattice ≡ v.lattice = one_lattice v.shape (nodes_of one.records) (fences_of one.records) g.grows.by.lattice v.lattice g.grows.by.is_lattice one.has.lattice in
+      let last : IsLastParity g.grows.by.lattice b = subst (λ (l : Lattice). IsLastParity l b) (sym lattice) first.damaged.last in
       let intact = lasts_were_intact lengths parts counts v.shape one.records one.has.valid objects some old new g b last in
       first.damaged.damaged (subst (λ (ds : List (List ℕ)). IsIntactBy v.shape ds old.files b) (sym one.has.digests) intact)
 
@@ -60,8 +60,8 @@ module _ (reading : HasOneReading) (lengths : CellsHaveLengths) (parts : CellsHa
     records = one.records;
     ledger = has_ledger_of reading v (old.files 0) one;
     framed = framed;
-    taken = taken_all v.shape one.records objects g.grows.added (are_of_next v.shape g.grows.lattice g.grows.longer g.grows.payload objects g.grows.added g.grows.next)
-        (follow_behind v.shape [] one.records g.grows.added g.ledger.valid);
+    taken = taken_all v.shape one.records objects g.grows.by.added (are_of_next v.shape g.grows.by.lattice g.grows.by.longer g.grows.by.payload objects g.grows.by.added g.grows.by.next)
+        (follow_behind v.shape [] one.records g.grows.by.added g.ledger.valid);
     intact = none_was_damaged;
   }
 

@@ -11,6 +11,7 @@ use Rattle.aea_command.proofs.OpeningCases.{err_with}
 use Rattle.aea_command.proofs.Refusing.{refuses_stopped}
 use Rattle.aea_command.proofs.Texts.{text_printed, text_broken}
 use Rattle.aea_command_store.proofs.CreateLemmas.{IsUnmade, IsMade, creates_nothing, creates_failed, creates_made, create_refuses, made_refuses}
+use Rattle.aea_command_store.proofs.create.create.Given.{Over}
 use Rattle.aea_command_store.proofs.create.create.Goals as goal
 
 ok_not_err : {T : Type 0} (v : T) (fault : CreateFault) → Ok v ≡ Err fault → ⊥
@@ -68,66 +69,48 @@ returns-in_err-create_ledger-clause-refuses g c =
     rw (err_with c.from_residual-in_err-create_ledger.result (creation_failure fault) c.from_residual-in_err-create_ledger.ensures.1)
     (create_refuses g.D.Disk.tells _ fault (λ e. c.in_err-create_ledger.ensures.occupied (ap Err e)))
 
-pub returns-in_err-put_text-clause-creates : goal.returns-in_err-put_text-clause-creates
-returns-in_err-put_text-clause-creates g c =
-    let old = g.D.Disk.state c.args.disk.now in
-    let new = g.D.Disk.state c.create_ledger.new.disk in
+-- what the call ensures that made the archive, where its line was not written
+made_first : (g : Over) (c : goal.After-drop-line-in_err-put_text g) → IsMade c.args.shape.now g.D.Disk.tells (g.D.Disk.state c.args.disk.now) (g.D.Disk.state c.create_ledger.new.disk)
+made_first g c =
     let gave = c.in_ok-create_ledger.ensures in
-    let made : IsMade c.args.shape.now g.D.Disk.tells old new = record {
+    record {
       stands = λ told. record { free = gave.free told; empty = gave.created told; durable = gave.durable (ok_not_err c.in_ok-create_ledger.field-0 creation.DiskFault) told };
       stops = gave.stops;
       opened = λ told. (gave.opened (ok_not_err c.in_ok-create_ledger.field-0 creation.DiskFault) told, gave.durable (ok_not_err c.in_ok-create_ledger.field-0 creation.DiskFault) told);
       reads = gave.reads;
       long = gave.length;
       sure = λ told ready room. (gave.writes.sure told ready room).1;
-    } in
+    }
+
+pub returns-in_err-put_text-clause-creates : goal.returns-in_err-put_text-clause-creates
+returns-in_err-put_text-clause-creates g c =
     rw (err_with c.from_residual-in_err-put_text.result failure.Output c.from_residual-in_err-put_text.ensures.1)
-    (creates_made c.args.shape.now g.D.Disk.tells old new (g.O.Sink.state c.args.out.now) (g.O.Sink.state c.put_text.new.out) (Err failure.Output) (inr refl) made
+    (creates_made c.args.shape.now g.D.Disk.tells _ _ (g.O.Sink.state c.args.out.now) (g.O.Sink.state c.put_text.new.out) (Err failure.Output) (inr refl) (made_first g c)
     (text_broken (rw (c.as_bytes.ensures.value ∙ c.in_ok-line.ensures) at c.in_err-put_text.ensures.prints)))
 
 pub returns-in_err-put_text-clause-refuses : goal.returns-in_err-put_text-clause-refuses
 returns-in_err-put_text-clause-refuses g c =
-    let old = g.D.Disk.state c.args.disk.now in
-    let new = g.D.Disk.state c.create_ledger.new.disk in
+    rw (err_with c.from_residual-in_err-put_text.result failure.Output c.from_residual-in_err-put_text.ensures.1)
+    (made_refuses c.args.shape.now g.D.Disk.tells _ _ (Err failure.Output) (inr refl) (made_first g c))
+
+-- and where it was
+is_made : (g : Over) (c : goal.After-drop-line-2 g) → IsMade c.args.shape.now g.D.Disk.tells (g.D.Disk.state c.args.disk.now) (g.D.Disk.state c.create_ledger.new.disk)
+is_made g c =
     let gave = c.in_ok-create_ledger.ensures in
-    let made : IsMade c.args.shape.now g.D.Disk.tells old new = record {
+    record {
       stands = λ told. record { free = gave.free told; empty = gave.created told; durable = gave.durable (ok_not_err c.in_ok-create_ledger.field-0 creation.DiskFault) told };
       stops = gave.stops;
       opened = λ told. (gave.opened (ok_not_err c.in_ok-create_ledger.field-0 creation.DiskFault) told, gave.durable (ok_not_err c.in_ok-create_ledger.field-0 creation.DiskFault) told);
       reads = gave.reads;
       long = gave.length;
       sure = λ told ready room. (gave.writes.sure told ready room).1;
-    } in
-    rw (err_with c.from_residual-in_err-put_text.result failure.Output c.from_residual-in_err-put_text.ensures.1)
-    (made_refuses c.args.shape.now g.D.Disk.tells old new (Err failure.Output) (inr refl) made)
+    }
 
 pub returns-clause-creates : goal.returns-clause-creates
 returns-clause-creates g c =
-    let old = g.D.Disk.state c.args.disk.now in
-    let new = g.D.Disk.state c.create_ledger.new.disk in
-    let gave = c.in_ok-create_ledger.ensures in
-    let made : IsMade c.args.shape.now g.D.Disk.tells old new = record {
-      stands = λ told. record { free = gave.free told; empty = gave.created told; durable = gave.durable (ok_not_err c.in_ok-create_ledger.field-0 creation.DiskFault) told };
-      stops = gave.stops;
-      opened = λ told. (gave.opened (ok_not_err c.in_ok-create_ledger.field-0 creation.DiskFault) told, gave.durable (ok_not_err c.in_ok-create_ledger.field-0 creation.DiskFault) told);
-      reads = gave.reads;
-      long = gave.length;
-      sure = λ told ready room. (gave.writes.sure told ready room).1;
-    } in
-    creates_made c.args.shape.now g.D.Disk.tells old new (g.O.Sink.state c.args.out.now) (g.O.Sink.state c.put_text.new.out) (Ok Done) (inl refl) made
+    creates_made c.args.shape.now g.D.Disk.tells _ _ (g.O.Sink.state c.args.out.now) (g.O.Sink.state c.put_text.new.out) (Ok Done) (inl refl) (is_made g c)
     (text_printed Done (rw (c.as_bytes.ensures.value ∙ c.in_ok-line.ensures) at c.in_ok-put_text.ensures.prints))
 
 pub returns-clause-refuses : goal.returns-clause-refuses
 returns-clause-refuses g c =
-    let old = g.D.Disk.state c.args.disk.now in
-    let new = g.D.Disk.state c.create_ledger.new.disk in
-    let gave = c.in_ok-create_ledger.ensures in
-    let made : IsMade c.args.shape.now g.D.Disk.tells old new = record {
-      stands = λ told. record { free = gave.free told; empty = gave.created told; durable = gave.durable (ok_not_err c.in_ok-create_ledger.field-0 creation.DiskFault) told };
-      stops = gave.stops;
-      opened = λ told. (gave.opened (ok_not_err c.in_ok-create_ledger.field-0 creation.DiskFault) told, gave.durable (ok_not_err c.in_ok-create_ledger.field-0 creation.DiskFault) told);
-      reads = gave.reads;
-      long = gave.length;
-      sure = λ told ready room. (gave.writes.sure told ready room).1;
-    } in
-    made_refuses c.args.shape.now g.D.Disk.tells old new (Ok Done) (inl refl) made
+    made_refuses c.args.shape.now g.D.Disk.tells _ _ (Ok Done) (inl refl) (is_made g c)

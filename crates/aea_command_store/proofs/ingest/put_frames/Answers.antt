@@ -35,30 +35,12 @@ loop-page-init g c = record {
 
 pub ingest_next-requires-clause-this : goal.ingest_next-requires-clause-this
 ingest_next-requires-clause-this g c told =
-    let tells = g.D.Disk.tells in
-    let v = c.args.ledger.now in
-    let w = c.loop-page.ledger in
-    let left = (g.S.Source.state c.args.input.now).left in
-    let rest = (g.S.Source.state c.loop-page.input).left in
-    let old = g.D.Disk.state c.args.disk.now in
-    let now = g.D.Disk.state c.loop-page.disk in
-    let before = g.O.Sink.state c.args.out.now in
-    let after = g.O.Sink.state c.loop-page.out in
     let inv = c.loop-page.invariant in
     this_now c.ledgers_have_one_reading.ensures c.cells_have_lengths.ensures c.cells_have_parts.ensures c.lasts_are_values.ensures c.objects_record_more.ensures c.digests_are_counted.ensures
-    tells (c.loop-page.disk ≡ c.args.disk.now) v w c.requires.opened left rest old now before after inv.objects inv.gone (λ e. ap g.D.Disk.state e) c.requires.this told
+    g.D.Disk.tells _ _ _ c.requires.opened _ _ _ _ _ _ _ inv.gone (λ e. ap g.D.Disk.state e) c.requires.this told
 
 pub loop-page-smaller : goal.loop-page-smaller
 loop-page-smaller g c =
-    let tells = g.D.Disk.tells in
-    let v = c.args.ledger.now in
-    let w = c.loop-page.ledger in
-    let left = (g.S.Source.state c.args.input.now).left in
-    let rest = (g.S.Source.state c.loop-page.input).left in
-    let old = g.D.Disk.state c.args.disk.now in
-    let now = g.D.Disk.state c.loop-page.disk in
-    let before = g.O.Sink.state c.args.out.now in
-    let after = g.O.Sink.state c.loop-page.out in
     let inv = c.loop-page.invariant in
     let w2 = c.ingest_next.new.ledger in
     let rest2 = (g.S.Source.state c.ingest_next.new.source).left in
@@ -66,21 +48,12 @@ loop-page-smaller g c =
     let gave = c.in_ok-name.ensures in
     let has = gave.stored c.in-Stored.name c.in-Stored.stored (ap Ok c.in-Stored.is) in
     let few = few_more c.ledgers_have_one_reading.ensures c.cells_have_lengths.ensures c.cells_have_parts.ensures c.lasts_are_values.ensures c.objects_record_more.ensures c.digests_are_counted.ensures
-    tells (c.loop-page.disk ≡ c.args.disk.now) v w c.requires.opened left rest old now before after inv.objects inv.gone (λ e. ap g.D.Disk.state e) c.requires.this
+    g.D.Disk.tells _ _ _ c.requires.opened _ _ _ _ _ _ _ inv.gone (λ e. ap g.D.Disk.state e) c.requires.this
     w2 rest2 next c.in-Stored.name c.in-Stored.stored (let r : Result Ingest IngestFault = Ok c.in_ok-name.field-0 in r ≡ Err ingest.DiskFault) has gave.writes c.loop-page.count inv.counted in
     omega (arith, few)
 
 pub loop-page-preserved : goal.loop-page-preserved
 loop-page-preserved g c =
-    let tells = g.D.Disk.tells in
-    let v = c.args.ledger.now in
-    let w = c.loop-page.ledger in
-    let left = (g.S.Source.state c.args.input.now).left in
-    let rest = (g.S.Source.state c.loop-page.input).left in
-    let old = g.D.Disk.state c.args.disk.now in
-    let now = g.D.Disk.state c.loop-page.disk in
-    let before = g.O.Sink.state c.args.out.now in
-    let after = g.O.Sink.state c.loop-page.out in
     let inv = c.loop-page.invariant in
     let w2 = c.ingest_next.new.ledger in
     let rest2 = (g.S.Source.state c.ingest_next.new.source).left in
@@ -90,26 +63,26 @@ loop-page-preserved g c =
     let source = gave.source_kept in
     let sink = c.in_ok-write_line.ensures.prints.cause.kept in
     let few = few_more c.ledgers_have_one_reading.ensures c.cells_have_lengths.ensures c.cells_have_parts.ensures c.lasts_are_values.ensures c.objects_record_more.ensures c.digests_are_counted.ensures
-    tells (c.loop-page.disk ≡ c.args.disk.now) v w c.requires.opened left rest old now before after inv.objects inv.gone (λ e. ap g.D.Disk.state e) c.requires.this
+    g.D.Disk.tells _ _ _ c.requires.opened _ _ _ _ _ _ _ inv.gone (λ e. ap g.D.Disk.state e) c.requires.this
     w2 rest2 next c.in-Stored.name c.in-Stored.stored (let r : Result Ingest IngestFault = Ok c.in_ok-name.field-0 in r ≡ Err ingest.DiskFault) has gave.writes c.loop-page.count inv.counted in
     record {
       objects = inv.objects ++ has.0 ∷ [];
       gone = goes_on c.ledgers_have_one_reading.ensures c.cells_have_lengths.ensures c.cells_have_parts.ensures c.lasts_are_values.ensures c.objects_record_more.ensures c.digests_are_counted.ensures
-          tells (c.loop-page.disk ≡ c.args.disk.now) v w c.requires.opened left rest old now before after inv.objects inv.gone (λ e. ap g.D.Disk.state e) c.requires.this
+          g.D.Disk.tells _ _ _ c.requires.opened _ _ _ _ _ _ _ inv.gone (λ e. ap g.D.Disk.state e) c.requires.this
           w2 rest2 next c.in-Stored.name c.in-Stored.stored (let r : Result Ingest IngestFault = Ok c.in_ok-name.field-0 in r ≡ Err ingest.DiskFault) has gave.writes c.objects_are_counted.ensures c.new_names_are_free.ensures (g.met.D.Disk.ended_taken c.loop-page.disk) (c.ingest_next.new.disk ≡ c.args.disk.now) (g.O.Sink.state c.write_line.new.out) (λ e. let h : (let r : Result Ingest IngestFault = Ok c.in_ok-name.field-0 in r ≡ Err ingest.DiskFault) = e in cc)
           (gave.padded (λ e. let h : (let r : Result Ingest IngestFault = Ok c.in_ok-name.field-0 in r ≡ Err ingest.DiskFault) = e in cc))
           (prints_as tt (rw c.bytes.ensures at c.in_ok-write_line.ensures.prints));
       counted = count_more c.ledgers_have_one_reading.ensures c.cells_have_lengths.ensures c.cells_have_parts.ensures c.lasts_are_values.ensures c.objects_record_more.ensures c.digests_are_counted.ensures
-          tells (c.loop-page.disk ≡ c.args.disk.now) v w c.requires.opened left rest old now before after inv.objects inv.gone (λ e. ap g.D.Disk.state e) c.requires.this
+          g.D.Disk.tells _ _ _ c.requires.opened _ _ _ _ _ _ _ inv.gone (λ e. ap g.D.Disk.state e) c.requires.this
           w2 rest2 next c.in-Stored.name c.in-Stored.stored (let r : Result Ingest IngestFault = Ok c.in_ok-name.field-0 in r ≡ Err ingest.DiskFault) has gave.writes c.loop-page.count inv.counted;
       few = omega (arith, few);
       kept = gave.kept;
       page = c.in_ok-write_line.ensures.left;
       at = at_most_more c.ledgers_have_one_reading.ensures c.cells_have_lengths.ensures c.cells_have_parts.ensures c.lasts_are_values.ensures c.objects_record_more.ensures c.digests_are_counted.ensures
-          tells (c.loop-page.disk ≡ c.args.disk.now) v w c.requires.opened left rest old now before after inv.objects inv.gone (λ e. ap g.D.Disk.state e) c.requires.this
+          g.D.Disk.tells _ _ _ c.requires.opened _ _ _ _ _ _ _ inv.gone (λ e. ap g.D.Disk.state e) c.requires.this
           w2 rest2 next c.in-Stored.name c.in-Stored.stored (let r : Result Ingest IngestFault = Ok c.in_ok-name.field-0 in r ≡ Err ingest.DiskFault) has gave.writes c.loop-page.at c.ingest_next.new.at c.loop-page.count inv.at gave.taken;
       exact = exact_more c.ledgers_have_one_reading.ensures c.cells_have_lengths.ensures c.cells_have_parts.ensures c.lasts_are_values.ensures c.objects_record_more.ensures c.digests_are_counted.ensures
-          tells (c.loop-page.disk ≡ c.args.disk.now) v w c.requires.opened left rest old now before after inv.objects inv.gone (λ e. ap g.D.Disk.state e) c.requires.this
+          g.D.Disk.tells _ _ _ c.requires.opened _ _ _ _ _ _ _ inv.gone (λ e. ap g.D.Disk.state e) c.requires.this
           w2 rest2 next c.in-Stored.name c.in-Stored.stored (let r : Result Ingest IngestFault = Ok c.in_ok-name.field-0 in r ≡ Err ingest.DiskFault) has gave.writes c.loop-page.at c.ingest_next.new.at inv.exact (gave.exact c.in-Stored.name c.in-Stored.stored (ap Ok c.in-Stored.is));
       input_kept = omega (arith, inv.input_kept, source);
       input_still = gave.source_still (not_read c.in_ok-name.field-0) ∙ inv.input_still;
@@ -161,7 +134,7 @@ returns-in_err-name-clause-ingests g c =
     let gave = c.in_err-name.ensures in
     rw (err_with c.from_residual.result (ingest_failure c.in_err-name.field-0.0) c.from_residual.ensures.1)
     (fails_by c.ledgers_have_one_reading.ensures c.cells_have_lengths.ensures c.cells_have_parts.ensures c.lasts_are_values.ensures c.objects_record_more.ensures c.digests_are_counted.ensures
-    tells (c.loop-page.disk ≡ c.args.disk.now) v w c.requires.opened left rest old now before after inv.objects inv.gone (λ e. ap g.D.Disk.state e) c.requires.this
+    g.D.Disk.tells _ _ _ c.requires.opened _ _ _ _ _ _ _ inv.gone (λ e. ap g.D.Disk.state e) c.requires.this
     fault next rest2 (let r : Result Ingest IngestFault = Err fault in r ≡ Err ingest.DiskFault) c.survivors_stay_honest.ensures gave.writes gave.refused_leaves gave.stopped gave.padded
     (fault_ends c.ledgers_have_one_reading.ensures c.objects_are_counted.ensures c.new_names_are_free.ensures c.numbers_tell_blocks.ensures c.cells_have_lengths.ensures c.cells_have_parts.ensures c.digests_are_counted.ensures
     tells (c.loop-page.disk ≡ c.args.disk.now) v w left rest old now before after inv.objects inv.gone (λ e. ap g.D.Disk.state e) c.requires.this rest2 c.loop-page.at c.ingest_next.new.at inv.exact fault (tried g c)))
@@ -194,19 +167,10 @@ returns-in_err-name-clause-after g c =
 
 pub returns-in_err-name-clause-writes : goal.returns-in_err-name-clause-writes
 returns-in_err-name-clause-writes g c =
-    let tells = g.D.Disk.tells in
-    let v = c.args.ledger.now in
-    let w = c.loop-page.ledger in
-    let left = (g.S.Source.state c.args.input.now).left in
-    let rest = (g.S.Source.state c.loop-page.input).left in
-    let old = g.D.Disk.state c.args.disk.now in
-    let now = g.D.Disk.state c.loop-page.disk in
-    let before = g.O.Sink.state c.args.out.now in
-    let after = g.O.Sink.state c.loop-page.out in
     let inv = c.loop-page.invariant in
     rw (err_with c.from_residual.result (ingest_failure c.in_err-name.field-0.0) c.from_residual.ensures.1)
     (writes_by c.ledgers_have_one_reading.ensures c.cells_have_lengths.ensures c.cells_have_parts.ensures c.lasts_are_values.ensures c.objects_record_more.ensures c.digests_are_counted.ensures
-    tells (c.loop-page.disk ≡ c.args.disk.now) v w c.requires.opened left rest old now before after inv.objects inv.gone (λ e. ap g.D.Disk.state e) c.requires.this
+    g.D.Disk.tells _ _ _ c.requires.opened _ _ _ _ _ _ _ inv.gone (λ e. ap g.D.Disk.state e) c.requires.this
     c.objects_are_counted.ensures c.new_names_are_free.ensures (g.met.D.Disk.ended_taken c.loop-page.disk) (g.D.Disk.state c.ingest_next.new.disk) (let r : Result Ingest IngestFault = Err c.in_err-name.field-0.0 in r ≡ Err ingest.DiskFault) (let a : Answer = Err (ingest_failure c.in_err-name.field-0.0) in a ≡ Err failure.Disk)
     (ingest_disk c.in_err-name.field-0.0) (disk_ingest c.in_err-name.field-0.0) c.in_err-name.ensures.writes)
 
@@ -230,15 +194,6 @@ returns-in_err-name-clause-out_cause g c e =
 
 pub returns-in_err-write_line-clause-ingests : goal.returns-in_err-write_line-clause-ingests
 returns-in_err-write_line-clause-ingests g c =
-    let tells = g.D.Disk.tells in
-    let v = c.args.ledger.now in
-    let w = c.loop-page.ledger in
-    let left = (g.S.Source.state c.args.input.now).left in
-    let rest = (g.S.Source.state c.loop-page.input).left in
-    let old = g.D.Disk.state c.args.disk.now in
-    let now = g.D.Disk.state c.loop-page.disk in
-    let before = g.O.Sink.state c.args.out.now in
-    let after = g.O.Sink.state c.loop-page.out in
     let inv = c.loop-page.invariant in
     let w2 = c.ingest_next.new.ledger in
     let rest2 = (g.S.Source.state c.ingest_next.new.source).left in
@@ -247,7 +202,7 @@ returns-in_err-write_line-clause-ingests g c =
     let has = gave.stored c.in-Stored.name c.in-Stored.stored (ap Ok c.in-Stored.is) in
     rw (err_with c.from_residual-in_err-write_line.result failure.Output c.from_residual-in_err-write_line.ensures.1)
     (breaks_off c.ledgers_have_one_reading.ensures c.cells_have_lengths.ensures c.cells_have_parts.ensures c.lasts_are_values.ensures c.objects_record_more.ensures c.digests_are_counted.ensures
-    tells (c.loop-page.disk ≡ c.args.disk.now) v w c.requires.opened left rest old now before after inv.objects inv.gone (λ e. ap g.D.Disk.state e) c.requires.this
+    g.D.Disk.tells _ _ _ c.requires.opened _ _ _ _ _ _ _ inv.gone (λ e. ap g.D.Disk.state e) c.requires.this
     w2 rest2 next c.in-Stored.name c.in-Stored.stored (let r : Result Ingest IngestFault = Ok c.in_ok-name.field-0 in r ≡ Err ingest.DiskFault) has gave.writes (g.O.Sink.state c.write_line.new.out) c.in_err-write_line.field-0.0
     (gave.padded (λ e. let h : (let r : Result Ingest IngestFault = Ok c.in_ok-name.field-0 in r ≡ Err ingest.DiskFault) = e in cc)) (rw c.bytes.ensures at c.in_err-write_line.ensures.prints))
 
@@ -257,19 +212,10 @@ returns-in_err-write_line-clause-refuses g c output =
 
 pub returns-in_err-write_line-clause-writes : goal.returns-in_err-write_line-clause-writes
 returns-in_err-write_line-clause-writes g c =
-    let tells = g.D.Disk.tells in
-    let v = c.args.ledger.now in
-    let w = c.loop-page.ledger in
-    let left = (g.S.Source.state c.args.input.now).left in
-    let rest = (g.S.Source.state c.loop-page.input).left in
-    let old = g.D.Disk.state c.args.disk.now in
-    let now = g.D.Disk.state c.loop-page.disk in
-    let before = g.O.Sink.state c.args.out.now in
-    let after = g.O.Sink.state c.loop-page.out in
     let inv = c.loop-page.invariant in
     rw (err_with c.from_residual-in_err-write_line.result failure.Output c.from_residual-in_err-write_line.ensures.1)
     (writes_by c.ledgers_have_one_reading.ensures c.cells_have_lengths.ensures c.cells_have_parts.ensures c.lasts_are_values.ensures c.objects_record_more.ensures c.digests_are_counted.ensures
-    tells (c.loop-page.disk ≡ c.args.disk.now) v w c.requires.opened left rest old now before after inv.objects inv.gone (λ e. ap g.D.Disk.state e) c.requires.this
+    g.D.Disk.tells _ _ _ c.requires.opened _ _ _ _ _ _ _ inv.gone (λ e. ap g.D.Disk.state e) c.requires.this
     c.objects_are_counted.ensures c.new_names_are_free.ensures (g.met.D.Disk.ended_taken c.loop-page.disk) (g.D.Disk.state c.ingest_next.new.disk) (let r : Result Ingest IngestFault = Ok c.in_ok-name.field-0 in r ≡ Err ingest.DiskFault) (let a : Answer = Err failure.Output in a ≡ Err failure.Disk)
     (λ e. let h : (let a : Answer = Err failure.Output in a ≡ Err failure.Disk) = e in absurd (cc))
     (λ e. let h : (let r : Result Ingest IngestFault = Ok c.in_ok-name.field-0 in r ≡ Err ingest.DiskFault) = e in absurd (cc)) c.in_ok-name.ensures.writes)
@@ -287,15 +233,6 @@ returns-clause-input_still g c fine = c.in_ok-name.ensures.source_still (not_rea
 
 pub returns-in_err-write_end-clause-ingests : goal.returns-in_err-write_end-clause-ingests
 returns-in_err-write_end-clause-ingests g c =
-    let tells = g.D.Disk.tells in
-    let v = c.args.ledger.now in
-    let w = c.loop-page.ledger in
-    let left = (g.S.Source.state c.args.input.now).left in
-    let rest = (g.S.Source.state c.loop-page.input).left in
-    let old = g.D.Disk.state c.args.disk.now in
-    let now = g.D.Disk.state c.loop-page.disk in
-    let before = g.O.Sink.state c.args.out.now in
-    let after = g.O.Sink.state c.loop-page.out in
     let inv = c.loop-page.invariant in
     let rest2 = (g.S.Source.state c.ingest_next.new.source).left in
     let next = g.D.Disk.state c.ingest_next.new.disk in
@@ -304,7 +241,7 @@ returns-in_err-write_end-clause-ingests g c =
     let unchanged = ap g.D.Disk.state end.2 in
     rw (err_with c.from_residual-in_err-write_end.result failure.Output c.from_residual-in_err-write_end.ensures.1)
     (cut_by c.ledgers_have_one_reading.ensures c.cells_have_lengths.ensures c.cells_have_parts.ensures c.lasts_are_values.ensures c.objects_record_more.ensures c.digests_are_counted.ensures
-    tells (c.loop-page.disk ≡ c.args.disk.now) v w c.requires.opened left rest old now before after inv.objects inv.gone (λ e. ap g.D.Disk.state e) c.requires.this
+    g.D.Disk.tells _ _ _ c.requires.opened _ _ _ _ _ _ _ inv.gone (λ e. ap g.D.Disk.state e) c.requires.this
     end.0 next unchanged rest2 (g.O.Sink.state c.write_end.new.out) c.loop-page.count c.in_err-write_end.field-0.0 inv.counted c.in_err-write_end.ensures.prints)
 
 pub returns-in_err-write_end-clause-refuses : goal.returns-in_err-write_end-clause-refuses
@@ -313,35 +250,19 @@ returns-in_err-write_end-clause-refuses g c output =
 
 pub returns-in_err-write_end-clause-writes : goal.returns-in_err-write_end-clause-writes
 returns-in_err-write_end-clause-writes g c =
-    let tells = g.D.Disk.tells in
-    let v = c.args.ledger.now in
-    let w = c.loop-page.ledger in
-    let left = (g.S.Source.state c.args.input.now).left in
-    let rest = (g.S.Source.state c.loop-page.input).left in
-    let old = g.D.Disk.state c.args.disk.now in
-    let now = g.D.Disk.state c.loop-page.disk in
-    let before = g.O.Sink.state c.args.out.now in
-    let after = g.O.Sink.state c.loop-page.out in
     let inv = c.loop-page.invariant in
     let gave = c.in_ok-name.ensures in
     let end = gave.end (ap Ok c.in_default.is) in
     let unchanged = ap g.D.Disk.state end.2 in
     rw (err_with c.from_residual-in_err-write_end.result failure.Output c.from_residual-in_err-write_end.ensures.1)
     (writes_then c.ledgers_have_one_reading.ensures c.cells_have_lengths.ensures c.cells_have_parts.ensures c.lasts_are_values.ensures c.objects_record_more.ensures c.digests_are_counted.ensures
-    tells (c.loop-page.disk ≡ c.args.disk.now) v w c.requires.opened left rest old now before after inv.objects inv.gone (λ e. ap g.D.Disk.state e) c.requires.this
+    g.D.Disk.tells _ _ _ c.requires.opened _ _ _ _ _ _ _ inv.gone (λ e. ap g.D.Disk.state e) c.requires.this
     (g.D.Disk.state c.ingest_next.new.disk) (let a : Answer = Err failure.Output in a ≡ Err failure.Disk) unchanged (λ e. let h : (let a : Answer = Err failure.Output in a ≡ Err failure.Disk) = e in cc))
 
 pub returns-clause-ingests : goal.returns-clause-ingests
 returns-clause-ingests g c =
-    let tells = g.D.Disk.tells in
-    let v = c.args.ledger.now in
     let w = c.loop-page.ledger in
-    let left = (g.S.Source.state c.args.input.now).left in
     let rest = (g.S.Source.state c.loop-page.input).left in
-    let old = g.D.Disk.state c.args.disk.now in
-    let now = g.D.Disk.state c.loop-page.disk in
-    let before = g.O.Sink.state c.args.out.now in
-    let after = g.O.Sink.state c.loop-page.out in
     let inv = c.loop-page.invariant in
     let rest2 = (g.S.Source.state c.ingest_next.new.source).left in
     let next = g.D.Disk.state c.ingest_next.new.disk in
@@ -349,7 +270,7 @@ returns-clause-ingests g c =
     let end = gave.end (ap Ok c.in_default.is) in
     let unchanged = ap g.D.Disk.state end.2 in
     ends_by c.ledgers_have_one_reading.ensures c.cells_have_lengths.ensures c.cells_have_parts.ensures c.lasts_are_values.ensures c.objects_record_more.ensures c.digests_are_counted.ensures
-    tells (c.loop-page.disk ≡ c.args.disk.now) v w c.requires.opened left rest old now before after inv.objects inv.gone (λ e. ap g.D.Disk.state e) c.requires.this
+    g.D.Disk.tells _ _ _ c.requires.opened _ _ _ _ _ _ _ inv.gone (λ e. ap g.D.Disk.state e) c.requires.this
     next unchanged rest2 (g.O.Sink.state c.write_end.new.out) c.loop-page.count inv.counted (gave.ended (ap Ok c.in_default.is))
     (counted_none rest rest2 c.loop-page.at c.ingest_next.new.at (265 + room_left w) gave.taken end.3) (prints_as tt c.in_ok-write_end.ensures.prints)
 
@@ -363,19 +284,10 @@ returns-clause-refuses g c output =
 
 pub returns-clause-writes : goal.returns-clause-writes
 returns-clause-writes g c =
-    let tells = g.D.Disk.tells in
-    let v = c.args.ledger.now in
-    let w = c.loop-page.ledger in
-    let left = (g.S.Source.state c.args.input.now).left in
-    let rest = (g.S.Source.state c.loop-page.input).left in
-    let old = g.D.Disk.state c.args.disk.now in
-    let now = g.D.Disk.state c.loop-page.disk in
-    let before = g.O.Sink.state c.args.out.now in
-    let after = g.O.Sink.state c.loop-page.out in
     let inv = c.loop-page.invariant in
     let gave = c.in_ok-name.ensures in
     let end = gave.end (ap Ok c.in_default.is) in
     let unchanged = ap g.D.Disk.state end.2 in
     writes_then c.ledgers_have_one_reading.ensures c.cells_have_lengths.ensures c.cells_have_parts.ensures c.lasts_are_values.ensures c.objects_record_more.ensures c.digests_are_counted.ensures
-    tells (c.loop-page.disk ≡ c.args.disk.now) v w c.requires.opened left rest old now before after inv.objects inv.gone (λ e. ap g.D.Disk.state e) c.requires.this
+    g.D.Disk.tells _ _ _ c.requires.opened _ _ _ _ _ _ _ inv.gone (λ e. ap g.D.Disk.state e) c.requires.this
     (g.D.Disk.state c.ingest_next.new.disk) (let a : Answer = Ok Done in a ≡ Err failure.Disk) unchanged (λ e. let h : (let a : Answer = Ok Done in a ≡ Err failure.Disk) = e in cc)

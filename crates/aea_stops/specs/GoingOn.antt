@@ -1,15 +1,21 @@
 -- Runs that a stop may cut off, and runs that go on from what a stop left.
-use Rattle.std.specs.Prelude.{◌≡◌, ◌≢◌, ◌⊎◌, ◌≤◌, ℕ, List, [], ◌∷◌, ◌++◌, length, Option, Err}
+use Rattle.std.specs.Prelude.{◌≡◌, ◌≢◌, ◌⊎◌, ◌≤◌, ℕ, List, [], ◌∷◌, ◌++◌, length, Option, Result, Err, IsErr}
 use Rattle.sha2.specs.Sha256.{sha256}
 use Rattle.aea_lattice.specs.declared.blocks.BlockId.{BlockId}
 use Rattle.aea_lattice.specs.declared.shape.Shape.{Shape}
+use Rattle.aea_io.specs.Streams.{SinkState}
 use Rattle.aea_disk.specs.Files.{Files}
 use Rattle.aea_disk.specs.State.{State, IsFixed, IsSynced}
 use Rattle.aea_records.specs.Format.{Record, Stored, Object, nodes_of, digests_of}
 use Rattle.aea_ledger.specs.Stops.{HasLedger, HasOpening}
+use Rattle.aea_ledger.specs.Values.{Opened, HasRecords}
 use Rattle.aea_archive.specs.Blocks.{IsBlockIn, IsIntactBy}
 use Rattle.aea_archive.specs.Next.{NewObject}
 use Rattle.aea_append.specs.Puts.{IsWhole}
+use Rattle.aea_messages.specs.declared.message.Message.{Message}
+use Rattle.aea_machine.specs.Closings.{Closing}
+use Rattle.aea_uploads.specs.Laws.{AreWide}
+use Rattle.aea_session.specs.declared.serving.Stop.{Stop}
 use Rattle.aea_command.specs.declared.refusal.Refusal.{Refusal}
 use Rattle.aea_command.specs.declared.refusal.Failure.TheVariants as failure
 use Rattle.aea_command.specs.Failures.{Answer}
@@ -18,6 +24,9 @@ use Rattle.aea_command_store.specs.Fence.{next_fence}
 use Rattle.aea_command_store.specs.Ingest.{MayBeLast, StoresFrames}
 use Rattle.aea_command_store.specs.Put.{EndsStored, Stores}
 use Rattle.aea_command_store.specs.Upgrade.{next_raise}
+use Rattle.aea_command_session.specs.Closes.{IsMade, MayBeMade, closes_of}
+use Rattle.aea_session.specs.Closes.{AreRecordsOfCloses}
+use Rattle.aea_command_session.specs.Session.{AnswersBy, Serves, Sessions}
 
 -- A run of `put`: the name, what the input had before and after it, and its answer.
 pub record PutRun : Type 0 where
@@ -35,10 +44,20 @@ pub record IngestRun : Type 0 where
   pub more : List NewObject
   pub answer : Answer
 
--- What a run is: one of `put`, of `ingest`, of `fence` or of `upgrade`, or one of a command that leaves the ledger as it is.
+-- A run of `session`: what the input and the output had before and after it, and its answer.
+pub record SessionRun : Type 0 where
+  pub left : Option (List ℕ)
+  pub rest : Option (List ℕ)
+  pub before : SinkState
+  pub after : SinkState
+  pub answer : Answer
+
+-- What a run is: one of `put`, of `ingest`, of `session`, of `fence` or of `upgrade`, or one of a command that leaves the ledger as
+-- it is.
 pub data RunKind : Type 0 where
   Putting : PutRun → RunKind
   Ingesting : IngestRun → RunKind
+  Sessioning : SessionRun → RunKind
   Fencing : Answer → RunKind
   Raising : Answer → RunKind
   Leaving : RunKind
@@ -47,6 +66,7 @@ pub data RunKind : Type 0 where
 abbrev pub DoesRun : RunKind → Type 0 → State → State → Type 0
 DoesRun (Putting p) tells old new = Stores p.name tells old new p.left p.rest p.answer
 DoesRun (Ingesting i) tells old new = StoresFrames tells old new i.left i.rest i.printed i.more i.answer
+DoesRun (Sessioning s) tells old new = Sessions tells old new s.left s.rest s.before s.after s.answer
 DoesRun (Fencing answer) tells old new = AddsRecord next_fence tells old new answer
 DoesRun (Raising answer) tells old new = AddsRecord next_raise tells old new answer
 DoesRun Leaving tells old new = tells → HasOpening old new (λ c. c 0 ≡ old.files 0)
@@ -92,6 +112,38 @@ pub record AreIngested (i : IngestRun) (ended : Type 0) (added : List Record) : 
   pub records : AreRecordsFor objects added
   pub acknowledged : ended → length (i.printed ++ i.more) ≤ length objects
 
+-- No record: the session did not begin. It failed, with nothing taken of the input and nothing printed.
+abbrev pub IsUnserved : SessionRun → List Record → Type 0
+IsUnserved s added = IsErr s.answer × (s.rest ≡ s.left) × (s.after ≡ s.before) × (added ≡ [])
+
+-- The session began over an archive of this shape with these records, and took its messages. The records that were added are
+-- those of the first of their closes: of the messages that were answered, of the one that was made though its reply was not taken,
+-- and of the one that was under way where the disk failed. Where the run ended before the stop, each close that was answered, or
+-- whose reply was begun, has its record. The closes are over some X with as many blocks as the archive has nodes; what these are
+-- makes no difference to the record of a close.
+pub record AreServed (tells : Type 0) (shape : Shape) (records : List Record) (s : SessionRun) (ended : Type 0) (added : List Record) : Type 0 where
+  pub v : Opened
+  pub same : v.shape ≡ shape
+  pub has : HasRecords v records
+  pub files : Files
+  pub messages : List Message
+  pub tail : List ℕ
+  pub result : Result (Unit {0}) Stop
+  pub by : AnswersBy result s.answer
+  pub serves : Serves tells v files s.left s.rest s.before s.after messages tail result
+  pub datas : List (List ℕ)
+  pub long : length datas ≡ nodes_of records
+  pub wide : AreWide shape datas
+  pub made : List Message
+  pub is_made : IsMade result tail made
+  pub more : List Message
+  pub may : MayBeMade result tail more
+  pub closings : List Closing
+  pub others : List Closing
+  pub first : closings ++ others ≡ closes_of v datas (messages ++ more)
+  pub are : AreRecordsOfCloses closings added
+  pub acknowledged : ended → length (closes_of v datas (messages ++ made)) ≤ length closings
+
 -- no record: the run did not end before the stop with an answer that says that something was added
 abbrev pub IsUnadded : Answer → Type 0 → List Record → Type 0
 IsUnadded answer ended added = (EndsStored answer → ended → ⊥) × (added ≡ [])
@@ -100,13 +152,14 @@ IsUnadded answer ended added = (EndsStored answer → ended → ⊥) × (added �
 abbrev pub IsAdded : Answer → Record → List Record → Type 0
 IsAdded answer r added = ((why : Refusal) → answer ≢ Err (failure.Refused why)) × (answer ≢ Err failure.Memory) × (added ≡ r ∷ [])
 
--- the records are what a stop of the run leaves after these that were there
-abbrev pub IsLeftBy : List Record → RunKind → Type 0 → List Record → Type 0
-IsLeftBy records (Putting p) ended added = IsUnadded p.answer ended added ⊎ ((o : NewObject) × IsPutOf p o × AreRecordsFor (o ∷ []) added)
-IsLeftBy records (Ingesting i) ended added = AreIngested i ended added
-IsLeftBy records (Fencing answer) ended added = IsUnadded answer ended added ⊎ IsAdded answer (next_fence records) added
-IsLeftBy records (Raising answer) ended added = IsUnadded answer ended added ⊎ IsAdded answer (next_raise records) added
-IsLeftBy records Leaving ended added = added ≡ []
+-- the records are what a stop of the run leaves, in an archive of this shape, after these that were there
+abbrev pub IsLeftBy : Type 0 → Shape → List Record → RunKind → Type 0 → List Record → Type 0
+IsLeftBy tells shape records (Putting p) ended added = IsUnadded p.answer ended added ⊎ ((o : NewObject) × IsPutOf p o × AreRecordsFor (o ∷ []) added)
+IsLeftBy tells shape records (Ingesting i) ended added = AreIngested i ended added
+IsLeftBy tells shape records (Sessioning s) ended added = IsUnserved s added ⊎ AreServed tells shape records s ended added
+IsLeftBy tells shape records (Fencing answer) ended added = IsUnadded answer ended added ⊎ IsAdded answer (next_fence records) added
+IsLeftBy tells shape records (Raising answer) ended added = IsUnadded answer ended added ⊎ IsAdded answer (next_raise records) added
+IsLeftBy tells shape records Leaving ended added = added ≡ []
 
 -- The runs went on one after the other, from these files to those that the last stop left: each began over a disk that
 -- reads as what the stop before it had left, and with nothing pending on its ledger.
@@ -114,11 +167,12 @@ abbrev pub GoOn : (D tells : Type 0) (state : D → State) → Files → List (S
 GoOn D tells state first [] last = last ≡ first
 GoOn D tells state first (r ∷ runs) last = ((state r.old).files ≡ first) × IsFixed (state r.old) 0 × GoOn D tells state r.files runs last
 
--- the records are those that the runs left after these, in order
-abbrev pub AreKept : (D tells : Type 0) (state : D → State) → List Record → List (StoppedRun D tells state) → List Record → Type 0
-AreKept D tells state records [] added = added ≡ []
-AreKept D tells state records (r ∷ runs) added =
-    (one : List Record) × (rest : List Record) × (added ≡ one ++ rest) × IsLeftBy records r.kind (r.moment ≡ (state r.new).moment) one × AreKept D tells state (records ++ one) runs rest
+-- the records are those that the runs left after these, in order, in an archive of this shape
+abbrev pub AreKept : (D tells : Type 0) (state : D → State) → Shape → List Record → List (StoppedRun D tells state) → List Record → Type 0
+AreKept D tells state shape records [] added = added ≡ []
+AreKept D tells state shape records (r ∷ runs) added =
+    (one : List Record) × (rest : List Record) × (added ≡ one ++ rest) × IsLeftBy tells shape records r.kind (r.moment ≡ (state r.new).moment) one
+    × AreKept D tells state shape (records ++ one) runs rest
 
 -- Each block of an archive with the later records that is one of the nodes after those of the records before, or was intact, by
 -- these, in the old files, is intact in the new ones.
@@ -148,5 +202,5 @@ AllSpareBlocks D tells state (r ∷ runs) = SparesBlocks r.kind tells (state r.o
 abbrev pub StopsKeepPuts : {D : Type 0} → Type 0 → (D → State) → Type 0
 StopsKeepPuts {D} tells state =
     tells → (shape : Shape) (records : List Record) (runs : List (StoppedRun D tells state)) (first last : Files) → HasLedger shape records (first 0) → GoOn D tells state first runs last
-    → (added : List Record) × AreKept D tells state records runs added × HasLedger shape (records ++ added) (last 0)
+    → (added : List Record) × AreKept D tells state shape records runs added × HasLedger shape (records ++ added) (last 0)
     × (AllSpareBlocks D tells state runs → KeepsBlocks shape records (records ++ added) first last)

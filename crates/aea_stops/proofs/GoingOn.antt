@@ -6,25 +6,33 @@ use Rattle.aea_lattice.specs.declared.blocks.BlockId.{BlockId}
 use Rattle.aea_lattice.specs.declared.grid.Lattice.{Lattice}
 use Rattle.aea_lattice.specs.declared.shape.Shape.{Shape}
 use Rattle.aea_disk.specs.Files.{Files}
-use Rattle.aea_disk.specs.State.{State, IsFixed, KeepsImages}
+use Rattle.aea_disk.specs.State.{State, EveryImage, IsFixed, KeepsImages}
 use Rattle.aea_envelope.specs.Facts.{CellsHaveLengths, CellsHaveParts}
-use Rattle.aea_records.specs.Format.{Record, digests_of, spelled}
+use Rattle.aea_records.specs.Format.{Stored, Record, Joined, digests_of, spelled}
 use Rattle.aea_records.specs.Laws.{HasOneReading, DigestsAreCounted}
 use Rattle.aea_ledger.specs.Stops.{HasLedger, HasOpening}
+use Rattle.aea_ledger.specs.Values.{Opened}
 use Rattle.aea_archive.specs.Blocks.{IsIntactBy}
 use Rattle.aea_archive.specs.Next.{NewObject, AreNextRecords}
-use Rattle.aea_archive.specs.Stretches.{HasPrefix}
+use Rattle.aea_archive.specs.Stretches.{HasAtLeast, HasPrefix}
+use Rattle.aea_messages.specs.declared.message.Message.{Message}
+use Rattle.aea_machine.specs.Closings.{Closing, IsNextClosed, AreClosedRecords}
+use Rattle.aea_machine.specs.Machine.{runs_of}
 use Rattle.aea_command.specs.Failures.{Answer}
 use Rattle.aea_command.specs.Openings.{OpensOr, OpensThen}
 use Rattle.aea_command.proofs.OpeningCases.{opening_more}
 use Rattle.aea_command_store.specs.Adding.{AddsRecord}
 use Rattle.aea_command_store.specs.Fence.{next_fence}
-use Rattle.aea_command_store.specs.GoingOn.{PutRun, IngestRun, RunKind, Putting, Ingesting, Fencing, Raising, Leaving, DoesRun, StoppedRun, IsPutOf, AreRecordsFor, IsUnadded, IsAdded, IsLeftBy, KeepsBlocks, AllSpareBlocks, StopsKeepPuts}
+use Rattle.aea_stops.specs.GoingOn.{PutRun, IngestRun, SessionRun, RunKind, Putting, Ingesting, Sessioning, Fencing, Raising, Leaving, DoesRun, StoppedRun, IsPutOf, AreRecordsFor, IsUnadded, IsAdded, IsLeftBy, KeepsBlocks, AllSpareBlocks, StopsKeepPuts}
 use Rattle.aea_command_store.specs.Growing.{Grows}
 use Rattle.aea_command_store.specs.Ingest.{MayBeLast, StoresFrames, GrowsSurely}
 use Rattle.aea_command_store.specs.Put.{EndsStored, MayHavePut, Stores}
 use Rattle.aea_command_store.specs.Upgrade.{next_raise}
-use Rattle.aea_command_store.proofs.KeptBlocks.{blocks_left}
+use Rattle.aea_command_session.specs.Closes.{ClosesAll, closes_of}
+use Rattle.aea_session.specs.Closes.{IsRecordOfClose, AreRecordsOfCloses}
+use Rattle.aea_command_session.specs.Session.{Sessions}
+use Rattle.aea_stops.proofs.KeptBlocks.{blocks_left}
+use Rattle.aea_stops.proofs.Serving.{zeros, Began, begun_over, surely_closed}
 
 -- ---- the records of the first objects
 
@@ -42,6 +50,24 @@ as_many shape l m payload [] [] are = refl
 as_many shape l m payload [] (r ∷ added) none = absurd none
 as_many shape l m payload (o ∷ objects) [] none = absurd none
 as_many shape l m payload (o ∷ objects) (r ∷ added) are = ap suc (as_many shape are.0 m payload objects added are.4)
+
+-- the record of the next close is that of the close
+record_of : (shape : Shape) (l m : Lattice) (payload : BlockId → List ℕ) (c : Closing) (r : Record) (o : Stored) → r ≡ Joined o (runs_of c.nodes) → IsNextClosed shape l m payload c o → IsRecordOfClose c r
+record_of shape l m payload c r o is next = (o, is, next.name_is, next.size, next.digest, next.count)
+
+first_closes : (shape : Shape) (l m : Lattice) (payload : BlockId → List ℕ) (closings : List Closing) (added : List Record) (count : ℕ) → AreClosedRecords shape l m payload closings added → AreRecordsOfCloses (take count closings) (take count added)
+first_closes shape l m payload [] [] zero are = tt
+first_closes shape l m payload [] [] (suc k) are = tt
+first_closes shape l m payload [] (r ∷ added) count none = absurd none
+first_closes shape l m payload (c ∷ closings) [] count none = absurd none
+first_closes shape l m payload (c ∷ closings) (r ∷ added) zero are = tt
+first_closes shape l m payload (c ∷ closings) (r ∷ added) (suc k) are = (record_of shape l are.0 payload c r are.1 are.2 are.3, first_closes shape are.0 m payload closings added k are.4)
+
+as_many_closes : (shape : Shape) (l m : Lattice) (payload : BlockId → List ℕ) (closings : List Closing) (added : List Record) → AreClosedRecords shape l m payload closings added → length closings ≡ length added
+as_many_closes shape l m payload [] [] are = refl
+as_many_closes shape l m payload [] (r ∷ added) none = absurd none
+as_many_closes shape l m payload (c ∷ closings) [] none = absurd none
+as_many_closes shape l m payload (c ∷ closings) (r ∷ added) are = ap suc (as_many_closes shape are.0 m payload closings added are.4)
 
 -- the first of none, and of one
 first_of_none : (count : ℕ) → (let none : List Record = [] in take count none ≡ [])
@@ -64,7 +90,7 @@ module _ (reading : HasOneReading) (D tells : Type 0) (state : D → State) (tol
 
   -- what a stop of a run of this kind leaves
   abbrev LeftAs : RunKind → Type 0
-  LeftAs kind = (one : List Record) × IsLeftBy records kind Ended one × HasLedger shape (records ++ one) (r.files 0)
+  LeftAs kind = (one : List Record) × IsLeftBy tells shape records kind Ended one × HasLedger shape (records ++ one) (r.files 0)
 
   -- an image from the entry has the ledger as it read there
   at_entry : (state r.old).image (state r.old).moment r.files → HasLedger shape records (r.files 0)
@@ -92,6 +118,18 @@ module _ (reading : HasOneReading) (D tells : Type 0) (state : D → State) (tol
   at_end : Ended → (state r.new).image (state r.new).moment r.files
   at_end ended = subst (λ (m : ℕ). (state r.new).image m r.files) ended r.image
 
+  -- where every image at the end has the first k of some records, or more, the files have so many after the end
+  enough : (added : List Record) (k : ℕ) → EveryImage (state r.new) (λ c. HasAtLeast shape records added k (c 0)) → (prefix : HasPrefix shape records added (r.files 0)) → Ended → k ≤ prefix.count
+  enough added k first prefix ended =
+      let sure = first r.files (at_end ended) in
+      let same = as_long shape (records ++ take prefix.count added) (records ++ take sure.count added) prefix.ledger sure.ledger in
+      let one = length-append records (take prefix.count added) in
+      let two = length-append records (take sure.count added) in
+      let a = length-take-le prefix.count added prefix.within in
+      let b = length-take-le sure.count added sure.within in
+      let least = sure.enough in
+      omega (arith, same, one, two, a, b, least)
+
   -- ---- a put
 
   module _ (p : PutRun) (stores : Stores p.name tells (state r.old) (state r.new) p.left p.rest p.answer) where
@@ -100,10 +138,10 @@ module _ (reading : HasOneReading) (D tells : Type 0) (state : D → State) (tol
     unacknowledged before said ended =
         let stands = stores.stands said told shape records ledger in
         let grown = stands.2.rest.stays in
-        let many = as_many shape grown.grows.lattice grown.grows.longer grown.grows.payload (stands.0 ∷ []) grown.grows.added grown.grows.next in
+        let many = as_many shape grown.grows.by.lattice grown.grows.by.longer grown.grows.by.payload (stands.0 ∷ []) grown.grows.by.added grown.grows.by.next in
         let same : r.files 0 ≡ (state r.new).files 0 = stands.2.rest.synced r.files (at_end ended) 0 in
-        let now : HasLedger shape (records ++ grown.grows.added) (r.files 0) = subst (HasLedger shape (records ++ grown.grows.added)) (sym same) grown.ledger in
-        omega (arith, as_long shape records (records ++ grown.grows.added) before now, length-append records grown.grows.added, many)
+        let now : HasLedger shape (records ++ grown.grows.by.added) (r.files 0) = subst (HasLedger shape (records ++ grown.grows.by.added)) (sym same) grown.ledger in
+        omega (arith, as_long shape records (records ++ grown.grows.by.added) before now, length-append records grown.grows.by.added, many)
 
     none_put : HasLedger shape records (r.files 0) → LeftAs (Putting p)
     none_put before = ([], inl (unacknowledged before, refl), and_none before)
@@ -113,21 +151,21 @@ module _ (reading : HasOneReading) (D tells : Type 0) (state : D → State) (tol
     one_put o is added zero are has = none_put (subst (λ (l : List Record). HasLedger shape l (r.files 0)) (append-nil records) has)
     one_put o is added (suc k) are has = (take (suc k) added, inr (o, is, subst (λ (os : List NewObject). AreRecordsFor (o ∷ os) (take (suc k) added)) (none_after k) are), has)
 
-    some_left : (objects : List NewObject) → MayHavePut p.name p.left p.rest p.answer objects → (old : State) → (g : Grows shape records objects old (state r.new)) → HasPrefix shape records g.added (r.files 0) → LeftAs (Putting p)
+    some_left : (objects : List NewObject) → MayHavePut p.name p.left p.rest p.answer objects → (old : State) → (g : Grows shape records objects old (state r.new)) → HasPrefix shape records g.by.added (r.files 0) → LeftAs (Putting p)
     some_left objects (inl nil) old g prefix =
-        let no = no_record objects g.added nil (as_many shape g.lattice g.longer g.payload objects g.added g.next) in
-        let first : take prefix.count g.added ≡ [] = ap (take prefix.count) no ∙ first_of_none prefix.count in
+        let no = no_record objects g.by.added nil (as_many shape g.by.lattice g.by.longer g.by.payload objects g.by.added g.by.next) in
+        let first : take prefix.count g.by.added ≡ [] = ap (take prefix.count) no ∙ first_of_none prefix.count in
         none_put (subst (λ (l : List Record). HasLedger shape l (r.files 0)) (ap (λ (l : List Record). records ++ l) first ∙ append-nil records) prefix.ledger)
     some_left objects (inr some) old g prefix =
         let o = some.1.0 in
-        let next = subst (λ (os : List NewObject). AreNextRecords shape g.lattice g.longer g.payload os g.added) some.1.2 g.next in
-        one_put o (some.0, some.1.1) g.added prefix.count (first_records shape g.lattice g.longer g.payload (o ∷ []) g.added prefix.count next) prefix.ledger
+        let next = subst (λ (os : List NewObject). AreNextRecords shape g.by.lattice g.by.longer g.by.payload os g.by.added) some.1.2 g.by.next in
+        one_put o (some.0, some.1.1) g.by.added prefix.count (first_records shape g.by.lattice g.by.longer g.by.payload (o ∷ []) g.by.added prefix.count next) prefix.ledger
 
     put_left : (objects : List NewObject) → MayHavePut p.name p.left p.rest p.answer objects → OpensOr (state r.old) (state r.new) (Grows shape records objects) → LeftAs (Putting p)
     put_left objects may (inl keeps) = none_put (kept_images keeps.0)
     put_left objects may (inr opened) = elim (cases_lt r.moment opened.moment) [
       | inl early ↦ none_put (at_entry (opened.before r.moment r.files r.from (omega (arith, early)) r.image))
-      | inr late ↦ some_left objects may _ opened.rest (opened.rest.adds.prefix r.moment r.files late r.to r.image)
+      | inr late ↦ some_left objects may _ opened.rest (opened.rest.by.adds.prefix r.moment r.files late r.to r.image)
     ]
 
   -- ---- an ingest
@@ -152,24 +190,11 @@ module _ (reading : HasOneReading) (D tells : Type 0) (state : D → State) (tol
       and_none before,
     )
 
-    -- at the end there are at least those whose lines were printed
-    enough : (k : ℕ) (old : State) (g : GrowsSurely shape records all k old (state r.new)) (prefix : HasPrefix shape records g.grows.added (r.files 0)) → Ended → k ≤ prefix.count
-    enough k old g prefix ended =
-        let sure = g.first r.files (at_end ended) in
-        let added = g.grows.added in
-        let same = as_long shape (records ++ take prefix.count added) (records ++ take sure.count added) prefix.ledger sure.ledger in
-        let one = length-append records (take prefix.count added) in
-        let two = length-append records (take sure.count added) in
-        let a = length-take-le prefix.count added prefix.within in
-        let b = length-take-le sure.count added sure.within in
-        let least = sure.enough in
-        omega (arith, same, one, two, a, b, least)
-
-    some_ingested : (k : ℕ) → length (i.printed ++ i.more) ≡ k → (old : State) → (g : GrowsSurely shape records all k old (state r.new)) → HasPrefix shape records g.grows.added (r.files 0) → LeftAs (Ingesting i)
+    some_ingested : (k : ℕ) → length (i.printed ++ i.more) ≡ k → (old : State) → (g : GrowsSurely shape records all k old (state r.new)) → HasPrefix shape records g.grows.by.added (r.files 0) → LeftAs (Ingesting i)
     some_ingested k is old g prefix =
         let count = prefix.count in
-        let added = g.grows.added in
-        let many = as_many shape g.grows.lattice g.grows.longer g.grows.payload all added g.grows.next in
+        let added = g.grows.by.added in
+        let many = as_many shape g.grows.by.lattice g.grows.by.longer g.grows.by.payload all added g.grows.by.next in
         let fits : count ≤ length all = (let within = prefix.within in omega (arith, within, many)) in
         let long = length-take-le count all fits in (
           take count added,
@@ -179,8 +204,8 @@ module _ (reading : HasOneReading) (D tells : Type 0) (state : D → State) (tol
             objects = take count all;
             others = drop count all;
             first = take-append-drop count all;
-            records = first_records shape g.grows.lattice g.grows.longer g.grows.payload all added count g.grows.next;
-            acknowledged = λ ended. let most = enough k old g prefix ended in omega (arith, most, long, is);
+            records = first_records shape g.grows.by.lattice g.grows.by.longer g.grows.by.payload all added count g.grows.by.next;
+            acknowledged = λ ended. let most = enough added k g.first prefix ended in omega (arith, most, long, is);
           },
           prefix.ledger,
         )
@@ -189,7 +214,7 @@ module _ (reading : HasOneReading) (D tells : Type 0) (state : D → State) (tol
     ingest_opened opened = elim (cases_lt r.moment opened.moment) [
       | inl early ↦ none_ingested (λ ended. let to = opened.to in let e = ended in absurd (omega (arith, early, to, e)))
           (at_entry (opened.before r.moment r.files r.from (omega (arith, early)) r.image))
-      | inr late ↦ some_ingested (length (i.printed ++ i.more)) refl _ opened.rest (opened.rest.grows.adds.prefix r.moment r.files late r.to r.image)
+      | inr late ↦ some_ingested (length (i.printed ++ i.more)) refl _ opened.rest (opened.rest.grows.by.adds.prefix r.moment r.files late r.to r.image)
     ]
 
   ingest_left : (i : IngestRun) → StoresFrames tells (state r.old) (state r.new) i.left i.rest i.printed i.more i.answer → LeftAs (Ingesting i)
@@ -199,6 +224,75 @@ module _ (reading : HasOneReading) (D tells : Type 0) (state : D → State) (tol
       (λ unopened. none_ingested i stops.0 stops.1 (λ ended. unopened.none) (kept_images unopened.images))
       (λ opened. ingest_opened i stops.0 stops.1 opened)
       stops.2
+
+  -- ---- a session
+
+  module _ (s : SessionRun) (began : Began tells shape records (state r.old) (state r.new) s) where
+    abbrev v : Opened
+    v = began.v
+
+    abbrev messages : List Message
+    messages = began.begun.messages
+
+    -- the records of the first closes are there
+    served_by : (old : State) (c : ClosesAll v records (zeros v) messages began.begun.tail began.begun.result old (state r.new)) (count : ℕ) (added : List Record) → count ≤ length (closes_of v (zeros v) (messages ++ c.1))
+        → AreRecordsOfCloses (take count (closes_of v (zeros v) (messages ++ c.1))) added → (Ended → length (closes_of v (zeros v) (messages ++ c.0)) ≤ count) → HasLedger shape (records ++ added) (r.files 0) → LeftAs (Sessioning s)
+    served_by old c count added fits are enough_there there = (
+      added,
+      inr (record {
+        v = v;
+        same = began.same;
+        has = began.has;
+        files = began.begun.files;
+        messages = messages;
+        tail = began.begun.tail;
+        result = began.begun.result;
+        by = began.begun.by;
+        serves = began.begun.serves;
+        datas = zeros v;
+        long = began.long;
+        wide = began.wide;
+        made = c.0;
+        is_made = c.2;
+        more = c.1;
+        may = c.3;
+        closings = take count (closes_of v (zeros v) (messages ++ c.1));
+        others = drop count (closes_of v (zeros v) (messages ++ c.1));
+        first = take-append-drop count (closes_of v (zeros v) (messages ++ c.1));
+        are = are;
+        acknowledged = λ ended. let most = enough_there ended in let long = length-take-le count (closes_of v (zeros v) (messages ++ c.1)) fits in omega (arith, most, long);
+      }),
+      there,
+    )
+
+    -- in an image from before the end of the first sync none, and in a later one the first of them
+    served_early : (old : State) → ClosesAll v records (zeros v) messages began.begun.tail began.begun.result old (state r.new) → (Ended → ⊥) → HasLedger shape records (r.files 0) → LeftAs (Sessioning s)
+    served_early old c never before = served_by old c 0 [] (omega arith) tt (λ ended. absurd (never ended)) (and_none before)
+
+    served_later : (old : State) → old.moment ≤ r.moment → ClosesAll v records (zeros v) messages began.begun.tail began.begun.result old (state r.new) → LeftAs (Sessioning s)
+    served_later old late c =
+        let closings = closes_of v (zeros v) (messages ++ c.1) in
+        let surely = surely_closed v shape records (zeros v) messages began.begun.tail began.begun.result old (state r.new) began.same c in
+        let by = surely.grows.by in
+        let prefix = by.adds.prefix r.moment r.files late r.to r.image in
+        let many = as_many_closes shape by.lattice by.longer by.payload closings by.added by.next in
+        served_by old c prefix.count (take prefix.count by.added) (let within = prefix.within in omega (arith, within, many)) (first_closes shape by.lattice by.longer by.payload closings by.added prefix.count by.next)
+        (enough by.added (length (closes_of v (zeros v) (messages ++ c.0))) surely.first prefix) prefix.ledger
+
+    session_served : LeftAs (Sessioning s)
+    session_served =
+        let opened = began.opens in
+        elim (cases_lt r.moment opened.moment) [
+          | inl early ↦ served_early _ opened.rest (λ ended. let to = opened.to in let e = ended in omega (arith, early, to, e))
+              (at_entry (opened.before r.moment r.files r.from (omega (arith, early)) r.image))
+          | inr late ↦ served_later _ late opened.rest
+        ]
+
+  session_left : (s : SessionRun) → Sessions tells (state r.old) (state r.new) s.left s.rest s.before s.after s.answer → LeftAs (Sessioning s)
+  session_left s sessions = ⊎_elim
+      (λ not. ([], inl (not.0.failed, not.0.unread, not.0.unused, refl), and_none (kept_images not.0.images)))
+      (λ ran. session_served s (begun_over reading tells shape records (state r.old) (state r.new) s told ledger ran))
+      sessions.ran
 
   -- ---- a record that is added by itself
 
@@ -250,6 +344,7 @@ module _ (reading : HasOneReading) (D tells : Type 0) (state : D → State) (tol
   left_as : (kind : RunKind) → DoesRun kind tells (state r.old) (state r.new) → LeftAs kind
   left_as (Putting p) does = let stops = does.stops told shape records ledger in put_left p does stops.0 stops.1 stops.2
   left_as (Ingesting i) does = ingest_left i does
+  left_as (Sessioning s) does = session_left s does
   left_as (Fencing answer) does = record_left next_fence answer does
   left_as (Raising answer) does = record_left next_raise answer does
   left_as Leaving does = ([], refl, and_none (as_it_was (does told)))

@@ -1,0 +1,6 @@
+pub mod Failures
+pub mod Standing
+pub mod Closes
+pub mod Causes
+pub mod Space
+pub mod Session

@@ -1,0 +1,4 @@
+pub mod Chains
+pub mod Serving
+pub mod KeptBlocks
+pub mod GoingOn

@@ -62,7 +62,7 @@ fn drills_print_the_outcome(rt: HostRuntime) -> Result<(), Fail> {
 }
 
 // Lines whose words are no command.
-const NO_COMMANDS: [&str; 81] = [
+const NO_COMMANDS: [&str; 84] = [
     "drill 2 3 2 5",
     "drill 2 1 4 5",
     "drill 1 1 0 65537",
@@ -144,6 +144,9 @@ const NO_COMMANDS: [&str; 81] = [
     "sites 1",
     "Sites",
     "site",
+    "session 1",
+    "Session",
+    "sessions",
 ];
 
 #[test]

@@ -1,8 +1,14 @@
-//! Tests of sessions over archives in memory, by public calls alone.
+//! Tests of sessions over archives in memory, by public calls alone, and of whole runs of the command.
 #![tactic(auto)]
 
 #[cfg(test)]
+mod chance;
+#[cfg(test)]
 mod examples;
+#[cfg(test)]
+mod plain;
+#[cfg(test)]
+mod runs;
 #[cfg(test)]
 mod sessions;
 #[cfg(test)]

@@ -1,0 +1,235 @@
+//! Whole runs of `session`.
+
+use crate::sessions::{ends, replies, replies_again, reply_ends, stream};
+use aea_cli::Status;
+use aea_disk::{Disk, FailDisk, Loss, MemDisk, SureDisk};
+use aea_runs::{Faults, NONE, run_failing, run_input, run_over, run_slowly, run_words};
+use std::alloc::Global;
+use std::test::Fail;
+
+/// Makes an archive of AE(1) with blocks of 16 bytes on one site, and raises its limit. Says whether it did.
+pub fn make_raised<D: Disk>(alloc: Global, disk: &mut D) -> Result<bool, Fail> {
+    let made = run_over(alloc, "create 1 1 0 16 1", disk, 99)?;
+    let raised = run_over(alloc, "upgrade", disk, 99)?;
+    Ok(made.status == Status::Done && raised.status == Status::Done)
+}
+
+// A raised archive on a disk that does not fail.
+fn raised(alloc: Global) -> Result<SureDisk, Fail> {
+    let mut disk = SureDisk::new(alloc, 1, 8192, 8192)?;
+    let _made = make_raised(alloc, &mut disk)?;
+    Ok(disk)
+}
+
+// Whether a run over these messages ends so, and prints these replies, and this on the errors.
+fn says<D: Disk>(
+    alloc: Global,
+    disk: &mut D,
+    bytes: &[u8],
+    status: Status,
+    out: &[u8],
+    err: &str,
+) -> Result<bool, Fail> {
+    let left = run_input(alloc, "session", disk, bytes)?;
+    Ok(left.status == status && left.out.bytes() == out && left.err.bytes() == err.as_bytes())
+}
+
+// Runs one after the other over an archive that was raised, each with its input, its status, its replies, and its line on the
+// errors.
+fn runs() -> [(&'static [u8], Status, &'static [u8], &'static str); 5] {
+    [
+        // the second example
+        (
+            b"\x01\0\0\x01a\x01\0\0\x01b\x02\x03\0\0\0\0\x01\x10\0\x01c\x07",
+            Status::Refused,
+            b"\x01\0\x01\x02\x02\x03\x01\x01",
+            "refused: bad message at 21\n",
+        ),
+        (
+            b"\x01\0\0\x01a\x01\0\0\x01b\x02\x03\0\0\0\0\x01\x10\0\x01c\x03",
+            Status::Refused,
+            b"\x01\0\x01\x02\x02\x03\x01\x01",
+            "refused: bad stream at 22\n",
+        ),
+        // the first one
+        (stream(), Status::Done, replies(), ""),
+        // the third one
+        (
+            b"\x01\0\0\x01a\x05\0\x01b\x06\0\0\0\0\0\0\0\x05",
+            Status::Done,
+            b"\x01\x05\x05\x09\x06\x0b",
+            "",
+        ),
+        (b"", Status::Done, b"", ""),
+    ]
+}
+
+#[test]
+fn the_examples(rt: HostRuntime) -> Result<(), Fail> {
+    let alloc = rt.alloc();
+    let mut disk = raised(alloc)?;
+    let mut case = 0;
+    for (bytes, status, out, err) in runs() {
+        assert!(rt; says(alloc, &mut disk, bytes, status, out, err)?, "{case}");
+        case = if case < 9 { case + 1 } else { case };
+    }
+    let left = run_over(alloc, "list", &mut disk, 999)?;
+    assert!(rt;
+        left.is(
+            Status::Done,
+            "3 ba7816bf8f01cfea414140de5dae2223b00361a396177a9cb410ff61f20015ad a\n",
+            ""
+        )
+    );
+    Ok(())
+}
+
+#[test]
+fn an_archive_that_was_not_raised_and_none(rt: HostRuntime) -> Result<(), Fail> {
+    let alloc = rt.alloc();
+    let mut disk = SureDisk::new(alloc, 1, 8192, 8192)?;
+    assert!(rt; says(alloc, &mut disk, stream(), Status::Refused, b"", "refused: no archive\n")?);
+    let _made = run_over(alloc, "create 1 1 0 16 1", &mut disk, 99)?;
+    assert!(rt; says(alloc, &mut disk, stream(), Status::Refused, b"", "refused: not upgraded\n")?);
+    Ok(())
+}
+
+// How many bytes of replies there are to the messages that end within so many bytes of the stream.
+fn given_by(end: usize) -> usize {
+    let mut given = 0;
+    for (place, long) in ends().iter().zip(reply_ends().iter()) {
+        if *place <= end {
+            given = *long;
+        }
+    }
+    given
+}
+
+// Whether the archive has the object, or has none, as it is said; and whether the session is given over it again.
+fn goes_on<D: Disk>(alloc: Global, disk: &mut D, there: bool) -> Result<bool, Fail> {
+    let got = run_words(alloc, &["get", "a"], disk, b"", 99)?;
+    let (has, again) = if there {
+        (got.is(Status::Done, "abc", ""), replies_again())
+    } else {
+        (
+            got.is(Status::Refused, "", "refused: unknown name\n"),
+            replies(),
+        )
+    };
+    Ok(has && says(alloc, disk, stream(), Status::Done, again, "")?)
+}
+
+// Whether a run whose input fails at the read behind so many bytes says so, and prints the replies to what came before it.
+fn bears_no_input(alloc: Global, end: usize) -> Result<bool, Fail> {
+    let mut disk = raised(alloc)?;
+    let left = run_slowly(alloc, "session", &mut disk, stream(), end.saturating_add(1))?;
+    let given = given_by(end);
+    let told = left.status == Status::Input && left.err.bytes() == b"fault: input\n".as_slice();
+    let printed = replies().get(..given) == Some(left.out.bytes());
+    Ok(told && printed && goes_on(alloc, &mut disk, given >= 54)?)
+}
+
+#[test]
+fn each_read_of_the_input_fails(rt: HostRuntime) -> Result<(), Fail> {
+    let alloc = rt.alloc();
+    let mut disk = raised(alloc)?;
+    let left = run_slowly(alloc, "session", &mut disk, stream(), 0)?;
+    assert!(rt; left.status == Status::Done && left.out.bytes() == replies());
+    for end in 0..=stream().len() {
+        assert!(rt; bears_no_input(alloc, end)?, "{end}");
+    }
+    Ok(())
+}
+
+// Whether a run whose output fails so says so, and prints a first part of the replies, with what was closed there.
+fn bears_no_output(alloc: Global, faults: Faults) -> Result<bool, Fail> {
+    let mut disk = raised(alloc)?;
+    let ended = run_failing(alloc, "session", &mut disk, stream(), faults)?;
+    let told = ended.status == Status::Output && ended.err.bytes() == b"fault: output\n".as_slice();
+    let out = ended.out.bytes();
+    // a close is made where its reply fails: what it is refused for then is that of a reply which fits
+    let there = out.len() >= 8 && ended.unread <= stream().len().saturating_sub(43);
+    Ok(told && replies().starts_with(out) && goes_on(alloc, &mut disk, there)?)
+}
+
+#[test]
+fn the_output_has_too_little_space_or_fails(rt: HostRuntime) -> Result<(), Fail> {
+    let alloc = rt.alloc();
+    for space in 0..replies().len() {
+        let faults = Faults {
+            out_room: space,
+            ..NONE
+        };
+        assert!(rt; bears_no_output(alloc, faults)?, "{space}");
+    }
+    // eight replies, each with a write and a flush, and the last flush
+    for call in 1..=17 {
+        let faults = Faults {
+            out_call: call,
+            ..NONE
+        };
+        assert!(rt; bears_no_output(alloc, faults)?, "{call}");
+    }
+    Ok(())
+}
+
+// A disk that keeps its calls.
+fn listed(alloc: Global) -> Result<MemDisk, Fail> {
+    Ok(MemDisk::new(alloc, 1, 4096, 1024, 400, 8192)?)
+}
+
+// After how many calls of the disk an archive is made, and after how many it has replied to the first messages of the example.
+fn calls_of(alloc: Global, messages: usize) -> Result<[u64; 2], Fail> {
+    let mut disk = listed(alloc)?;
+    let _made = make_raised(alloc, &mut disk)?;
+    let made = disk.calls();
+    let end = ends().get(messages).copied().unwrap_or(0);
+    let bytes = stream().get(..end).unwrap_or(&[]);
+    let _left = run_input(alloc, "session", &mut disk, bytes)?;
+    Ok([made, disk.calls()])
+}
+
+#[test]
+fn each_stop_leaves_the_object_or_none(rt: HostRuntime) -> Result<(), Fail> {
+    let alloc = rt.alloc();
+    let [made, closed] = calls_of(alloc, 5)?;
+    let mut disk = listed(alloc)?;
+    assert!(rt; make_raised(alloc, &mut disk)?);
+    assert!(rt; says(alloc, &mut disk, stream(), Status::Done, replies(), "")?);
+    for loss in [Loss::Kept, Loss::Dropped, Loss::Ones, Loss::Zeros] {
+        // the gate of the record is written by the last call of the close but one, and made durable by the last
+        let early = loss == Loss::Kept || loss == Loss::Ones;
+        for after in made..=disk.calls() {
+            let mut stopped = disk.image(alloc, after, loss)?;
+            let there = after >= closed || early && after.saturating_add(1) == closed;
+            assert!(rt;
+                goes_on(alloc, &mut stopped, there)?,
+                "{loss:?} after {after}"
+            );
+        }
+    }
+    Ok(())
+}
+
+// Whether a run over a disk one of whose calls fails says so, and prints a first part of the replies; and whether the archive then
+// has the object or has none, as it is said.
+fn bears_no_disk(alloc: Global, fails: u64, there: bool) -> Result<bool, Fail> {
+    let mut disk = FailDisk::new(alloc, raised(alloc)?, &[fails])?;
+    let left = run_input(alloc, "session", &mut disk, stream())?;
+    let told = left.status == Status::Disk && left.err.bytes() == b"fault: disk\n".as_slice();
+    Ok(told && replies().starts_with(left.out.bytes()) && goes_on(alloc, &mut disk, there)?)
+}
+
+#[test]
+fn each_call_of_the_disk_fails(rt: HostRuntime) -> Result<(), Fail> {
+    let alloc = rt.alloc();
+    let [made, closed] = calls_of(alloc, 5)?;
+    let [_, done] = calls_of(alloc, 8)?;
+    for before in made..done {
+        // the object is there, too, where the last sync of its commit alone failed
+        let there = before.saturating_add(1) >= closed;
+        let fails = before.saturating_sub(made).saturating_add(1);
+        assert!(rt; bears_no_disk(alloc, fails, there)?, "{fails}");
+    }
+    Ok(())
+}

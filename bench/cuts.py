@@ -18,10 +18,11 @@ from pathlib import Path
 from judging import Archive, Wrong, frame, shortened
 from measuring import called
 from plain_archive import Plain, stored_line
+from sessions import said_of
 
 TOP = Path(__file__).resolve().parent.parent
 # what is in each archive besides its create and its first put, in an order by chance
-RUNS = ["put", "ingest", "fence", "upgrade", "repair", "put", "repair"]
+RUNS = ["put", "ingest", "session", "fence", "upgrade", "repair", "put", "session", "repair"]
 # of so many failures the folders are kept, so many are printed, and a line is printed after so many minutes
 KEPT, PRINTED, EACH = 10, 200, 10
 SHAPES = [(1, 1, 0), (2, 2, 2), (2, 2, 3), (3, 2, 2), (3, 2, 5), (3, 3, 4)]
@@ -30,7 +31,8 @@ SHAPES = [(1, 1, 0), (2, 2, 2), (2, 2, 3), (3, 2, 2), (3, 2, 5), (3, 3, 4)]
 @dataclass
 class Run:
     """A run of a command that writes: what it has to tell, and what may stand where it is stopped. Behind the first state, `first`
-    are of a run of the same command before it that was killed, and of them it acknowledged `sure`."""
+    are of a run of the same command before it that was killed, and of them it acknowledged `sure`. Of a session there are its replies,
+    of which `lines` are those that tell of an object, and the archive with all that it wove."""
 
     words: list
     source: bytes = b""
@@ -42,6 +44,19 @@ class Run:
     restored: set = field(default_factory=set)
     first: int = 0
     sure: int = 0
+    replies: list | None = None
+    woven: Plain | None = None
+
+    def said(self, out):
+        """What stands of its lines in what it printed."""
+        return out if self.replies is None else said_of(self.replies, out)
+
+    def whole_lines(self, out):
+        """How many of its lines stand whole in what it printed."""
+        said, count = self.said(out), 0
+        while count < len(self.lines) and said.startswith(b"".join(self.lines[:count + 1])):
+            count += 1
+        return count
 
     def briefly(self):
         return f"{self.words[0]} {shortened(b' '.join(it.encode() if isinstance(it, str) else it for it in self.words[1:]), 20)!r}"
@@ -78,13 +93,56 @@ class Story(Archive):
             report, restored, counts = self.plain.report(self.damaged())
             return Run(["repair"], wanted=(1 if counts[2] else 0, report, b""), report=report, restored=restored)
         objects = []
-        for _ in range({"put": 1, "ingest": chance.randrange(1, 4)}.get(what, 0)):
+        for _ in range({"put": 1, "ingest": chance.randrange(1, 4), "session": chance.randrange(1, 4)}.get(what, 0)):
             length = chance.choice([0, 1, self.plain.block, chance.randrange(3 * self.plain.block + 2)])
             objects.append((self.fresh_name(chance, [name for name, _ in objects]), chance.randbytes(length)))
-        return self.plan_of(what, objects)
+        return self.plan_of(what, objects, chance)
 
-    def plan_of(self, what, objects):
+    def plan_session(self, objects, chance=None):
+        """The session that stores these objects: one after the other, or in turns with others between them."""
+        machine, refused = self.session()
+        if machine is None:
+            return Run(["session"], wanted=refused, states=[self.plain], objects=objects, replies=[])
+        if chance is None:
+            for name, content in objects:
+                machine.store(name, content)
+        else:
+            self.tell_by_chance(machine, objects, chance)
+        return Run(["session"], machine.source, (0, machine.out(), b""), machine.states, machine.lines(), machine.objects, replies=machine.replies,
+                   woven=machine.now)
+
+    def tell_by_chance(self, machine, objects, chance):
+        """Messages that store these objects in turns, with another upload that is dropped or is never closed, and what is only asked."""
+        left = {slot: it for slot, it in zip(chance.sample(range(16), len(objects) + 1), [*objects, (b"not stored", b"")])}
+        other = [slot for slot, (name, _) in left.items() if name == b"not stored"][0]
+        for slot, (name, _) in left.items():
+            machine.open(slot, name)
+        while left:
+            slot = chance.choice(list(left))
+            name, rest = left[slot]
+            what = chance.random()
+            if what < 0.1:
+                machine.read(chance.choice([*machine.now.objects, b"unknown"]))
+            elif what < 0.2:
+                machine.patrol(0, machine.recorded * machine.now.classes)
+            elif slot == other:
+                machine.chunk(slot, chance.randbytes(chance.randrange(machine.now.block + 2)))
+                if chance.random() < 0.5:
+                    del left[slot]
+                    if chance.random() < 0.5:
+                        machine.abort(slot)
+            elif rest:
+                many = chance.randrange(1, len(rest) + 1)
+                machine.chunk(slot, rest[:many])
+                left[slot] = name, rest[many:]
+            else:
+                machine.close(slot)
+                del left[slot]
+
+    def plan_of(self, what, objects, chance=None):
         """The run that adds these objects, a fence or a raise to the archive as it stands."""
+        if what == "session":
+            return self.plan_session(objects, chance)
         if what == "ingest":
             source, states, lines = b"", [self.plain], []
             head = self.plain.head_damaged(set(range(len(self.plain.cells))) - self.damaged()) if objects else None
@@ -115,8 +173,8 @@ class Story(Archive):
             again = now.plan("repair", None)
             return Run(run.words, wanted=again.wanted, report=again.report, restored=run.restored)
         at = next(k for k, it in enumerate(run.states) if it.ledger == now.plain.ledger)
-        again = now.plan_of(run.words[0], run.objects[at:] if run.words[0] == "ingest" else run.objects)
-        again.states, again.first, again.sure = [*run.states[:at], *again.states], at, sum(told[1].count(line) for line in run.lines)
+        again = now.plan_of(run.words[0], run.objects[at:] if run.words[0] in ("ingest", "session") else run.objects)
+        again.states, again.first, again.sure = [*run.states[:at], *again.states], at, run.whole_lines(told[1])
         return again
 
     def damage(self, chance):
@@ -151,7 +209,7 @@ class Story(Archive):
             self.stat_and_list()
         else:
             self.first_part(run.words, told, run.wanted, how)
-            self.land(run.words, told, run.states, run.lines, how, run.first, run.sure)
+            self.land(run.words, told, run.states, run.lines, how, run.first, run.sure, run.said(told[1]))
 
     def finish(self, run, told):
         """Judges what a whole run left, as it reads, and takes it."""
@@ -172,8 +230,10 @@ class Story(Archive):
             self.repaired()
         else:
             standing = len(self.plain.objects) - len(run.states[0].objects)
-            again = self.plan_of(what, run.objects[standing:] if what == "ingest" else run.objects)
+            again = self.plan_of(what, run.objects[standing:] if what in ("ingest", "session") else run.objects)
             self.told(again.words, again.wanted, again.source)
+            if again.woven:
+                self.files = self.with_cells(again.woven, range(len(self.plain.cells), len(again.woven.cells)))
             self.commit(again.states[-1])
         self.look()
         wanted, after = self.expected_put(b"behind the cut", b"it grows")
@@ -186,6 +246,15 @@ class Story(Archive):
         for name in sorted(self.plain.objects):
             self.got(name, damaged)
         self.look()
+
+
+def runs_by_chance(chance):
+    """The commands of an archive behind its create and its first put; one of the sessions comes behind the raise that it needs."""
+    runs = chance.sample(RUNS, len(RUNS))
+    last, raised = len(runs) - 1 - runs[::-1].index("session"), runs.index("upgrade")
+    if last < raised:
+        runs[last], runs[raised] = runs[raised], runs[last]
+    return ["create", "put", *runs]
 
 
 # how the scripts are called

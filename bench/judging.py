@@ -10,6 +10,7 @@ import subprocess
 import time
 
 from plain_archive import MOST_FENCES, Plain, is_name, judged_ledger, number, stored_line
+from sessions import Machine
 
 SECONDS = 300
 LEDGER = "ledger.aea"
@@ -179,6 +180,21 @@ class Archive:
         after.add_raise()
         return (0, b"upgraded 1048576\n", b""), after
 
+    def session(self):
+        """The machine of a session over the archive as it is, and none; or no machine, and the refusal."""
+        damaged = self.damaged()
+        head = self.plain.head_damaged(set(range(len(self.plain.cells))) - damaged)
+        if not self.plain.raised:
+            return None, self.refused("not upgraded")
+        if head is not None:
+            return None, self.refused(f"head damaged {self.plain.text(head)}")
+        return Machine(self.plain, damaged), None
+
+    def had_session(self, machine):
+        """The archive is that behind this session from now on; the cells of blocks that were woven behind it stand too."""
+        self.files = self.with_cells(machine.now, range(len(self.plain.cells), len(machine.now.cells)))
+        self.commit(machine.states[-1])
+
     def commit(self, after):
         """The archive is this one from now on, whose cells and records were written."""
         if after.ledger == self.plain.ledger:
@@ -256,16 +272,17 @@ class Archive:
 
     # what may stand after a stop; what was told then has no status
 
-    def land(self, words, told, states, lines, how="killed", first=0, sure=0):
+    def land(self, words, told, states, lines, how="killed", first=0, sure=0, said=None):
         """Finds out which of the archives the ledger has, of those that may be there after what was printed. Behind the state that
         the archive had, `first` states are of a run before this one that was stopped; `sure` of them it acknowledged, and the others
-        may be gone after a power cut until this run prints something."""
+        may be gone after a power cut until this run prints something. Where it prints more than these lines, `said` is what it printed
+        of them."""
         _, ledger = self.read()
         ledger = ledger or b""
         at = [k for k, it in enumerate(states) if ledger.startswith(it.ledger) and ledger[len(it.ledger):len(it.ledger) + 1] not in (b"", b"\x01")]
         if len(at) != 1:
             raise Wrong(f"{words}, {how}: the ledger is {shortened(ledger)!r}, none of {len(states)} that may be there")
-        at, whole, printed = at[0], 0, told[1]
+        at, whole, printed = at[0], 0, told[1] if said is None else said
         for line in lines:
             if not printed.startswith(line):
                 break

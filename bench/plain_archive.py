@@ -56,11 +56,23 @@ def object_record(name, length, digest, first, count, digests):
     return record(1, number(2, len(name)) + name + number(8, length) + digest + number(4, first) + number(4, count) + digests)
 
 
-def parts_record(name, content, nodes, parts):
-    """The record of an object in parts of the nodes that are there, each a first node and a number of nodes."""
+def parts_record(name, content, nodes, parts, new=0, digests=b""):
+    """The record of an object in parts, each a first node and a number of nodes: of the nodes that are there, and of so many new ones,
+    with the digests of their blocks."""
     rest = number(2, len(name)) + name + number(8, len(content)) + hashlib.sha256(content).digest()
-    rest += number(4, nodes + 1) + number(4, 0) + number(4, len(parts))
-    return record(3, rest + b"".join(number(4, it) for part in parts for it in part))
+    rest += number(4, nodes + 1) + number(4, new) + number(4, len(parts))
+    return record(3, rest + b"".join(number(4, it) for part in parts for it in part) + digests)
+
+
+def parts_of(nodes):
+    """The longest runs of nodes that follow each other, each by its first node and their number."""
+    parts = []
+    for node in nodes:
+        if parts and sum(parts[-1]) == node:
+            parts[-1] = parts[-1][0], parts[-1][1] + 1
+        else:
+            parts.append((node, 1))
+    return parts
 
 
 def fence_record(node):
@@ -213,6 +225,13 @@ class Plain:
     def add_raise(self):
         self.ledger += RAISE
         self.raised = True
+
+    def add_woven(self, name, content, nodes, recorded):
+        """Adds an object of these nodes, as a session does, where so many nodes have a record and the others are woven already."""
+        digests = b"".join(cell[-32:] for cell in self.cells[recorded * self.classes:])
+        self.ledger += parts_record(name, content, recorded, parts_of(nodes), self.nodes - recorded, digests)
+        self.places += range(len(self.ledger) - len(digests), len(self.ledger), 32)
+        self.objects[name] = content, list(nodes)
 
     def add_in_parts(self, name, parts):
         """Adds an object of nodes that are there, in parts, each a first node and a number of nodes."""

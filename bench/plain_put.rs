@@ -5,6 +5,8 @@
 //! writes the ledger with the object NAME and makes it sure; where RAISED is 1, with a raise of the limit before it.
 //! `plain_put frames FOLDER A S P B M` does what `aea create A S P B M` and then `aea ingest` do: it stores the objects of a
 //! stream of frames, with the heads kept from one to the next, and prints the same lines.
+//! `plain_put session FOLDER A S P B M` does what `aea create A S P B M`, `aea upgrade` and then `aea session` do: it takes messages,
+//! and replies to each before it reads the next one. It knows opens, chunks, closes and aborts, and checks no more than the slots.
 
 mod plain_archive;
 mod plain_sha256;
@@ -12,7 +14,7 @@ mod plain_sha256;
 use plain_archive::{Lattice, head, home, site_file, site_folder};
 use plain_sha256::{Digest, Sha256, digest, hex};
 use std::fs::{File, OpenOptions, create_dir_all};
-use std::io::{ErrorKind, Read, Result, Write, stdin, stdout};
+use std::io::{BufReader, ErrorKind, Read, Result, Write, stdin, stdout};
 use std::os::unix::fs::FileExt;
 
 fn fill(input: &mut impl Read, block: &mut [u8]) -> Result<usize> {
@@ -77,6 +79,24 @@ impl Archive {
         self.files[site].write_all_at(&self.cell, place)
     }
 
+    /// Adds a node whose datum stands in the block's buffer, and writes its cells.
+    fn add_node(&mut self, digests: &mut Vec<Digest>) -> Result<()> {
+        let size = self.shape.block;
+        self.nodes += 1;
+        self.cell[16..16 + size].copy_from_slice(&self.block);
+        self.write(0, digests)?;
+        for class in 1..=self.shape.lattice.alpha {
+            let from = self.shape.lattice.strand(self.nodes, class) * size;
+            let head = &mut self.heads[from..from + size];
+            for (byte, other) in head.iter_mut().zip(&self.block) {
+                *byte ^= other;
+            }
+            self.cell[16..16 + size].copy_from_slice(head);
+            self.write(class, digests)?;
+        }
+        Ok(())
+    }
+
     /// Weaves all that the input has, and writes its cells.
     fn weave(&mut self, input: &mut impl Read) -> Result<Woven> {
         let (size, first) = (self.shape.block, self.nodes + 1);
@@ -88,18 +108,8 @@ impl Archive {
             }
             self.block[count..].fill(0);
             hash.update(&self.block[..count]);
-            (self.nodes, length) = (self.nodes + 1, length + count as u64);
-            self.cell[16..16 + size].copy_from_slice(&self.block);
-            self.write(0, &mut digests)?;
-            for class in 1..=self.shape.lattice.alpha {
-                let from = self.shape.lattice.strand(self.nodes, class) * size;
-                let head = &mut self.heads[from..from + size];
-                for (byte, other) in head.iter_mut().zip(&self.block) {
-                    *byte ^= other;
-                }
-                self.cell[16..16 + size].copy_from_slice(head);
-                self.write(class, &mut digests)?;
-            }
+            length += count as u64;
+            self.add_node(&mut digests)?;
             if count < size {
                 break;
             }
@@ -206,6 +216,148 @@ fn ingest(folder: &str, shape: Shape) -> Result<()> {
     writeln!(out, "end {count}")
 }
 
+/// An upload in a slot of a session: what is kept of its bytes, and the longest runs of its nodes, the first and how many.
+struct Upload {
+    name: Vec<u8>,
+    hash: Sha256,
+    length: u64,
+    filled: usize,
+    rest: Vec<u8>,
+    parts: Vec<(u32, u32)>,
+}
+
+/// A session: the archive, its ledger with the place of the gate that ends it, and the digests since the last record.
+struct Session {
+    archive: Archive,
+    ledger: File,
+    gate: u64,
+    recorded: usize,
+    digests: Vec<Digest>,
+    slots: [Option<Upload>; 16],
+}
+
+impl Session {
+    fn new(folder: &str, shape: Shape) -> Result<Session> {
+        let archive = Archive::new(folder, shape)?;
+        let ledger = File::create(format!("{folder}/ledger.aea"))?;
+        let mut bytes = archive.header();
+        bytes.extend(b"\x01\x04\x00\x00\x00\x04\x00\x10\x00\x00");
+        let gate = bytes.len() as u64;
+        bytes.push(0);
+        ledger.write_all_at(&bytes, 0)?;
+        ledger.sync_all()?;
+        sync_folders(folder, &archive.shape)?;
+        File::open(folder)?.sync_all()?;
+        Ok(Session { archive, ledger, gate, recorded: 0, digests: Vec::new(), slots: [const { None }; 16] })
+    }
+
+    /// Adds the node of the block that an upload has filled.
+    fn add_node(&mut self, upload: &mut Upload) -> Result<()> {
+        self.archive.block[..upload.filled].copy_from_slice(&upload.rest[..upload.filled]);
+        self.archive.block[upload.filled..].fill(0);
+        upload.filled = 0;
+        self.archive.add_node(&mut self.digests)?;
+        let node = self.archive.nodes as u32;
+        match upload.parts.last_mut() {
+            Some((first, count)) if *first + *count == node => *count += 1,
+            _ => upload.parts.push((node, 1)),
+        }
+        Ok(())
+    }
+
+    fn chunk(&mut self, upload: &mut Upload, mut bytes: &[u8]) -> Result<()> {
+        upload.hash.update(bytes);
+        upload.length += bytes.len() as u64;
+        while upload.filled + bytes.len() >= upload.rest.len() {
+            let (more, behind) = bytes.split_at(upload.rest.len() - upload.filled);
+            upload.rest[upload.filled..].copy_from_slice(more);
+            (upload.filled, bytes) = (upload.rest.len(), behind);
+            self.add_node(upload)?;
+        }
+        upload.rest[upload.filled..upload.filled + bytes.len()].copy_from_slice(bytes);
+        upload.filled += bytes.len();
+        Ok(())
+    }
+
+    /// Stores the object of an upload, by the three steps of an ingest; gives what its reply tells.
+    fn close(&mut self, mut upload: Upload) -> Result<Vec<u8>> {
+        if upload.filled > 0 {
+            self.add_node(&mut upload)?;
+        }
+        self.archive.sync()?;
+        let (new, digest) = (self.archive.nodes - self.recorded, upload.hash.finish());
+        let mut bytes = vec![3];
+        bytes.extend(((54 + upload.name.len() + 8 * upload.parts.len() + 32 * self.digests.len()) as u32).to_be_bytes());
+        bytes.extend((upload.name.len() as u16).to_be_bytes());
+        bytes.extend(&upload.name);
+        bytes.extend(upload.length.to_be_bytes());
+        bytes.extend(digest);
+        for number in [self.recorded as u32 + 1, new as u32, upload.parts.len() as u32].iter() {
+            bytes.extend(number.to_be_bytes());
+        }
+        for (first, count) in &upload.parts {
+            bytes.extend(first.to_be_bytes());
+            bytes.extend(count.to_be_bytes());
+        }
+        self.ledger.write_all_at(&bytes, self.gate + 1)?;
+        self.ledger.write_all_at(self.digests.as_flattened(), self.gate + 1 + bytes.len() as u64)?;
+        let end = self.gate + 1 + (bytes.len() + 32 * self.digests.len()) as u64;
+        self.ledger.write_all_at(&[0], end)?;
+        self.ledger.sync_all()?;
+        self.ledger.write_all_at(&[1], self.gate)?;
+        self.ledger.sync_all()?;
+        (self.gate, self.recorded) = (end, self.archive.nodes);
+        self.digests.clear();
+        let nodes: u32 = upload.parts.iter().map(|(_, count)| count).sum();
+        Ok([&nodes.to_be_bytes()[..], &upload.length.to_be_bytes(), &digest].concat())
+    }
+
+    /// Takes a message, whose kind and slot were read; gives the code and the body of its reply.
+    fn take(&mut self, kind: u8, slot: usize, input: &mut impl Read, chunk: &mut Vec<u8>) -> Result<(u8, Vec<u8>)> {
+        let (mut two, mut four) = ([0; 2], [0; 4]);
+        match kind {
+            1 => {
+                input.read_exact(&mut two)?;
+                let mut name = vec![0; usize::from(u16::from_be_bytes(two))];
+                input.read_exact(&mut name)?;
+                let rest = vec![0; self.archive.shape.block];
+                self.slots[slot] = Some(Upload { name, hash: Sha256::new(), length: 0, filled: 0, rest, parts: Vec::new() });
+                Ok((0, Vec::new()))
+            }
+            2 => {
+                input.read_exact(&mut four)?;
+                chunk.resize(u32::from_be_bytes(four) as usize, 0);
+                input.read_exact(chunk)?;
+                let Some(mut upload) = self.slots[slot].take() else {
+                    return Ok((3, Vec::new()));
+                };
+                self.chunk(&mut upload, chunk)?;
+                self.slots[slot] = Some(upload);
+                Ok((0, Vec::new()))
+            }
+            3 | 4 => match self.slots[slot].take() {
+                None => Ok((3, Vec::new())),
+                Some(upload) if kind == 3 => Ok((0, self.close(upload)?)),
+                Some(_) => Ok((0, Vec::new())),
+            },
+            _ => Err(ErrorKind::InvalidInput.into()),
+        }
+    }
+}
+
+/// Takes messages to the end of the input.
+fn session(folder: &str, shape: Shape) -> Result<()> {
+    let mut session = Session::new(folder, shape)?;
+    let (mut input, mut out, mut chunk) = (BufReader::with_capacity(8192, stdin().lock()), stdout().lock(), Vec::new());
+    let mut begin = [0; 2];
+    while fill(&mut input, &mut begin)? == 2 {
+        let (code, body) = session.take(begin[0], usize::from(begin[1]), &mut input, &mut chunk)?;
+        out.write_all(&[&[begin[0], code], &body[..]].concat())?;
+        out.flush()?;
+    }
+    Ok(())
+}
+
 fn main() -> Result<()> {
     let words: Vec<String> = std::env::args().skip(1).collect();
     if words[0] == "hash" {
@@ -225,6 +377,9 @@ fn main() -> Result<()> {
     let shape = Shape { lattice, block: number(5), sites: number(6) };
     if words[0] == "frames" {
         return ingest(&words[1], shape);
+    }
+    if words[0] == "session" {
+        return session(&words[1], shape);
     }
     put(&words[1], shape, words[7] == "1", &words[8])
 }

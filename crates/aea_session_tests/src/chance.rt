@@ -65,12 +65,7 @@ fn raised(alloc: Global, shape: &Shape) -> Result<SureDisk, Fail> {
 }
 
 // Damages a block of the archive by chance, or mends one that was damaged.
-fn rot(
-    x: &mut u64,
-    disk: &mut SureDisk,
-    shape: &Shape,
-    plain: &mut Plain,
-) -> Result<(), Fail> {
+fn rot(x: &mut u64, disk: &mut SureDisk, shape: &Shape, plain: &mut Plain) -> Result<(), Fail> {
     let blocks = plain.recorded.saturating_mul(plain.classes);
     if let Some(number) = plain.damaged.pop() {
         let _mended = spoil_block(disk, shape, number)?;

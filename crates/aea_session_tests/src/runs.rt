@@ -88,9 +88,27 @@ fn the_examples(rt: HostRuntime) -> Result<(), Fail> {
 fn an_archive_that_was_not_raised_and_none(rt: HostRuntime) -> Result<(), Fail> {
     let alloc = rt.alloc();
     let mut disk = SureDisk::new(alloc, 1, 8192, 8192)?;
-    assert!(rt; says(alloc, &mut disk, stream(), Status::Refused, b"", "refused: no archive\n")?);
+    assert!(rt;
+        says(
+            alloc,
+            &mut disk,
+            stream(),
+            Status::Refused,
+            b"",
+            "refused: no archive\n"
+        )?
+    );
     let _made = run_over(alloc, "create 1 1 0 16 1", &mut disk, 99)?;
-    assert!(rt; says(alloc, &mut disk, stream(), Status::Refused, b"", "refused: not upgraded\n")?);
+    assert!(rt;
+        says(
+            alloc,
+            &mut disk,
+            stream(),
+            Status::Refused,
+            b"",
+            "refused: not upgraded\n"
+        )?
+    );
     Ok(())
 }
 

@@ -433,6 +433,12 @@ impl Client {
     /// Messages, one after the other or some at once, with damage under way.
     fn traffic(&mut self, running: &mut Running, messages: usize) -> Result<(), Wrong> {
         let mut left = messages;
+        // a session has begun once it has replied: up to then damage of a last parity may refuse it
+        if left > 0 {
+            let replies = self.sent(running, 1);
+            self.compared(running, &replies)?;
+            left -= 1;
+        }
         while left > 0 {
             match self.chance.below(100) {
                 0..8 => self.damage_one(),

@@ -1,13 +1,14 @@
 //! Random messages over sixteen slots, with reads and patrols between them and damage under way, against a plain machine.
 
 use crate::plain::{Act, Plain, spelled};
+use crate::sessions::make_of;
 use aea_disk::{Disk, SureDisk};
 use aea_io::{MemSink, MemSource};
 use aea_lattice::Shape;
-use aea_ledger::{create_ledger, open_ledger};
+use aea_ledger::open_ledger;
 use aea_runs::step;
 use aea_session::{Session, serve};
-use aea_test_helpers::{SMALL, WOVEN, spoil_block};
+use aea_test_helpers::{FlippingDisk, SMALL, WOVEN, spoil_block};
 use std::alloc::Global;
 use std::test::Fail;
 
@@ -20,12 +21,12 @@ fn below(x: &mut u64, bound: u32) -> u32 {
 
 // A slot, mostly one that there is.
 fn some_slot(x: &mut u64) -> u8 {
-    below(x, 17) as u8
+    u8::try_from(below(x, 17)).unwrap_or(0)
 }
 
 // A name, seldom one that is none.
 fn some_name(x: &mut u64) -> u8 {
-    let letter = below(x, 40) as u8;
+    let letter = u8::try_from(below(x, 40)).unwrap_or(0);
     if letter == 39 {
         return 127;
     }
@@ -54,18 +55,24 @@ fn some_act(x: &mut u64, blocks: u32) -> Act {
     }
 }
 
+// A disk whose contents are not known, so that its cells may change during a session; it changes none by itself.
+type Changing = FlippingDisk<SureDisk>;
+
 // A raised archive without nodes.
-fn raised(alloc: Global, shape: &Shape) -> Result<SureDisk, Fail> {
-    let mut disk = SureDisk::new(alloc, 4, 1 << 16, 1 << 17)?;
-    let _made = create_ledger(&mut disk, shape);
-    if let Ok(mut ledger) = open_ledger(alloc, &mut disk) {
-        let _raised = ledger.append_upgrade(&mut disk);
-    }
-    Ok(disk)
+fn raised(alloc: Global, shape: &Shape) -> Result<Changing, Fail> {
+    let mut inner = SureDisk::new(alloc, 4, 1 << 16, 1 << 17)?;
+    let _made = make_of(alloc, &mut inner, shape);
+    Ok(FlippingDisk {
+        inner,
+        file: 255,
+        byte: 0,
+        from: u64::MAX,
+        reads: 0,
+    })
 }
 
 // Damages a block of the archive by chance, or mends one that was damaged.
-fn rot(x: &mut u64, disk: &mut SureDisk, shape: &Shape, plain: &mut Plain) -> Result<(), Fail> {
+fn rot(x: &mut u64, disk: &mut Changing, shape: &Shape, plain: &mut Plain) -> Result<(), Fail> {
     let blocks = plain.recorded.saturating_mul(plain.classes);
     if let Some(number) = plain.damaged.pop() {
         let _mended = spoil_block(disk, shape, number)?;
@@ -84,7 +91,7 @@ fn rot(x: &mut u64, disk: &mut SureDisk, shape: &Shape, plain: &mut Plain) -> Re
 fn unlike_in(
     alloc: Global,
     x: &mut u64,
-    disk: &mut SureDisk,
+    disk: &mut Changing,
     shape: &Shape,
     plain: &mut Plain,
     count: u32,
@@ -124,12 +131,13 @@ fn unlike_from(alloc: Global, shape: &Shape, classes: u32, seed: u64) -> Result<
         let more = unlike_in(alloc, &mut x, &mut disk, shape, &mut plain, 120)?;
         unlike = unlike.saturating_add(more);
         // a damaged last parity would refuse the next session
-        while let Some(number) = plain.damaged.pop() {
-            let _mended = spoil_block(&mut disk, shape, number)?;
+        for _ in 0..plain.damaged.len() {
+            if let Some(number) = plain.damaged.pop() {
+                let _mended = spoil_block(&mut disk, shape, number)?;
+            }
         }
     }
-    let stored = plain.objects.len() as u32;
-    Ok(if stored < 5 { 999 } else { unlike })
+    Ok(if plain.objects.len() < 5 { 999 } else { unlike })
 }
 
 #[test]

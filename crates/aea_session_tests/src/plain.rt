@@ -37,6 +37,11 @@ pub fn spelled(alloc: Global, act: &Act) -> Result<Vec<u8>, AllocError> {
     Ok(bytes)
 }
 
+// A number of 4 bytes.
+fn count_of(many: usize) -> u32 {
+    u32::try_from(many).unwrap_or(u32::MAX)
+}
+
 /// Bytes under a name of one byte, with the nodes of their blocks.
 #[derive(Drop)]
 pub struct Upload {
@@ -133,7 +138,7 @@ impl Plain {
             Some(Some(upload)) => {
                 upload.bytes.extend_from_slice(bytes)?;
                 let filled = upload.bytes.len() / 16;
-                while upload.nodes.len() < filled {
+                for _ in upload.nodes.len()..filled {
                     self.woven = self.woven.saturating_add(1);
                     upload.nodes.push(self.woven)?;
                 }
@@ -156,7 +161,7 @@ impl Plain {
                     }
                     self.recorded = self.woven;
                     reply.push(0)?;
-                    reply.extend_from_slice(&(upload.nodes.len() as u32).to_be_bytes())?;
+                    reply.extend_from_slice(&count_of(upload.nodes.len()).to_be_bytes())?;
                     reply.extend_from_slice(&(upload.bytes.len() as u64).to_be_bytes())?;
                     reply.extend_from_slice(&Sha256::digest(upload.bytes.as_slice()))?;
                     self.objects.push(upload)?;
@@ -215,7 +220,7 @@ impl Plain {
             }
         }
         reply.push(0)?;
-        reply.extend_from_slice(&(numbers.len() as u32).to_be_bytes())?;
+        reply.extend_from_slice(&count_of(numbers.len()).to_be_bytes())?;
         for number in numbers.iter() {
             reply.extend_from_slice(&number.to_be_bytes())?;
         }

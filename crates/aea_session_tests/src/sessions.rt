@@ -3,6 +3,7 @@
 use aea_catalog::Extent;
 use aea_disk::{Disk, SureDisk};
 use aea_io::{MemSink, MemSource, Sink, Source};
+use aea_lattice::Shape;
 use aea_ledger::{create_ledger, open_ledger};
 use aea_session::{BeginFault, Session, Stop, serve};
 use aea_test_helpers::SMALL;
@@ -49,7 +50,12 @@ pub enum Ended {
 
 /// Makes an archive of AE(1) with blocks of 16 bytes on one site, and raises its limit. Says whether it did.
 pub fn make<D: Disk>(alloc: Global, disk: &mut D) -> bool {
-    if create_ledger(disk, &SMALL).is_err() {
+    make_of(alloc, disk, &SMALL)
+}
+
+/// Makes an archive of this shape, and raises its limit. Says whether it did.
+pub fn make_of<D: Disk>(alloc: Global, disk: &mut D, shape: &Shape) -> bool {
+    if create_ledger(disk, shape).is_err() {
         return false;
     }
     let Ok(mut ledger) = open_ledger(alloc, disk) else {

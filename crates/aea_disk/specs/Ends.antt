@@ -35,8 +35,9 @@ abbrev pub Reaches : List ℕ → (before more : ℕ) → (from last : ℕ) → 
 Reaches bytes before zero from last = from ≡ last
 Reaches bytes before (suc more) from last = IsWhole bytes before from × Reaches bytes (suc before) more (behind bytes from) last
 
--- The records after the header, so many, end at the gate at this place, which is not open.
+-- The header's gate is open, and the records after the header, so many, end at the gate at this place, which is not open.
 pub record EndsAt (bytes : List ℕ) (last : ℕ) : Type 0 where
+  pub header : get_or bytes 0 0 ≡ 1
   pub records : ℕ
   pub reaches : Reaches bytes 0 records 17 last
   pub there : last < length bytes

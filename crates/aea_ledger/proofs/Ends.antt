@@ -80,6 +80,7 @@ ledger_ends bytes shape records end ledger =
     ap (λ (l : List ℕ). get_or l end 0) ledger.spelling ∙ behind_front (H ++ F) G end 0 (omega (arith, ledger.place)) in
     record {
       ends = record {
+        header = ap (λ (l : List ℕ). get_or l 0 0) ledger.spelling;
         records = length records;
         reaches = subst (λ (e : ℕ). Reaches bytes 0 (length records) 17 e) (sym last) (subst (λ (l : List ℕ). Reaches l 0 (length records) 17 (17 + length F)) (sym spelt) reaches);
         there = omega (arith, whole, last);

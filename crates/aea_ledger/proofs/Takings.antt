@@ -29,7 +29,7 @@ pub empty_ends : (shape : Shape) → EndsAt (empty_ledger shape) 17
 empty_ends shape =
     let size : length (empty_ledger shape) ≡ 18 = refl in
     let gate : get_or (empty_ledger shape) 17 0 ≡ 0 = refl in
-    record { records = 0; reaches = refl; there = omega (arith, size); shut = λ is. absurd (omega (arith, is, gate)) }
+    record { header = refl; records = 0; reaches = refl; there = omega (arith, size); shut = λ is. absurd (omega (arith, is, gate)) }
 
 -- a file of one closed gate, and one whose first gate is closed, are no ledger
 pub bare_begun : (old : List ℕ) → old ≡ 0 ∷ [] → IsBare old

@@ -13,6 +13,7 @@ pub mod Lying
 pub mod Recording
 mod Making
 mod Takings
+mod Joining
 pub mod Ends
 pub mod Readying
 mod Adding

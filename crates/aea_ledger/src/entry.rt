@@ -1,5 +1,5 @@
 // Writes to the ledger file that are synced, and the entry of a record, which its gate commits.
-ghost use Rattle.std.specs.Prelude.{◌≡◌, ◌+◌, ◌^◌, ◌≤◌, [], ◌∷◌, ◌++◌, List, length, max, IsErr, OnOk};
+ghost use Rattle.std.specs.Prelude.{◌≡◌, ◌+◌, ◌^◌, ◌<◌, ◌≤◌, [], ◌∷◌, ◌++◌, List, length, take, max, IsErr, OnOk};
 ghost use Rattle.aea_lattice.specs.declared.shape.Shape.{Shape};
 ghost use Rattle.aea_disk.specs.Files.{ChangesFile, ChangesOnly, Holds, Torn, overwritten};
 ghost use Rattle.aea_disk.specs.State.{Settles, Stays, During, IsSynced, IsFixed, IsReady, HasRoom, HasRoomTo};
@@ -38,6 +38,34 @@ fn write_both<D: Disk>(disk: &mut D, at: u64, front: &[u8], back: &[u8]) -> Resu
     disk.write(0, at, front)
 }
 
+// The most bytes that are written by one call from two pieces.
+const MOST_AT_ONCE: usize = 512;
+
+// Two pieces, one after the other, at the front of zeros.
+fn joined(front: &[u8], rest: &[u8]) -> [u8; MOST_AT_ONCE]
+    requires { length front.now + length rest.now < 512 }
+    ensures { take (length front.now + (length rest.now + 1)) result ≡ closed front.now rest.now }
+{
+    let mut bytes = [0; MOST_AT_ONCE];
+    let (before, after) = bytes.split_at_mut(front.len());
+    before.copy_from_slice(front);
+    after[..rest.len()].copy_from_slice(rest);
+    bytes
+}
+
+// Writes the body of a short record, which is in two pieces, and a closed gate after it by one call, and syncs them.
+fn write_short<D: Disk>(disk: &mut D, at: u64, front: &[u8], rest: &[u8]) -> Result<(), DiskFault>
+    requires range { at + (length front.now + (length rest.now + 1)) ≤ 2 ^ 62 }
+    requires short { length front.now + length rest.now < 512 }
+    ensures written { OnOk result (D.tells → ChangesFile 0 (Holds at (closed front.now rest.now)) (D.state disk.old).files (D.state disk.new).files) }
+    ensures durable { OnOk result (D.tells → IsSynced (D.state disk.new)) }
+    ensures writes { OnlyWrites D.tells (TakesBehind (D.state disk.old) at) (FitsThrough (D.state disk.old) at (closed front.now rest.now)) (IsErr result) (ChangesFile 0 (Torn at (length front.now + (length rest.now + 1)))) (D.state disk.old) (D.state disk.new) }
+    ensures full { OnOk result (HasRoom (D.state disk.old) → HasRoomTo (D.state disk.old) 0 (at + (length front.now + (length rest.now + 1)))) }
+{
+    let bytes = joined(front, rest);
+    write_through(disk, at, &bytes[..front.len() + rest.len() + 1])
+}
+
 // Writes the body of a record, which is in two pieces, and a closed gate after it, and syncs them.
 fn write_closed<D: Disk>(disk: &mut D, at: u64, front: &[u8], rest: &[u8]) -> Result<(), DiskFault>
     requires { at + (length front.now + (length rest.now + 1)) ≤ 2 ^ 62 }
@@ -46,6 +74,9 @@ fn write_closed<D: Disk>(disk: &mut D, at: u64, front: &[u8], rest: &[u8]) -> Re
     ensures writes { OnlyWrites D.tells (TakesBehind (D.state disk.old) at) (FitsThrough (D.state disk.old) at (closed front.now rest.now)) (IsErr result) (ChangesFile 0 (Torn at (length front.now + (length rest.now + 1)))) (D.state disk.old) (D.state disk.new) }
     ensures full { OnOk result (HasRoom (D.state disk.old) → HasRoomTo (D.state disk.old) 0 (at + (length front.now + (length rest.now + 1)))) }
 {
+    if front.len() + rest.len() < MOST_AT_ONCE {
+        return write_short(disk, at, front, rest);
+    }
     write_both(disk, at + front.len() as u64, rest, &[0])?;
     write_through(disk, at, front)
 }

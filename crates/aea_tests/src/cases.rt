@@ -196,10 +196,10 @@ pub const PUT: Case = Case {
     line: "put b",
     input: "0123456789abcdefg",
     out: STORED_B,
-    calls: 23,
+    calls: 21,
     commits: &[Commit {
         reads: 18,
-        calls: 23,
+        calls: 21,
         line: STORED_B,
     }],
     objects: &[A, B],
@@ -213,16 +213,16 @@ pub const INGEST: Case = Case {
     out: "stored 2 17 8378b19d693ee89e2ca594b6ec0abfaadc4fe1831eaca2f748f0b71ede38892e b\n\
         stored 1 3 ba7816bf8f01cfea414140de5dae2223b00361a396177a9cb410ff61f20015ad c\nend 2\n",
     pieces: 3,
-    calls: 34,
+    calls: 30,
     commits: &[
         Commit {
             reads: 28,
-            calls: 23,
+            calls: 21,
             line: STORED_B,
         },
         Commit {
             reads: 42,
-            calls: 34,
+            calls: 30,
             line: STORED_C,
         },
     ],
@@ -249,10 +249,10 @@ const FETCH: Case = Case {
 const FENCE: Case = Case {
     line: "fence",
     out: "fence 1\n",
-    calls: 11,
+    calls: 9,
     commits: &[Commit {
         reads: 0,
-        calls: 11,
+        calls: 9,
         line: "fence 1\n",
     }],
     stands: &[BEHIND_A, BEHIND_A_FENCE],
@@ -262,10 +262,10 @@ const FENCE: Case = Case {
 const UPGRADE: Case = Case {
     line: "upgrade",
     out: "upgraded 1048576\n",
-    calls: 11,
+    calls: 9,
     commits: &[Commit {
         reads: 0,
-        calls: 11,
+        calls: 9,
         line: "upgraded 1048576\n",
     }],
     stands: &[BEHIND_A, BEHIND_A_RAISE],

@@ -1,16 +1,16 @@
-//! A record that is added to a ledger, spelled by hand, and what is in its file after faults and stops.
+//! Records that are added to a ledger, spelled by hand, and what is in its file after faults and stops.
 
 use crate::creating::EMPTY;
 use crate::example::{ABC, SHAPE};
-use crate::stops::add;
-use aea_disk::{Disk, DiskFault, FailDisk, Loss, MemDisk, SureDisk};
+use crate::plain::part;
+use crate::stops::{LOSSES, add, has_ledger, is_durable};
+use aea_disk::{Disk, FailDisk, MemDisk, SureDisk};
 use aea_ledger::{AppendFault, create_ledger, open_ledger};
-use aea_test_helpers::has_file;
 use std::alloc::Global;
 use std::test::Fail;
 
 // The ledger of the example with one record, the object abc under the name a. The digests of its four blocks are given.
-const NEW: &[u8; 203] = b"\x01AEALEDG1\x03\x02\x05\x04\0\0\0\x40\x01\
+const SHORT: &[u8; 203] = b"\x01AEALEDG1\x03\x02\x05\x04\0\0\0\x40\x01\
 \x01\0\0\0\xb3\0\x01a\0\0\0\0\0\0\0\x03\
 \xba\x78\x16\xbf\x8f\x01\xcf\xea\x41\x41\x40\xde\x5d\xae\x22\x23\
 \xb0\x03\x61\xa3\x96\x17\x7a\x9c\xb4\x10\xff\x61\xf2\x00\x15\xad\
@@ -20,85 +20,215 @@ hhhhhhhhhhhhhhhhhhhhhhhhhhhhhhhh\
 rrrrrrrrrrrrrrrrrrrrrrrrrrrrrrrr\
 llllllllllllllllllllllllllllllll\0";
 
-const DIGESTS: [[u8; 32]; 4] = [[b'd'; 32], [b'h'; 32], [b'r'; 32], [b'l'; 32]];
+const SHORT_DIGESTS: [[u8; 32]; 4] = [[b'd'; 32], [b'h'; 32], [b'r'; 32], [b'l'; 32]];
 
-// How many calls of the disk make the archive, and how many make it, open it and add the record.
+// The same with an object of four nodes, whose record has more than 512 bytes.
+const LONG: &[u8; 587] = b"\x01AEALEDG1\x03\x02\x05\x04\0\0\0\x40\x01\
+\x01\0\0\x02\x33\0\x01a\0\0\0\0\0\0\x01\0\
+\xba\x78\x16\xbf\x8f\x01\xcf\xea\x41\x41\x40\xde\x5d\xae\x22\x23\
+\xb0\x03\x61\xa3\x96\x17\x7a\x9c\xb4\x10\xff\x61\xf2\x00\x15\xad\
+\0\0\0\x01\0\0\0\x04\
+aaaaaaaaaaaaaaaaaaaaaaaaaaaaaaaa\
+bbbbbbbbbbbbbbbbbbbbbbbbbbbbbbbb\
+cccccccccccccccccccccccccccccccc\
+dddddddddddddddddddddddddddddddd\
+eeeeeeeeeeeeeeeeeeeeeeeeeeeeeeee\
+ffffffffffffffffffffffffffffffff\
+gggggggggggggggggggggggggggggggg\
+hhhhhhhhhhhhhhhhhhhhhhhhhhhhhhhh\
+iiiiiiiiiiiiiiiiiiiiiiiiiiiiiiii\
+jjjjjjjjjjjjjjjjjjjjjjjjjjjjjjjj\
+kkkkkkkkkkkkkkkkkkkkkkkkkkkkkkkk\
+llllllllllllllllllllllllllllllll\
+mmmmmmmmmmmmmmmmmmmmmmmmmmmmmmmm\
+nnnnnnnnnnnnnnnnnnnnnnnnnnnnnnnn\
+oooooooooooooooooooooooooooooooo\
+pppppppppppppppppppppppppppppppp\0";
+
+// The digests of its blocks: each is one letter of the alphabet.
+fn long_digests() -> [[u8; 32]; 16] {
+    let mut digests = [[0; 32]; 16];
+    for k in 0..16u8 {
+        digests[usize::from(k)] = [b'a' + k; 32];
+    }
+    digests
+}
+
+// An object that is added: how many bytes it has, the digests of its blocks, and the ledger then.
+#[derive(Clone, Copy)]
+struct Added<'a> {
+    size: u64,
+    digests: &'a [[u8; 32]],
+    ledger: &'a [u8],
+}
+
+fn short_one() -> Added<'static> {
+    Added {
+        size: 3,
+        digests: &SHORT_DIGESTS,
+        ledger: SHORT,
+    }
+}
+
+fn long_one(digests: &[[u8; 32]; 16]) -> Added {
+    Added {
+        size: 256,
+        digests,
+        ledger: LONG,
+    }
+}
+
+// How many calls of the disk make the archive.
 const MADE: u64 = 10;
 
-const ADDED: u64 = 20;
-
-// Makes an archive, opens it and adds the record, and gives the answer and whether the ledger is live then.
-fn added<D: Disk>(alloc: Global, disk: &mut D) -> Result<(Result<bool, AppendFault>, bool), Fail> {
-    create_ledger(disk, &SHAPE)?;
-    add_example(alloc, disk)
+// Makes an archive, opens it and adds the record. It says whether the answer is the wanted one, and the ledger is live then or is not.
+fn adds<D: Disk>(
+    alloc: Global,
+    disk: &mut D,
+    object: Added,
+    want: Result<bool, AppendFault>,
+    is_live: bool,
+) -> bool {
+    create_ledger(disk, &SHAPE).is_ok() && adds_record(alloc, disk, object, want, is_live)
 }
 
 // Opens the archive and adds the record, likewise.
-fn add_example<D: Disk>(
+fn adds_record<D: Disk>(
     alloc: Global,
     disk: &mut D,
-) -> Result<(Result<bool, AppendFault>, bool), Fail> {
-    let mut ledger = open_ledger(alloc, disk)?;
-    let answer = add(&mut ledger, disk, b"a", 3, *ABC, &DIGESTS);
-    Ok((answer, ledger.live()))
+    object: Added,
+    want: Result<bool, AppendFault>,
+    is_live: bool,
+) -> bool {
+    let Ok(mut ledger) = open_ledger(alloc, disk) else {
+        return false;
+    };
+    let answer = add(&mut ledger, disk, b"a", object.size, *ABC, object.digests);
+    answer == want && ledger.live() == is_live
 }
 
 #[test]
-fn adds_the_example(rt: HostRuntime) -> Result<(), Fail> {
-    let mut disk = SureDisk::new(rt.alloc(), 0, 256, 0)?;
-    assert!(rt; added(rt.alloc(), &mut disk)? == (Ok(true), true));
-    assert!(rt; has_file(&mut disk, 0, NEW) == Ok(true));
+fn adds_the_examples(rt: HostRuntime) -> Result<(), Fail> {
+    for object in [short_one(), long_one(&long_digests())] {
+        let mut disk = SureDisk::new(rt.alloc(), 0, 1024, 0)?;
+        assert!(rt; adds(rt.alloc(), &mut disk, object, Ok(true), true));
+        assert!(rt; has_ledger(&mut disk, object.ledger));
+    }
     Ok(())
 }
 
+// Whether these bytes of a file of so many begin with the ledger up to the gate that ends it, and that is not open.
+fn begins_with(bytes: &[u8], count: usize, ledger: &[u8]) -> bool {
+    let last = ledger.len().saturating_sub(1);
+    count >= ledger.len()
+        && bytes.starts_with(part(ledger, 0, last as u64))
+        && bytes.get(last) != Some(&1)
+}
+
 // Whether the file is the old ledger or the new one, up to the gate that ends it.
-fn is_old_or_new(disk: &mut SureDisk) -> Result<bool, DiskFault> {
-    let mut bytes = [9u8; 256];
-    let count = disk.read(0, 0, &mut bytes)?;
-    let old = count >= 18 && bytes.starts_with(&EMPTY[..17]) && bytes[17] != 1;
-    let new = count >= 203 && bytes.starts_with(&NEW[..202]) && bytes[202] != 1;
-    Ok(old || new)
+fn is_old_or_new(disk: &mut SureDisk, ledger: &[u8]) -> bool {
+    let mut bytes = [9u8; 1024];
+    match disk.read(0, 0, &mut bytes) {
+        Ok(count) => begins_with(&bytes, count, EMPTY) || begins_with(&bytes, count, ledger),
+        Err(_) => false,
+    }
+}
+
+// The first call after which a stop leaves neither of them, from the last sync of the making on; 0 where there is none.
+fn first_wrong_stop(alloc: Global, disk: &MemDisk, ledger: &[u8]) -> u64 {
+    for after in MADE..=disk.calls() {
+        for loss in LOSSES {
+            let Ok(mut left) = disk.image(alloc, after, loss) else {
+                return after;
+            };
+            if !is_old_or_new(&mut left, ledger) {
+                return after;
+            }
+        }
+    }
+    0
 }
 
 #[test]
 fn stopped_after_each_call(rt: HostRuntime) -> Result<(), Fail> {
-    let mut disk = MemDisk::new(rt.alloc(), 0, 256, 0, 20, 256)?;
-    assert!(rt; added(rt.alloc(), &mut disk)? == (Ok(true), true));
-    assert!(rt; disk.calls() == ADDED);
-    // from the last sync of the making on
-    for after in MADE..=disk.calls() {
-        for loss in [Loss::Kept, Loss::Dropped, Loss::Ones, Loss::Zeros] {
-            let mut left = disk.image(rt.alloc(), after, loss)?;
-            assert!(rt; is_old_or_new(&mut left) == Ok(true), "after {after}");
-        }
+    // four calls open the ledger, and four add a short record, or six a long one
+    for (object, calls) in [(short_one(), 18u64), (long_one(&long_digests()), 20)] {
+        let mut disk = MemDisk::new(rt.alloc(), 0, 1024, 0, 20, 1024)?;
+        assert!(rt; adds(rt.alloc(), &mut disk, object, Ok(true), true));
+        let after = first_wrong_stop(rt.alloc(), &disk, object.ledger);
+        assert!(rt; after == 0, "after {after}");
+        assert!(rt; disk.calls() == calls);
+        assert!(rt; is_durable(rt.alloc(), &disk, object.ledger));
     }
-    let mut left = disk.image(rt.alloc(), ADDED, Loss::Dropped)?;
-    assert!(rt; has_file(&mut left, 0, NEW) == Ok(true));
     Ok(())
+}
+
+// The new ledgers without their first gate, which comes last.
+fn short_staged() -> [u8; 203] {
+    let mut bytes = *SHORT;
+    bytes[17] = 0;
+    bytes
+}
+
+fn long_staged() -> [u8; 587] {
+    let mut bytes = *LONG;
+    bytes[17] = 0;
+    bytes
+}
+
+// What is there of the long one before that: the closing gate and the digests, and before that the closing gate alone.
+fn with_digests() -> [u8; 587] {
+    let mut bytes = long_staged();
+    bytes[17..74].fill(0);
+    bytes
+}
+
+fn with_gate() -> [u8; 587] {
+    let mut bytes = [0; 587];
+    bytes[..18].copy_from_slice(EMPTY);
+    bytes
+}
+
+// Whether the record is not added where this call of the disk fails, and the file has these bytes then.
+fn is_at_fault(alloc: Global, object: Added, call: u64, left: &[u8]) -> bool {
+    let Ok(inner) = SureDisk::new(alloc, 0, 1024, 0) else {
+        return false;
+    };
+    let Ok(mut disk) = FailDisk::new(alloc, inner, &[call]) else {
+        return false;
+    };
+    let fault = Err(AppendFault::DiskFault);
+    adds(alloc, &mut disk, object, fault, false) && has_ledger(&mut disk, left)
 }
 
 #[test]
 fn failing_at_each_call(rt: HostRuntime) -> Result<(), Fail> {
-    let mut staged = *NEW;
-    staged[17] = 0;
-    // the closing gate is written first, then the digests, and then what comes before them
-    let mut digests = staged;
-    digests[17..74].fill(0);
-    let mut closed = [0u8; 203];
-    closed[..18].copy_from_slice(EMPTY);
     for (k, left) in [
-        (15u64, &EMPTY[..]),
-        (16, &closed),
-        (17, &digests),
-        (18, &staged),
-        (19, &staged),
-        (20, NEW),
+        (15u64, EMPTY.as_slice()),
+        (16, &short_staged()),
+        (17, &short_staged()),
+        (18, SHORT),
     ] {
-        let inner = SureDisk::new(rt.alloc(), 0, 256, 0)?;
-        let mut disk = FailDisk::new(rt.alloc(), inner, &[k])?;
-        let answer = added(rt.alloc(), &mut disk)?;
-        assert!(rt; answer == (Err(AppendFault::DiskFault), false), "call {k}");
-        assert!(rt; has_file(&mut disk, 0, left) == Ok(true), "call {k}");
+        assert!(rt; is_at_fault(rt.alloc(), short_one(), k, left), "call {k}");
+    }
+    Ok(())
+}
+
+#[test]
+fn failing_at_each_call_of_a_long_record(rt: HostRuntime) -> Result<(), Fail> {
+    let digests = long_digests();
+    for (k, left) in [
+        (15u64, EMPTY.as_slice()),
+        (16, &with_gate()),
+        (17, &with_digests()),
+        (18, &long_staged()),
+        (19, &long_staged()),
+        (20, LONG),
+    ] {
+        assert!(rt;
+            is_at_fault(rt.alloc(), long_one(&digests), k, left),
+            "call {k}"
+        );
     }
     Ok(())
 }

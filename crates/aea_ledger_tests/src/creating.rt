@@ -1,88 +1,138 @@
 //! Ledgers that are made: what is in their file then, and after faults and stops.
 
 use crate::example::SHAPE;
-use aea_disk::{Disk, DiskFault, FailDisk, Loss, MemDisk, SureDisk};
+use crate::stops::{LOSSES, is_durable};
+use aea_disk::{Disk, FailDisk, MemDisk, SureDisk};
 use aea_ledger::{CreateFault, create_ledger};
-use aea_test_helpers::has_file;
+use aea_test_helpers::{fill_file, has_file};
+use std::alloc::Global;
 use std::test::Fail;
 
 /// The ledger of the example without records.
 pub const EMPTY: &[u8; 18] = b"\x01AEALEDG1\x03\x02\x05\x04\0\0\0\x40\0";
 
+// The same before its first byte is written, which says that it is one.
+const FILLED: &[u8; 18] = b"\0AEALEDG1\x03\x02\x05\x04\0\0\0\x40\0";
+
 // A file of 24 bytes whose first is 7.
 const CLOSED: &[u8; 24] = b"\x07AEALEDG1 and then more.";
 
+// What a file has, and whether that is an archive already.
+fn files() -> [(&'static [u8], bool); 6] {
+    [
+        (b"", false),
+        (&EMPTY[..17], false),
+        (CLOSED, false),
+        (&CLOSED[..18], false),
+        (EMPTY, true),
+        (b"\x01 but no ledger at all", true),
+    ]
+}
+
+// Makes an archive. It says whether the answer is the wanted one, and then the file has these bytes.
+fn leaves<D: Disk>(disk: &mut D, want: Result<(), CreateFault>, left: &[u8]) -> bool {
+    create_ledger(disk, &SHAPE) == want && has_file(disk, 0, left) == Ok(true)
+}
+
+// Whether an archive is made over a file with these bytes, or is refused and leaves them.
+fn makes_one(alloc: Global, bytes: &[u8], is_occupied: bool) -> bool {
+    let Ok(mut disk) = SureDisk::new(alloc, 0, 32, 0) else {
+        return false;
+    };
+    if fill_file(&mut disk, 0, bytes).is_err() {
+        return false;
+    }
+    if is_occupied {
+        leaves(&mut disk, Err(CreateFault::Occupied), bytes)
+    } else {
+        leaves(&mut disk, Ok(()), EMPTY)
+    }
+}
+
 #[test]
 fn makes_one_where_there_is_none(rt: HostRuntime) -> Result<(), Fail> {
-    for (bytes, occupied) in [
-        (&b""[..], false),
-        (&EMPTY[..17], false),
-        (&CLOSED[..], false),
-        (&CLOSED[..18], false),
-        (&EMPTY[..], true),
-        (b"\x01 but no ledger at all", true),
-    ] {
-        let mut disk = SureDisk::new(rt.alloc(), 0, 32, 0)?;
-        assert!(rt; disk.write(0, 0, bytes) == Ok(()));
-        let made = create_ledger(&mut disk, &SHAPE);
-        if occupied {
-            assert!(rt; made == Err(CreateFault::Occupied), "{bytes:?}");
-            assert!(rt; has_file(&mut disk, 0, bytes) == Ok(true), "{bytes:?}");
-        } else {
-            assert!(rt; made == Ok(()), "{bytes:?}");
-            assert!(rt; has_file(&mut disk, 0, EMPTY) == Ok(true), "{bytes:?}");
-        }
+    for (bytes, is_occupied) in files() {
+        assert!(rt; makes_one(rt.alloc(), bytes, is_occupied), "{bytes:?}");
     }
     Ok(())
 }
 
 // Whether a stop left no archive, or the empty one.
-fn is_none_or_empty(disk: &mut SureDisk) -> Result<bool, DiskFault> {
+fn is_none_or_empty(disk: &mut SureDisk) -> bool {
     let mut bytes = [9u8; 32];
-    let count = disk.read(0, 0, &mut bytes)?;
-    Ok(count < 18 || bytes[0] != 1 || count == 18 && bytes.starts_with(EMPTY))
+    let Ok(count) = disk.read(0, 0, &mut bytes) else {
+        return false;
+    };
+    count < 18 || bytes[0] != 1 || count == 18 && bytes.starts_with(EMPTY)
+}
+
+// The first call after which a stop leaves anything but these two, from the first sync on; 0 where there is none.
+fn first_wrong_stop(alloc: Global, disk: &MemDisk) -> u64 {
+    for after in 2..=disk.calls() {
+        for loss in LOSSES {
+            let Ok(mut left) = disk.image(alloc, after, loss) else {
+                return after;
+            };
+            if !is_none_or_empty(&mut left) {
+                return after;
+            }
+        }
+    }
+    0
+}
+
+// A disk that lists eleven calls, and which had the closed file when the archive was made.
+fn closed_one(alloc: Global) -> Option<MemDisk> {
+    let Ok(mut disk) = MemDisk::new(alloc, 0, 32, 0, 11, 43) else {
+        return None;
+    };
+    if disk.write(0, 0, CLOSED).is_ok() && create_ledger(&mut disk, &SHAPE).is_ok() {
+        return Some(disk);
+    }
+    None
 }
 
 #[test]
 fn stopped_after_each_call(rt: HostRuntime) -> Result<(), Fail> {
-    let mut disk = MemDisk::new(rt.alloc(), 0, 32, 0, 11, 43)?;
-    assert!(rt; disk.write(0, 0, CLOSED) == Ok(()));
-    assert!(rt; create_ledger(&mut disk, &SHAPE) == Ok(()));
+    let disk = closed_one(rt.alloc()).ok_or("no archive")?;
+    let after = first_wrong_stop(rt.alloc(), &disk);
+    assert!(rt; after == 0, "after {after}");
     assert!(rt; disk.calls() == 11);
-    // from the first sync on
-    for after in 2..=disk.calls() {
-        for loss in [Loss::Kept, Loss::Dropped, Loss::Ones, Loss::Zeros] {
-            let mut left = disk.image(rt.alloc(), after, loss)?;
-            assert!(rt; is_none_or_empty(&mut left) == Ok(true), "after {after}");
-        }
-    }
-    let mut left = disk.image(rt.alloc(), 11, Loss::Dropped)?;
-    assert!(rt; has_file(&mut left, 0, EMPTY) == Ok(true));
+    assert!(rt; is_durable(rt.alloc(), &disk, EMPTY));
     Ok(())
 }
 
-#[test]
-fn failing_at_each_call(rt: HostRuntime) -> Result<(), Fail> {
-    let mut filled = *EMPTY;
-    filled[0] = 0;
-    for (k, left) in [
-        (2u64, &CLOSED[..]),
+// What is in the file where the call of this number fails.
+fn after_faults() -> [(u64, &'static [u8]); 10] {
+    [
+        (2, CLOSED),
         (3, CLOSED),
         (4, CLOSED),
         (5, b""),
         (6, b""),
         (7, b"\0"),
         (8, b"\0"),
-        (9, &filled),
-        (10, &filled),
+        (9, FILLED),
+        (10, FILLED),
         (11, EMPTY),
-    ] {
-        let inner = SureDisk::new(rt.alloc(), 0, 32, 0)?;
-        let mut disk = FailDisk::new(rt.alloc(), inner, &[k])?;
-        assert!(rt; disk.write(0, 0, CLOSED) == Ok(()));
-        let made = create_ledger(&mut disk, &SHAPE);
-        assert!(rt; made == Err(CreateFault::DiskFault), "call {k}");
-        assert!(rt; has_file(&mut disk, 0, left) == Ok(true), "call {k}");
+    ]
+}
+
+// Whether an archive is not made over the closed file where this call of the disk fails, and the file has these bytes then.
+fn is_at_fault(alloc: Global, call: u64, left: &[u8]) -> bool {
+    let Ok(inner) = SureDisk::new(alloc, 0, 32, 0) else {
+        return false;
+    };
+    let Ok(mut disk) = FailDisk::new(alloc, inner, &[call]) else {
+        return false;
+    };
+    disk.write(0, 0, CLOSED).is_ok() && leaves(&mut disk, Err(CreateFault::DiskFault), left)
+}
+
+#[test]
+fn failing_at_each_call(rt: HostRuntime) -> Result<(), Fail> {
+    for (k, left) in after_faults() {
+        assert!(rt; is_at_fault(rt.alloc(), k, left), "call {k}");
     }
     Ok(())
 }

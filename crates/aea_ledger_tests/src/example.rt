@@ -2,7 +2,6 @@
 
 use aea_envelope::digest_of;
 use aea_lattice::{BlockId, Class, Shape};
-use std::alloc::{AllocError, Global};
 
 /// Its shape.
 pub const SHAPE: Shape = Shape {
@@ -23,6 +22,15 @@ pub const ABC: &[u8; 32] =
 // What comes before the digest in the body of the object `a` with the bytes `abc`.
 const BODY: &[u8; 16] = b"\x01\0\0\0\xb3\0\x01a\0\0\0\0\0\0\0\x03";
 
+// The records after the example, each from its gate on: a fence after the first node, a raise of the limit, and an object `b` in parts
+// up to its digest; and the nodes and the parts after that.
+const RECORDS: &[u8; 37] = b"\x01\x02\0\0\0\x04\0\0\0\x01\
+\x01\x04\0\0\0\x04\0\x10\0\0\
+\x01\x03\0\0\0\xc7\0\x01b\0\0\0\0\0\0\0\x80";
+
+const PARTS: &[u8; 28] = b"\0\0\0\x02\0\0\0\x01\0\0\0\x02\
+\0\0\0\x01\0\0\0\x01\0\0\0\x02\0\0\0\x01";
+
 /// The digest of the block of this class of the first node: each such block has the bytes `abc` and zeros.
 pub fn first_digest(class: Class) -> [u8; 32] {
     let mut payload = [0u8; 64];
@@ -35,33 +43,41 @@ pub fn first_digest(class: Class) -> [u8; 32] {
 /// The classes of its shape.
 pub const CLASSES: [Class; 4] = [Class::Datum, Class::Horiz, Class::Right, Class::Left];
 
-/// The ledger after one object `a` with the bytes `abc`, 203 bytes.
-pub fn example(alloc: Global) -> Result<Vec<u8>, AllocError> {
-    let mut bytes = Vec::from_slice(alloc, FRONT)?;
-    bytes.extend_from_slice(BODY)?;
-    bytes.extend_from_slice(ABC)?;
-    bytes.extend_from_slice(b"\0\0\0\x01\0\0\0\x01")?;
-    for class in CLASSES {
-        bytes.extend_from_slice(&first_digest(class))?;
+// The digests of the blocks of the first node, one after the other.
+fn all_digests() -> [u8; 128] {
+    let mut bytes = [0; 128];
+    for k in 0..4usize {
+        bytes[32 * k..32 * k + 32].copy_from_slice(&first_digest(CLASSES[k]));
     }
-    bytes.push(0)?;
-    Ok(bytes)
+    bytes
+}
+
+/// The ledger after one object `a` with the bytes `abc`.
+pub fn example() -> [u8; 203] {
+    let mut bytes = [0; 203];
+    bytes[..18].copy_from_slice(FRONT);
+    bytes[18..34].copy_from_slice(BODY);
+    bytes[34..66].copy_from_slice(ABC);
+    bytes[66..74].copy_from_slice(b"\0\0\0\x01\0\0\0\x01");
+    bytes[74..202].copy_from_slice(&all_digests());
+    bytes
+}
+
+// The records after the example, and the gate that ends them.
+fn others() -> [u8; 226] {
+    let mut bytes = [0; 226];
+    bytes[..37].copy_from_slice(RECORDS);
+    bytes[37..69].copy_from_slice(ABC);
+    bytes[69..97].copy_from_slice(PARTS);
+    bytes[97..225].copy_from_slice(&all_digests());
+    bytes
 }
 
 /// The example with a record of each other kind after it: a fence after its node, a raise of the limit, and an object `b`
-/// of 128 bytes in two parts, the first node and one that is new with it. 430 bytes.
-pub fn each_kind(alloc: Global) -> Result<Vec<u8>, AllocError> {
-    let mut bytes = example(alloc)?;
-    let _gate = bytes.pop();
-    bytes.extend_from_slice(b"\x01\x02\0\0\0\x04\0\0\0\x01")?;
-    bytes.extend_from_slice(b"\x01\x04\0\0\0\x04\0\x10\0\0")?;
-    bytes.extend_from_slice(b"\x01\x03\0\0\0\xc7\0\x01b\0\0\0\0\0\0\0\x80")?;
-    bytes.extend_from_slice(ABC)?;
-    bytes.extend_from_slice(b"\0\0\0\x02\0\0\0\x01\0\0\0\x02")?;
-    bytes.extend_from_slice(b"\0\0\0\x01\0\0\0\x01\0\0\0\x02\0\0\0\x01")?;
-    for class in CLASSES {
-        bytes.extend_from_slice(&first_digest(class))?;
-    }
-    bytes.push(0)?;
-    Ok(bytes)
+/// of 128 bytes in two parts, the first node and one that is new with it.
+pub fn each_kind() -> [u8; 428] {
+    let mut bytes = [0; 428];
+    bytes[..203].copy_from_slice(&example());
+    bytes[202..].copy_from_slice(&others());
+    bytes
 }

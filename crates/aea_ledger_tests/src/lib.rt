@@ -14,4 +14,6 @@ mod openings;
 #[cfg(test)]
 mod plain;
 #[cfg(test)]
+mod small;
+#[cfg(test)]
 mod stops;

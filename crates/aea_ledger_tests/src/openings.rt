@@ -11,21 +11,23 @@ use std::alloc::{AllocError, Global};
 use std::test::Fail;
 
 /// What opening makes of the bytes. The disk keeps them.
-pub fn open_bytes(alloc: Global, disk: &mut SureDisk, bytes: &[u8]) -> Result<Reading, Fail> {
-    fill_file(disk, 0, bytes)?;
-    open_disk(alloc, disk)
+pub fn open_bytes(alloc: Global, disk: &mut SureDisk, bytes: &[u8]) -> Reading {
+    match fill_file(disk, 0, bytes) {
+        Ok(()) => open_disk(alloc, disk),
+        Err(_) => Reading::Unread,
+    }
 }
 
 /// What opening makes of a disk.
-pub fn open_disk<D: Disk>(alloc: Global, disk: &mut D) -> Result<Reading, Fail> {
+pub fn open_disk<D: Disk>(alloc: Global, disk: &mut D) -> Reading {
     match open_ledger(alloc, disk) {
-        Ok(ledger) => Ok(Reading::Ledger {
+        Ok(ledger) => Reading::Ledger {
             nodes: u64::from(ledger.lattice().n()),
             objects: ledger.catalog().len() as u64,
-        }),
-        Err(OpenFault::NoArchive) => Ok(Reading::NoArchive),
-        Err(OpenFault::LedgerBad { at }) => Ok(Reading::Bad { at }),
-        Err(_) => Err(Fail::from(AllocError)),
+        },
+        Err(OpenFault::NoArchive) => Reading::NoArchive,
+        Err(OpenFault::LedgerBad { at }) => Reading::Bad { at },
+        Err(_) => Reading::Unread,
     }
 }
 
@@ -38,124 +40,161 @@ fn recorded(ledger: &Ledger, k: u32) -> Option<[u8; 32]> {
     }
 }
 
-#[test]
-fn the_example_is_read_field_by_field(rt: HostRuntime) -> Result<(), Fail> {
-    let bytes = example(rt.alloc())?;
-    assert!(rt; bytes.len() == 203);
-    let mut disk = SureDisk::new(rt.alloc(), 0, 256, 0)?;
-    fill_file(&mut disk, 0, &bytes)?;
-    let ledger = open_ledger(rt.alloc(), &mut disk)?;
-    assert!(rt; Some(ledger.shape()) == Shape::new(3, 2, 5, 64, 4));
-    assert!(rt; ledger.lattice().n() == 1);
-    assert!(rt; ledger.live());
-    assert!(rt; ledger.catalog().len() == 1);
-    let Some(object) = ledger.catalog().find(b"a") else {
-        return Err(Fail::new("no object"));
+// Whether the ledger has the shape, the nodes and the one object of the example, and takes records.
+fn has_object(ledger: &Ledger) -> bool {
+    let objects = ledger.catalog();
+    let Some(object) = objects.find(b"a") else {
+        return false;
     };
-    assert!(rt; (object.first, object.count, object.length) == (1, 1, 3));
-    assert!(rt; &object.digest == ABC);
+    Some(ledger.shape()) == Shape::new(3, 2, 5, 64, 4)
+        && ledger.lattice().n() == 1
+        && ledger.live()
+        && objects.len() == 1
+        && (object.first, object.count, object.length) == (1, 1, 3)
+        && &object.digest == ABC
+}
+
+// Whether the ledger has the digests of the four blocks of the example.
+fn has_digests(ledger: &Ledger) -> bool {
     for (k, class) in [
         (0u32, Class::Datum),
         (1, Class::Horiz),
         (2, Class::Right),
         (3, Class::Left),
     ] {
-        assert!(rt; recorded(&ledger, k) == Some(first_digest(class)));
+        if recorded(ledger, k) != Some(first_digest(class)) {
+            return false;
+        }
     }
-    assert!(rt; ledger.seal() == Sha256::digest(part(&bytes, 0, 202)));
+    true
+}
+
+// Whether the bytes are opened as the ledger of the example, and the seal is the digest of those before the last.
+fn is_example(alloc: Global, bytes: &[u8]) -> bool {
+    let Ok(mut disk) = SureDisk::new(alloc, 0, 256, 0) else {
+        return false;
+    };
+    if fill_file(&mut disk, 0, bytes).is_err() {
+        return false;
+    }
+    let Ok(ledger) = open_ledger(alloc, &mut disk) else {
+        return false;
+    };
+    has_fields(&ledger, bytes)
+}
+
+// Whether each field is that of the example.
+fn has_fields(ledger: &Ledger, bytes: &[u8]) -> bool {
+    has_object(ledger)
+        && has_digests(ledger)
+        && ledger.seal() == Sha256::digest(part(bytes, 0, 202))
+}
+
+#[test]
+fn the_example_is_read_field_by_field(rt: HostRuntime) -> Result<(), Fail> {
+    assert!(rt; is_example(rt.alloc(), &example()));
     Ok(())
 }
 
-// The first number of bytes of which opening does not make what the plain reader does.
-fn first_cut_apart(
-    alloc: Global,
-    disk: &mut SureDisk,
-    bytes: &[u8],
-) -> Result<Option<usize>, Fail> {
-    for end in 0..=bytes.len() {
-        let front = &bytes[..end];
-        let plain = read_plainly(alloc, front)?;
-        if open_bytes(alloc, disk, front)? != plain {
-            return Ok(Some(end));
-        }
-    }
-    Ok(None)
+// Whether opening makes of the bytes what the plain reader does.
+fn agrees(alloc: Global, disk: &mut SureDisk, bytes: &[u8]) -> bool {
+    read_plainly(alloc, bytes) == Ok(open_bytes(alloc, disk, bytes))
 }
 
-// The first place at which another byte is not to opening what it is to the plain reader. Some bytes are tried at each.
+// Whether opening and the plain reader both make this of the bytes.
+fn is_read_as(alloc: Global, disk: &mut SureDisk, bytes: &[u8], want: Reading) -> bool {
+    open_bytes(alloc, disk, bytes) == want && read_plainly(alloc, bytes) == Ok(want)
+}
+
+// The least number of bytes of which opening does not make what the plain reader does; one more than there are where there is none.
+fn first_cut_apart(alloc: Global, disk: &mut SureDisk, bytes: &[u8]) -> usize {
+    for end in 0..=bytes.len() {
+        if !agrees(alloc, disk, &bytes[..end]) {
+            return end;
+        }
+    }
+    bytes.len().saturating_add(1)
+}
+
+// Whether the value is one of some that are tried in place of a byte of any value.
+fn is_tried(kept: u8, value: u8) -> bool {
+    let flips = [kept ^ 1, kept ^ 128, kept ^ 16];
+    [0, 1, 2, 3, 4, 5, 31, 127, 255].contains(&value) || flips.contains(&value)
+}
+
+// The first place at which another byte is not to opening what it is to the plain reader, and that byte; the place after the last one
+// where there is none. Each byte is tried, or some.
 fn first_change_apart(
     alloc: Global,
     disk: &mut SureDisk,
-    bytes: &[u8],
-) -> Result<Option<usize>, Fail> {
-    let mut changed = Vec::from_slice(alloc, bytes)?;
+    bytes: &mut [u8],
+    is_each: bool,
+) -> (usize, u8) {
     for place in 0..bytes.len() {
         let kept = bytes[place];
-        let flips = [kept ^ 1, kept ^ 128, kept ^ 16];
-        for value in [0, 1, 2, 3, 4, 5, 31, 127, 255].iter().chain(flips.iter()) {
-            changed[place] = *value;
-            let plain = read_plainly(alloc, &changed)?;
-            if open_bytes(alloc, disk, &changed)? != plain {
-                return Ok(Some(place));
+        for value in 0..=255u8 {
+            if is_each || is_tried(kept, value) {
+                bytes[place] = value;
+                if !agrees(alloc, disk, bytes) {
+                    return (place, value);
+                }
             }
         }
-        changed[place] = kept;
+        bytes[place] = kept;
     }
-    Ok(None)
+    (bytes.len(), 0)
 }
 
 #[test]
 fn each_cut_and_change_is_as_the_plain_reader_has_it(rt: HostRuntime) -> Result<(), Fail> {
-    let alloc = rt.alloc();
-    let bytes = example(alloc)?;
-    let mut disk = SureDisk::new(alloc, 0, 256, 0)?;
-    assert!(rt; first_cut_apart(alloc, &mut disk, &bytes)? == None);
-    let mut changed = Vec::from_slice(alloc, &bytes)?;
-    for place in 0..bytes.len() {
-        let kept = changed[place];
-        for value in 0..=255u8 {
-            changed[place] = value;
-            let plain = read_plainly(alloc, &changed)?;
-            assert!(rt;
-                open_bytes(alloc, &mut disk, &changed)? == plain,
-                "{value} at {place}"
-            );
-        }
-        changed[place] = kept;
-    }
+    let mut bytes = example();
+    let mut disk = SureDisk::new(rt.alloc(), 0, 256, 0)?;
+    let end = first_cut_apart(rt.alloc(), &mut disk, &bytes);
+    assert!(rt; end == 204, "{end}");
+    let (place, value) = first_change_apart(rt.alloc(), &mut disk, &mut bytes, true);
+    assert!(rt; place == 203, "{value} at {place}");
     Ok(())
+}
+
+// Whether the archive has a raised limit, a fence and an object in two parts.
+fn has_each_kind(alloc: Global, disk: &mut SureDisk) -> bool {
+    match open_ledger(alloc, disk) {
+        Ok(ledger) => is_of_each_kind(&ledger),
+        Err(_) => false,
+    }
+}
+
+// Whether the ledger has them.
+fn is_of_each_kind(ledger: &Ledger) -> bool {
+    ledger.limit() == 1_048_576
+        && ledger.lattice().fence_count() == 1
+        && ledger.catalog().parts(b"b") == Some(2)
 }
 
 #[test]
 fn each_kind_is_as_the_plain_reader_has_it(rt: HostRuntime) -> Result<(), Fail> {
-    let alloc = rt.alloc();
-    let bytes = each_kind(alloc)?;
-    let mut disk = SureDisk::new(alloc, 0, 512, 0)?;
+    let mut bytes = each_kind();
+    let mut disk = SureDisk::new(rt.alloc(), 0, 512, 0)?;
+    let two = Reading::Ledger {
+        nodes: 2,
+        objects: 2,
+    };
     assert!(rt;
-        open_bytes(alloc, &mut disk, &bytes)?
-            == Reading::Ledger {
-                nodes: 2,
-                objects: 2
-            }
+        is_read_as(rt.alloc(), &mut disk, &bytes, two) && has_each_kind(rt.alloc(), &mut disk)
     );
-    let ledger = open_ledger(alloc, &mut disk)?;
-    assert!(rt; ledger.limit() == 1_048_576);
-    assert!(rt; ledger.lattice().fence_count() == 1);
-    assert!(rt; ledger.catalog().parts(b"b") == Some(2));
-    assert!(rt; first_cut_apart(alloc, &mut disk, &bytes)? == None);
-    assert!(rt; first_change_apart(alloc, &mut disk, &bytes)? == None);
+    let end = first_cut_apart(rt.alloc(), &mut disk, &bytes);
+    assert!(rt; end == 429, "{end}");
+    let (place, value) = first_change_apart(rt.alloc(), &mut disk, &mut bytes, false);
+    assert!(rt; place == 428, "{value} at {place}");
     Ok(())
 }
 
-// Some changes of the example, whose places are known.
+// Some changes of the example, whose places are known: how many bytes are kept, the place of a byte, what is put there, and
+// what that is.
 #[rattlefmt::skip]
-#[test]
-fn bad_places(rt: HostRuntime) -> Result<(), Fail> {
-    let alloc = rt.alloc();
-    let bytes = example(alloc)?;
-    let mut disk = SureDisk::new(alloc, 0, 256, 0)?;
-    for (end, place, value, want) in [
-        (203u64, 9usize, 4u8, Reading::Bad { at: 9 }),
+fn bad_changes() -> [(u64, usize, u8, Reading); 18] {
+    [
+        (203, 9, 4, Reading::Bad { at: 9 }),
         (202, 0, 1, Reading::Bad { at: 202 }),
         (150, 0, 1, Reading::Bad { at: 74 }),
         (17, 0, 1, Reading::NoArchive),
@@ -174,13 +213,35 @@ fn bad_places(rt: HostRuntime) -> Result<(), Fail> {
         (203, 202, 1, Reading::Bad { at: 203 }),
         (203, 202, 2, Reading::Ledger { nodes: 1, objects: 1 }),
         (203, 17, 0, Reading::Ledger { nodes: 0, objects: 0 }),
-    ] {
-        let mut changed = Vec::from_slice(alloc, part(&bytes, 0, end))?;
-        if let Some(byte) = changed.get_mut(place) {
-            *byte = value;
-        }
-        assert!(rt; open_bytes(alloc, &mut disk, &changed)? == want, "{end} {place} {value}");
-        assert!(rt; read_plainly(alloc, &changed)? == want, "{end} {place} {value}");
+    ]
+}
+
+// Whether the bytes with another one at this place, if they have it, are this.
+fn is_changed_to(
+    alloc: Global,
+    disk: &mut SureDisk,
+    bytes: &[u8],
+    byte: (usize, u8),
+    want: Reading,
+) -> bool {
+    let (place, value) = byte;
+    let Ok(mut changed) = Vec::from_slice(alloc, bytes) else {
+        return false;
+    };
+    if let Some(kept) = changed.get_mut(place) {
+        *kept = value;
+    }
+    is_read_as(alloc, disk, &changed, want)
+}
+
+#[test]
+fn bad_places(rt: HostRuntime) -> Result<(), Fail> {
+    let mut disk = SureDisk::new(rt.alloc(), 0, 256, 0)?;
+    let bytes = example();
+    for (end, place, value, want) in bad_changes() {
+        let front = part(&bytes, 0, end);
+        let is_so = is_changed_to(rt.alloc(), &mut disk, front, (place, value), want);
+        assert!(rt; is_so, "{end} {place} {value}");
     }
     Ok(())
 }
@@ -189,26 +250,23 @@ fn bad_places(rt: HostRuntime) -> Result<(), Fail> {
 pub fn add_empty(bytes: &mut Vec<u8>, name: &[u8], first: u32) -> Result<(), AllocError> {
     let _gate = bytes.pop();
     let long = u16::try_from(name.len()).unwrap_or(u16::MAX);
-    bytes.extend_from_slice(b"\x01\x01")?;
-    bytes.extend_from_slice(&u32::from(long).saturating_add(50).to_be_bytes())?;
-    bytes.extend_from_slice(&long.to_be_bytes())?;
+    let mut head = [1; 8];
+    head[2..6].copy_from_slice(&u32::from(long).saturating_add(50).to_be_bytes());
+    head[6..].copy_from_slice(&long.to_be_bytes());
+    let mut tail = [0; 49];
+    tail[40..44].copy_from_slice(&first.to_be_bytes());
+    bytes.extend_from_slice(&head)?;
     bytes.extend_from_slice(name)?;
-    bytes.extend_from_slice(&[0; 40])?;
-    bytes.extend_from_slice(&first.to_be_bytes())?;
-    bytes.extend_from_slice(&[0; 4])?;
-    bytes.push(0)?;
-    Ok(())
+    bytes.extend_from_slice(&tail)
 }
 
+// Names, and what a ledger with an object of the name is.
 #[rattlefmt::skip]
-#[test]
-fn names_at_their_limits(rt: HostRuntime) -> Result<(), Fail> {
-    let alloc = rt.alloc();
-    let mut disk = SureDisk::new(alloc, 0, 512, 0)?;
+fn names() -> [(&'static [u8], Reading); 12] {
     let none = Reading::Bad { at: 25 };
     let one = Reading::Ledger { nodes: 0, objects: 1 };
-    for (name, want) in [
-        (&[b'a'; 255][..], one),
+    [
+        (&[b'a'; 255], one),
         (&[b'a'; 256], Reading::Bad { at: 23 }),
         (b"", Reading::Bad { at: 23 }),
         (b"tab\x09", none),
@@ -220,38 +278,68 @@ fn names_at_their_limits(rt: HostRuntime) -> Result<(), Fail> {
         (b"\xc3", none),
         (b"\xc0\x80", none),
         (b"\xff", none),
-    ] {
-        let mut bytes = Vec::from_slice(alloc, FRONT)?;
+    ]
+}
+
+// A ledger with empty objects of these names.
+fn with_names(alloc: Global, names: &[&[u8]]) -> Result<Vec<u8>, AllocError> {
+    let mut bytes = Vec::from_slice(alloc, FRONT)?;
+    for name in names {
         add_empty(&mut bytes, name, 1)?;
-        assert!(rt; open_bytes(alloc, &mut disk, &bytes)? == want, "{name:?}");
-        assert!(rt; read_plainly(alloc, &bytes)? == want, "{name:?}");
+    }
+    Ok(bytes)
+}
+
+// Whether such a ledger is this.
+fn are_read_as(alloc: Global, disk: &mut SureDisk, names: &[&[u8]], want: Reading) -> bool {
+    match with_names(alloc, names) {
+        Ok(bytes) => is_read_as(alloc, disk, &bytes, want),
+        Err(_) => false,
+    }
+}
+
+#[test]
+fn names_at_their_limits(rt: HostRuntime) -> Result<(), Fail> {
+    let mut disk = SureDisk::new(rt.alloc(), 0, 512, 0)?;
+    for (name, want) in names() {
+        assert!(rt;
+            are_read_as(rt.alloc(), &mut disk, &[name], want),
+            "{name:?}"
+        );
     }
     // a name that occurs twice
-    let mut bytes = Vec::from_slice(alloc, FRONT)?;
-    add_empty(&mut bytes, b"b", 1)?;
-    add_empty(&mut bytes, b"a", 1)?;
-    add_empty(&mut bytes, b"b", 1)?;
-    assert!(rt; open_bytes(alloc, &mut disk, &bytes)? == Reading::Bad { at: 17 + 57 + 57 + 8 });
+    let third = Reading::Bad {
+        at: 17 + 57 + 57 + 8,
+    };
+    assert!(rt; are_read_as(rt.alloc(), &mut disk, &[b"b", b"a", b"b"], third));
     Ok(())
+}
+
+// A ledger with as many empty objects as there may be, whose names are out of order.
+fn full_one(alloc: Global) -> Result<Vec<u8>, Fail> {
+    let mut bytes = Vec::from_slice(alloc, FRONT)?;
+    for k in 0..65_536u32 {
+        let name = format!(in alloc; "{}", k.wrapping_mul(40_503) % 65_536)?;
+        add_empty(&mut bytes, name.as_bytes(), 1)?;
+    }
+    Ok(bytes)
+}
+
+// Whether these bytes are a ledger with so many objects, and are none with one object more.
+fn is_full(alloc: Global, bytes: &mut Vec<u8>, objects: u64) -> bool {
+    let Ok(mut disk) = SureDisk::new(alloc, 0, bytes.len().saturating_add(100), 0) else {
+        return false;
+    };
+    let full = Reading::Ledger { nodes: 0, objects };
+    let at = (bytes.len() as u64).saturating_sub(1);
+    open_bytes(alloc, &mut disk, bytes) == full
+        && add_empty(bytes, b"one more", 1).is_ok()
+        && open_bytes(alloc, &mut disk, bytes) == Reading::Bad { at }
 }
 
 #[test]
 fn as_many_objects_as_there_may_be(rt: HostRuntime) -> Result<(), Fail> {
-    let alloc = rt.alloc();
-    let mut bytes = Vec::from_slice(alloc, FRONT)?;
-    for k in 0..65_536u32 {
-        // names out of order
-        let name = format!(in alloc; "{}", k.wrapping_mul(40_503) % 65_536)?;
-        add_empty(&mut bytes, name.as_bytes(), 1)?;
-    }
-    let mut disk = SureDisk::new(alloc, 0, bytes.len().saturating_add(100), 0)?;
-    let full = Reading::Ledger {
-        nodes: 0,
-        objects: 65_536,
-    };
-    assert!(rt; open_bytes(alloc, &mut disk, &bytes)? == full);
-    let end = (bytes.len() as u64).saturating_sub(1);
-    add_empty(&mut bytes, b"one more", 1)?;
-    assert!(rt; open_bytes(alloc, &mut disk, &bytes)? == Reading::Bad { at: end });
+    let mut bytes = full_one(rt.alloc())?;
+    assert!(rt; is_full(rt.alloc(), &mut bytes, 65_536));
     Ok(())
 }

@@ -9,6 +9,8 @@ pub enum Reading {
     NoArchive,
     Bad { at: u64 },
     Ledger { nodes: u64, objects: u64 },
+    /// It was not read, since the disk failed or memory ran out.
+    Unread,
 }
 
 /// The bytes from a place on, so many of them, or as many as there are.

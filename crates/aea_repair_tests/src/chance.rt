@@ -15,22 +15,28 @@ use std::test::Fail;
 // second.
 type Row = ((u8, u8, u8), [u32; 3], bool);
 
-const ONE_CLASS: [Row; 2] = [
-    ((1, 1, 0), [100, 1, 100], false),
-    ((1, 1, 0), [100, 1, 100], true),
-];
+fn one_class() -> [Row; 2] {
+    [
+        ((1, 1, 0), [100, 1, 100], false),
+        ((1, 1, 0), [100, 1, 100], true),
+    ]
+}
 
-const TWO_CLASSES: [Row; 3] = [
-    ((2, 2, 2), [120, 33, 16], false),
-    ((2, 2, 5), [17, 100, 48], true),
-    ((2, 3, 7), [120, 0, 90], false),
-];
+fn two_classes() -> [Row; 3] {
+    [
+        ((2, 2, 2), [120, 33, 16], false),
+        ((2, 2, 5), [17, 100, 48], true),
+        ((2, 3, 7), [120, 0, 90], false),
+    ]
+}
 
-const THREE_CLASSES: [Row; 3] = [
-    ((3, 2, 2), [33, 100, 20], false),
-    ((3, 2, 5), [50, 50, 80], true),
-    ((3, 5, 5), [120, 60, 20], false),
-];
+fn three_classes() -> [Row; 3] {
+    [
+        ((3, 2, 2), [33, 100, 20], false),
+        ((3, 2, 5), [50, 50, 80], true),
+        ((3, 5, 5), [120, 60, 20], false),
+    ]
+}
 
 // How many of a hundred cells are changed, and how many of a hundred sites are cut or emptied.
 const PERCENTS: [(u64, u64); 5] = [(3, 0), (20, 0), (0, 50), (40, 25), (80, 0)];
@@ -203,7 +209,7 @@ fn said(found: &Option<String>) -> &str {
 
 #[test]
 fn repairs_of_one_class_agree_with_the_plain_one(rt: HostRuntime) -> Result<(), Fail> {
-    for row in ONE_CLASS {
+    for row in one_class() {
         let found = first_fault(rt.alloc(), row, 1)?;
         assert!(rt; said(&found) == "");
     }
@@ -212,7 +218,7 @@ fn repairs_of_one_class_agree_with_the_plain_one(rt: HostRuntime) -> Result<(), 
 
 #[test]
 fn repairs_of_two_classes_agree_with_the_plain_one(rt: HostRuntime) -> Result<(), Fail> {
-    for row in TWO_CLASSES {
+    for row in two_classes() {
         let found = first_fault(rt.alloc(), row, 2)?;
         assert!(rt; said(&found) == "");
     }
@@ -221,7 +227,7 @@ fn repairs_of_two_classes_agree_with_the_plain_one(rt: HostRuntime) -> Result<()
 
 #[test]
 fn repairs_of_three_classes_agree_with_the_plain_one(rt: HostRuntime) -> Result<(), Fail> {
-    for row in THREE_CLASSES {
+    for row in three_classes() {
         let found = first_fault(rt.alloc(), row, 3)?;
         assert!(rt; said(&found) == "");
     }

@@ -1,11 +1,9 @@
 //! Clashes: blocks whose computed or re-read payloads have other digests than the ledger keeps of them.
 
-use crate::archives::run_repair;
+use crate::archives::{repairs, run_repair};
 use aea_cli::Status;
 use aea_disk::{Disk, SureDisk};
-use aea_runs::{
-    FIRST_DIGEST, all_bytes, clash_line, digest_of, has_bytes, run_over, run_put, text_of,
-};
+use aea_runs::{FIRST_DIGEST, all_bytes, clash_line, digest_of, has_bytes, run_over, run_put};
 use aea_test_helpers::{FlippingDisk, shorten, spoil_cell};
 use std::alloc::Global;
 use std::test::Fail;
@@ -24,39 +22,48 @@ fn dishonest(alloc: Global) -> Result<SureDisk, Fail> {
     Ok(disk)
 }
 
+// Whether a repair of that archive, with space for so many bytes on the errors, ends in a clash, prints as much of this line as there
+// is space for, reads nothing, and leaves the files.
+fn is_clash(alloc: Global, line: &str, room: usize) -> Result<bool, Fail> {
+    let mut disk = dishonest(alloc)?;
+    let stands = all_bytes(alloc, &mut disk)?;
+    let left = run_repair(alloc, &mut disk, 999, 0, room)?;
+    let told = line.as_bytes().get(..room.min(157)).ok_or("a short line")?;
+    let is_told = left.status == Status::Clash && left.err.bytes() == told;
+    let is_silent = left.out.bytes().is_empty() && left.unread == 6;
+    Ok(is_told && is_silent && has_bytes(alloc, &mut disk, stands.as_slice())?)
+}
+
 #[test]
 fn a_sum_with_another_digest_is_a_clash(rt: HostRuntime) -> Result<(), Fail> {
     let alloc = rt.alloc();
     let recorded = digest_of(alloc, 0, 1, b"another payload.")?;
     let computed = digest_of(alloc, 0, 1, Y)?;
-    let want = clash_line(alloc, "d1", &recorded, &computed)?;
-    assert!(rt; want.len() == 157);
+    let line = clash_line(alloc, "d1", &recorded, &computed)?;
+    assert!(rt; line.len() == 157);
     for room in [200usize, 157, 156, 64, 6, 0] {
-        let mut disk = dishonest(alloc)?;
-        let stands = all_bytes(alloc, &mut disk)?;
-        let left = run_repair(alloc, &mut disk, 999, 0, room)?;
-        assert!(rt; left.status == Status::Clash, "{room}");
-        assert!(rt; left.out.bytes().is_empty() && left.unread == 6, "{room}");
-        assert!(rt; left.err.bytes().len() == room.min(157));
-        assert!(rt; want.as_bytes().starts_with(left.err.bytes()), "{room}");
-        assert!(rt; has_bytes(alloc, &mut disk, stands.as_slice())?, "{room}");
+        assert!(rt; is_clash(alloc, line.as_str(), room)?, "{room}");
     }
     Ok(())
+}
+
+// That archive with a second node, after a fence, whose blocks are damaged.
+fn dishonest_and_lost(alloc: Global) -> Result<SureDisk, Fail> {
+    let mut disk = dishonest(alloc)?;
+    let _fenced = run_over(alloc, "fence", &mut disk, 99)?;
+    let _stored = run_put(alloc, &mut disk, "b", b"abc")?;
+    spoil_cell(&mut disk, 2, 64, 2, 16)?;
+    spoil_cell(&mut disk, 2, 64, 3, 16)?;
+    Ok(disk)
 }
 
 #[test]
 fn a_clash_goes_before_a_lost_block_and_a_failing_output(rt: HostRuntime) -> Result<(), Fail> {
     let alloc = rt.alloc();
-    let mut disk = dishonest(alloc)?;
-    // a second node, after a fence, whose blocks are gone
-    let _fenced = run_over(alloc, "fence", &mut disk, 99)?;
-    let _stored = run_put(alloc, &mut disk, "b", b"abc")?;
-    spoil_cell(&mut disk, 2, 64, 2, 16)?;
-    spoil_cell(&mut disk, 2, 64, 3, 16)?;
+    let mut disk = dishonest_and_lost(alloc)?;
     let left = run_repair(alloc, &mut disk, 999, 1, 200)?;
-    assert!(rt; left.status == Status::Clash);
-    assert!(rt; text_of(left.err.bytes())?.starts_with("clash d1 recorded "));
-    assert!(rt; left.out.bytes().is_empty());
+    let is_told = left.err.bytes().starts_with(b"clash d1 recorded ");
+    assert!(rt; left.status == Status::Clash && is_told && left.out.bytes().is_empty());
     Ok(())
 }
 
@@ -77,36 +84,51 @@ fn a_restored_block_serves_the_next(rt: HostRuntime) -> Result<(), Fail> {
     let alloc = rt.alloc();
     let whole = all_bytes(alloc, &mut of_three(alloc, &[])?)?;
     let mut disk = of_three(alloc, &[0, 1])?;
-    let left = run_over(alloc, "repair", &mut disk, 999)?;
-    assert!(rt; left.status == Status::Done);
-    assert!(rt; text_of(left.out.bytes())?.ends_with("\ncounts 2 2 0 0\npeeled d1\npeeled h1\n"));
-    assert!(rt; has_bytes(alloc, &mut disk, whole.as_slice())?);
+    let lines = "counts 2 2 0 0\npeeled d1\npeeled h1\n";
+    let files = whole.as_slice();
+    assert!(rt; repairs(alloc, &mut disk, "1 1 0 3", lines, Status::Done, files)?);
     Ok(())
+}
+
+// An archive of three nodes whose d1 is damaged. h1 is first on site 2, and d1 on site 1; the first reads of site 2 are those of the
+// scan, of h1, d2 and h3. After these this byte of what is read there is flipped.
+fn flipping(alloc: Global, byte: usize) -> Result<FlippingDisk<SureDisk>, Fail> {
+    Ok(FlippingDisk {
+        inner: of_three(alloc, &[0])?,
+        file: 2,
+        byte,
+        from: 4,
+        reads: 0,
+    })
+}
+
+// Whether a repair of it ends in a clash, prints nothing but this on the errors, and leaves the files as they are.
+fn is_left(alloc: Global, byte: usize, err: &str) -> Result<bool, Fail> {
+    let mut disk = flipping(alloc, byte)?;
+    let damaged = all_bytes(alloc, &mut disk.inner)?;
+    let left = run_repair(alloc, &mut disk, 999, 0, 200)?;
+    let is_told = left.status == Status::Clash && left.err.bytes() == err.as_bytes();
+    let is_silent = left.out.bytes().is_empty();
+    Ok(is_told && is_silent && has_bytes(alloc, &mut disk.inner, damaged.as_slice())?)
 }
 
 #[test]
 fn a_survivor_that_changes_under_way_is_a_clash(rt: HostRuntime) -> Result<(), Fail> {
     let alloc = rt.alloc();
-    // h1 is first on site 2, and d1 on site 1; the first reads of site 2 are those of the scan, of h1, d2 and h3
     let recorded = digest_of(alloc, 1, 1, Y)?;
     let mut turned = *Y;
     turned[2] ^= 1;
     let computed = digest_of(alloc, 1, 1, &turned)?;
-    let want = clash_line(alloc, "h1", &recorded, &computed)?;
-    let mut disk = FlippingDisk {
-        inner: of_three(alloc, &[0])?,
-        file: 2,
-        byte: 18,
-        from: 4,
-        reads: 0,
-    };
-    let damaged = all_bytes(alloc, &mut disk.inner)?;
-    let left = run_repair(alloc, &mut disk, 999, 0, 200)?;
-    assert!(rt; left.status == Status::Clash);
-    assert!(rt; left.err.bytes() == want.as_str().as_bytes());
-    assert!(rt; left.out.bytes().is_empty());
-    assert!(rt; has_bytes(alloc, &mut disk.inner, damaged.as_slice())?);
+    let line = clash_line(alloc, "h1", &recorded, &computed)?;
+    assert!(rt; is_left(alloc, 18, line.as_str())?);
     Ok(())
+}
+
+// Whether a repair of it is done, and leaves these files.
+fn is_done(alloc: Global, byte: usize, files: &[Vec<u8>]) -> Result<bool, Fail> {
+    let mut disk = flipping(alloc, byte)?;
+    let left = run_repair(alloc, &mut disk, 999, 0, 200)?;
+    Ok(left.status == Status::Done && has_bytes(alloc, &mut disk.inner, files)?)
 }
 
 #[test]
@@ -115,19 +137,7 @@ fn a_head_that_changes_under_way_does_no_harm(rt: HostRuntime) -> Result<(), Fai
     let whole = all_bytes(alloc, &mut of_three(alloc, &[])?)?;
     // the letters of the cell, its class, its node, and its digest
     for byte in [0usize, 4, 15, 32, 63] {
-        let mut disk = FlippingDisk {
-            inner: of_three(alloc, &[0])?,
-            file: 2,
-            byte,
-            from: 4,
-            reads: 0,
-        };
-        let left = run_repair(alloc, &mut disk, 999, 0, 200)?;
-        assert!(rt; left.status == Status::Done, "{byte}");
-        assert!(rt;
-            has_bytes(alloc, &mut disk.inner, whole.as_slice())?,
-            "{byte}"
-        );
+        assert!(rt; is_done(alloc, byte, whole.as_slice())?, "{byte}");
     }
     Ok(())
 }

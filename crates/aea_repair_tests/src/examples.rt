@@ -1,10 +1,11 @@
 //! Worked examples of repairs.
 
-use crate::archives::archive_of_four;
+use crate::archives::{archive_of_four, ends, gets, puts, repairs};
 use aea_cli::Status;
 use aea_disk::{Disk, SureDisk};
-use aea_runs::{all_bytes, has_bytes, run_get, run_over, run_put, text_of};
-use aea_test_helpers::{file_bytes, fill_file, report_of, shorten, spoil, spoil_cell};
+use aea_runs::{all_bytes, run_over, run_put};
+use aea_test_helpers::{file_bytes, fill_file, shorten, spoil, spoil_cell};
+use std::alloc::Global;
 use std::test::Fail;
 
 const STORED: &str =
@@ -20,7 +21,7 @@ struct Case {
     lines: &'static str,
 }
 
-const CASES: [Case; 9] = [
+const CASES: &[Case] = &[
     Case {
         cuts: &[],
         turned: &[],
@@ -77,44 +78,54 @@ const CASES: [Case; 9] = [
     },
 ];
 
+// A function, so that the proof of the test does not carry the table.
+fn cases() -> &'static [Case] {
+    CASES
+}
+
+// An archive of four blocks that is damaged as the case has it.
+fn damaged(alloc: Global, case: &Case) -> Result<SureDisk, Fail> {
+    let mut disk = archive_of_four(alloc, b"abc")?;
+    for (file, to) in case.cuts {
+        shorten(&mut disk, *file, *to)?;
+    }
+    for (file, at) in case.turned {
+        spoil(&mut disk, *file, *at)?;
+    }
+    Ok(disk)
+}
+
+// Whether the damage of the case is told by a scrub and by a repair, which leaves the whole files, or where blocks are lost
+// those that were there.
+fn is_repaired(alloc: Global, case: &Case, whole: &[Vec<u8>]) -> Result<bool, Fail> {
+    let mut disk = damaged(alloc, case)?;
+    let before = all_bytes(alloc, &mut disk)?;
+    let scrubbed = run_over(alloc, "scrub", &mut disk, 99)?;
+    let is_scrubbed = scrubbed.out.bytes() == case.scrubbed.as_bytes();
+    let (status, files, got) = if case.lines.contains("lost") {
+        (Status::Damage, before.as_slice(), b"".as_slice())
+    } else {
+        (Status::Done, whole, b"abc".as_slice())
+    };
+    let is_told = repairs(alloc, &mut disk, "3 2 5 1", case.lines, status, files)?;
+    Ok(is_scrubbed && is_told && gets(alloc, &mut disk, "a", got)?)
+}
+
 #[test]
 fn four_blocks_are_restored_or_told_lost(rt: HostRuntime) -> Result<(), Fail> {
     let alloc = rt.alloc();
     let whole = all_bytes(alloc, &mut archive_of_four(alloc, b"abc")?)?;
-    for Case {
-        cuts,
-        turned,
-        scrubbed,
-        lines,
-    } in CASES {
-        let mut disk = archive_of_four(alloc, b"abc")?;
-        for (file, to) in cuts {
-            shorten(&mut disk, *file, *to)?;
-        }
-        for (file, at) in turned {
-            spoil(&mut disk, *file, *at)?;
-        }
-        let damaged = all_bytes(alloc, &mut disk)?;
-        let left = run_over(alloc, "scrub", &mut disk, 99)?;
-        assert!(rt; left.out.bytes() == scrubbed.as_bytes());
-        let want = report_of(alloc, &mut disk, "3 2 5 1", lines)?;
-        let left = run_over(alloc, "repair", &mut disk, 999)?;
-        assert!(rt; left.out.bytes() == want.as_str().as_bytes());
-        assert!(rt; left.err.bytes().is_empty() && left.unread == 6, "{lines}");
-        assert!(rt; left.out.flushed == want.len(), "{lines}");
-        let is_lost = lines.contains("lost");
-        let (status, files, got) = if is_lost {
-            (Status::Damage, &damaged, "")
-        } else {
-            (Status::Done, &whole, "abc")
-        };
-        assert!(rt; left.status == status, "{lines}");
-        assert!(rt; has_bytes(alloc, &mut disk, files.as_slice())?, "{lines}");
-        let left = run_get(alloc, &mut disk, "a", 99)?;
-        assert!(rt; left.out.bytes() == got.as_bytes(), "{lines}");
+    for case in cases() {
+        let is_so = is_repaired(alloc, case, whole.as_slice())?;
+        assert!(rt; is_so, "{}", case.lines);
     }
     Ok(())
 }
+
+// What a scrub prints where the one block of the first site is damaged, and the lines of the report then.
+const FIRST_DAMAGED: &str = "damaged d1\ntotal 4 damaged 1\n";
+
+const FIRST_PEELED: &str = "counts 1 1 0 0\npeeled d1\n";
 
 #[test]
 fn cells_of_another_archive_are_damage(rt: HostRuntime) -> Result<(), Fail> {
@@ -123,39 +134,47 @@ fn cells_of_another_archive_are_damage(rt: HostRuntime) -> Result<(), Fail> {
     let whole = all_bytes(alloc, &mut disk)?;
     let other = file_bytes(alloc, &mut archive_of_four(alloc, b"abd")?, 1)?;
     fill_file(&mut disk, 1, other.as_slice())?;
-    let left = run_over(alloc, "scrub", &mut disk, 99)?;
-    assert!(rt; left.is(Status::Damage, "damaged d1\ntotal 4 damaged 1\n", ""));
-    let left = run_over(alloc, "repair", &mut disk, 999)?;
-    assert!(rt; left.status == Status::Done);
-    assert!(rt; text_of(left.out.bytes())?.ends_with("\ncounts 1 1 0 0\npeeled d1\n"));
-    assert!(rt; has_bytes(alloc, &mut disk, whole.as_slice())?);
+    assert!(rt; ends(alloc, &mut disk, "scrub", Status::Damage, FIRST_DAMAGED, "")?);
+    assert!(rt; repairs_four(alloc, &mut disk, FIRST_PEELED, whole.as_slice())?);
     Ok(())
 }
+
+// Whether a repair of an archive of four blocks reports these lines and is done, and leaves these files.
+fn repairs_four<D: Disk>(
+    alloc: Global,
+    disk: &mut D,
+    lines: &str,
+    files: &[Vec<u8>],
+) -> Result<bool, Fail> {
+    repairs(alloc, disk, "3 2 5 1", lines, Status::Done, files)
+}
+
+// Exchanges the files of the first two sites.
+fn exchange<D: Disk>(alloc: Global, disk: &mut D) -> Result<(), Fail> {
+    let first = file_bytes(alloc, disk, 1)?;
+    let second = file_bytes(alloc, disk, 2)?;
+    fill_file(disk, 1, second.as_slice())?;
+    fill_file(disk, 2, first.as_slice())?;
+    Ok(())
+}
+
+const BOTH_DAMAGED: &str = "damaged d1\ndamaged h1\ntotal 4 damaged 2\n";
+
+const BOTH_PEELED: &str = "counts 2 2 0 0\npeeled d1\npeeled h1\n";
 
 #[test]
 fn exchanged_files_are_damage_and_more_bytes_are_none(rt: HostRuntime) -> Result<(), Fail> {
     let alloc = rt.alloc();
     let mut disk = archive_of_four(alloc, b"abc")?;
     let whole = all_bytes(alloc, &mut disk)?;
-    let (first, second) = (
-        file_bytes(alloc, &mut disk, 1)?,
-        file_bytes(alloc, &mut disk, 2)?,
-    );
-    fill_file(&mut disk, 1, second.as_slice())?;
-    fill_file(&mut disk, 2, first.as_slice())?;
-    let left = run_over(alloc, "scrub", &mut disk, 99)?;
-    assert!(rt; left.out.bytes() == "damaged d1\ndamaged h1\ntotal 4 damaged 2\n".as_bytes());
-    let left = run_over(alloc, "repair", &mut disk, 999)?;
-    assert!(rt; left.status == Status::Done);
-    assert!(rt; text_of(left.out.bytes())?.ends_with("\ncounts 2 2 0 0\npeeled d1\npeeled h1\n"));
-    assert!(rt; has_bytes(alloc, &mut disk, whole.as_slice())?);
+    exchange(alloc, &mut disk)?;
+    assert!(rt; ends(alloc, &mut disk, "scrub", Status::Damage, BOTH_DAMAGED, "")?);
+    assert!(rt; repairs_four(alloc, &mut disk, BOTH_PEELED, whole.as_slice())?);
     // what lies past the last cell of a file is no block, and stays
     disk.write(1, 112, &[255; 1000])?;
     let longer = all_bytes(alloc, &mut disk)?;
     spoil(&mut disk, 1, 20)?;
-    let left = run_over(alloc, "repair", &mut disk, 999)?;
-    assert!(rt; text_of(left.out.bytes())?.ends_with("\ncounts 1 1 0 0\npeeled d1\n"));
-    assert!(rt; has_bytes(alloc, &mut disk, longer.as_slice())?);
+    assert!(rt; repairs_four(alloc, &mut disk, FIRST_PEELED, longer.as_slice())?);
     Ok(())
 }
 
@@ -163,52 +182,74 @@ fn exchanged_files_are_damage_and_more_bytes_are_none(rt: HostRuntime) -> Result
 fn a_damaged_head_is_repaired_before_the_next_put(rt: HostRuntime) -> Result<(), Fail> {
     let alloc = rt.alloc();
     let mut disk = archive_of_four(alloc, b"abc")?;
+    let whole = all_bytes(alloc, &mut disk)?;
     spoil(&mut disk, 3, 20)?;
-    let left = run_put(alloc, &mut disk, "b", b"abc")?;
-    assert!(rt; left.is(Status::Refused, "", "refused: head damaged r1\n"));
-    let want = report_of(alloc, &mut disk, "3 2 5 1", "counts 1 1 0 0\npeeled r1\n")?;
-    let left = run_over(alloc, "repair", &mut disk, 999)?;
-    assert!(rt; left.is(Status::Done, want.as_str(), ""));
-    let left = run_put(alloc, &mut disk, "b", b"abc")?;
-    assert!(rt; left.is(Status::Done, STORED, ""));
+    let refused = "refused: head damaged r1\n";
+    assert!(rt; puts(alloc, &mut disk, Status::Refused, "", refused)?);
+    let lines = "counts 1 1 0 0\npeeled r1\n";
+    assert!(rt; repairs_four(alloc, &mut disk, lines, whole.as_slice())?);
+    assert!(rt; puts(alloc, &mut disk, Status::Done, STORED, "")?);
     Ok(())
+}
+
+// An archive of AE(1,1,0) whose one node is lost.
+fn lost_node(alloc: Global) -> Result<SureDisk, Fail> {
+    let mut disk = SureDisk::new(alloc, 1, 4096, 1024)?;
+    let _made = run_over(alloc, "create 1 1 0 16 1", &mut disk, 99)?;
+    let _stored = run_put(alloc, &mut disk, "a", b"abc")?;
+    shorten(&mut disk, 1, 0)?;
+    Ok(disk)
+}
+
+// Whether a repair says of an archive with these numbers that blocks are lost, and leaves the files as they are.
+fn tells_lost<D: Disk>(
+    alloc: Global,
+    disk: &mut D,
+    numbers: &str,
+    lines: &str,
+) -> Result<bool, Fail> {
+    let files = all_bytes(alloc, disk)?;
+    repairs(
+        alloc,
+        disk,
+        numbers,
+        lines,
+        Status::Damage,
+        files.as_slice(),
+    )
+}
+
+// Whether a fence is put after the lost node, and then an object is stored and got, which is refused before.
+fn goes_on<D: Disk>(alloc: Global, disk: &mut D) -> Result<bool, Fail> {
+    let refused = puts(
+        alloc,
+        disk,
+        Status::Refused,
+        "",
+        "refused: head damaged h1\n",
+    )?;
+    let fenced = ends(alloc, disk, "fence", Status::Done, "fence 1\n", "")?;
+    let long = disk.len(0)?;
+    let stored = puts(alloc, disk, Status::Done, STORED, "")?;
+    let got = gets(alloc, disk, "b", b"abc")?;
+    Ok(refused && fenced && long == 149 && stored && got)
 }
 
 #[test]
 fn lost_blocks_stay_lost_before_a_fence(rt: HostRuntime) -> Result<(), Fail> {
     let alloc = rt.alloc();
     let lost = "counts 2 0 0 2\nlost d1 by 1\nlost h1 by 1\n";
-    let mut disk = SureDisk::new(alloc, 1, 4096, 1024)?;
-    let _made = run_over(alloc, "create 1 1 0 16 1", &mut disk, 99)?;
-    let _stored = run_put(alloc, &mut disk, "a", b"abc")?;
-    shorten(&mut disk, 1, 0)?;
-    let want = report_of(alloc, &mut disk, "1 1 0 1", lost)?;
-    let left = run_over(alloc, "repair", &mut disk, 999)?;
-    assert!(rt; left.is(Status::Damage, want.as_str(), ""));
+    let mut disk = lost_node(alloc)?;
+    assert!(rt; tells_lost(alloc, &mut disk, "1 1 0 1", lost)?);
     assert!(rt; disk.len(1) == Ok(0));
-    let left = run_put(alloc, &mut disk, "b", b"abc")?;
-    assert!(rt; left.err.bytes() == "refused: head damaged h1\n".as_bytes());
-    let left = run_over(alloc, "fence", &mut disk, 99)?;
-    assert!(rt; left.out.bytes() == "fence 1\n".as_bytes());
-    assert!(rt; disk.len(0) == Ok(149));
-    let left = run_put(alloc, &mut disk, "b", b"abc")?;
-    assert!(rt; left.out.bytes() == STORED.as_bytes());
-    let left = run_get(alloc, &mut disk, "b", 99)?;
-    assert!(rt; left.out.bytes() == "abc".as_bytes());
+    assert!(rt; goes_on(alloc, &mut disk)?);
     // the codeword of node 1 ends at the fence, so that the second object reveals nothing of the first
-    let want = report_of(alloc, &mut disk, "1 1 0 2", lost)?;
-    let left = run_over(alloc, "repair", &mut disk, 999)?;
-    assert!(rt; left.is(Status::Damage, want.as_str(), ""));
+    assert!(rt; tells_lost(alloc, &mut disk, "1 1 0 2", lost)?);
     // and what is damaged of the second one is restored without it
     let whole = all_bytes(alloc, &mut disk)?;
     spoil_cell(&mut disk, 1, 64, 2, 16)?;
-    let left = run_over(alloc, "repair", &mut disk, 999)?;
-    assert!(rt; left.status == Status::Damage);
-    assert!(rt;
-        text_of(left.out.bytes())?.ends_with(
-            "\ncounts 3 1 0 2\nlost d1 by 1\nlost h1 by 1\npeeled d2\n"
-        )
-    );
-    assert!(rt; has_bytes(alloc, &mut disk, whole.as_slice())?);
+    let more = "counts 3 1 0 2\nlost d1 by 1\nlost h1 by 1\npeeled d2\n";
+    let files = whole.as_slice();
+    assert!(rt; repairs(alloc, &mut disk, "1 1 0 2", more, Status::Damage, files)?);
     Ok(())
 }

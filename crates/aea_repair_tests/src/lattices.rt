@@ -1,12 +1,12 @@
 //! Repairs of archives of many blocks.
 
-use crate::archives::run_repair;
+use crate::archives::{ends, gets, repairs, run_repair};
 use crate::lines::drilled;
 use aea_cli::Status;
 use aea_disk::SureDisk;
 use aea_lattice::Lattice;
 use aea_plain::codeword;
-use aea_runs::{all_bytes, has_bytes, run_get, run_over, run_put, text_of};
+use aea_runs::{all_bytes, has_bytes, run_over, run_put};
 use aea_test_helpers::{
     NINETEEN, TWO_CODEWORDS, add_line, report_of, shorten, some_bytes, spoil_cell,
 };
@@ -26,34 +26,47 @@ pub fn lines_of_site(alloc: Global, lattice: &Lattice, site: u32) -> Result<Stri
     Ok(text)
 }
 
-#[test]
-fn a_lost_site_of_four_is_peeled(rt: HostRuntime) -> Result<(), Fail> {
-    let alloc = rt.alloc();
-    let bytes = some_bytes(alloc, 640, 0)?;
-    let lattice = Lattice::new(3, 2, 5, 40).ok_or("no lattice")?;
-    for (file, site, first) in [
+// Files of sites that are lost, with the numbers of the sites from 0 on, and the first lines of the reports.
+fn sites() -> [(u8, u32, &'static str); 2] {
+    [
         (
-            2u8,
-            1u32,
+            2,
+            1,
             "counts 40 40 0 0\npeeled h1\npeeled d2\npeeled l3\npeeled r4\npeeled h5\n",
         ),
         (4, 3, "counts 40 40 0 0\npeeled l1\npeeled r2\npeeled h3\n"),
-    ] {
-        let mut disk = SureDisk::new(alloc, 4, 8192, 4096)?;
-        let _made = run_over(alloc, "create 3 2 5 16 4", &mut disk, 99)?;
-        let _stored = run_put(alloc, &mut disk, "a", bytes.as_slice())?;
-        let whole = all_bytes(alloc, &mut disk)?;
-        shorten(&mut disk, file, 0)?;
-        let lines = lines_of_site(alloc, &lattice, site)?;
-        assert!(rt; lines.as_str().starts_with(first), "{file}");
-        let want = report_of(alloc, &mut disk, "3 2 5 40", lines.as_str())?;
-        let left = run_over(alloc, "repair", &mut disk, 4096)?;
-        assert!(rt; left.is(Status::Done, want.as_str(), ""), "{file}");
-        assert!(rt; has_bytes(alloc, &mut disk, whole.as_slice())?, "{file}");
-        let left = run_over(alloc, "scrub", &mut disk, 99)?;
-        assert!(rt; left.out.bytes() == "total 160 damaged 0\n".as_bytes());
-        let left = run_get(alloc, &mut disk, "a", 640)?;
-        assert!(rt; left.out.bytes() == bytes.as_slice(), "{file}");
+    ]
+}
+
+// Whether this site of an archive of forty nodes, once it is lost, is peeled with a report that begins so: then the files are what
+// they were, a scrub finds no damage, and the object is got.
+fn is_site_peeled(alloc: Global, file: u8, site: u32, first: &str) -> Result<bool, Fail> {
+    let bytes = some_bytes(alloc, 640, 0)?;
+    let lattice = Lattice::new(3, 2, 5, 40).ok_or("no lattice")?;
+    let lines = lines_of_site(alloc, &lattice, site)?;
+    let mut disk = SureDisk::new(alloc, 4, 8192, 4096)?;
+    let _made = run_over(alloc, "create 3 2 5 16 4", &mut disk, 99)?;
+    let _stored = run_put(alloc, &mut disk, "a", bytes.as_slice())?;
+    let whole = all_bytes(alloc, &mut disk)?;
+    shorten(&mut disk, file, 0)?;
+    let (lines, whole) = (lines.as_str(), whole.as_slice());
+    let is_told = repairs(alloc, &mut disk, "3 2 5 40", lines, Status::Done, whole)?;
+    let is_sound = ends(
+        alloc,
+        &mut disk,
+        "scrub",
+        Status::Done,
+        "total 160 damaged 0\n",
+        "",
+    )?;
+    let is_got = gets(alloc, &mut disk, "a", bytes.as_slice())?;
+    Ok(lines.starts_with(first) && is_told && is_sound && is_got)
+}
+
+#[test]
+fn a_lost_site_of_four_is_peeled(rt: HostRuntime) -> Result<(), Fail> {
+    for (file, site, first) in sites() {
+        assert!(rt; is_site_peeled(rt.alloc(), file, site, first)?, "{file}");
     }
     Ok(())
 }
@@ -63,28 +76,62 @@ const STILL_DAMAGED: &str = "damaged d1\ndamaged h1\ndamaged r1\ndamaged d3\ndam
     damaged d4\ndamaged h4\ndamaged d6\ndamaged d8\ndamaged h8\ndamaged r8\ndamaged d9\ndamaged h9\n\
     damaged d10\ndamaged r10\ndamaged d11\ntotal 33 damaged 16\n";
 
-#[test]
-fn what_is_solved_and_what_is_lost_is_told(rt: HostRuntime) -> Result<(), Fail> {
-    let alloc = rt.alloc();
+// The lines of the report of a second repair, where what was lost is lost still.
+fn lines_of_lost(alloc: Global) -> Result<String, AllocError> {
+    let mut text = String::from_str(alloc, "counts 16 0 0 16\n")?;
+    for line in TWO_CODEWORDS.lines() {
+        if line.starts_with("lost ") {
+            writeln!(text, "{line}")?;
+        }
+    }
+    Ok(text)
+}
+
+// An archive in which the nineteen blocks but these are damaged.
+fn nineteen_but(alloc: Global, others: &[u32]) -> Result<SureDisk, Fail> {
     let bytes = some_bytes(alloc, 176, 5)?;
     let mut disk = SureDisk::new(alloc, 4, 8192, 4096)?;
     let _made = run_over(alloc, "create 2 2 2 16 3", &mut disk, 99)?;
     let _stored = run_put(alloc, &mut disk, "a", bytes.as_slice())?;
     for number in NINETEEN {
-        spoil_cell(&mut disk, 3, 64, number, 20)?;
+        if !others.contains(&number) {
+            spoil_cell(&mut disk, 3, 64, number, 20)?;
+        }
     }
-    let want = report_of(alloc, &mut disk, "2 2 2 11", TWO_CODEWORDS)?;
-    let left = run_over(alloc, "repair", &mut disk, 4096)?;
-    assert!(rt; left.is(Status::Damage, want.as_str(), ""));
-    assert!(rt; left.out.flushed == want.len());
-    let left = run_over(alloc, "scrub", &mut disk, 999)?;
-    assert!(rt; left.out.bytes() == STILL_DAMAGED.as_bytes());
+    Ok(disk)
+}
+
+#[test]
+fn what_is_solved_and_what_is_lost_is_told(rt: HostRuntime) -> Result<(), Fail> {
+    let alloc = rt.alloc();
+    let mut disk = nineteen_but(alloc, &[])?;
+    // h3, d5 and r5 are solved
+    let solved = all_bytes(alloc, &mut nineteen_but(alloc, &[7, 12, 14])?)?;
+    let solved = solved.as_slice();
+    let numbers = "2 2 2 11";
+    assert!(rt;
+        repairs(
+            alloc,
+            &mut disk,
+            numbers,
+            TWO_CODEWORDS,
+            Status::Damage,
+            solved
+        )?
+    );
+    assert!(rt; ends(alloc, &mut disk, "scrub", Status::Damage, STILL_DAMAGED, "")?);
     // a second repair changes nothing
-    let stands = all_bytes(alloc, &mut disk)?;
-    let left = run_over(alloc, "repair", &mut disk, 4096)?;
-    assert!(rt; left.status == Status::Damage);
-    assert!(rt; text_of(left.out.bytes())?.contains("\ncounts 16 0 0 16\nlost d1 by 1 3 4 6\n"));
-    assert!(rt; has_bytes(alloc, &mut disk, stands.as_slice())?);
+    let lost = lines_of_lost(alloc)?;
+    assert!(rt;
+        repairs(
+            alloc,
+            &mut disk,
+            numbers,
+            lost.as_str(),
+            Status::Damage,
+            solved
+        )?
+    );
     Ok(())
 }
 
@@ -117,34 +164,50 @@ fn long_one(alloc: Global) -> Result<Long, Fail> {
     Ok(Long { disk, report })
 }
 
-#[test]
-fn each_write_of_a_long_report_fails(rt: HostRuntime) -> Result<(), Fail> {
-    let alloc = rt.alloc();
-    let Long { mut disk, report } = long_one(alloc)?;
-    let stands = all_bytes(alloc, &mut disk)?;
-    let long = report.len();
-    assert!(rt;
-        report.as_str().contains("\ncounts 154 0 0 154\nlost d1 by 1 2 3 4 5 6 7 8 9 10 11 ")
-    );
-    // three writes of at most 8,192 bytes, and a flush
-    for (call, least, most) in [
-        (1u32, 0, 0),
+// The call of the output that fails, and how many bytes it has taken then, at least and at most, of so many: there are three writes
+// of at most 8,192 bytes, and a flush.
+fn calls(long: usize) -> [(u32, usize, usize); 5] {
+    [
+        (1, 0, 0),
         (2, 7_900, 8_192),
         (3, 15_800, 16_384),
         (4, long, long),
         (5, long, long),
-    ] {
-        let left = run_repair(alloc, &mut disk, 1 << 15, call, 64)?;
-        let written = left.out.bytes().len();
-        let told = if call < 5 {
-            (Status::Output, "fault: output\n")
-        } else {
-            (Status::Damage, "")
-        };
-        assert!(rt; (left.status, text_of(left.err.bytes())?) == told, "{call}");
-        assert!(rt; least <= written && written <= most, "{call}: {written}");
-        assert!(rt; report.as_bytes().starts_with(left.out.bytes()), "{call}");
-        assert!(rt; has_bytes(alloc, &mut disk, stands.as_slice())?, "{call}");
+    ]
+}
+
+// Whether a repair whose output fails at this call says so, where there is such a call, has printed between so many bytes of the
+// report, and leaves these files.
+fn is_cut(
+    alloc: Global,
+    archive: &mut Long,
+    call: (u32, usize, usize),
+    files: &[Vec<u8>],
+) -> Result<bool, Fail> {
+    let (call, least, most) = call;
+    let left = run_repair(alloc, &mut archive.disk, 1 << 15, call, 64)?;
+    let (status, told) = if call < 5 {
+        (Status::Output, "fault: output\n")
+    } else {
+        (Status::Damage, "")
+    };
+    let is_told = left.status == status && left.err.bytes() == told.as_bytes();
+    let printed = left.out.bytes();
+    let is_so_long = least <= printed.len() && printed.len() <= most;
+    let is_first = archive.report.as_bytes().starts_with(printed);
+    Ok(is_told && is_so_long && is_first && has_bytes(alloc, &mut archive.disk, files)?)
+}
+
+#[test]
+fn each_write_of_a_long_report_fails(rt: HostRuntime) -> Result<(), Fail> {
+    let alloc = rt.alloc();
+    let mut archive = long_one(alloc)?;
+    let stands = all_bytes(alloc, &mut archive.disk)?;
+    let first = "\ncounts 154 0 0 154\nlost d1 by 1 2 3 4 5 6 7 8 9 10 11 ";
+    assert!(rt; archive.report.as_str().contains(first));
+    for call in calls(archive.report.len()) {
+        let is_so = is_cut(alloc, &mut archive, call, stands.as_slice())?;
+        assert!(rt; is_so, "call {}", call.0);
     }
     Ok(())
 }

@@ -5,9 +5,9 @@ ghost use Rattle.aea_view.specs.Marked.{is_marked};
 ghost use Rattle.aea_shelf.specs.Places.{cell_size};
 ghost use Rattle.aea_gauss.specs.Fates.{AreFates};
 
-use crate::archives::{archive, damaged, spoil_digest};
+use crate::archives::{archive, damaged, damaged_archive, spoil_blocks, spoil_digest};
 use aea_degraded::{PayloadFault, fates_are_sums, payload};
-use aea_disk::{Disk, FailDisk};
+use aea_disk::{Disk, FailDisk, SureDisk};
 use aea_envelope::digest_of;
 use aea_gauss::{Fate, FateList, solve};
 use aea_lattice::{BlockId, Class};
@@ -94,37 +94,41 @@ fn count_right<D: Disk, E: Disk>(
     Ok(Some(right))
 }
 
-// Damages the blocks with these numbers of a woven archive. False where one of them is not there.
-fn spoil_blocks<D: Disk>(disk: &mut D, numbers: &[u32]) -> Result<bool, Fail> {
-    for number in numbers {
-        if !spoil_block(disk, &WOVEN, *number)? {
-            return Ok(false);
-        }
+// Damaged blocks of a woven archive, and how many payloads are computed: of single equations, of several, and beside blocks
+// that are lost.
+fn damages() -> [(&'static str, &'static [u32], usize); 4] {
+    [
+        ("none", &[], 0),
+        ("three apart", &[0, 13, 32], 3),
+        ("a datum and its parities", &[12, 13, 14], 3),
+        ("nineteen", &NINETEEN, 3),
+    ]
+}
+
+// Whether so many payloads are computed where these blocks are damaged, each as it was stored, and the blocks stay damaged.
+fn are_computed(alloc: Global, numbers: &[u32], sums: usize) -> bool {
+    let Some(mut whole) = archive(alloc, &WOVEN, BYTES.as_bytes()) else {
+        return false;
+    };
+    let Some(mut disk) = damaged_archive(alloc, &WOVEN, BYTES.as_bytes(), numbers) else {
+        return false;
+    };
+    let count = numbers.len() as u32;
+    are_right(alloc, &mut disk, &mut whole, sums) && damaged(alloc, &mut disk) == Some(count)
+}
+
+// Whether so many payloads are computed, each as the whole archive has it.
+fn are_right(alloc: Global, disk: &mut SureDisk, whole: &mut SureDisk, sums: usize) -> bool {
+    match count_right(alloc, disk, whole) {
+        Ok(right) => right == Some(sums),
+        Err(_) => false,
     }
-    Ok(true)
 }
 
 #[test]
 fn payloads_are_those_that_were_stored(rt: HostRuntime) -> Result<(), Fail> {
-    let alloc = rt.alloc();
-    // of single equations, of several, and beside blocks that are lost
-    for (name, numbers, sums) in [
-        ("none", [].as_slice(), 0),
-        ("three apart", [0, 13, 32].as_slice(), 3),
-        ("a datum and its parities", [12, 13, 14].as_slice(), 3),
-        ("nineteen", NINETEEN.as_slice(), 3),
-    ] {
-        let Some(mut whole) = archive(alloc, &WOVEN, BYTES.as_bytes())? else {
-            panic!(rt; "no archive");
-        };
-        let Some(mut disk) = archive(alloc, &WOVEN, BYTES.as_bytes())? else {
-            panic!(rt; "no archive");
-        };
-        assert!(rt; spoil_blocks(&mut disk, numbers)?, "{name}");
-        let right = count_right(alloc, &mut disk, &mut whole)?;
-        assert!(rt; right == Some(sums), "{name}");
-        let left = damaged(alloc, &mut disk);
-        assert!(rt; left == Some(numbers.len() as u32), "{name}");
+    for (name, numbers, sums) in damages() {
+        assert!(rt; are_computed(rt.alloc(), numbers, sums), "{name}");
     }
     Ok(())
 }
@@ -157,95 +161,118 @@ fn first_of<D: Disk>(
     Ok(computed(&ledger, disk, &marks, &fates, 0, &mut cell, sum))
 }
 
-// Whether the answer is this clash of a block of the first node.
-fn is_clash(
-    answer: Option<Result<BlockId, PayloadFault>>,
-    class: Class,
-    recorded: [u8; 32],
-    computed: [u8; 32],
+// The same, and whether the answer is the wanted one.
+fn gives(
+    alloc: Global,
+    disk: &mut SureDisk,
+    number: Option<u32>,
+    sum: &mut [u8; 16],
+    want: Result<BlockId, PayloadFault>,
 ) -> bool {
-    answer
-        == Some(Err(PayloadFault::Clash {
-            block: BlockId { node: 1, class },
-            recorded,
-            computed,
-        }))
+    match first_of(alloc, disk, number, sum) {
+        Ok(answer) => answer == Some(want),
+        Err(_) => false,
+    }
+}
+
+// The block of this class of the first node.
+fn first_block(class: Class) -> BlockId {
+    BlockId { node: 1, class }
+}
+
+// Whether the datum is computed, and then, where its parity is flipped once it was scanned, the answer is a clash of that.
+fn is_parity_told(alloc: Global, disk: &mut SureDisk, payload: &[u8; 16]) -> bool {
+    let mut sum = [0; 16];
+    let datum = Ok(first_block(Class::Datum));
+    if !gives(alloc, disk, None, &mut sum, datum) || sum != *payload {
+        return false;
+    }
+    let block = first_block(Class::Horiz);
+    let mut other = *payload;
+    other[0] ^= 255;
+    let clash = PayloadFault::Clash {
+        block,
+        recorded: digest_of(block, payload),
+        computed: digest_of(block, &other),
+    };
+    gives(alloc, disk, Some(1), &mut sum, Err(clash))
 }
 
 #[test]
 fn a_summand_that_changes_is_a_clash(rt: HostRuntime) -> Result<(), Fail> {
-    let alloc = rt.alloc();
-    let mut payload = [77; 16];
-    let Some(mut disk) = archive(alloc, &SMALL, &payload)? else {
-        panic!(rt; "no archive");
-    };
-    assert!(rt; spoil_block(&mut disk, &SMALL, 0)?);
-    let mut sum = [0; 16];
-    let datum = BlockId {
-        node: 1,
-        class: Class::Datum,
-    };
-    let answer = first_of(alloc, &mut disk, None, &mut sum)?;
-    assert!(rt; answer == Some(Ok(datum)));
-    assert!(rt; sum == payload);
-    // the parity is read, and has another payload than when it was scanned
-    let parity = BlockId {
-        node: 1,
-        class: Class::Horiz,
-    };
-    let recorded = digest_of(parity, &payload);
-    payload[0] ^= 255;
-    let other = digest_of(parity, &payload);
-    let answer = first_of(alloc, &mut disk, Some(1), &mut sum)?;
-    assert!(rt; is_clash(answer, Class::Horiz, recorded, other));
+    let payload = [77; 16];
+    let mut disk = damaged_archive(rt.alloc(), &SMALL, &payload, &[0]).ok_or("no archive")?;
+    assert!(rt; is_parity_told(rt.alloc(), &mut disk, &payload));
     Ok(())
+}
+
+// Whether the answer is a clash of the datum where the ledger has another digest of it.
+fn is_datum_told(alloc: Global, disk: &mut SureDisk, payload: &[u8; 16]) -> bool {
+    if !spoil_digest(disk) || !spoil_blocks(disk, &SMALL, &[0]) {
+        return false;
+    }
+    let block = first_block(Class::Datum);
+    let computed = digest_of(block, payload);
+    let mut recorded = computed;
+    recorded[0] ^= 255;
+    let clash = PayloadFault::Clash {
+        block,
+        recorded,
+        computed,
+    };
+    gives(alloc, disk, None, &mut [0; 16], Err(clash))
 }
 
 #[test]
 fn a_sum_with_another_digest_is_a_clash(rt: HostRuntime) -> Result<(), Fail> {
-    let alloc = rt.alloc();
     let payload = [77; 16];
-    let Some(mut disk) = archive(alloc, &SMALL, &payload)? else {
-        panic!(rt; "no archive");
-    };
-    assert!(rt; spoil_digest(&mut disk)?);
-    assert!(rt; spoil_block(&mut disk, &SMALL, 0)?);
-    let datum = BlockId {
-        node: 1,
-        class: Class::Datum,
-    };
-    let right = digest_of(datum, &payload);
-    let mut recorded = right;
-    recorded[0] ^= 255;
-    let mut sum = [0; 16];
-    let answer = first_of(alloc, &mut disk, None, &mut sum)?;
-    assert!(rt; is_clash(answer, Class::Datum, recorded, right));
+    let mut disk = archive(rt.alloc(), &SMALL, &payload).ok_or("no archive")?;
+    assert!(rt; is_datum_told(rt.alloc(), &mut disk, &payload));
     Ok(())
+}
+
+// What comes of computing over a disk of which one call fails.
+enum Came {
+    /// The call comes after all of them.
+    Computed,
+    /// The payload is not computed, since the disk is at fault.
+    AtFault,
+    /// The ledger or a cell is not read before that.
+    Unread,
+    Otherwise,
+}
+
+// Computes a payload of a small archive over a disk of which this call fails, counted from 1.
+fn computed_at(alloc: Global, call: u64) -> Came {
+    let Some(disk) = damaged_archive(alloc, &SMALL, &[77; 16], &[0]) else {
+        return Came::Otherwise;
+    };
+    let Ok(mut failing) = FailDisk::new(alloc, disk, &[call]) else {
+        return Came::Otherwise;
+    };
+    match first_of(alloc, &mut failing, None, &mut [0; 16]) {
+        Ok(None) => Came::Unread,
+        Ok(Some(Err(PayloadFault::DiskFault))) => Came::AtFault,
+        Ok(Some(Ok(_))) => Came::Computed,
+        _ => Came::Otherwise,
+    }
 }
 
 #[test]
 fn a_disk_that_fails_is_at_fault(rt: HostRuntime) -> Result<(), Fail> {
-    let alloc = rt.alloc();
     let mut faults = 0u32;
-    let mut last = false;
+    let mut is_last = false;
     for k in 1..100u64 {
-        let Some(mut disk) = archive(alloc, &SMALL, &[77; 16])? else {
-            panic!(rt; "no archive");
-        };
-        assert!(rt; spoil_block(&mut disk, &SMALL, 0)?);
-        let mut failing = FailDisk::new(alloc, disk, &[k])?;
-        let mut sum = [0; 16];
-        match first_of(alloc, &mut failing, None, &mut sum)? {
-            // the ledger or a cell was not read
-            None => (),
-            Some(Err(PayloadFault::DiskFault)) => faults = faults.saturating_add(1),
-            Some(Err(_)) => break,
-            Some(Ok(_)) => {
-                last = true;
+        match computed_at(rt.alloc(), k) {
+            Came::Unread => (),
+            Came::AtFault => faults = faults.saturating_add(1),
+            Came::Otherwise => break,
+            Came::Computed => {
+                is_last = true;
                 break;
             }
         }
     }
-    assert!(rt; last && faults == 1);
+    assert!(rt; is_last && faults == 1);
     Ok(())
 }

@@ -1,145 +1,165 @@
 //! Repairs from the scan to the report: what they print and restore, faults of the disk and of the output, and stops.
 
-use crate::archives::{archive, begin, damaged, put_one, same_files, spoil_digest};
+use crate::archives::{
+    archive, begin, damaged, damaged_archive, puts, same_files, spoil_blocks, spoil_digest,
+};
 use aea_append::PutFault;
-use aea_disk::{Disk, FailDisk, Loss, MemDisk};
+use aea_disk::{Disk, FailDisk, Loss, MemDisk, SureDisk};
 use aea_envelope::digest_of;
 use aea_io::MemSink;
-use aea_lattice::{BlockId, Class};
-use aea_ledger::open_ledger;
+use aea_lattice::{BlockId, Class, Lattice};
+use aea_ledger::{Ledger, open_ledger};
 use aea_repair::{Outcome, RepairFault, repair};
-use aea_test_helpers::{
-    NINETEEN, PLAIN, TWO_CODEWORDS, WIDE, WOVEN, report_of, shorten, spoil_block,
-};
-use std::alloc::{AllocError, Global};
+use aea_test_helpers::{NINETEEN, PLAIN, TWO_CODEWORDS, WIDE, WOVEN, add_line, report_of, shorten};
+use std::alloc::Global;
 use std::test::Fail;
 
 // The bytes of an object that takes eleven blocks.
 const BYTES: [u8; 176] = [97; 176];
 
-// A report without the digits of its seal, and these.
-const HEAD: &[u8] = b"aea-report 1\nlattice 2 2 2 11\nledger ";
-
-// What a repair returned, and what it printed.
-#[derive(Drop)]
-struct Answered {
-    answer: Option<Result<Outcome, RepairFault>>,
-    out: MemSink,
-}
-
-// Opens the archive and repairs it, with these calls of the output failing; no answer where it is not opened.
-fn repaired<D: Disk>(alloc: Global, disk: &mut D, fails: &[u32]) -> Result<Answered, AllocError> {
-    let mut out = MemSink::new(alloc, 65_536, fails)?;
-    let Ok(ledger) = open_ledger(alloc, disk) else {
-        return Ok(Answered { answer: None, out });
-    };
-    let answer = Some(repair(alloc, &ledger, disk, &mut out));
-    Ok(Answered { answer, out })
-}
-
-// Whether the report has this text before the 64 digits of its seal, and begins with that one after them.
-fn reads(text: &[u8], before: &[u8], behind: &[u8]) -> bool {
-    if text.len() < 64 || text.len() - 64 < before.len() {
+// Opens the archive and repairs it, with these calls of the output failing. It says whether the answer is the wanted one, and
+// this is printed.
+fn repairs<D: Disk>(
+    alloc: Global,
+    disk: &mut D,
+    fails: &[u32],
+    want: Result<Outcome, RepairFault>,
+    printed: &[u8],
+) -> bool {
+    let Ok(mut out) = MemSink::new(alloc, 65_536, fails) else {
         return false;
-    }
-    let (head, rest) = text.split_at(before.len());
-    head == before && rest[64..].starts_with(behind)
+    };
+    let Ok(ledger) = open_ledger(alloc, disk) else {
+        return false;
+    };
+    repair(alloc, &ledger, disk, &mut out) == want && out.bytes() == printed
 }
 
-#[test]
-fn a_lost_site_is_peeled(rt: HostRuntime) -> Result<(), Fail> {
-    let alloc = rt.alloc();
-    let bytes = [98; 640];
-    let Some(mut whole) = archive(alloc, &WIDE, &bytes)? else {
-        panic!(rt; "no archive");
+// Whether the archive with these numbers is repaired to this outcome, and these lines are printed in its report.
+fn tells<D: Disk>(
+    alloc: Global,
+    disk: &mut D,
+    numbers: &str,
+    lines: &str,
+    outcome: Outcome,
+) -> Result<bool, Fail> {
+    let report = report_of(alloc, disk, numbers, lines)?;
+    Ok(repairs(alloc, disk, &[], Ok(outcome), report.as_bytes()))
+}
+
+// Opens the archive and repairs it. It says whether the answer is a report, and the files are those of the whole one then.
+fn is_mended<D: Disk>(alloc: Global, disk: &mut D, whole: &mut SureDisk) -> bool {
+    let Ok(mut out) = MemSink::new(alloc, 65_536, &[]) else {
+        return false;
     };
-    let Some(mut disk) = archive(alloc, &WIDE, &bytes)? else {
-        panic!(rt; "no archive");
+    let Ok(ledger) = open_ledger(alloc, disk) else {
+        return false;
     };
-    assert!(rt; shorten(&mut disk, 2, 0)?);
-    assert!(rt; damaged(alloc, &mut disk) == Some(40));
-    let left = repaired(alloc, &mut disk, &[])?;
+    repair(alloc, &ledger, disk, &mut out).is_ok() && same_files(disk, whole)
+}
+
+// Whether the archive of all the bytes is whole once it is repaired.
+fn is_mended_whole<D: Disk>(alloc: Global, disk: &mut D) -> bool {
+    match archive(alloc, &WOVEN, &BYTES) {
+        Some(mut whole) => is_mended(alloc, disk, &mut whole),
+        None => false,
+    }
+}
+
+// The first lines of the report of the site, as they are spelled by hand.
+const FIRST_LINES: &str =
+    "counts 40 40 0 0\npeeled h1\npeeled d2\npeeled l3\npeeled r4\npeeled h5\n";
+
+// The lines of the report where all blocks on the second of four sites are peeled.
+fn lines_of_site(alloc: Global) -> Result<String, Fail> {
+    let lattice = Lattice::new(3, 2, 5, 40).ok_or("no lattice")?;
+    let mut lines = String::from_str(alloc, "counts 40 40 0 0\n")?;
+    for k in 0..lattice.blocks() {
+        if (k % 4 + k / 4) % 4 == 1 {
+            add_line(&mut lines, "peeled ", lattice.block(k))?;
+        }
+    }
+    Ok(lines)
+}
+
+// Whether the second of four sites, once it is lost, is told with these lines and restored as the whole archive has it.
+fn is_site_peeled(
+    alloc: Global,
+    disk: &mut SureDisk,
+    whole: &mut SureDisk,
+    lines: &str,
+) -> Result<bool, Fail> {
+    let is_lost = shorten(disk, 2, 0) == Ok(true) && damaged(alloc, disk) == Some(40);
     let outcome = Outcome {
         peeled: 40,
         solved: 0,
         lost: 0,
     };
-    assert!(rt; left.answer == Some(Ok(outcome)));
-    assert!(rt;
-        reads(
-            left.out.bytes(),
-            b"aea-report 1\nlattice 3 2 5 40\nledger ",
-            b"\ncounts 40 40 0 0\npeeled h1\npeeled d2\npeeled l3\npeeled r4\npeeled h5\n",
-        )
-    );
-    assert!(rt; damaged(alloc, &mut disk) == Some(0));
-    assert!(rt; same_files(&mut disk, &mut whole));
-    Ok(())
+    let is_told = tells(alloc, disk, "3 2 5 40", lines, outcome)?;
+    Ok(is_lost && is_told && damaged(alloc, disk) == Some(0) && same_files(disk, whole))
 }
 
 #[test]
-fn a_damaged_head_is_repaired_before_the_next_put(rt: HostRuntime) -> Result<(), Fail> {
-    let alloc = rt.alloc();
-    let Some(mut disk) = archive(alloc, &WIDE, b"abc")? else {
-        panic!(rt; "no archive");
-    };
-    let block = BlockId {
-        node: 1,
-        class: Class::Right,
-    };
-    assert!(rt; spoil_block(&mut disk, &WIDE, 2)?);
-    let refused = put_one(alloc, &mut disk, b"two", b"abc")?;
-    assert!(rt; refused == Some(Err(PutFault::HeadDamaged { block })));
-    let left = repaired(alloc, &mut disk, &[])?;
+fn a_lost_site_is_peeled(rt: HostRuntime) -> Result<(), Fail> {
+    let lines = lines_of_site(rt.alloc())?;
+    assert!(rt; lines.as_str().starts_with(FIRST_LINES));
+    let mut whole = archive(rt.alloc(), &WIDE, &[98; 640]).ok_or("no archive")?;
+    let mut disk = archive(rt.alloc(), &WIDE, &[98; 640]).ok_or("no archive")?;
+    assert!(rt; is_site_peeled(rt.alloc(), &mut disk, &mut whole, lines.as_str())?);
+    Ok(())
+}
+
+// Whether an object is refused since this block is damaged, and put once the archive is repaired.
+fn is_put_later(alloc: Global, disk: &mut SureDisk, block: BlockId) -> Result<bool, Fail> {
     let outcome = Outcome {
         peeled: 1,
         solved: 0,
         lost: 0,
     };
-    assert!(rt; left.answer == Some(Ok(outcome)));
-    assert!(rt; left.out.bytes().ends_with(b"\ncounts 1 1 0 0\npeeled r1\n"));
-    assert!(rt; put_one(alloc, &mut disk, b"two", b"abc")? == Some(Ok(())));
+    let fault = Err(PutFault::HeadDamaged { block });
+    let is_refused = puts(alloc, disk, b"two", b"abc", fault);
+    let is_told = tells(
+        alloc,
+        disk,
+        "3 2 5 1",
+        "counts 1 1 0 0\npeeled r1\n",
+        outcome,
+    )?;
+    Ok(is_refused && is_told && puts(alloc, disk, b"two", b"abc", Ok(())))
+}
+
+#[test]
+fn a_damaged_head_is_repaired_before_the_next_put(rt: HostRuntime) -> Result<(), Fail> {
+    let mut disk = damaged_archive(rt.alloc(), &WIDE, b"abc", &[2]).ok_or("no archive")?;
+    let block = BlockId {
+        node: 1,
+        class: Class::Right,
+    };
+    assert!(rt; is_put_later(rt.alloc(), &mut disk, block)?);
     Ok(())
 }
 
 #[test]
 fn what_is_solved_and_lost_is_told(rt: HostRuntime) -> Result<(), Fail> {
-    let alloc = rt.alloc();
-    let Some(mut disk) = archive(alloc, &WOVEN, &BYTES)? else {
-        panic!(rt; "no archive");
-    };
-    for number in NINETEEN {
-        assert!(rt; spoil_block(&mut disk, &WOVEN, number)?);
-    }
-    let left = repaired(alloc, &mut disk, &[])?;
+    let mut disk = damaged_archive(rt.alloc(), &WOVEN, &BYTES, &NINETEEN).ok_or("no archive")?;
     let outcome = Outcome {
         peeled: 0,
         solved: 3,
         lost: 16,
     };
-    assert!(rt; left.answer == Some(Ok(outcome)));
-    let want = report_of(alloc, &mut disk, "2 2 2 11", TWO_CODEWORDS)?;
-    assert!(rt; left.out.bytes() == want.as_bytes());
-    assert!(rt; damaged(alloc, &mut disk) == Some(16));
+    assert!(rt; tells(rt.alloc(), &mut disk, "2 2 2 11", TWO_CODEWORDS, outcome)?);
+    assert!(rt; damaged(rt.alloc(), &mut disk) == Some(16));
     Ok(())
 }
 
-#[test]
-fn a_sum_with_another_digest_is_a_clash(rt: HostRuntime) -> Result<(), Fail> {
-    let alloc = rt.alloc();
+// Whether the answer is a clash of the first datum, which has this payload, where the ledger has another digest of it, and the block
+// stays damaged. The digests of the datum and of its parity come before the gate that ends the ledger.
+fn is_clash(alloc: Global, disk: &mut SureDisk, payload: &[u8; 16]) -> bool {
     let block = BlockId {
         node: 1,
         class: Class::Datum,
     };
-    let payload = [77; 16];
-    let Some(mut disk) = archive(alloc, &PLAIN, &payload)? else {
-        panic!(rt; "no archive");
-    };
-    // the digests of the datum and of its parity come before the gate that ends the ledger
-    assert!(rt; spoil_digest(&mut disk)?);
-    assert!(rt; shorten(&mut disk, 1, 0)?);
-    let left = repaired(alloc, &mut disk, &[])?;
-    let computed = digest_of(block, &payload);
+    let computed = digest_of(block, payload);
     let mut recorded = computed;
     recorded[0] ^= 255;
     let clash = RepairFault::Clash {
@@ -147,95 +167,157 @@ fn a_sum_with_another_digest_is_a_clash(rt: HostRuntime) -> Result<(), Fail> {
         recorded,
         computed,
     };
-    assert!(rt; left.answer == Some(Err(clash)));
-    assert!(rt; left.out.bytes().is_empty());
-    assert!(rt; damaged(alloc, &mut disk) == Some(1));
+    spoil_digest(disk)
+        && shorten(disk, 1, 0) == Ok(true)
+        && repairs(alloc, disk, &[], Err(clash), b"")
+        && damaged(alloc, disk) == Some(1)
+}
+
+#[test]
+fn a_sum_with_another_digest_is_a_clash(rt: HostRuntime) -> Result<(), Fail> {
+    let payload = [77; 16];
+    let mut disk = archive(rt.alloc(), &PLAIN, &payload).ok_or("no archive")?;
+    assert!(rt; is_clash(rt.alloc(), &mut disk, &payload));
     Ok(())
+}
+
+// What comes of a repair over a disk of which one call fails.
+enum Came {
+    /// The call comes after all of them.
+    Repaired,
+    /// The disk is at fault, nothing is printed, and a later repair leaves the whole archive.
+    RepairedLater,
+    Otherwise,
+}
+
+// Repairs four blocks of an archive over a disk of which this call fails, counted from 1 once the archive is opened.
+fn repaired_at(alloc: Global, call: u64) -> Came {
+    let Some(mut disk) = damaged_archive(alloc, &WOVEN, &BYTES, &[0, 12, 13, 14]) else {
+        return Came::Otherwise;
+    };
+    let Ok(ledger) = open_ledger(alloc, &mut disk) else {
+        return Came::Otherwise;
+    };
+    let Ok(mut failing) = FailDisk::new(alloc, disk, &[call]) else {
+        return Came::Otherwise;
+    };
+    repaired_over(alloc, &ledger, &mut failing)
+}
+
+// Repairs this archive over this disk.
+fn repaired_over(alloc: Global, ledger: &Ledger, disk: &mut FailDisk<SureDisk>) -> Came {
+    let Ok(mut out) = MemSink::new(alloc, 65_536, &[]) else {
+        return Came::Otherwise;
+    };
+    match repair(alloc, ledger, disk, &mut out) {
+        Ok(_) => Came::Repaired,
+        Err(RepairFault::DiskFault) => later(out.bytes(), is_mended_whole(alloc, disk)),
+        Err(_) => Came::Otherwise,
+    }
+}
+
+// What came of it after a fault, where this is printed, and what is left is repaired or is not.
+fn later(printed: &[u8], is_whole: bool) -> Came {
+    if printed.is_empty() && is_whole {
+        Came::RepairedLater
+    } else {
+        Came::Otherwise
+    }
 }
 
 #[test]
 fn a_disk_that_fails_is_at_fault_and_is_repaired_later(rt: HostRuntime) -> Result<(), Fail> {
-    let alloc = rt.alloc();
-    let Some(mut whole) = archive(alloc, &WOVEN, &BYTES)? else {
-        panic!(rt; "no archive");
-    };
-    let mut last = false;
+    let mut calls = 0u64;
     for k in 1..400u64 {
-        let Some(mut disk) = archive(alloc, &WOVEN, &BYTES)? else {
-            panic!(rt; "no archive");
-        };
-        for number in [0, 12, 13, 14] {
-            assert!(rt; spoil_block(&mut disk, &WOVEN, number)?);
+        match repaired_at(rt.alloc(), k) {
+            Came::Repaired => break,
+            Came::RepairedLater => calls = k,
+            Came::Otherwise => panic!(rt; "call {k}"),
         }
-        let mut out = MemSink::new(alloc, 65_536, &[])?;
-        let Ok(ledger) = open_ledger(alloc, &mut disk) else {
-            panic!(rt; "not opened");
-        };
-        let mut failing = FailDisk::new(alloc, disk, &[k])?;
-        let answer = repair(alloc, &ledger, &mut failing, &mut out);
-        if answer.is_ok() {
-            last = true;
-            assert!(rt; 33 < k, "{k}");
-            break;
-        }
-        assert!(rt; answer == Err(RepairFault::DiskFault), "{k}");
-        assert!(rt; out.bytes().is_empty(), "{k}");
-        let later = repaired(alloc, &mut failing, &[])?;
-        assert!(rt; matches!(later.answer, Some(Ok(_))), "{k}");
-        assert!(rt; same_files(&mut failing, &mut whole), "{k}");
     }
-    assert!(rt; last);
+    // more than 32 calls failed, and not each did
+    assert!(rt; 33 <= calls && calls < 399);
     Ok(())
+}
+
+// Makes an archive of three nodes. The cells of the first site are gone past the first one, which makes their file grow, and one
+// parity is rotten. It says whether it did.
+fn damages<D: Disk>(alloc: Global, disk: &mut D) -> bool {
+    begin(alloc, disk, &WOVEN, &BYTES[..48])
+        && shorten(disk, 1, 100) == Ok(true)
+        && spoil_blocks(disk, &WOVEN, &[4])
+        && disk.sync().is_ok()
+}
+
+// After how many calls, from so many on, a stop leaves what is not repaired to the whole archive, the fewest; 0 where there is none.
+fn first_wrong_stop(alloc: Global, disk: &MemDisk, begun: u64, whole: &mut SureDisk) -> u64 {
+    for after in begun..=disk.calls() {
+        for loss in [Loss::Kept, Loss::Dropped, Loss::Ones, Loss::Zeros] {
+            let Ok(mut stopped) = disk.image(alloc, after, loss) else {
+                return after;
+            };
+            if !is_mended(alloc, &mut stopped, whole) {
+                return after;
+            }
+        }
+    }
+    0
+}
+
+// Whether the archive is repaired over its disk.
+fn is_repaired(alloc: Global, disk: &mut MemDisk) -> bool {
+    let Ok(mut out) = MemSink::new(alloc, 65_536, &[]) else {
+        return false;
+    };
+    match open_ledger(alloc, disk) {
+        Ok(ledger) => repair(alloc, &ledger, disk, &mut out).is_ok(),
+        Err(_) => false,
+    }
 }
 
 #[test]
 fn each_stop_leaves_what_can_be_repaired(rt: HostRuntime) -> Result<(), Fail> {
-    let alloc = rt.alloc();
-    let Some(mut whole) = archive(alloc, &WOVEN, &BYTES[..48])? else {
-        panic!(rt; "no archive");
-    };
-    let mut disk = MemDisk::new(alloc, 4, 8192, 4096, 256, 4096)?;
-    assert!(rt; begin(alloc, &mut disk, &WOVEN, &BYTES[..48])?);
-    // the cells of the first site are gone past the first one, which makes their file grow, and one parity is rotten
-    assert!(rt; shorten(&mut disk, 1, 100)?);
-    assert!(rt; spoil_block(&mut disk, &WOVEN, 4)?);
-    assert!(rt; disk.sync().is_ok());
+    let mut whole = archive(rt.alloc(), &WOVEN, &BYTES[..48]).ok_or("no archive")?;
+    let mut disk = MemDisk::new(rt.alloc(), 4, 8192, 4096, 256, 4096)?;
+    assert!(rt; damages(rt.alloc(), &mut disk));
     let begun = disk.calls();
-    let left = repaired(alloc, &mut disk, &[])?;
-    assert!(rt; matches!(left.answer, Some(Ok(_))));
-    for after in begun..=disk.calls() {
-        for loss in [Loss::Kept, Loss::Dropped, Loss::Ones, Loss::Zeros] {
-            let mut stopped = disk.image(alloc, after, loss)?;
-            let later = repaired(alloc, &mut stopped, &[])?;
-            assert!(rt;
-                matches!(later.answer, Some(Ok(_))),
-                "{loss:?} after {after}"
-            );
-            assert!(rt;
-                same_files(&mut stopped, &mut whole),
-                "{loss:?} after {after}"
-            );
-        }
-    }
+    assert!(rt; is_repaired(rt.alloc(), &mut disk));
+    let after = first_wrong_stop(rt.alloc(), &disk, begun, &mut whole);
+    assert!(rt; after == 0, "after {after}");
     Ok(())
+}
+
+// Whether the files are those of the archive of all the bytes.
+fn is_whole(alloc: Global, disk: &mut SureDisk) -> bool {
+    match archive(alloc, &WOVEN, &BYTES) {
+        Some(mut whole) => same_files(disk, &mut whole),
+        None => false,
+    }
+}
+
+// Whether a repair whose output fails at this call has printed its report, where it says so, or nothing of it, and restored all.
+fn is_restored_unsaid(
+    alloc: Global,
+    disk: &mut SureDisk,
+    call: u32,
+    is_printed: bool,
+) -> Result<bool, Fail> {
+    let report = report_of(alloc, disk, "2 2 2 11", "counts 1 1 0 0\npeeled d1\n")?;
+    let printed = if is_printed { report.as_bytes() } else { b"" };
+    let fault = Err(RepairFault::WriteFault);
+    let is_told = repairs(alloc, disk, &[call], fault, printed);
+    Ok(is_told && is_whole(alloc, disk))
 }
 
 #[test]
 fn an_output_that_fails_leaves_all_restored(rt: HostRuntime) -> Result<(), Fail> {
-    let alloc = rt.alloc();
-    let Some(mut whole) = archive(alloc, &WOVEN, &BYTES)? else {
-        panic!(rt; "no archive");
-    };
     // the report is one write, and then a flush
-    for (call, long) in [(1, 0), (2, HEAD.len() + 64 + 26)] {
-        let Some(mut disk) = archive(alloc, &WOVEN, &BYTES)? else {
-            panic!(rt; "no archive");
-        };
-        assert!(rt; spoil_block(&mut disk, &WOVEN, 0)?);
-        let left = repaired(alloc, &mut disk, &[call])?;
-        assert!(rt; left.answer == Some(Err(RepairFault::WriteFault)));
-        assert!(rt; left.out.bytes().len() == long);
-        assert!(rt; same_files(&mut disk, &mut whole));
+    for (call, is_printed) in [(1, false), (2, true)] {
+        let mut disk = damaged_archive(rt.alloc(), &WOVEN, &BYTES, &[0]).ok_or("no archive")?;
+        assert!(rt;
+            is_restored_unsaid(rt.alloc(), &mut disk, call, is_printed)?,
+            "{call}"
+        );
     }
     Ok(())
 }

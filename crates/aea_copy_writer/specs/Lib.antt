@@ -1,0 +1,4 @@
+pub mod Changes
+pub mod Anew
+pub mod Entries
+pub mod Parts

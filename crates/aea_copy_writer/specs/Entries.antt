@@ -1,17 +1,26 @@
 -- Entries that are written after the closed gate of a copy, one for each piece of a part of the ledger.
-use Rattle.std.specs.Prelude.{◌≡◌, ◌+◌, ◌==◌, ℕ, Bool, List, [], ◌∷◌, ◌++◌, length, take, drop, nat_lt}
+use Rattle.std.specs.Prelude.{◌≡◌, ◌<◌, ◌+◌, ◌^◌, ◌==◌, ℕ, Bool, false, List, [], ◌∷◌, ◌++◌, length, take, drop, nat_lt}
 use Rattle.aea_disk.specs.Files.{Files, ChangesFile, Holds}
 use Rattle.aea_disk.specs.State.{State}
 use Rattle.aea_copies.specs.Format.{chain, copy_entry, last_link, link_after, text_of}
-use Rattle.aea_copies.specs.Grammar.{ArePieces}
+use Rattle.aea_copies.specs.Grammar.{IsKind}
 use Rattle.aea_copy_writer.specs.declared.entries.Written.{Written}
 use Rattle.aea_copy_writer.specs.declared.entries.Next.{Next}
 use Rattle.aea_copy_writer.specs.Changes.{FitsChange}
 use Rattle.aea_copy_writer.specs.Parts.{gate_byte}
 
+-- a piece by its length, its gate and the length that it says: one that may come first, or a further one
+pub record IsShaped (first : Bool) (piece : List ℕ) : Type 0 where
+  pub short : length piece < 2 ^ 32
+  pub kind : IsKind first piece
+
+abbrev pub AreShaped : Bool → List (List ℕ) → Type 0
+AreShaped first [] = Unit {0}
+AreShaped first (piece ∷ pieces) = IsShaped first piece × AreShaped false pieces
+
 -- The bytes have these pieces, from one place up to another; the first of them may be one that comes first, or not.
 pub record HasPieces (first : Bool) (pieces : List (List ℕ)) (from until : ℕ) (bytes : List ℕ) : Type 0 where
-  pub valid : ArePieces first pieces
+  pub shaped : AreShaped first pieces
   pub place : until ≡ from + length (text_of pieces)
   pub there : take (length (text_of pieces)) (drop from bytes) ≡ text_of pieces
 
@@ -22,8 +31,8 @@ after_gate link pieces = drop 1 (chain link pieces ++ 0 ∷ [])
 -- The entries of these pieces were written after the closed gate at this place, and no other byte: where the gate after them
 -- is, and the last link.
 pub record HasWritten (file gate : ℕ) (link : List ℕ) (pieces : List (List ℕ)) (w : Written) (old new : Files) : Type 0 where
-  pub gate : w.gate ≡ gate + length (chain link pieces)
-  pub link : w.link ≡ last_link link pieces
+  pub place : w.gate ≡ gate + length (chain link pieces)
+  pub last : w.link ≡ last_link link pieces
   pub step : ChangesFile file (Holds (gate + 1) (after_gate link pieces)) old new
 
 -- The ledger has pieces there, and the disk has space for their entries and the gate after them, and to sync.
@@ -38,7 +47,7 @@ gate_after at until = gate_byte (nat_lt at until)
 
 -- The entry of this piece, which begins at this place of the ledger, was written after the gate that the last one ends at.
 pub record HasNext (file at until : ℕ) (last : Written) (piece : List ℕ) (next : Next) (old new : Files) : Type 0 where
-  pub at : next.at ≡ at + length piece
+  pub begins : next.at ≡ at + length piece
   pub gate : next.last.gate ≡ last.gate + (37 + length piece)
   pub link : next.last.link ≡ link_after last.link piece
   pub step : ChangesFile file (Holds (last.gate + 1) (drop 1 (copy_entry last.link piece) ++ gate_after (at + length piece) until ∷ [])) old new
@@ -55,8 +64,8 @@ pub record IsOn (file gate : ℕ) (link : List ℕ) (pieces : List (List ℕ)) (
   pub done : List (List ℕ)
   pub more : List (List ℕ)
   pub split : pieces ≡ done ++ more
-  pub at : at ≡ from + length (text_of done)
-  pub gate : last.gate ≡ gate + length (chain link done)
-  pub link : last.link ≡ last_link link done
+  pub text : at ≡ from + length (text_of done)
+  pub place : last.gate ≡ gate + length (chain link done)
+  pub linked : last.link ≡ last_link link done
   pub step : ChangesFile file (Holds (gate + 1) (drop 1 (chain link done ++ gate_after at until ∷ []))) old new
   pub rest : HasPieces (at == 0) more at until (old 0)

@@ -4,14 +4,16 @@ use Rattle.sha2.specs.declared.Sha256.{Sha256}
 use Rattle.sha2.specs.Hashers.{Holds256}
 use Rattle.sha2.specs.Sha256.{sha256}
 use Rattle.aea_records.specs.Format.{open_gate}
+use Rattle.aea_records.specs.TableLaws.{AreBytes}
 
 -- so many bytes of a file from a place on
 abbrev pub part_of : List ℕ → ℕ → ℕ → List ℕ
 part_of bytes from count = take count (drop from bytes)
 
--- the file has them all
-abbrev pub IsThere : List ℕ → ℕ → ℕ → Type 0
-IsThere bytes from count = length (part_of bytes from count) ≡ count
+-- the file has them all, and they are bytes
+pub record IsThere (bytes : List ℕ) (from count : ℕ) : Type 0 where
+  pub all : length (part_of bytes from count) ≡ count
+  pub are : AreBytes (part_of bytes from count)
 
 -- the hash has taken these bytes after what it held
 abbrev pub Takes : Sha256 → List ℕ → Sha256 → Type 0

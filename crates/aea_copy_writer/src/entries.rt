@@ -7,6 +7,8 @@ ghost use Rattle.aea_disk.specs.Frames.{OnlyReads, OnlyWrites};
 ghost use Rattle.aea_copies.specs.Format.{chain};
 ghost use Rattle.aea_copies.specs.Kept.{IsCopyFile};
 ghost use Rattle.aea_copy_writer.specs.Changes.{KeepsFront};
+ghost use Rattle.aea_records.specs.TableLaws.{AreBytes};
+ghost use Rattle.aea_copy_writer.specs.Parts.{part_of, IsThere};
 ghost use Rattle.aea_copy_writer.specs.Entries.{HasPieces, HasWritten, HasNext, FitsEntries, FitsNext};
 
 use crate::entry::{Piece, write_entry};
@@ -31,7 +33,7 @@ pub struct Next {
 pub(crate) const GREATEST: u64 = 1 << 58;
 
 // The number of 4 bytes, high byte first.
-fn number_in(bytes: &[u8]) -> u32
+pub(crate) fn number_in(bytes: &[u8]) -> u32
     requires { length bytes.now ≡ 4 }
     ensures { result ≡ from_be_bytes w32 bytes.now }
 {
@@ -78,6 +80,7 @@ fn write_next<D: Disk>(
     requires gate { last.now.gate ≤ 2 ^ 58 }
     requires buffer { length buffer.old ≡ 4133 }
     ensures next { IfOk result (λ found. D.tells → (piece : List ℕ) (others : List (List ℕ)) → HasPieces (at == 0) (piece ∷ others) at until ((D.state disk.old).files 0) → last.now.gate + (37 + length piece) ≤ greatest_place → MatchOption found ⊥ (λ next. HasNext file at until last.now piece next (D.state disk.old).files (D.state disk.new).files)) }
+    ensures there { IfOk result (λ found. IfSome found (λ next. D.tells → IsThere ((D.state disk.old).files 0) at (next.at - at))) }
     ensures on { IfOk result (λ found. IfSome found (λ next. (at < next.at) × (next.at ≤ until) × (last.now.gate ≤ next.last.gate) × (next.last.gate ≤ 2 ^ 58))) }
     ensures writes { OnlyWrites D.tells (D.state disk.old).free (FitsNext (D.state disk.old) file at until last.now.gate) (IsErr result) (ChangesFile file (KeepsFront (last.now.gate + 1))) (D.state disk.old) (D.state disk.new) }
 {
@@ -124,6 +127,7 @@ pub fn write_entries<D: Disk>(
     requires gate { gate ≤ 2 ^ 58 }
     requires there { D.tells → gate < length ((D.state disk.old).files file) }
     ensures written { IfOk result (λ found. D.tells → (pieces : List (List ℕ)) → HasPieces (from == 0) pieces from until ((D.state disk.old).files 0) → gate + length (chain link.now pieces) ≤ greatest_place → MatchOption found ⊥ (λ w. HasWritten file gate link.now pieces w (D.state disk.old).files (D.state disk.new).files)) }
+    ensures bytes { IfOk result (λ found. IfSome found (λ w. D.tells → AreBytes (part_of ((D.state disk.old).files 0) from (until - from)))) }
     ensures near { IfOk result (λ found. IfSome found (λ w. (gate ≤ w.gate) × (w.gate ≤ 2 ^ 58))) }
     ensures writes { OnlyWrites D.tells (D.state disk.old).free (FitsEntries (D.state disk.old) file gate link.now from until) (IsErr result) (ChangesFile file (KeepsFront (gate + 1))) (D.state disk.old) (D.state disk.new) }
 {

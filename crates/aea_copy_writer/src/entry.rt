@@ -7,7 +7,8 @@ ghost use Rattle.aea_disk.specs.Files.{ChangesFile, Holds, Torn};
 ghost use Rattle.aea_disk.specs.Frames.{OnlyWrites};
 ghost use Rattle.aea_copies.specs.Kept.{IsCopyFile};
 ghost use Rattle.aea_copy_writer.specs.Changes.{KeepsFront, FitsChange};
-ghost use Rattle.aea_copy_writer.specs.Parts.{part_of, Takes, IsLinkOf, HasEntry, gate_byte};
+ghost use Rattle.aea_copy_writer.specs.Parts.{part_of, IsThere, Takes, IsLinkOf, gate_byte};
+ghost use Rattle.aea_copy_writer.specs.Pieces.{HasEntry, HasWhole};
 
 use crate::entries::Written;
 use crate::parts::{put_part, read_part};
@@ -23,13 +24,13 @@ pub(crate) struct Piece {
 }
 
 // Puts a link and a gate at the end of a buffer.
-fn finish(buffer: &mut [u8], link: &[u8; 32], open: bool)
+fn finish(buffer: &mut [u8], link: &[u8; 32], more: bool)
     requires { 33 ≤ length buffer.old }
-    ensures { buffer.new ≡ take (length buffer.old - 33) buffer.old ++ (link.now ++ gate_byte open ∷ []) }
+    ensures { buffer.new ≡ take (length buffer.old - 33) buffer.old ++ (link.now ++ gate_byte more ∷ []) }
 {
     let size = buffer.len() - 33;
     buffer[size..size + 32].copy_from_slice(link);
-    buffer[size + 32] = u8::from(open);
+    buffer[size + 32] = u8::from(more);
 }
 
 // Puts the last part of a piece into a hash, and into a copy after the first bytes of the buffer, so many, and the link and
@@ -42,13 +43,14 @@ fn put_last<D: Disk>(
     buffer: &mut [u8],
     head: usize,
     mut hasher: Sha256,
-    open: bool,
+    more: bool,
 ) -> Result<Option<[u8; 32]>, DiskFault>
     requires file { (1 ≤ file) × (file ≤ 66) }
     requires head { head + 33 ≤ length buffer.old }
     requires from { from + length buffer.old ≤ 2 ^ 62 }
     requires to { to + length buffer.old ≤ 2 ^ 62 }
-    ensures put { IfOk result (λ found. IfSome found (λ link. D.tells → ChangesFile file (Holds to ((take head buffer.old ++ part_of ((D.state disk.old).files 0) from (length buffer.old - head - 33)) ++ (link ++ gate_byte open ∷ []))) (D.state disk.old).files (D.state disk.new).files)) }
+    ensures there { IfOk result (λ found. IfSome found (λ link. D.tells → IsThere ((D.state disk.old).files 0) from (length buffer.old - head - 33))) }
+    ensures put { IfOk result (λ found. IfSome found (λ link. D.tells → ChangesFile file (Holds to ((take head buffer.old ++ part_of ((D.state disk.old).files 0) from (length buffer.old - head - 33)) ++ (link ++ gate_byte more ∷ []))) (D.state disk.old).files (D.state disk.new).files)) }
     ensures link { IfOk result (λ found. IfSome found (λ link. D.tells → IsLinkOf hasher (part_of ((D.state disk.old).files 0) from (length buffer.old - head - 33)) link)) }
     ensures short { IfOk result (λ found. IfNone found (D.tells → length ((D.state disk.old).files 0) < from + (length buffer.old - head - 33))) }
     ensures writes { OnlyWrites D.tells (D.state disk.old).free (FitsChange (D.state disk.old) file (to + length buffer.old)) (IsErr result) (ChangesFile file (Torn to (length buffer.old))) (D.state disk.old) (D.state disk.new) }
@@ -59,7 +61,7 @@ fn put_last<D: Disk>(
     }
     hasher.update(&buffer[head..size]);
     let link = hasher.finalize();
-    finish(buffer, &link, open);
+    finish(buffer, &link, more);
     disk.write(file, to, buffer)?;
     Ok(Some(link))
 }
@@ -80,6 +82,7 @@ fn put_range<D: Disk>(
     requires to { to + count ≤ 2 ^ 61 }
     requires buffer { length buffer.old ≡ 4133 }
     requires there { D.tells → to ≤ length ((D.state disk.old).files file) }
+    ensures there { IfOk result (λ whole. IsTrue whole → D.tells → IsThere ((D.state disk.old).files 0) from count) }
     ensures put { IfOk result (λ whole. IsTrue whole → D.tells → ChangesFile file (Holds to (part_of ((D.state disk.old).files 0) from count)) (D.state disk.old).files (D.state disk.new).files) }
     ensures taken { IfOk result (λ whole. IsTrue whole → D.tells → Takes hasher.old (part_of ((D.state disk.old).files 0) from count) hasher.new) }
     ensures short { IfOk result (λ whole. whole ≡ false → D.tells → length ((D.state disk.old).files 0) < from + count) }
@@ -105,23 +108,122 @@ fn put_range<D: Disk>(
     Ok(true)
 }
 
-// Writes the entry of a piece of up to 4,096 bytes, with one read and one write.
-fn write_short<D: Disk>(
+// Puts the first part of a piece, after its length in the buffer, and further bytes of it into a copy and into a hash, where the
+// ledger has them all: it says whether it has.
+fn write_front<D: Disk>(
+    disk: &mut D,
+    file: u8,
+    gate: u64,
+    at: u64,
+    part: usize,
+    middle: u64,
+    buffer: &mut [u8],
+    hasher: &mut Sha256,
+) -> Result<bool, DiskFault>
+    requires file { (1 ≤ file) × (file ≤ 66) }
+    requires places { (gate ≤ 2 ^ 59) × (at ≤ 2 ^ 59) × (middle ≤ 2 ^ 59) }
+    requires part { part + 4 ≤ 4133 }
+    requires buffer { length buffer.old ≡ 4133 }
+    ensures there { IfOk result (λ whole. IsTrue whole → D.tells → IsThere ((D.state disk.old).files 0) at (part + middle)) }
+    ensures put { IfOk result (λ whole. IsTrue whole → D.tells → ChangesFile file (Holds (gate + 1) (take 4 buffer.old ++ part_of ((D.state disk.old).files 0) at (part + middle))) (D.state disk.old).files (D.state disk.new).files) }
+    ensures taken { IfOk result (λ whole. IsTrue whole → D.tells → Takes hasher.old (part_of ((D.state disk.old).files 0) at (part + middle)) hasher.new) }
+    ensures short { IfOk result (λ whole. whole ≡ false → D.tells → length ((D.state disk.old).files 0) < at + (part + middle)) }
+    ensures buffer { IfOk result (λ whole. length buffer.new ≡ 4133) }
+    ensures writes { OnlyWrites D.tells (D.state disk.old).free (FitsChange (D.state disk.old) file (gate + 5 + (part + middle))) (IsErr result) (ChangesFile file (KeepsFront (gate + 1))) (D.state disk.old) (D.state disk.new) }
+{
+    let to = gate + 1;
+    if !put_part(disk, at, file, to, &mut buffer[..part + 4], 4, hasher)? {
+        return Ok(false);
+    }
+    let done = part as u64;
+    put_range(
+        disk,
+        at + done,
+        file,
+        to + 4 + done,
+        middle,
+        buffer,
+        hasher,
+    )
+}
+
+// Writes the entry of a piece that is longer than its first part, which is given by its length, and has at most 4,096 bytes.
+fn write_long<D: Disk>(
+    disk: &mut D,
+    file: u8,
+    gate: u64,
+    piece: &Piece,
+    part: usize,
+    buffer: &mut [u8],
+    mut hasher: Sha256,
+) -> Result<Option<[u8; 32]>, DiskFault>
+    requires file { (1 ≤ file) × (file ≤ 66) }
+    requires places { (gate ≤ 2 ^ 59) × (piece.now.at ≤ 2 ^ 59) }
+    requires part { (part + 4 ≤ 4133) × (part < piece.now.len) }
+    requires buffer { length buffer.old ≡ 4133 }
+    ensures entry { IfOk result (λ found. IfSome found (λ link. D.tells → HasEntry file gate (take 4 buffer.old) piece.now hasher link (D.state disk.old).files (D.state disk.new).files)) }
+    ensures short { IfOk result (λ found. IfNone found (D.tells → length ((D.state disk.old).files 0) < piece.now.at + piece.now.len)) }
+    ensures writes { OnlyWrites D.tells (D.state disk.old).free (FitsChange (D.state disk.old) file (gate + (37 + piece.now.len) + 1)) (IsErr result) (ChangesFile file (KeepsFront (gate + 1))) (D.state disk.old) (D.state disk.new) }
+{
+    let rest = piece.len as usize - part;
+    let last = rest.min(4096);
+    let middle = (rest - last) as u64;
+    if !write_front(
+        disk,
+        file,
+        gate,
+        piece.at,
+        part,
+        middle,
+        buffer,
+        &mut hasher,
+    )? {
+        return Ok(None);
+    }
+    let done = part as u64 + middle;
+    put_last(
+        disk,
+        piece.at + done,
+        file,
+        gate + 5 + done,
+        &mut buffer[..last + 33],
+        0,
+        hasher,
+        piece.more,
+    )
+}
+
+// Writes the entry of a piece after the gate at which the last one ends, and a gate after it. A piece of up to 4,096 bytes takes
+// one read and one write.
+pub(crate) fn write_entry<D: Disk>(
     disk: &mut D,
     file: u8,
     last: &Written,
     piece: &Piece,
     buffer: &mut [u8],
-    hasher: Sha256,
 ) -> Result<Option<[u8; 32]>, DiskFault>
+    requires file { IsCopyFile file }
+    requires places { (last.now.gate ≤ 2 ^ 59) × (piece.now.at ≤ 2 ^ 59) }
+    requires buffer { length buffer.old ≡ 4133 }
+    ensures entry { IfOk result (λ found. IfSome found (λ link. D.tells → HasWhole file last.now piece.now link (D.state disk.old).files (D.state disk.new).files)) }
+    ensures short { IfOk result (λ found. IfNone found (D.tells → length ((D.state disk.old).files 0) < piece.now.at + piece.now.len)) }
+    ensures buffer { length buffer.new ≡ 4133 }
+    ensures writes { OnlyWrites D.tells (D.state disk.old).free (FitsChange (D.state disk.old) file (last.now.gate + (37 + piece.now.len) + 1)) (IsErr result) (ChangesFile file (KeepsFront (last.now.gate + 1))) (D.state disk.old) (D.state disk.new) }
 {
-    let size = piece.len as usize;
+    let number = piece.len.to_be_bytes();
+    let mut hasher = Sha256::new();
+    hasher.update(&last.link);
+    hasher.update(&number);
+    buffer[..4].copy_from_slice(&number);
+    if piece.len > 4096 {
+        return write_long(disk, file, last.gate, piece, 4096, buffer, hasher);
+    }
     put_last(
         disk,
         piece.at,
         file,
         last.gate + 1,
-        &mut buffer[..size + 37],
+        &mut buffer[..piece.len as usize + 37],
         4,
         hasher,
         piece.more,

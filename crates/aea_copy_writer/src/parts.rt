@@ -2,11 +2,19 @@
 ghost use Rattle.std.specs.Prelude.{◌≡◌, ◌+◌, ◌-◌, ◌^◌, ◌<◌, ◌≤◌, ◌++◌, [], ◌∷◌, ℕ, List, length, take, drop, IsTrue, IsErr, IfOk, false};
 ghost use Rattle.aea_disk.specs.Files.{ChangesFile, Holds, Torn};
 ghost use Rattle.aea_disk.specs.Frames.{OnlyReads, OnlyWrites};
+ghost use Rattle.aea_records.specs.TableLaws.{AreBytes};
 ghost use Rattle.aea_copy_writer.specs.Changes.{FitsChange};
-ghost use Rattle.aea_copy_writer.specs.Parts.{part_of, Takes};
+ghost use Rattle.aea_copy_writer.specs.Parts.{part_of, IsThere, Takes};
 
 use aea_disk::{Disk, DiskFault};
 use sha2::{Digest, Sha256};
+
+// These are bytes.
+fn are_bytes(bytes: &[u8])
+    ensures { AreBytes bytes.now }
+{
+    let _first = bytes.first();
+}
 
 // Reads a part of a file, where the file has all of it: it says whether it has.
 pub(crate) fn read_part<D: Disk>(
@@ -18,10 +26,12 @@ pub(crate) fn read_part<D: Disk>(
     requires file { file ≤ 66 }
     requires range { from + length part.old ≤ 2 ^ 62 }
     ensures whole { IfOk result (λ whole. IsTrue whole → D.tells → part.new ≡ part_of ((D.state disk.old).files file) from (length part.old)) }
+    ensures there { IfOk result (λ whole. IsTrue whole → D.tells → IsThere ((D.state disk.old).files file) from (length part.old)) }
     ensures short { IfOk result (λ whole. whole ≡ false → D.tells → length ((D.state disk.old).files file) < from + length part.old) }
     ensures reads { OnlyReads D.tells (IsErr result) (D.state disk.old) (D.state disk.new) }
 {
     let count = disk.read(file, from, part)?;
+    are_bytes(part);
     Ok(count == part.len())
 }
 
@@ -40,6 +50,7 @@ pub(crate) fn put_part<D: Disk>(
     requires head { head ≤ length buffer.old }
     requires from { from + length buffer.old ≤ 2 ^ 62 }
     requires to { to + length buffer.old ≤ 2 ^ 62 }
+    ensures there { IfOk result (λ whole. IsTrue whole → D.tells → IsThere ((D.state disk.old).files 0) from (length buffer.old - head)) }
     ensures put { IfOk result (λ whole. IsTrue whole → D.tells → ChangesFile file (Holds to (take head buffer.old ++ part_of ((D.state disk.old).files 0) from (length buffer.old - head))) (D.state disk.old).files (D.state disk.new).files) }
     ensures taken { IfOk result (λ whole. IsTrue whole → D.tells → Takes hasher.old (part_of ((D.state disk.old).files 0) from (length buffer.old - head)) hasher.new) }
     ensures short { IfOk result (λ whole. whole ≡ false → D.tells → length ((D.state disk.old).files 0) < from + (length buffer.old - head)) }

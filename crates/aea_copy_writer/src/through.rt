@@ -1,7 +1,7 @@
 // Writes that are synced.
 ghost use Rattle.std.specs.Prelude.{◌≡◌, ◌+◌, ◌^◌, ◌≤◌, [], ◌∷◌, length, IsErr, OnOk};
 ghost use Rattle.aea_disk.specs.Files.{ChangesFile, Holds, Torn, MayBeCut};
-ghost use Rattle.aea_disk.specs.State.{IsSynced};
+ghost use Rattle.aea_disk.specs.State.{Settles, IsSynced};
 ghost use Rattle.aea_disk.specs.Frames.{OnlyWrites};
 ghost use Rattle.aea_copy_writer.specs.Changes.{FitsChange};
 
@@ -18,6 +18,7 @@ pub(crate) fn write_through<D: Disk>(
     requires range { at + length bytes.now ≤ 2 ^ 62 }
     ensures written { OnOk result (D.tells → ChangesFile file (Holds at bytes.now) (D.state disk.old).files (D.state disk.new).files) }
     ensures durable { OnOk result (D.tells → IsSynced (D.state disk.new)) }
+    ensures settled { Settles (D.state disk.old) (D.state disk.new) }
     ensures writes { OnlyWrites D.tells (D.state disk.old).free (FitsChange (D.state disk.old) file (at + length bytes.now)) (IsErr result) (ChangesFile file (Torn at (length bytes.now))) (D.state disk.old) (D.state disk.new) }
 {
     disk.write(file, at, bytes)?;
@@ -41,6 +42,7 @@ pub fn open_gate_at<D: Disk>(disk: &mut D, file: u8, at: u64) -> Result<(), Disk
     requires place { at ≤ 2 ^ 60 }
     ensures opened { OnOk result (D.tells → ChangesFile file (Holds at (1 ∷ [])) (D.state disk.old).files (D.state disk.new).files) }
     ensures durable { OnOk result (D.tells → IsSynced (D.state disk.new)) }
+    ensures settled { Settles (D.state disk.old) (D.state disk.new) }
     ensures writes { OnlyWrites D.tells (D.state disk.old).free (FitsChange (D.state disk.old) file (at + 1)) (IsErr result) (ChangesFile file (Torn at 1)) (D.state disk.old) (D.state disk.new) }
 {
     write_through(disk, file, at, &[1])

@@ -1,0 +1,6 @@
+pub mod Stretches
+pub mod Renewing
+pub mod Writing
+pub mod Buffers
+pub mod Joining
+pub mod Found

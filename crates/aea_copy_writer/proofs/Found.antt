@@ -15,3 +15,8 @@ pub none_weaker : {A E : Type 0} (r : Result (Option A) E) (P Q : Type 0) → (P
 none_weaker (Ok (Some x)) P Q weaker p = tt
 none_weaker (Ok None) P Q weaker p = weaker p
 none_weaker (Err e) P Q weaker p = tt
+
+pub found_weaker : {A E : Type 0} (r : Result (Option A) E) (P T : A → Type 0) → ((x : A) → P x → T x) → IfOk r (λ f. IfSome f P) → IfOk r (λ f. IfSome f T)
+found_weaker (Ok (Some x)) P T weaker p = weaker x p
+found_weaker (Ok None) P T weaker p = tt
+found_weaker (Err e) P T weaker p = tt

@@ -4,3 +4,4 @@ pub mod Writing
 pub mod Buffers
 pub mod Joining
 pub mod Found
+pub mod Pieces

@@ -193,6 +193,50 @@ fn write_long<D: Disk>(
     )
 }
 
+// Writes the entry of a piece of up to 4,096 bytes, after its length in the buffer: with one read and one write.
+fn write_short<D: Disk>(
+    disk: &mut D,
+    file: u8,
+    gate: u64,
+    piece: &Piece,
+    buffer: &mut [u8],
+    hasher: Sha256,
+) -> Result<Option<[u8; 32]>, DiskFault>
+    requires file { (1 ≤ file) × (file ≤ 66) }
+    requires places { (gate ≤ 2 ^ 59) × (piece.now.at ≤ 2 ^ 59) }
+    requires short { piece.now.len ≤ 4096 }
+    requires buffer { length buffer.old ≡ 4133 }
+    ensures entry { IfOk result (λ found. IfSome found (λ link. D.tells → HasEntry file gate (take 4 buffer.old) piece.now hasher link (D.state disk.old).files (D.state disk.new).files)) }
+    ensures short { IfOk result (λ found. IfNone found (D.tells → length ((D.state disk.old).files 0) < piece.now.at + piece.now.len)) }
+    ensures writes { OnlyWrites D.tells (D.state disk.old).free (FitsChange (D.state disk.old) file (gate + (37 + piece.now.len) + 1)) (IsErr result) (ChangesFile file (KeepsFront (gate + 1))) (D.state disk.old) (D.state disk.new) }
+{
+    let size = piece.len as usize;
+    put_last(
+        disk,
+        piece.at,
+        file,
+        gate + 1,
+        &mut buffer[..size + 37],
+        4,
+        hasher,
+        piece.more,
+    )
+}
+
+// Puts the length of a piece at the start of a buffer, and the link before it and the length into a hash.
+fn begin(link: &[u8; 32], len: u32, buffer: &mut [u8]) -> Sha256
+    requires { 4 ≤ length buffer.old }
+    ensures number { take 4 buffer.new ≡ to_be_bytes w32 len }
+    ensures hashed { Holds256 result (link.now ++ to_be_bytes w32 len) }
+{
+    let number = len.to_be_bytes();
+    buffer[..4].copy_from_slice(&number);
+    let mut hasher = Sha256::new();
+    hasher.update(link);
+    hasher.update(&number);
+    hasher
+}
+
 // Writes the entry of a piece after the gate at which the last one ends, and a gate after it. A piece of up to 4,096 bytes takes
 // one read and one write.
 pub(crate) fn write_entry<D: Disk>(
@@ -202,30 +246,16 @@ pub(crate) fn write_entry<D: Disk>(
     piece: &Piece,
     buffer: &mut [u8],
 ) -> Result<Option<[u8; 32]>, DiskFault>
-    requires file { IsCopyFile file }
+    requires file { (1 ≤ file) × (file ≤ 66) }
     requires places { (last.now.gate ≤ 2 ^ 59) × (piece.now.at ≤ 2 ^ 59) }
     requires buffer { length buffer.old ≡ 4133 }
     ensures entry { IfOk result (λ found. IfSome found (λ link. D.tells → HasWhole file last.now piece.now link (D.state disk.old).files (D.state disk.new).files)) }
     ensures short { IfOk result (λ found. IfNone found (D.tells → length ((D.state disk.old).files 0) < piece.now.at + piece.now.len)) }
-    ensures buffer { length buffer.new ≡ 4133 }
     ensures writes { OnlyWrites D.tells (D.state disk.old).free (FitsChange (D.state disk.old) file (last.now.gate + (37 + piece.now.len) + 1)) (IsErr result) (ChangesFile file (KeepsFront (last.now.gate + 1))) (D.state disk.old) (D.state disk.new) }
 {
-    let number = piece.len.to_be_bytes();
-    let mut hasher = Sha256::new();
-    hasher.update(&last.link);
-    hasher.update(&number);
-    buffer[..4].copy_from_slice(&number);
+    let hasher = begin(&last.link, piece.len, buffer);
     if piece.len > 4096 {
         return write_long(disk, file, last.gate, piece, 4096, buffer, hasher);
     }
-    put_last(
-        disk,
-        piece.at,
-        file,
-        last.gate + 1,
-        &mut buffer[..piece.len as usize + 37],
-        4,
-        hasher,
-        piece.more,
-    )
+    write_short(disk, file, last.gate, piece, buffer, hasher)
 }

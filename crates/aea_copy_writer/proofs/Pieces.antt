@@ -1,0 +1,61 @@
+-- Pieces of the ledger, and how one is seen by its first bytes.
+use Rattle.std.proofs.Common.{◌≡◌, ◌≢◌, ⊎_elim, ℕ, ◌+◌, ◌-◌, ◌<◌, ◌≤◌, ◌^◌, ◌*◌, Bool, true, false, eqb, List, [], ◌∷◌, ◌++◌, length, take, drop, get_or, refl, sym, ap, ◌∙◌, subst, arith}
+use Rattle.std.specs.Int.{w32, from_be_bytes}
+use Rattle.std.proofs.lemmas.Bool.{eq-eqb, eqb-true}
+use Rattle.std.proofs.lemmas.List.{append_assoc, length-append, length-take, length-drop, take_at, drop_at, take-take, drop-drop, take-append-le, get_or-take, get_or-drop}
+use Rattle.aea_records.specs.Format.{open_gate}
+use Rattle.aea_copies.specs.Format.{link_after, last_link, copy_entry, chain, copied, text_of}
+use Rattle.aea_copies.specs.Grammar.{IsKind, IsHeaderPiece, IsRecordPiece, ArePieces}
+use Rattle.aea_copies.proofs.Entries.{length-entry}
+use Rattle.aea_copies.proofs.Ranges.{range_both}
+use Rattle.aea_copy_writer.specs.Entries.{HasPieces, IsShaped, AreShaped}
+use Rattle.aea_copy_writer.specs.Parts.{part_of}
+
+-- a front of a front, and a range of one
+pub front_of : (xs : List ℕ) (at n k : ℕ) → k ≤ n → take k (drop at xs) ≡ take k (take n (drop at xs))
+front_of xs at n k le = sym (take-take k n (drop at xs) le)
+
+-- a piece is not empty
+pub some_bytes : (first : Bool) (p : List ℕ) → IsShaped first p → 6 ≤ length p
+some_bytes true p is = omega (arith, is.kind.long)
+some_bytes false p is = is.kind.long
+
+pub is_open : (first : Bool) (p : List ℕ) → IsShaped first p → get_or p 0 0 ≡ 1
+is_open true p is = is.kind.gate
+is_open false p is = is.kind.gate
+
+-- the first piece is where it begins, and it ends in time
+pub first_there : (first : Bool) (p : List ℕ) (ps : List (List ℕ)) (from until : ℕ) (bytes : List ℕ) → HasPieces first (p ∷ ps) from until bytes → take (length p) (drop from bytes) ≡ p
+first_there first p ps from until bytes has =
+    front_of bytes from (length (p ++ text_of ps)) (length p) (omega (arith, length-append p (text_of ps))) ∙ ap (take (length p)) has.there ∙ take_at p (text_of ps) (length p) refl
+
+pub first_ends : (first : Bool) (p : List ℕ) (ps : List (List ℕ)) (from until : ℕ) (bytes : List ℕ) → HasPieces first (p ∷ ps) from until bytes → from + length p ≤ until
+first_ends first p ps from until bytes has = omega (arith, has.place, length-append p (text_of ps))
+
+pub first_within : (first : Bool) (p : List ℕ) (ps : List (List ℕ)) (from until : ℕ) (bytes : List ℕ) → HasPieces first (p ∷ ps) from until bytes → from + length p ≤ length bytes
+first_within first p ps from until bytes has =
+    omega (arith, ap length (first_there first p ps from until bytes has), length-take (length p) (drop from bytes), length-drop from bytes, some_bytes first p has.shaped.0)
+
+-- its first bytes are what is read there
+pub first_read : (p buf bytes : List ℕ) (from : ℕ) → 6 ≤ length p → take (length p) (drop from bytes) ≡ p → buf ≡ part_of bytes from 6 → buf ≡ take 6 p
+first_read p buf bytes from some there read = read ∙ front_of bytes from (length p) 6 some ∙ ap (take 6) there
+
+pub gate_read : (p buf : List ℕ) → 6 ≤ length p → buf ≡ take 6 p → get_or p 0 0 ≡ 1 → get_or buf 0 0 ≡ 1
+gate_read p buf some is gate = ap (λ (l : List ℕ). get_or l 0 0) is ∙ get_or-take 6 p 0 0 (omega arith) ∙ gate
+
+-- and how long a further piece is
+pub size_read : (p buf : List ℕ) → IsRecordPiece p → buf ≡ take 6 p → from_be_bytes w32 (drop 2 buf) + 6 ≡ length p
+size_read p buf is read =
+    let four : drop 2 buf ≡ take 4 (drop 2 p) = ap (drop 2) read ∙ drop_front p in
+    ap (λ (l : List ℕ). from_be_bytes w32 l + 6) four ∙ is.size
+  where
+    drop_front : (xs : List ℕ) → drop 2 (take 6 xs) ≡ take 4 (drop 2 xs)
+    drop_front [] = refl
+    drop_front (x ∷ []) = refl
+    drop_front (x ∷ (y ∷ xs)) = refl
+
+-- how long entries are
+pub length-chain : (link : List ℕ) (ps : List (List ℕ)) → length (chain link ps) ≡ 37 * length ps + length (text_of ps)
+length-chain link [] = refl
+length-chain link (p ∷ ps) =
+    omega (arith, length-append (copy_entry link p) (chain (link_after link p) ps), length-entry link p, length-chain (link_after link p) ps, length-append p (text_of ps))

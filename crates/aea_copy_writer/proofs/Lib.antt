@@ -5,3 +5,4 @@ pub mod Buffers
 pub mod Joining
 pub mod Found
 pub mod Pieces
+pub mod Advancing

@@ -1,8 +1,9 @@
 -- Pieces of the ledger, and how one is seen by its first bytes.
-use Rattle.std.proofs.Common.{◌≡◌, ◌≢◌, ⊎_elim, ℕ, ◌+◌, ◌-◌, ◌<◌, ◌≤◌, ◌^◌, ◌*◌, Bool, true, false, eqb, List, [], ◌∷◌, ◌++◌, length, take, drop, get_or, refl, sym, ap, ◌∙◌, subst, arith}
+use Rattle.std.proofs.Common.{◌≡◌, ◌≢◌, ⊎_elim, ℕ, zero, suc, ◌+◌, ◌-◌, ◌<◌, ◌≤◌, ◌^◌, ◌*◌, Bool, true, false, eqb, List, [], ◌∷◌, ◌++◌, length, take, drop, get_or, refl, sym, ap, ◌∙◌, subst, arith}
 use Rattle.std.specs.Int.{w32, from_be_bytes}
-use Rattle.std.proofs.lemmas.Bool.{eq-eqb, eqb-true}
+use Rattle.std.proofs.lemmas.Bool.{eq-eqb, cases_eq}
 use Rattle.std.proofs.lemmas.List.{append_assoc, length-append, length-take, length-drop, take_at, drop_at, take-take, drop-drop, take-append-le, get_or-take, get_or-drop}
+use Rattle.std.proofs.Math.Dec.{eqb-suc-zero}
 use Rattle.aea_records.specs.Format.{open_gate}
 use Rattle.aea_copies.specs.Format.{link_after, last_link, copy_entry, chain, copied, text_of}
 use Rattle.aea_copies.specs.Grammar.{IsKind, IsHeaderPiece, IsRecordPiece, ArePieces}
@@ -59,3 +60,15 @@ pub length-chain : (link : List ℕ) (ps : List (List ℕ)) → length (chain li
 length-chain link [] = refl
 length-chain link (p ∷ ps) =
     omega (arith, length-append (copy_entry link p) (chain (link_after link p) ps), length-entry link p, length-chain (link_after link p) ps, length-append p (text_of ps))
+
+pub not_zero : (n : ℕ) → n ≢ 0 → eqb n 0 ≡ false
+not_zero zero other = absurd (other refl)
+not_zero (suc n) other = eqb-suc-zero n
+
+-- the length of a piece, as it is read: of the first one it is that of a header
+pub len_read : (at len : ℕ) (p buf : List ℕ) → IsShaped (eqb at 0) p → buf ≡ take 6 p → (at ≡ 0 → len ≡ 17) → (at ≢ 0 → len ≡ from_be_bytes w32 (drop 2 buf) + 6) → len ≡ length p
+len_read at len p buf is read header record_ =
+    ⊎_elim
+    (λ (zero : at ≡ 0). header zero ∙ sym (subst (λ (b : Bool). IsShaped b p) (eq-eqb at 0 zero) is).kind.long)
+    (λ (other : at ≢ 0). record_ other ∙ size_read p buf (subst (λ (b : Bool). IsShaped b p) (not_zero at other) is).kind read)
+    (cases_eq at 0)

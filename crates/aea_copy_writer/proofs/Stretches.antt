@@ -157,3 +157,34 @@ settles_then_kept old mid new first second early keeps late t u c from later to 
     (λ both. (second.keeps t c within).1 (early t u c from later both ((second.keeps u c both).0 here)))
     (cases_lt mid.moment u))
     (cases_lt mid.moment t)
+
+-- the same, where what fits is said otherwise
+pub read_alone : (tells fault fits : Type 0) (file : ℕ) (step : List ℕ → List ℕ → Type 0) (old new : State) → ((f : ℕ) (b : List ℕ) (m : ℕ) → old.free → old.takes f b m) → ((x : List ℕ) → step x x) → (fits → IsRoomy old)
+    → OnlyReads tells fault old new → OnlyWrites tells old.free fits fault (ChangesFile file step) old new
+read_alone tells fault fits file step old new all none roomy reads =
+    reads_writes tells old.free fits fault (ChangesFile file step) old new (free_ready old all) roomy (λ c. changes_none file step c (none (c file))) reads
+
+pub read_fits : (tells first fault fits late : Type 0) (file : ℕ) (step : List ℕ → List ℕ → Type 0) (old mid new : State) → (first → ⊥) → ((f : ℕ) (b : List ℕ) (m : ℕ) → old.free → old.takes f b m) → ((x : List ℕ) → step x x) → (fits → IsRoomy old)
+    → (tells → fits → mid.files ≡ old.files → Passes old mid → late)
+    → OnlyReads tells first old mid → OnlyWrites tells mid.free late fault (ChangesFile file step) mid new → OnlyWrites tells old.free fits fault (ChangesFile file step) old new
+read_fits tells first fault fits late file step old mid new fine all none roomy later early then =
+    reads_then_writes tells old.free mid.free fits late first fault (ChangesFile file step) old mid new fine (λ c. changes_none file step c (none (c file)))
+    (free_ready old all) (λ told is same goes. early.time.free is) roomy later
+    early then
+
+pub then_fits : (tells first fault fits late : Type 0) (file : ℕ) (one two all : List ℕ → List ℕ → Type 0) (old mid new : State)
+    → (first → ⊥) → ((x y : List ℕ) → one x y → all x y) → ((x y z : List ℕ) → one x y → two y z → all x z)
+    → (tells → fits → ChangesFile file one old.files mid.files → Passes old mid → late)
+    → OnlyWrites tells old.free fits first (ChangesFile file one) old mid → OnlyWrites tells mid.free late fault (ChangesFile file two) mid new → OnlyWrites tells old.free fits fault (ChangesFile file all) old new
+then_fits tells first fault fits late file one two all old mid new fine alone both later early then =
+    writes_both tells old.free old.free mid.free fits fits late first fault (ChangesFile file one) (ChangesFile file two) (ChangesFile file all) old mid new fine
+    (λ c d. changes_wider file one all c d alone) (λ c d e. change_both file one two all c d e both)
+    (λ told is. is) (λ told is step goes. early.time.free is) (λ told fit. fit) later
+    early then
+
+-- what fits, fits after calls that only read
+pub fits_read : (old mid : State) (file n m : ℕ) → n ≡ m → mid.files ≡ old.files → Passes old mid → FitsChange old file n → FitsChange mid file m
+fits_read old mid file n m is same passes fit = record {
+  room = subst (HasRoomTo mid file) is (passes.room file n fit.room);
+  sync = λ c change. passes.syncs (c 0) (fit.sync c (λ f other. change f other ∙ ap (λ (d : Files). d f) same));
+}

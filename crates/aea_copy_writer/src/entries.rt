@@ -79,8 +79,9 @@ fn write_next<D: Disk>(
     requires places { (at < until) × (until ≤ 2 ^ 58) }
     requires gate { last.now.gate ≤ 2 ^ 58 }
     requires buffer { length buffer.old ≡ 4133 }
-    ensures next { IfOk result (λ found. D.tells → (piece : List ℕ) (others : List (List ℕ)) → HasPieces (at == 0) (piece ∷ others) at until ((D.state disk.old).files 0) → last.now.gate + (37 + length piece) ≤ greatest_place → MatchOption found ⊥ (λ next. HasNext file at until last.now piece next (D.state disk.old).files (D.state disk.new).files)) }
+    ensures next { IfOk result (λ found. D.tells → (piece : List ℕ) (others : List (List ℕ)) → HasPieces (at == 0) (piece ∷ others) at until ((D.state disk.old).files 0) → MatchOption found (last.now.gate + (37 + length piece) ≤ greatest_place → ⊥) (λ next. HasNext file at until last.now piece next (D.state disk.old).files (D.state disk.new).files)) }
     ensures there { IfOk result (λ found. IfSome found (λ next. D.tells → IsThere ((D.state disk.old).files 0) at (next.at - at))) }
+    ensures buffer { IfOk result (λ found. IfSome found (λ next. length buffer.new ≡ 4133)) }
     ensures on { IfOk result (λ found. IfSome found (λ next. (at < next.at) × (next.at ≤ until) × (last.now.gate ≤ next.last.gate) × (next.last.gate ≤ 2 ^ 58))) }
     ensures writes { OnlyWrites D.tells (D.state disk.old).free (FitsNext (D.state disk.old) file at until last.now.gate) (IsErr result) (ChangesFile file (KeepsFront (last.now.gate + 1))) (D.state disk.old) (D.state disk.new) }
 {

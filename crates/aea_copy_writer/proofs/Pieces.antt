@@ -7,6 +7,7 @@ use Rattle.std.proofs.Math.Dec.{eqb-suc-zero}
 use Rattle.aea_records.specs.Format.{open_gate}
 use Rattle.aea_copies.specs.Format.{link_after, last_link, copy_entry, chain, copied, text_of}
 use Rattle.aea_copies.specs.Grammar.{IsKind, IsHeaderPiece, IsRecordPiece, ArePieces}
+use Rattle.aea_copies.specs.Kept.{IsCopyFile}
 use Rattle.aea_copies.proofs.Entries.{length-entry}
 use Rattle.aea_copies.proofs.Ranges.{range_both}
 use Rattle.aea_copy_writer.specs.Entries.{HasPieces, IsShaped, AreShaped}
@@ -72,3 +73,7 @@ len_read at len p buf is read header record_ =
     (λ (zero : at ≡ 0). header zero ∙ sym (subst (λ (b : Bool). IsShaped b p) (eq-eqb at 0 zero) is).kind.long)
     (λ (other : at ≢ 0). record_ other ∙ size_read p buf (subst (λ (b : Bool). IsShaped b p) (not_zero at other) is).kind read)
     (cases_eq at 0)
+
+-- a copy's file is not the ledger's
+pub copy_some : (file : ℕ) → IsCopyFile file → 1 ≤ file
+copy_some file is = ⊎_elim (λ (one : file ≡ 65). omega (arith, one)) (λ (two : file ≡ 66). omega (arith, two)) is

@@ -6,3 +6,5 @@ pub mod Joining
 pub mod Found
 pub mod Pieces
 pub mod Advancing
+pub mod Made
+pub mod Moving

@@ -7,7 +7,7 @@ use Rattle.aea_disk.specs.Files.{Files, ChangesFile, ChangesOnly, Holds, Torn, I
 use Rattle.aea_disk.specs.Steps.{changes_none, changes_wider, torn_front}
 use Rattle.aea_disk.specs.State.{State, Passes, Follows, KeepsImages, Settles, IsReady, IsRoomy, IsSure, TakesFrom, HasRoomTo}
 use Rattle.aea_disk.specs.Frames.{OnlyReads, OnlyWrites}
-use Rattle.aea_disk.proofs.Frames.{reads_writes, writes_one, writes_both, writes_wider, writes_faulted, writes_then_reads, reads_then_writes, torn_anyway, cut_anyway}
+use Rattle.aea_disk.proofs.Frames.{reads_writes, writes_one, writes_both, writes_wider, writes_faulted, keeps_both, writes_then_reads, reads_then_writes, torn_anyway, cut_anyway}
 use Rattle.aea_copy_writer.specs.Changes.{KeepsFront, FitsChange}
 
 -- a disk without rules is ready
@@ -188,3 +188,29 @@ fits_read old mid file n m is same passes fit = record {
   room = subst (HasRoomTo mid file) is (passes.room file n fit.room);
   sync = λ c change. passes.syncs (c 0) (fit.sync c (λ f other. change f other ∙ ap (λ (d : Files). d f) same));
 }
+
+-- the same of what fits in all
+pub fits_as : (tells fault fits : Type 0) (file n : ℕ) (step : List ℕ → List ℕ → Type 0) (old new : State) → (tells → fits → FitsChange old file n) → OnlyWrites tells old.free (FitsChange old file n) fault (ChangesFile file step) old new → OnlyWrites tells old.free fits fault (ChangesFile file step) old new
+fits_as tells fault fits file n step old new fit writes =
+    writes_wider tells old.free (FitsChange old file n) old.free fits fault (ChangesFile file step) (ChangesFile file step) old new (λ c d is. is) (λ told is. is) fit writes
+
+pub then_reads : (tells first fault fits : Type 0) (file : ℕ) (step : List ℕ → List ℕ → Type 0) (old mid new : State) → (first → ⊥) → ((f : ℕ) (b : List ℕ) (m : ℕ) → mid.free → mid.takes f b m)
+    → (tells → fits → ChangesFile file step old.files mid.files → Passes old mid → IsRoomy mid)
+    → OnlyWrites tells old.free fits first (ChangesFile file step) old mid → OnlyReads tells fault mid new → OnlyWrites tells old.free fits fault (ChangesFile file step) old new
+then_reads tells first fault fits file step old mid new fine all roomy early late =
+    writes_then_reads tells old.free fits first fault (ChangesFile file step) old mid new fine (λ told is step goes. free_ready mid all (early.time.free is)) roomy early late
+
+-- stretches of which only the file is known that changes
+pub only_then : (tells first fault fits late : Type 0) (file : ℕ) (old mid new : State) → (first → ⊥) → (tells → fits → ChangesOnly file old.files mid.files → Passes old mid → late)
+    → OnlyWrites tells old.free fits first (ChangesOnly file) old mid → OnlyWrites tells mid.free late fault (ChangesOnly file) mid new → OnlyWrites tells old.free fits fault (ChangesOnly file) old new
+only_then tells first fault fits late file old mid new fine later early then =
+    writes_both tells old.free old.free mid.free fits fits late first fault (ChangesOnly file) (ChangesOnly file) (ChangesOnly file) old mid new fine
+    (λ c d is. is) (λ c d e. keeps_both (λ f. f ≢ file) c d e) (λ told is. is) (λ told is step goes. early.time.free is) (λ told fit. fit) later early then
+
+pub only_of : (tells fault fits wider : Type 0) (file : ℕ) (step : List ℕ → List ℕ → Type 0) (old new : State) → (tells → wider → fits) → OnlyWrites tells old.free fits fault (ChangesFile file step) old new → OnlyWrites tells old.free wider fault (ChangesOnly file) old new
+only_of tells fault fits wider file step old new fit writes =
+    writes_wider tells old.free fits old.free wider fault (ChangesFile file step) (ChangesOnly file) old new (λ c d changes. changes.others) (λ told is. is) fit writes
+
+pub only_as : (tells fault fits wider : Type 0) (file : ℕ) (old new : State) → (tells → wider → fits) → OnlyWrites tells old.free fits fault (ChangesOnly file) old new → OnlyWrites tells old.free wider fault (ChangesOnly file) old new
+only_as tells fault fits wider file old new fit writes =
+    writes_wider tells old.free fits old.free wider fault (ChangesOnly file) (ChangesOnly file) old new (λ c d is. is) (λ told is. is) fit writes

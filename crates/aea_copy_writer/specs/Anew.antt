@@ -1,8 +1,9 @@
 -- A file that is made anew, a copy or the ledger: what a stop leaves of it.
-use Rattle.std.specs.Prelude.{◌≡◌, ◌⊎◌, ◌+◌, ℕ, true, List, [], ◌∷◌, ◌++◌, length, drop}
+use Rattle.std.specs.Prelude.{◌≡◌, ◌⊎◌, ◌≤◌, ◌+◌, ℕ, true, false, List, [], ◌∷◌, ◌++◌, length, drop}
 use Rattle.aea_disk.specs.State.{State}
 use Rattle.aea_copies.specs.Format.{copied, first_link, last_link, text_of, whole_copy}
-use Rattle.aea_copies.specs.Grammar.{IsBegun}
+use Rattle.aea_disk.specs.Ends.{greatest_place}
+use Rattle.aea_copies.specs.Grammar.{IsBegun, is_first}
 use Rattle.aea_copy_writer.specs.declared.entries.Written.{Written}
 use Rattle.aea_copy_writer.specs.Changes.{FitsChange}
 use Rattle.aea_copy_writer.specs.Entries.{HasPieces}
@@ -26,6 +27,12 @@ IsClosed made bytes = bytes ≡ 0 ∷ drop 1 made
 -- the ledger with the text of these pieces, and a closed gate
 abbrev pub whole_text : List (List ℕ) → List ℕ
 whole_text pieces = text_of pieces ++ 0 ∷ []
+
+-- the ledger begins with these pieces, up to this place, and a copy can have them
+pub record CanMake (pieces : List (List ℕ)) (until : ℕ) (ledger : List ℕ) : Type 0 where
+  pub has : HasPieces true pieces 0 until ledger
+  pub some : is_first pieces ≡ false
+  pub within : length (copied pieces) ≤ greatest_place
 
 -- The ledger begins with the text of pieces, so many bytes, and the disk has space to make a copy of them, and to sync.
 pub record FitsCopy (s : State) (file until : ℕ) : Type 0 where

@@ -18,7 +18,7 @@ use Rattle.aea_copy_writer.specs.Parts.{part_of, gate_byte}
 use Rattle.aea_copy_writer.proofs.Pieces.{some_bytes, not_zero, first_ends}
 use Rattle.aea_copy_writer.proofs.Writing.{overwritten_none, change_then}
 
-text_push : (pieces : List (List ℕ)) (piece : List ℕ) → text_of (pieces ++ piece ∷ []) ≡ text_of pieces ++ piece
+pub text_push : (pieces : List (List ℕ)) (piece : List ℕ) → text_of (pieces ++ piece ∷ []) ≡ text_of pieces ++ piece
 text_push pieces piece = sym (flat_map_more (λ p. p) [] pieces piece)
 
 -- after the first piece no other is first

@@ -8,3 +8,4 @@ pub mod Pieces
 pub mod Advancing
 pub mod Made
 pub mod Moving
+pub mod Filling

@@ -18,6 +18,9 @@ entries_open : (link : List ℕ) (ps : List (List ℕ)) → is_first ps ≡ fals
 entries_open link [] none = absurd (cc)
 entries_open link (p ∷ ps) some = refl
 
+pub after_zero : (bytes : List ℕ) → overwritten (0 ∷ []) 1 bytes ≡ 0 ∷ bytes
+after_zero bytes = ap (λ (l : List ℕ). 0 ∷ (bytes ++ l)) (drop_all (1 + length bytes) (0 ∷ []) (omega arith)) ∙ ap (λ (l : List ℕ). 0 ∷ l) (append-nil bytes)
+
 -- the front of a copy, and its entries
 pub closed_copy : (pieces : List (List ℕ)) (x y z : List ℕ) → is_first pieces ≡ false → x ≡ 0 ∷ [] → Holds 1 (copy_mark ++ 1 ∷ []) x y → Holds 10 (after_gate first_link pieces) y z → IsClosed (whole_copy pieces) z
 closed_copy pieces x y z some begun one two =
@@ -27,9 +30,6 @@ closed_copy pieces x y z some begun one two =
     ∙ after_zero ((copy_mark ++ 1 ∷ []) ++ rest)
     ∙ ap (λ (l : List ℕ). 0 ∷ l)
     (append_assoc copy_mark (1 ∷ []) rest ∙ ap (λ (l : List ℕ). copy_mark ++ l) (sym (entries_open first_link pieces some)) ∙ sym (append_assoc copy_mark (chain first_link pieces) (0 ∷ [])))
-  where
-    after_zero : (bytes : List ℕ) → overwritten (0 ∷ []) 1 bytes ≡ 0 ∷ bytes
-    after_zero bytes = ap (λ (l : List ℕ). 0 ∷ (bytes ++ l)) (drop_all (1 + length bytes) (0 ∷ []) (omega arith)) ∙ ap (λ (l : List ℕ). 0 ∷ l) (append-nil bytes)
 
 pub length-copied : (pieces : List (List ℕ)) → length (copied pieces) ≡ 9 + length (chain first_link pieces)
 length-copied pieces = omega (arith, length-append copy_mark (chain first_link pieces))

@@ -3,7 +3,7 @@ use Rattle.std.specs.Prelude.{◌≡◌, ◌+◌, ◌-◌, ◌≤◌, ◌<◌, �
 use Rattle.std.specs.Int.{w32, to_be_bytes}
 use Rattle.sha2.specs.declared.Sha256.{Sha256}
 use Rattle.aea_disk.specs.Files.{Files, ChangesFile, Holds}
-use Rattle.aea_copies.specs.Format.{copy_entry, link_after}
+use Rattle.aea_copies.specs.Format.{copy_entry, copied, link_after, text_of}
 use Rattle.aea_copy_writer.specs.declared.entries.Written.{Written}
 use Rattle.aea_copy_writer.specs.declared.entry.Piece.{Piece}
 use Rattle.aea_copy_writer.specs.declared.ledger.At.{At}
@@ -34,3 +34,12 @@ pub record HasMoved (at : At) (piece : List ℕ) (next : At) (old new : Files) :
   pub place : next.place ≡ at.place + (37 + length piece)
   pub text : next.text ≡ at.text + length piece
   pub step : ChangesFile 0 (Holds (at.text + (1 - at.text)) (drop (1 - at.text) piece)) old new
+
+-- So far the text of the first of these pieces was copied into the ledger's file, but for its first byte.
+pub record IsFilled (source : ℕ) (pieces : List (List ℕ)) (at : At) (old new : Files) : Type 0 where
+  pub done : List (List ℕ)
+  pub more : List (List ℕ)
+  pub split : pieces ≡ done ++ more
+  pub place : at.place ≡ length (copied done)
+  pub text : at.text ≡ length (text_of done)
+  pub step : ChangesFile 0 (Holds 1 (drop 1 (text_of done))) old new

@@ -8,7 +8,7 @@ ghost use Rattle.aea_copies.specs.Format.{text_of};
 ghost use Rattle.aea_copies.specs.Kept.{IsCopyFile, IsGood};
 ghost use Rattle.aea_copy_writer.specs.Changes.{KeepsFront, FitsChange};
 ghost use Rattle.aea_copy_writer.specs.Anew.{IsOldNoneOrMade, IsClosed, whole_text};
-ghost use Rattle.aea_copy_writer.specs.Parts.{part_of};
+ghost use Rattle.aea_copy_writer.specs.Parts.{part_of, IsThere};
 ghost use Rattle.aea_copy_writer.specs.Pieces.{IsTextAt, HasMoved};
 
 use crate::anew::clear;
@@ -28,6 +28,7 @@ fn move_part<D: Disk>(
     requires source { (1 ≤ source) × (source ≤ 66) }
     requires from { from + length part.old ≤ 2 ^ 62 }
     requires to { to + length part.old ≤ 2 ^ 62 }
+    ensures there { IfOk result (λ whole. IsTrue whole → D.tells → IsThere ((D.state disk.old).files source) from (length part.old)) }
     ensures moved { IfOk result (λ whole. IsTrue whole → D.tells → ChangesFile 0 (Holds to (part_of ((D.state disk.old).files source) from (length part.old))) (D.state disk.old).files (D.state disk.new).files) }
     ensures short { IfOk result (λ whole. whole ≡ false → D.tells → length ((D.state disk.old).files source) < from + length part.old) }
     ensures writes { OnlyWrites D.tells (D.state disk.old).free (FitsChange (D.state disk.old) 0 (to + length part.old)) (IsErr result) (ChangesFile 0 (Torn to (length part.old))) (D.state disk.old) (D.state disk.new) }

@@ -6,7 +6,7 @@ use Rattle.aea_disk.proofs.Frames.{writes_none, writes_faulted, writes_as, ok_fi
 use Rattle.aea_copy_writer.specs.Changes.{KeepsFront, FitsChange}
 use Rattle.aea_copy_writer.specs.Parts.{part_of, IsThere}
 use Rattle.aea_copy_writer.proofs.Stretches.{then_more, front_none, front_same, front_torn}
-use Rattle.aea_copy_writer.proofs.Writing.{there_none, there_both}
+use Rattle.aea_copy_writer.proofs.Writing.{there_none, there_both, holds_long}
 use Rattle.aea_copy_writer.proofs.Moving.{move_none, move_next}
 use Rattle.aea_copy_writer.proofs.ledger.move_range.Goals as goal
 
@@ -24,7 +24,7 @@ parts-init g c =
 pub returns-in_err-move_part-clause-writes : goal.returns-in_err-move_part-clause-writes
 returns-in_err-move_part-clause-writes g c =
     let tells = g.D.Disk.tells in
-    let file = 0 in
+    let file : ℕ = 0 in
     let to = c.args.to in
     let first = g.D.Disk.state c.args.disk.now in
     let second = g.D.Disk.state c.parts.disk in
@@ -39,7 +39,7 @@ returns-in_err-move_part-clause-writes g c =
 pub returns-then-not-branch-clause-writes : goal.returns-then-not-branch-clause-writes
 returns-then-not-branch-clause-writes g c =
     let tells = g.D.Disk.tells in
-    let file = 0 in
+    let file : ℕ = 0 in
     let to = c.args.to in
     let first = g.D.Disk.state c.args.disk.now in
     let second = g.D.Disk.state c.parts.disk in
@@ -63,8 +63,11 @@ returns-then-not-branch-clause-short g c = λ _ tells.
 
 pub returns-clause-there : goal.returns-clause-there
 returns-clause-there g c = λ _ tells.
+    let first = g.D.Disk.state c.args.disk.now in
+    let second = g.D.Disk.state c.parts.disk in
     let all : c.parts.done ≡ c.args.count = omega (arith, c.parts.invariant.few, c.parts-test.false) in
-    subst (IsThere ((g.D.Disk.state c.args.disk.now).files c.args.source) c.args.from) all (c.parts.invariant.there tells)
+    let part = part_of (first.files c.args.source) c.args.from c.parts.done in
+    omega (arith, holds_long c.args.to part (first.files 0) (second.files 0) (c.parts.invariant.moved tells).here, (c.parts.invariant.there tells).all, all)
 
 pub returns-clause-moved : goal.returns-clause-moved
 returns-clause-moved g c = λ _ tells.
@@ -75,7 +78,7 @@ returns-clause-moved g c = λ _ tells.
 
 pub returns-clause-writes : goal.returns-clause-writes
 returns-clause-writes g c =
-    let file = 0 in
+    let file : ℕ = 0 in
     let first = g.D.Disk.state c.args.disk.now in
     let second = g.D.Disk.state c.parts.disk in
     writes_as g.D.Disk.tells first.free (FitsChange first file (c.args.to + c.args.count)) ⊥ _ (ChangesFile file (KeepsFront c.args.to)) first second (λ is. cc) (λ none. absurd none) c.parts.invariant.writes
@@ -83,7 +86,7 @@ returns-clause-writes g c =
 pub parts-preserved : goal.parts-preserved
 parts-preserved g c =
     let tells = g.D.Disk.tells in
-    let file = 0 in
+    let file : ℕ = 0 in
     let to = c.args.to in
     let first = g.D.Disk.state c.args.disk.now in
     let second = g.D.Disk.state c.parts.disk in

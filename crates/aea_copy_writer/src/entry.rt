@@ -136,15 +136,7 @@ fn write_front<D: Disk>(
         return Ok(false);
     }
     let done = part as u64;
-    put_range(
-        disk,
-        at + done,
-        file,
-        to + 4 + done,
-        middle,
-        buffer,
-        hasher,
-    )
+    put_range(disk, at + done, file, to + 4 + done, middle, buffer, hasher)
 }
 
 // Writes the entry of a piece that is longer than its first part, which is given by its length, and has at most 4,096 bytes.

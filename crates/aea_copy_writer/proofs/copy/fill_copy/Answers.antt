@@ -20,8 +20,7 @@ returns-clause-filled g c = λ told pieces can.
     let put = c.in_ok-write.ensures.written told in
     let same : second.files 0 ≡ first.files 0 = put.others 0 (λ (no : 0 ≡ file). omega (arith, no, copy_some file c.requires.file)) in
     let written = rw c.in-Some.is at c.in_ok-written.ensures.written in
-    let has = written told pieces (subst (HasPieces true pieces 0 c.args.until) (sym same) can.has) (omega (arith, can.within, length-copied pieces)) in
-    (
+    let has = written told pieces (subst (HasPieces true pieces 0 c.args.until) (sym same) can.has) (omega (arith, can.within, length-copied pieces)) in (
       record { gate = omega (arith, has.place, length-copied pieces); link = has.last },
       ap (λ (d : Files). d file) (c.in_ok-sync.ensures.contents told) ∙ closed_copy pieces (first.files file) (second.files file) (third.files file) can.some (c.requires.begun told) put.here has.step.here,
     )

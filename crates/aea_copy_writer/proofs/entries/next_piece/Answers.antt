@@ -18,7 +18,7 @@ returns-clause-found g c = λ tells piece others has.
     let read = first_read piece c.read_part.new.part file c.args.at (some_bytes (eqb c.args.at 0) piece shaped) (first_there (eqb c.args.at 0) piece others c.args.at c.args.until file has) (c.in_ok-read_part.ensures.whole c.if-not-branch.false tells) in
     let size : c.if-at-eq0.len ≡ length piece =
     elim c.if-at-eq0.branch [
-      then-at-eq0 w ↦ len_read c.args.at c.if-at-eq0.len piece c.read_part.new.part shaped read (λ is. w.len-is) (λ other. absurd (other w.if-at-eq0.true))
-    | else-at-eq0 w ↦ len_read c.args.at c.if-at-eq0.len piece c.read_part.new.part shaped read (λ is. absurd (w.if-at-eq0.false is)) (λ other. w.len-is ∙ ap (λ (n : ℕ). n + 6) (w.from.ensures ∙ w.number_in.ensures ∙ ap (from_be_bytes w32) (take_all 4 (drop 2 c.read_part.new.part) (omega (arith, length-drop 2 c.read_part.new.part, c.read_part.auto.part)))))
+      | then-at-eq0 w ↦ len_read c.args.at c.if-at-eq0.len piece c.read_part.new.part shaped read (λ is. w.len-is) (λ other. absurd (other w.if-at-eq0.true))
+      | else-at-eq0 w ↦ len_read c.args.at c.if-at-eq0.len piece c.read_part.new.part shaped read (λ is. absurd (w.if-at-eq0.false is)) (λ other. w.len-is ∙ ap (λ (n : ℕ). n + 6) (w.from.ensures ∙ w.number_in.ensures ∙ ap (from_be_bytes w32) (take_all 4 (drop 2 c.read_part.new.part) (omega (arith, length-drop 2 c.read_part.new.part, c.read_part.auto.part)))))
     ] in
     c.ok.ensures.value ∙ as_u32 c.try_from.result c.if-at-eq0.len c.try_from.ensures (omega (arith, size, shaped.short)) ∙ ap Some size

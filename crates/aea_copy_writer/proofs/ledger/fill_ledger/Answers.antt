@@ -113,8 +113,7 @@ returns-clause-filled g c = λ told pieces good is.
     let third = g.D.Disk.state c.write_through.new.disk in
     let on = c.pieces.invariant.on told pieces good is in
     let all : pieces ≡ on.done =
-    on.split ∙ all_done on.done on.more c.pieces.at.text (subst (ArePieces true) on.split good.valid) on.text (omega (arith, c.pieces-test.false, is, ap (λ (l : List (List ℕ)). length (text_of l)) on.split)) in
-    (
+    on.split ∙ all_done on.done on.more c.pieces.at.text (subst (ArePieces true) on.split good.valid) on.text (omega (arith, c.pieces-test.false, is, ap (λ (l : List (List ℕ)). length (text_of l)) on.split)) in (
       refl,
       fill_end pieces c.args.until (first.files 0) (second.files 0) (third.files 0) (omega (arith, text_some pieces good.valid good.some)) is (c.requires.begun told)
           (subst (λ (l : List (List ℕ)). Holds 1 (drop 1 (text_of l)) (first.files 0) (second.files 0)) (sym all) on.step.here) (c.in_ok-write_through.ensures.written told).here,

@@ -1,0 +1,4 @@
+pub mod Format
+pub mod Grammar
+pub mod Laws
+pub mod Kept

@@ -1,0 +1,4 @@
+mod Taking
+mod Parting
+mod Turns
+mod Comparing

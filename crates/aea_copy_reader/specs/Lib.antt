@@ -1,0 +1,4 @@
+pub mod Heads
+pub mod Taking
+pub mod Judging
+pub mod Comparing

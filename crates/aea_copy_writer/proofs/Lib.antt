@@ -1,0 +1,11 @@
+pub mod Stretches
+pub mod Renewing
+pub mod Writing
+pub mod Buffers
+pub mod Joining
+pub mod Found
+pub mod Pieces
+pub mod Advancing
+pub mod Made
+pub mod Moving
+pub mod Filling

@@ -1,0 +1,5 @@
+pub mod Changes
+pub mod Anew
+pub mod Entries
+pub mod Parts
+pub mod Pieces

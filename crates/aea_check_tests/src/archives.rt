@@ -52,6 +52,48 @@ pub fn verdict_of<D: Disk>(
     told_of(alloc, &left)
 }
 
+/// Whether a run said this, on its output or on its errors, and ended with the status that goes with it.
+pub fn tells(left: &Left, want: &str) -> bool {
+    if want.starts_with("refused: ") {
+        left.is(Status::Refused, "", want)
+    } else if want == "accepted\n" {
+        left.is(Status::Done, want, "")
+    } else {
+        left.is(Status::Damage, want, "")
+    }
+}
+
+/// Whether `verify` says this of the report.
+pub fn judges<D: Disk>(
+    alloc: Global,
+    disk: &mut D,
+    report: &str,
+    want: &str,
+) -> Result<bool, AllocError> {
+    let left = run_verify(alloc, disk, report.as_bytes())?;
+    Ok(tells(&left, want))
+}
+
+/// Whether a scrub ends with this status and prints this.
+pub fn scrubs<D: Disk>(
+    alloc: Global,
+    disk: &mut D,
+    status: Status,
+    out: &str,
+) -> Result<bool, AllocError> {
+    let left = run_over(alloc, "scrub", disk, 999)?;
+    Ok(left.is(status, out, ""))
+}
+
+/// The report of a repair that ends with this status.
+pub fn report_with<D: Disk>(alloc: Global, disk: &mut D, status: Status) -> Result<String, Fail> {
+    let left = run_over(alloc, "repair", disk, 16_384)?;
+    if left.status != status || !left.err.bytes().is_empty() {
+        return Err(Fail::new("another status"));
+    }
+    Ok(String::from_str(alloc, text_of(left.out.bytes())?)?)
+}
+
 /// The blocks that a scrub of this archive names.
 pub fn damaged_blocks<D: Disk>(alloc: Global, disk: &mut D) -> Result<Vec<BlockId>, Fail> {
     let left = run_over(alloc, "scrub", disk, 65_536)?;

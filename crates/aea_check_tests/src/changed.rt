@@ -167,12 +167,26 @@ fn a_fence(alloc: Global) -> Result<Repaired, Fail> {
     make_repaired(alloc, disk, lattice.grown(4).ok_or("no growth")?)
 }
 
+// The names of these three.
+fn names() -> [&'static str; 3] {
+    ["two codewords", "a site", "a fence"]
+}
+
+// The archive of this name.
+fn named(alloc: Global, name: &str) -> Result<Repaired, Fail> {
+    match name {
+        "two codewords" => two_codewords(alloc),
+        "a site" => a_site(alloc),
+        _ => a_fence(alloc),
+    }
+}
+
 #[test]
 fn lines_that_are_moved_are_judged_plainly(rt: HostRuntime) -> Result<(), Fail> {
-    let alloc = rt.alloc();
-    for mut archive in [two_codewords(alloc)?, a_site(alloc)?, a_fence(alloc)?] {
-        let found = first_moved(alloc, &mut archive)?;
-        assert!(rt; said(&found) == "none");
+    for name in names() {
+        let mut archive = named(rt.alloc(), name)?;
+        let found = first_moved(rt.alloc(), &mut archive)?;
+        assert!(rt; said(&found) == "none", "{name}");
     }
     Ok(())
 }
@@ -205,27 +219,36 @@ fn lines_around_a_fence_that_are_replaced_are_judged_plainly(rt: HostRuntime) ->
 
 #[test]
 fn counts_are_judged_plainly(rt: HostRuntime) -> Result<(), Fail> {
-    let alloc = rt.alloc();
-    for mut archive in [two_codewords(alloc)?, a_site(alloc)?, a_fence(alloc)?] {
-        let found = first_miscounted(alloc, &mut archive)?;
-        assert!(rt; said(&found) == "none");
+    for name in names() {
+        let mut archive = named(rt.alloc(), name)?;
+        let found = first_miscounted(rt.alloc(), &mut archive)?;
+        assert!(rt; said(&found) == "none", "{name}");
     }
     Ok(())
+}
+
+// The first difference where this block is damaged, too.
+fn first_damaged_again(
+    alloc: Global,
+    archive: &mut Repaired,
+    number: u32,
+) -> Result<Option<String>, Fail> {
+    spoil_cell(&mut archive.disk, 3, 64, number, 20)?;
+    archive.damaged = damaged_blocks(alloc, &mut archive.disk)?;
+    let counts = String::from_str(alloc, archive.counts.as_str())?;
+    let lines = String::from_str(alloc, archive.lines.as_str())?;
+    difference(alloc, archive, counts.as_str(), lines.as_str())
 }
 
 #[test]
 fn reports_of_an_archive_that_is_damaged_again_are_judged_plainly(
     rt: HostRuntime,
 ) -> Result<(), Fail> {
-    let alloc = rt.alloc();
-    for mut archive in [two_codewords(alloc)?, a_site(alloc)?] {
-        let counts = String::from_str(alloc, archive.counts.as_str())?;
-        let lines = String::from_str(alloc, archive.lines.as_str())?;
+    for name in ["two codewords", "a site"] {
+        let mut archive = named(rt.alloc(), name)?;
         for number in [4u32, 7, 13, 20] {
-            spoil_cell(&mut archive.disk, 3, 64, number, 20)?;
-            archive.damaged = damaged_blocks(alloc, &mut archive.disk)?;
-            let found = difference(alloc, &mut archive, counts.as_str(), lines.as_str())?;
-            assert!(rt; said(&found) == "none", "{number}");
+            let found = first_damaged_again(rt.alloc(), &mut archive, number)?;
+            assert!(rt; said(&found) == "none", "{name}, {number}");
         }
     }
     Ok(())

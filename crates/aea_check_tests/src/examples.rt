@@ -1,12 +1,18 @@
 //! Worked examples of checks and of explanations.
 
-use crate::archives::{archive_of, run_explain, run_verify, said, verdict_of};
+use crate::archives::{archive_of, judges, report_with, run_explain, run_verify, scrubs, tells};
 use aea_cli::Status;
 use aea_disk::{Disk, SureDisk};
-use aea_runs::{run_over, run_put, text_of};
+use aea_runs::{run_over, run_put};
 use aea_test_helpers::{NINETEEN, TWO_CODEWORDS, report_of, shorten, some_bytes, spoil_cell};
-use std::alloc::Global;
+use std::alloc::{AllocError, Global};
 use std::test::Fail;
+
+// Whether the report is accepted, read to its end, and this is flushed.
+fn is_accepted<D: Disk>(alloc: Global, disk: &mut D, report: &str) -> Result<bool, AllocError> {
+    let left = run_verify(alloc, disk, report.as_bytes())?;
+    Ok(tells(&left, "accepted\n") && left.unread == 0 && left.out.flushed == 9)
+}
 
 #[test]
 fn a_repaired_site_of_four_is_accepted(rt: HostRuntime) -> Result<(), Fail> {
@@ -14,19 +20,14 @@ fn a_repaired_site_of_four_is_accepted(rt: HostRuntime) -> Result<(), Fail> {
     let bytes = some_bytes(alloc, 640, 0)?;
     let mut disk = archive_of(alloc, "create 3 2 5 16 4", bytes.as_slice())?;
     shorten(&mut disk, 2, 0)?;
-    let left = run_over(alloc, "repair", &mut disk, 4096)?;
-    assert!(rt; left.status == Status::Done);
-    let report = text_of(left.out.bytes())?;
+    let report = report_with(alloc, &mut disk, Status::Done)?;
+    let report = report.as_str();
     assert!(rt; report.contains("\ncounts 40 40 0 0\npeeled h1\npeeled d2\npeeled l3\n"));
-    let left = run_verify(alloc, &mut disk, report.as_bytes())?;
-    assert!(rt; left.is(Status::Done, "accepted\n", ""));
-    assert!(rt; left.unread == 0 && left.out.flushed == 9);
-    let left = run_over(alloc, "scrub", &mut disk, 99)?;
-    assert!(rt; left.out.bytes() == "total 160 damaged 0\n".as_bytes());
+    assert!(rt; is_accepted(alloc, &mut disk, report)?);
+    assert!(rt; scrubs(alloc, &mut disk, Status::Done, "total 160 damaged 0\n")?);
     // once the site is gone again, its first block is damaged still
     shorten(&mut disk, 2, 0)?;
-    let told = verdict_of(alloc, &mut disk, report)?;
-    assert!(rt; said(&told) == "rejected 5 still-bad h1\n");
+    assert!(rt; judges(alloc, &mut disk, report, "rejected 5 still-bad h1\n")?);
     Ok(())
 }
 
@@ -41,7 +42,7 @@ fn nineteen(alloc: Global) -> Result<SureDisk, Fail> {
 }
 
 // What is changed in the report, by what, and what is said of it.
-const CHANGES: [(&str, &str, &str); 23] = [
+const CHANGES: &[(&str, &str, &str)] = &[
     ("d1 by 1 3 4 6", "d1 by 1 3 4 6", "accepted\n"),
     (
         "d1 by 1 3 4 6",
@@ -107,38 +108,42 @@ const CHANGES: [(&str, &str, &str); 23] = [
     ("aea-report 1", "aea-report 2", "refused: bad line 1\n"),
 ];
 
+// A function, so that the proof of the test does not carry the table.
+fn changes() -> &'static [(&'static str, &'static str, &'static str)] {
+    CHANGES
+}
+
+// Whether this is said of the report in which a text is changed.
+fn is_said(
+    alloc: Global,
+    disk: &mut SureDisk,
+    report: &str,
+    change: (&str, &str),
+    told: &str,
+) -> Result<bool, Fail> {
+    let (old, new) = change;
+    let (before, after) = report.split_once(old).ok_or(old)?;
+    let changed = format!(in alloc; "{before}{new}{after}")?;
+    Ok(judges(alloc, disk, changed.as_str(), told)?)
+}
+
 #[test]
 fn a_report_of_two_codewords_is_judged(rt: HostRuntime) -> Result<(), Fail> {
     let alloc = rt.alloc();
     let mut disk = nineteen(alloc)?;
     let want = report_of(alloc, &mut disk, "2 2 2 11", TWO_CODEWORDS)?;
-    let left = run_over(alloc, "repair", &mut disk, 4096)?;
-    assert!(rt; left.out.bytes() == want.as_str().as_bytes());
-    for (old, new, told) in CHANGES {
-        let (before, after) = want.as_str().split_once(old).ok_or(old)?;
-        let report = format!(in alloc; "{before}{new}{after}")?;
-        let answer = verdict_of(alloc, &mut disk, report.as_str())?;
-        assert!(rt; said(&answer) == told, "{old}: {new}");
+    let report = report_with(alloc, &mut disk, Status::Damage)?;
+    assert!(rt; report.as_str() == want.as_str());
+    for (old, new, told) in changes() {
+        let is_so = is_said(alloc, &mut disk, report.as_str(), (old, new), told)?;
+        assert!(rt; is_so, "{old}: {new}");
     }
     Ok(())
 }
 
-#[test]
-fn reports_without_a_seal_and_cut_ones_are_told(rt: HostRuntime) -> Result<(), Fail> {
-    let alloc = rt.alloc();
-    let mut disk = nineteen(alloc)?;
-    let _repaired = run_over(alloc, "repair", &mut disk, 4096)?;
-    let report = report_of(alloc, &mut disk, "2 2 2 11", TWO_CODEWORDS)?;
-    let drilled = format!(in alloc;
-        "aea-report 1\nlattice 2 2 2 11\nledger none\n{TWO_CODEWORDS}"
-    )?;
-    let answer = verdict_of(alloc, &mut disk, drilled.as_str())?;
-    assert!(rt; said(&answer) == "rejected 3 other-archive\n");
-    // cut in the middle of line 7
-    let (first, _rest) = report.as_str().split_once("h1 by 1 3").ok_or("no line")?;
-    let cut = format!(in alloc; "{first}h1 by 1 3 4 6\nlost r1 b")?;
-    for (text, told) in [
-        (cut.as_str(), "refused: bad line 7\n"),
+// Reports that are cut.
+fn cuts() -> [(&'static str, &'static str); 4] {
+    [
         ("", "refused: bad line 1\n"),
         ("aea-report 1", "refused: bad line 1\n"),
         ("aea-report 1\n", "refused: bad line 2\n"),
@@ -146,54 +151,103 @@ fn reports_without_a_seal_and_cut_ones_are_told(rt: HostRuntime) -> Result<(), F
             "aea-report 1\nlattice 2 2 2 11\nledger none\n",
             "refused: bad line 4\n",
         ),
-    ] {
-        let answer = verdict_of(alloc, &mut disk, text)?;
-        assert!(rt; said(&answer) == told, "{text}");
+    ]
+}
+
+// A report that is cut in the middle of line 7.
+fn cut_report(alloc: Global, disk: &mut SureDisk) -> Result<String, Fail> {
+    let report = report_of(alloc, disk, "2 2 2 11", TWO_CODEWORDS)?;
+    let (first, _rest) = report.as_str().split_once("h1 by 1 3").ok_or("no line")?;
+    let cut = format!(in alloc; "{first}h1 by 1 3 4 6\nlost r1 b")?;
+    Ok(cut)
+}
+
+#[test]
+fn reports_without_a_seal_and_cut_ones_are_told(rt: HostRuntime) -> Result<(), Fail> {
+    let alloc = rt.alloc();
+    let mut disk = nineteen(alloc)?;
+    let _repaired = run_over(alloc, "repair", &mut disk, 4096)?;
+    let drilled = format!(in alloc;
+        "aea-report 1\nlattice 2 2 2 11\nledger none\n{TWO_CODEWORDS}"
+    )?;
+    let other = "rejected 3 other-archive\n";
+    assert!(rt; judges(alloc, &mut disk, drilled.as_str(), other)?);
+    let cut = cut_report(alloc, &mut disk)?;
+    assert!(rt; judges(alloc, &mut disk, cut.as_str(), "refused: bad line 7\n")?);
+    for (text, told) in cuts() {
+        assert!(rt; judges(alloc, &mut disk, text, told)?, "{text}");
     }
     Ok(())
 }
 
 // Whether the first site of an archive of one node is gone, the lines of a report, and what is said of it.
-const OF_ONE_NODE: [(bool, &str, &str); 8] = [
-    (true, "counts 0 0 0 0\n", "rejected 5 missing d1\n"),
-    (
-        true,
-        "counts 1 1 0 0\npeeled d1\n",
-        "rejected 5 still-bad d1\n",
-    ),
-    (
-        true,
-        "counts 1 0 0 1\nlost d1 by 1\n",
-        "rejected 5 word-touches h1\n",
-    ),
-    (
-        false,
-        "counts 1 0 0 1\nlost d1 by 1\n",
-        "rejected 5 not-damaged d1\n",
-    ),
-    (
-        false,
-        "counts 2 1 0 0\npeeled d1\n",
-        "rejected 4 wrong-count\n",
-    ),
-    (false, "counts 1 1 0 0\npeeled d1\n", "accepted\n"),
-    (false, "counts 1 0 1 0\nsolved l1\n", "accepted\n"),
-    (false, "counts 0 0 0 0\n", "accepted\n"),
-];
+fn of_one_node() -> [(bool, &'static str, &'static str); 8] {
+    [
+        (true, "counts 0 0 0 0\n", "rejected 5 missing d1\n"),
+        (
+            true,
+            "counts 1 1 0 0\npeeled d1\n",
+            "rejected 5 still-bad d1\n",
+        ),
+        (
+            true,
+            "counts 1 0 0 1\nlost d1 by 1\n",
+            "rejected 5 word-touches h1\n",
+        ),
+        (
+            false,
+            "counts 1 0 0 1\nlost d1 by 1\n",
+            "rejected 5 not-damaged d1\n",
+        ),
+        (
+            false,
+            "counts 2 1 0 0\npeeled d1\n",
+            "rejected 4 wrong-count\n",
+        ),
+        (false, "counts 1 1 0 0\npeeled d1\n", "accepted\n"),
+        (false, "counts 1 0 1 0\nsolved l1\n", "accepted\n"),
+        (false, "counts 0 0 0 0\n", "accepted\n"),
+    ]
+}
+
+// Whether this is said of a report with these lines.
+fn is_judged(alloc: Global, is_gone: bool, lines: &str, told: &str) -> Result<bool, Fail> {
+    let mut disk = archive_of(alloc, "create 3 2 5 64 4", b"abc")?;
+    if is_gone {
+        shorten(&mut disk, 1, 0)?;
+    }
+    judges_lines(alloc, &mut disk, "3 2 5 1", lines, told)
+}
+
+// Whether this is said of a report of the archive with these numbers and lines.
+fn judges_lines(
+    alloc: Global,
+    disk: &mut SureDisk,
+    numbers: &str,
+    lines: &str,
+    told: &str,
+) -> Result<bool, Fail> {
+    let report = report_of(alloc, disk, numbers, lines)?;
+    Ok(judges(alloc, disk, report.as_str(), told)?)
+}
 
 #[test]
 fn reports_of_one_node_are_judged(rt: HostRuntime) -> Result<(), Fail> {
-    let alloc = rt.alloc();
-    for (is_gone, lines, told) in OF_ONE_NODE {
-        let mut disk = archive_of(alloc, "create 3 2 5 64 4", b"abc")?;
-        if is_gone {
-            shorten(&mut disk, 1, 0)?;
-        }
-        let report = report_of(alloc, &mut disk, "3 2 5 1", lines)?;
-        let answer = verdict_of(alloc, &mut disk, report.as_str())?;
-        assert!(rt; said(&answer) == told, "{lines}");
+    for (is_gone, lines, told) in of_one_node() {
+        assert!(rt; is_judged(rt.alloc(), is_gone, lines, told)?, "{lines}");
     }
     Ok(())
+}
+
+// Puts a fence and one more object after a lost node. It says whether the repair's report ends so then, and is accepted.
+fn is_accepted_later(alloc: Global, disk: &mut SureDisk, lines: &str) -> Result<bool, Fail> {
+    let _fenced = run_over(alloc, "fence", disk, 99)?;
+    let long = disk.len(0)?;
+    let _stored = run_put(alloc, disk, "b", b"abc")?;
+    let report = report_with(alloc, disk, Status::Damage)?;
+    let report = report.as_str();
+    let is_so = long == 149 && report.ends_with(lines);
+    Ok(is_so && judges(alloc, disk, report, "accepted\n")?)
 }
 
 #[test]
@@ -203,83 +257,100 @@ fn a_report_of_what_is_lost_before_a_fence_is_accepted(rt: HostRuntime) -> Resul
     shorten(&mut disk, 1, 0)?;
     let lines = "counts 2 0 0 2\nlost d1 by 1\nlost h1 by 1\n";
     let first = report_of(alloc, &mut disk, "1 1 0 1", lines)?;
-    let answer = verdict_of(alloc, &mut disk, first.as_str())?;
-    assert!(rt; said(&answer) == "accepted\n");
-    let _fenced = run_over(alloc, "fence", &mut disk, 99)?;
-    assert!(rt; disk.len(0) == Ok(149));
-    let _stored = run_put(alloc, &mut disk, "b", b"abc")?;
-    let left = run_over(alloc, "repair", &mut disk, 999)?;
-    assert!(rt; left.status == Status::Damage);
-    let report = text_of(left.out.bytes())?;
-    assert!(rt; report.ends_with(lines));
-    let answer = verdict_of(alloc, &mut disk, report)?;
-    assert!(rt; said(&answer) == "accepted\n");
+    let first = first.as_str();
+    assert!(rt; judges(alloc, &mut disk, first, "accepted\n")?);
+    assert!(rt; is_accepted_later(alloc, &mut disk, lines)?);
     // the report from before the fence is that of another archive, and so is one without the second node
-    let answer = verdict_of(alloc, &mut disk, first.as_str())?;
-    assert!(rt; said(&answer) == "rejected 2 other-archive\n");
-    let last = report_of(
-        alloc,
-        &mut disk,
-        "1 1 0 2",
-        "counts 1 0 0 1\nlost d1 by 1 2\n",
-    )?;
-    let answer = verdict_of(alloc, &mut disk, last.as_str())?;
-    assert!(rt; said(&answer) == "rejected 5 word-touches d2\n");
+    assert!(rt; judges(alloc, &mut disk, first, "rejected 2 other-archive\n")?);
+    let wrong = "counts 1 0 0 1\nlost d1 by 1 2\n";
+    let told = "rejected 5 word-touches d2\n";
+    assert!(rt; judges_lines(alloc, &mut disk, "1 1 0 2", wrong, told)?);
     Ok(())
 }
 
 // A block, the status, and what is printed of it.
-const EXPLANATIONS: [(&str, Status, &str); 9] = [
-    (
-        "d5",
-        Status::Done,
-        "damaged d5\nsum h1 r1 h3 r3 h4 r4 h5 h6 r6\n",
-    ),
-    ("d1", Status::Damage, "damaged d1\nword 1 3 4 6\n"),
-    ("d2", Status::Done, "intact d2\nsum h2\n"),
-    ("d11", Status::Damage, "damaged d11\nword 8 9 10 11\n"),
-    ("d12", Status::Refused, "refused: bad block\n"),
-    ("l1", Status::Refused, "refused: bad block\n"),
-    ("d0", Status::Refused, "refused: bad block\n"),
-    ("", Status::Refused, "refused: bad block\n"),
-    ("D1", Status::Refused, "refused: bad block\n"),
-];
+fn explanations() -> [(&'static str, Status, &'static str); 9] {
+    [
+        (
+            "d5",
+            Status::Done,
+            "damaged d5\nsum h1 r1 h3 r3 h4 r4 h5 h6 r6\n",
+        ),
+        ("d1", Status::Damage, "damaged d1\nword 1 3 4 6\n"),
+        ("d2", Status::Done, "intact d2\nsum h2\n"),
+        ("d11", Status::Damage, "damaged d11\nword 8 9 10 11\n"),
+        ("d12", Status::Refused, "refused: bad block\n"),
+        ("l1", Status::Refused, "refused: bad block\n"),
+        ("d0", Status::Refused, "refused: bad block\n"),
+        ("", Status::Refused, "refused: bad block\n"),
+        ("D1", Status::Refused, "refused: bad block\n"),
+    ]
+}
+
+// Whether this is said of the block, with this status, and flushed, and nothing is read.
+fn is_explained(
+    alloc: Global,
+    disk: &mut SureDisk,
+    block: &str,
+    status: Status,
+    told: &str,
+) -> Result<bool, AllocError> {
+    let left = run_explain(alloc, disk, block)?;
+    let (out, err) = if status == Status::Refused {
+        ("", told)
+    } else {
+        (told, "")
+    };
+    Ok(left.is(status, out, err) && left.unread == 6 && left.out.flushed == out.len())
+}
 
 #[test]
 fn blocks_are_explained(rt: HostRuntime) -> Result<(), Fail> {
     let alloc = rt.alloc();
     let mut disk = nineteen(alloc)?;
-    for (block, status, told) in EXPLANATIONS {
-        let left = run_explain(alloc, &mut disk, block)?;
-        let (out, err) = if status == Status::Refused {
-            ("", told)
-        } else {
-            (told, "")
-        };
-        assert!(rt; left.is(status, out, err), "{block}");
+    for (block, status, told) in explanations() {
         assert!(rt;
-            left.unread == 6 && left.out.flushed == out.len(),
+            is_explained(alloc, &mut disk, block, status, told)?,
             "{block}"
         );
     }
     Ok(())
 }
 
-#[test]
-fn the_last_that_stands_for_its_node_is_a_word(rt: HostRuntime) -> Result<(), Fail> {
-    let alloc = rt.alloc();
-    let mut disk = archive_of(alloc, "create 3 2 5 64 4", b"abc")?;
-    // each of the four blocks of the one node reveals the datum
-    for (gone, block, told) in [
-        (2u8, "d1", "intact d1\nsum r1\n"),
+// Sites that are lost one after another, and what is said of a block then: each of the four blocks of the one node reveals the
+// datum.
+fn losses() -> [(u8, &'static str, &'static str); 5] {
+    [
+        (2, "d1", "intact d1\nsum r1\n"),
         (3, "d1", "intact d1\nsum l1\n"),
         (4, "d1", "intact d1\nword 1\n"),
         (4, "h1", "damaged h1\nsum h1\n"),
         (1, "d1", "damaged d1\nword 1\n"),
-    ] {
-        shorten(&mut disk, gone, 0)?;
-        let left = run_explain(alloc, &mut disk, block)?;
-        assert!(rt; left.out.bytes() == told.as_bytes(), "{gone} {block}");
+    ]
+}
+
+// Whether this is printed of the block once this site is lost, too.
+fn is_printed(
+    alloc: Global,
+    disk: &mut SureDisk,
+    gone: u8,
+    block: &str,
+    told: &str,
+) -> Result<bool, Fail> {
+    shorten(disk, gone, 0)?;
+    let left = run_explain(alloc, disk, block)?;
+    Ok(left.out.bytes() == told.as_bytes() && left.err.bytes().is_empty())
+}
+
+#[test]
+fn the_last_that_stands_for_its_node_is_a_word(rt: HostRuntime) -> Result<(), Fail> {
+    let alloc = rt.alloc();
+    let mut disk = archive_of(alloc, "create 3 2 5 64 4", b"abc")?;
+    for (gone, block, told) in losses() {
+        assert!(rt;
+            is_printed(alloc, &mut disk, gone, block, told)?,
+            "{gone} {block}"
+        );
     }
     Ok(())
 }

@@ -13,20 +13,26 @@ use std::test::Fail;
 // blocks it has.
 type Row = (&'static str, bool, u32);
 
-const ONE_CLASS: [Row; 2] = [
-    ("create 1 1 0 16 4", false, 30),
-    ("create 1 1 0 16 4", true, 30),
-];
+fn one_class() -> [Row; 2] {
+    [
+        ("create 1 1 0 16 4", false, 30),
+        ("create 1 1 0 16 4", true, 30),
+    ]
+}
 
-const TWO_CLASSES: [Row; 2] = [
-    ("create 2 2 2 16 4", true, 45),
-    ("create 2 2 5 16 4", false, 45),
-];
+fn two_classes() -> [Row; 2] {
+    [
+        ("create 2 2 2 16 4", true, 45),
+        ("create 2 2 5 16 4", false, 45),
+    ]
+}
 
-const THREE_CLASSES: [Row; 2] = [
-    ("create 3 2 5 16 4", true, 60),
-    ("create 3 5 5 16 4", false, 60),
-];
+fn three_classes() -> [Row; 2] {
+    [
+        ("create 3 2 5 16 4", true, 60),
+        ("create 3 5 5 16 4", false, 60),
+    ]
+}
 
 // How many of a hundred cells are damaged.
 const PERCENTS: [u64; 5] = [0, 5, 30, 60, 90];
@@ -89,7 +95,7 @@ fn first_not_accepted(alloc: Global, row: Row, seed: u64) -> Result<Option<Strin
 
 #[test]
 fn reports_of_one_class_are_accepted(rt: HostRuntime) -> Result<(), Fail> {
-    for row in ONE_CLASS {
+    for row in one_class() {
         let found = first_not_accepted(rt.alloc(), row, 1)?;
         assert!(rt; said(&found) == "none");
     }
@@ -98,7 +104,7 @@ fn reports_of_one_class_are_accepted(rt: HostRuntime) -> Result<(), Fail> {
 
 #[test]
 fn reports_of_two_classes_are_accepted(rt: HostRuntime) -> Result<(), Fail> {
-    for row in TWO_CLASSES {
+    for row in two_classes() {
         let found = first_not_accepted(rt.alloc(), row, 2)?;
         assert!(rt; said(&found) == "none");
     }
@@ -107,7 +113,7 @@ fn reports_of_two_classes_are_accepted(rt: HostRuntime) -> Result<(), Fail> {
 
 #[test]
 fn reports_of_three_classes_are_accepted(rt: HostRuntime) -> Result<(), Fail> {
-    for row in THREE_CLASSES {
+    for row in three_classes() {
         let found = first_not_accepted(rt.alloc(), row, 3)?;
         assert!(rt; said(&found) == "none");
     }

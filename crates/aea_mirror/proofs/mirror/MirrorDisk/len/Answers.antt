@@ -1,0 +1,20 @@
+use Rattle.std.proofs.Common.{refl}
+use Rattle.std.proofs.Math.Logic.{∥∥₁_elim, ∥∥₁_prop}
+use Rattle.aea_mirror.proofs.Calls.{shown_time}
+use Rattle.aea_mirror.proofs.Guards.{guards_read}
+use Rattle.aea_mirror.proofs.mirror.MirrorDisk.len.Goals as goal
+
+pub invariant_of-self : goal.invariant_of-self
+invariant_of-self g c =
+    let m = c.args.self.now in
+    let s = g.D.Disk.state m.disk.now in
+    let t = g.D.Disk.state c.len.new.self in
+    record {
+      near = m.near;
+      guards = λ alive told. ∥∥₁_elim (m.guards alive told) ∥∥₁_prop (λ was. ∣ guards_read s t m.on m.end m.first m.second (c.len.ensures.contents told) c.len.ensures.crash c.len.ensures.time was ∣₁);
+    }
+
+pub returns-clause-time : goal.returns-clause-time
+returns-clause-time g c =
+    let m = c.args.self.now in
+    shown_time g.D.Disk.tells (g.D.Disk.state m.disk.now) (g.D.Disk.state c.len.new.self) (record { on = m.on; end = m.end; dead = m.dead; own = m.own }) (record { on = m.on; end = m.end; dead = m.dead; own = m.own }) refl c.len.ensures.cause.kept c.len.ensures.time

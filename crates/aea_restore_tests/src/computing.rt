@@ -113,7 +113,9 @@ fn are_computed(alloc: Global, numbers: &[u32], sums: usize) -> bool {
     let Some(mut disk) = damaged_archive(alloc, &WOVEN, BYTES.as_bytes(), numbers) else {
         return false;
     };
-    let count = numbers.len() as u32;
+    let Ok(count) = u32::try_from(numbers.len()) else {
+        return false;
+    };
     are_right(alloc, &mut disk, &mut whole, sums) && damaged(alloc, &mut disk) == Some(count)
 }
 

@@ -124,7 +124,10 @@ fn are_restored(alloc: Global, numbers: &[u32], lost: u32) -> bool {
     let Some(mut disk) = damaged_archive(alloc, &WOVEN, BYTES.as_bytes(), numbers) else {
         return false;
     };
-    is_restored(alloc, &mut disk, &mut whole, numbers.len() as u32, lost)
+    let Ok(count) = u32::try_from(numbers.len()) else {
+        return false;
+    };
+    is_restored(alloc, &mut disk, &mut whole, count, lost)
 }
 
 #[test]

@@ -102,12 +102,25 @@ fn is_repaired(alloc: Global, case: &Case, whole: &[Vec<u8>]) -> Result<bool, Fa
     let before = all_bytes(alloc, &mut disk)?;
     let scrubbed = run_over(alloc, "scrub", &mut disk, 99)?;
     let is_scrubbed = scrubbed.out.bytes() == case.scrubbed.as_bytes();
-    let (status, files, got) = if case.lines.contains("lost") {
-        (Status::Damage, before.as_slice(), b"".as_slice())
+    let is_lost = case.lines.contains("lost");
+    let is_told = if is_lost {
+        let files = before.as_slice();
+        repairs(
+            alloc,
+            &mut disk,
+            "3 2 5 1",
+            case.lines,
+            Status::Damage,
+            files,
+        )?
     } else {
-        (Status::Done, whole, b"abc".as_slice())
+        repairs(alloc, &mut disk, "3 2 5 1", case.lines, Status::Done, whole)?
     };
-    let is_told = repairs(alloc, &mut disk, "3 2 5 1", case.lines, status, files)?;
+    let got = if is_lost {
+        b"".as_slice()
+    } else {
+        b"abc".as_slice()
+    };
     Ok(is_scrubbed && is_told && gets(alloc, &mut disk, "a", got)?)
 }
 

@@ -46,7 +46,7 @@ fn words_beside_it_are_no_command(rt: HostRuntime) -> Result<(), Fail> {
 }
 
 // Bad ledgers: how many bytes of the ledger are kept, a byte that is then written, and the line.
-fn bad_ledgers() -> [(usize, u64, u8, &'static str); 5] {
+fn bad_ledgers() -> [(usize, u8, u8, &'static str); 5] {
     [
         (203, 9, 4, "refused: ledger bad at 9\n"),
         (202, 0, 1, "refused: ledger bad at 202\n"),
@@ -57,12 +57,12 @@ fn bad_ledgers() -> [(usize, u64, u8, &'static str); 5] {
 }
 
 // An archive whose first site is damaged, and whose ledger is bad so.
-fn with_bad_ledger(alloc: Global, end: usize, place: u64, value: u8) -> Result<SureDisk, Fail> {
+fn with_bad_ledger(alloc: Global, end: usize, place: u8, value: u8) -> Result<SureDisk, Fail> {
     let mut disk = archive_of_four(alloc, b"abc")?;
     let ledger = file_bytes(alloc, &mut disk, 0)?;
     spoil(&mut disk, 1, 20)?;
     fill_file(&mut disk, 0, ledger.as_slice().get(..end).ok_or("short")?)?;
-    disk.write(0, place, &[value])?;
+    disk.write(0, u64::from(place), &[value])?;
     Ok(disk)
 }
 

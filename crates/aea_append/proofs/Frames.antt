@@ -4,7 +4,7 @@ use Rattle.std.specs.Int.{w16, w64, from_be_bytes, to_be_bytes}
 use Rattle.std.specs.Io.KnownBytes.{Consumes, IsAtEnd}
 use Rattle.std.proofs.KnownBytes.{Consumes-trans}
 use Rattle.std.proofs.lemmas.Bool.{cases_lt}
-use Rattle.std.proofs.lemmas.List.{take_at, drop_at, take_all, length-take, get_or_past}
+use Rattle.std.proofs.lemmas.List.{take_at, drop_at, take_all, length-take, get_or_past, take-append-drop}
 use Rattle.std.proofs.lemmas.List.Elements.{All-get_or}
 use Rattle.aea_records.specs.TableLaws.{AreBytes}
 use Rattle.std.proofs.lemmas.Nat.{be_bytes_2, be_bytes_8}
@@ -74,7 +74,7 @@ behind_head left mid stream name size is taken =
     let some = told_rest left mid stream (frame_head name size) is taken in
     (some.0, some.1, ap length some.2 ∙ length-append (frame_head name size) some.0 ∙ omega (arith, length-head name size))
 
--- ---- what was read of a source whose bytes are known: two bytes, then a name, and then eight
+-- ---- what was read of a source whose bytes are known: two bytes, and then a name with eight bytes after it
 
 -- the source was at its end, if no byte was taken and it is there then
 pub end_before : (left rest : Option (List ℕ)) (bytes : List ℕ) → length bytes ≡ 0 → Consumes left rest bytes → IsAtEnd rest → IsAtEnd left
@@ -96,54 +96,57 @@ told_none s0 s1 stream two k long is first wide full number none =
     let l = told_length s0 s1 stream two k long is first wide full number in
     record { there = l.1; none = ⊎_elim (λ zero. inl (l.0 ∙ zero)) (λ more. inr (omega (arith, l.0, more))) none }
 
--- the source ended in the name
-pub told_cut_name : (s0 s1 s2 : Option (List ℕ)) (stream two name : List ℕ) (k j long : ℕ) → s0 ≡ Some stream → TakesFirst s0 s1 k two → length two ≡ 2 → 2 ≤ k → long ≡ from_be_bytes w16 two → 1 ≤ long → long ≤ 255
-    → TakesFirst s1 s2 j name → length name ≡ long → j < long → EndsInHead stream
-told_cut_name s0 s1 s2 stream two name k j long is first wide full number least most second size short =
+-- the name and the eight bytes after it are the two parts of what was read at once, also at the front of a longer buffer
+pub halves : (more rest : List ℕ) (long : ℕ) → length more ≡ long + 8
+    → (take long more ++ drop long more ≡ more) × (length (take long more) ≡ long) × (length (drop long more) ≡ 8) × (take long (more ++ rest) ≡ take long more) × (take 8 (drop long (more ++ rest)) ≡ drop long more)
+halves more rest long wide =
+    let both : take long more ++ drop long more ≡ more = take-append-drop long more in
+    let name : length (take long more) ≡ long = omega (arith, length-take long more, wide) in
+    let eight : length (drop long more) ≡ 8 = omega (arith, ap length both, length-append (take long more) (drop long more), name, wide) in
+    let all : more ++ rest ≡ take long more ++ (drop long more ++ rest) = ap (λ (l : List ℕ). l ++ rest) (sym both) ∙ append_assoc (take long more) (drop long more) rest in (
+      both,
+      name,
+      eight,
+      ap (take long) all ∙ take_at (take long more) (drop long more ++ rest) long name,
+      ap (λ (l : List ℕ). take 8 (drop long l)) all ∙ ap (take 8) (drop_at (take long more) (drop long more ++ rest) long name) ∙ take_at (drop long more) rest 8 eight,
+    )
+
+-- the source ended in the name, or in the length of the object after it
+pub told_cut : (s0 s1 s2 : Option (List ℕ)) (stream two more : List ℕ) (k j long : ℕ) → s0 ≡ Some stream → TakesFirst s0 s1 k two → length two ≡ 2 → 2 ≤ k → long ≡ from_be_bytes w16 two → 1 ≤ long → long ≤ 255
+    → TakesFirst s1 s2 j more → length more ≡ long + 8 → j < long + 8 → EndsInHead stream
+told_cut s0 s1 s2 stream two more k j long is first wide full number least most second size short =
     let l = told_length s0 s1 stream two k long is first wide full number in
     let some = told_full s0 s1 stream two k is first (omega (arith, wide, full)) in
-    let rest = told_short s1 s2 some.0 name j some.1 second (omega (arith, short, size)) in
+    let rest = told_short s1 s2 some.0 more j some.1 second (omega (arith, short, size)) in
     inr (has_name stream long l.1 l.0 least most, omega (arith, ap length some.2, length-append two some.0, wide, rest, short, l.0))
 
--- the source ended in the length of the object
-pub told_cut_size : (s0 s1 s2 s3 : Option (List ℕ)) (stream two name eight : List ℕ) (k j i long : ℕ) → s0 ≡ Some stream → TakesFirst s0 s1 k two → length two ≡ 2 → 2 ≤ k → long ≡ from_be_bytes w16 two → 1 ≤ long → long ≤ 255
-    → TakesFirst s1 s2 j name → length name ≡ long → long ≤ j → TakesFirst s2 s3 i eight → length eight ≡ 8 → i < 8 → EndsInHead stream
-told_cut_size s0 s1 s2 s3 stream two name eight k j i long is first wide full number least most second size all third eight_wide short =
-    let l = told_length s0 s1 stream two k long is first wide full number in
-    let some = told_full s0 s1 stream two k is first (omega (arith, wide, full)) in
-    let more = told_full s1 s2 some.0 name j some.1 second (omega (arith, all, size)) in
-    let rest = told_short s2 s3 more.0 eight i more.1 third (omega (arith, short, eight_wide)) in
-    inr (has_name stream long l.1 l.0 least most, omega (arith, ap length some.2, length-append two some.0, wide, ap length more.2, length-append name more.0, size, rest, short, l.0))
-
 -- the whole head was read
-pub told_whole : (s0 s1 s2 s3 : Option (List ℕ)) (stream two name eight : List ℕ) (k j i long size : ℕ) → s0 ≡ Some stream → TakesFirst s0 s1 k two → length two ≡ 2 → 2 ≤ k → long ≡ from_be_bytes w16 two → 1 ≤ long → long ≤ 255
-    → TakesFirst s1 s2 j name → length name ≡ long → long ≤ j → TakesFirst s2 s3 i eight → length eight ≡ 8 → 8 ≤ i → size ≡ from_be_bytes w64 eight
+pub told_whole : (s0 s1 s2 : Option (List ℕ)) (stream two name eight : List ℕ) (k j long size : ℕ) → s0 ≡ Some stream → TakesFirst s0 s1 k two → length two ≡ 2 → 2 ≤ k → long ≡ from_be_bytes w16 two → 1 ≤ long → long ≤ 255
+    → TakesFirst s1 s2 j (name ++ eight) → length name ≡ long → length eight ≡ 8 → long + 8 ≤ j → size ≡ from_be_bytes w64 eight
     → HasHead stream × (name ≡ frame_name stream) × (size ≡ object_length stream) × (long ≡ name_length stream)
-told_whole s0 s1 s2 s3 stream two name eight k j i long size is first wide full number least most second width all third eight_wide whole value =
+told_whole s0 s1 s2 stream two name eight k j long size is first wide full number least most second width eight_wide whole value =
     let l = told_length s0 s1 stream two k long is first wide full number in
     let some = told_full s0 s1 stream two k is first (omega (arith, wide, full)) in
-    let more = told_full s1 s2 some.0 name j some.1 second (omega (arith, all, width)) in
-    let rest = told_full s2 s3 more.0 eight i more.1 third (omega (arith, whole, eight_wide)) in
-    let two_more : stream ≡ two ++ (name ++ more.0) = some.2 ∙ ap (λ (l : List ℕ). two ++ l) more.2 in
-    let three_more : stream ≡ two ++ (name ++ (eight ++ rest.0)) = two_more ∙ ap (λ (l : List ℕ). two ++ (name ++ l)) rest.2 in
+    let rest = told_full s1 s2 some.0 (name ++ eight) j some.1 second (omega (arith, length-append name eight, width, eight_wide, whole)) in
+    let more : some.0 ≡ name ++ (eight ++ rest.0) = rest.2 ∙ append_assoc name eight rest.0 in
+    let all : stream ≡ two ++ (name ++ (eight ++ rest.0)) = some.2 ∙ ap (λ (l : List ℕ). two ++ l) more in
     let named : from_be_bytes w16 two ≡ length name = sym number ∙ sym width in
-    let there : length stream ≡ 10 + name_length stream + length rest.0 = omega (arith, ap length some.2, length-append two some.0, wide, ap length more.2, length-append name more.0, width, ap length rest.2, length-append eight rest.0, eight_wide, l.0) in (
+    let there : length stream ≡ 10 + name_length stream + length rest.0 = omega (arith, ap length some.2, length-append two some.0, wide, ap length more, length-append name (eight ++ rest.0), width, length-append eight rest.0, eight_wide, l.0) in (
       record { name = has_name stream long l.1 l.0 least most; there = omega (arith, there) },
-      frame_name_is stream two name more.0 wide named two_more,
-      value ∙ object_length_is stream two name eight rest.0 wide named eight_wide three_more,
+      frame_name_is stream two name (eight ++ rest.0) wide named all,
+      value ∙ object_length_is stream two name eight rest.0 wide named eight_wide all,
       sym l.0,
     )
 
 -- and taken
-pub taken_whole : (s0 s1 s2 s3 : Option (List ℕ)) (two name eight : List ℕ) (k j i long size : ℕ) → TakesFirst s0 s1 k two → length two ≡ 2 → ((n : ℕ) → get_or two n 0 < 256) → 2 ≤ k → long ≡ from_be_bytes w16 two
-    → TakesFirst s1 s2 j name → length name ≡ long → long ≤ j → TakesFirst s2 s3 i eight → length eight ≡ 8 → ((n : ℕ) → get_or eight n 0 < 256) → 8 ≤ i → size ≡ from_be_bytes w64 eight
-    → Consumes s0 s3 (frame_head name size)
-taken_whole s0 s1 s2 s3 two name eight k j i long size first wide bytes full number second width all third eight_wide more whole value =
+pub taken_whole : (s0 s1 s2 : Option (List ℕ)) (two name eight : List ℕ) (k j long size : ℕ) → TakesFirst s0 s1 k two → length two ≡ 2 → ((n : ℕ) → get_or two n 0 < 256) → 2 ≤ k → long ≡ from_be_bytes w16 two
+    → TakesFirst s1 s2 j (name ++ eight) → length name ≡ long → length eight ≡ 8 → long + 8 ≤ j → ((n : ℕ) → get_or eight n 0 < 256) → size ≡ from_be_bytes w64 eight
+    → Consumes s0 s2 (frame_head name size)
+taken_whole s0 s1 s2 two name eight k j long size first wide bytes full number second width eight_wide whole more value =
     let one : Consumes s0 s1 two = subst (Consumes s0 s1) (take_all k two (omega (arith, wide, full))) first.taken in
-    let next : Consumes s1 s2 name = subst (Consumes s1 s2) (take_all j name (omega (arith, width, all))) second.taken in
-    let last : Consumes s2 s3 eight = subst (Consumes s2 s3) (take_all i eight (omega (arith, eight_wide, whole))) third.taken in
-    subst (Consumes s0 s3) (head_is two name eight size wide bytes (width ∙ number) eight_wide more value)
-    (subst (Consumes s0 s3) (sym (append_assoc two name eight)) (Consumes-trans s0 s1 s3 two (name ++ eight) one (Consumes-trans s1 s2 s3 name eight next last)))
+    let rest : Consumes s1 s2 (name ++ eight) = subst (Consumes s1 s2) (take_all j (name ++ eight) (omega (arith, length-append name eight, width, eight_wide, whole))) second.taken in
+    subst (Consumes s0 s2) (head_is two name eight size wide bytes (width ∙ number) eight_wide more value)
+    (subst (Consumes s0 s2) (sym (append_assoc two name eight)) (Consumes-trans s0 s1 s2 two (name ++ eight) one rest))
 
 -- ---- what a stream begins with is one thing alone
 

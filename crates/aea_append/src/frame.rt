@@ -1,6 +1,7 @@
 //! The head of a frame.
 
-ghost use Rattle.std.specs.Prelude.{◌≡◌, ◌⊎◌, ◌+◌, ◌<◌, ◌≤◌, ◌^◌, true, false, ℕ, List, length, take, Some, IfOk, IfErr};
+ghost use Rattle.std.specs.Prelude.{◌≡◌, ◌⊎◌, ◌+◌, ◌<◌, ◌≤◌, ◌^◌, true, false, ℕ, List, length, take, drop, Some, IfOk, IfErr};
+ghost use Rattle.std.specs.Int.{w64, from_be_bytes};
 ghost use Rattle.std.specs.Io.KnownBytes.{Consumes, IsAtEnd};
 ghost use Rattle.aea_faults.specs.Faults.{HasCause};
 ghost use Rattle.aea_io.specs.Taken.{Counts};
@@ -37,14 +38,30 @@ fn is_no_length(long: usize) -> bool
     long == 0 || long > 255
 }
 
-/// Reads the head of a frame: the length of the name (2 bytes), the name into the buffer, and the length of the object
-/// (8 bytes), high bytes first. Where no name is so long, nothing more is read. `at` grows by the bytes that were taken.
+// The number in the 8 bytes from this place on, high bytes first.
+fn number_at(bytes: &[u8], at: usize) -> u64
+    requires { at + 8 ≤ length bytes.now }
+    ensures number { result ≡ from_be_bytes w64 (take 8 (drop at bytes.now)) }
+    ensures bytes { AreBytes (take 8 (drop at bytes.now)) }
+{
+    match bytes[at..].first_chunk::<8>() {
+        Some(chunk) => {
+            are_bytes(chunk);
+            u64::from_be_bytes(*chunk)
+        }
+        None => unreachable!(),
+    }
+}
+
+/// Reads the head of a frame: the length of the name (2 bytes), and then at once the name and the length of the object (8
+/// bytes), numbers with high bytes first. The buffer then begins with the name. Where no name is so long, nothing more is
+/// read. `at` grows by the bytes that were taken.
 pub(crate) fn read_head<S: Source>(
     source: &mut S,
     buffer: &mut [u8],
     at: &mut u64,
 ) -> Result<Head, ReadFault>
-    requires buffer { length buffer.old ≡ 255 }
+    requires buffer { length buffer.old ≡ 263 }
     requires count { at.old ≤ 2 ^ 63 }
     ensures told { (stream : List ℕ) → (S.state source.old).left ≡ Some stream → IfOk result (λ head. IsHeadOf stream head buffer.new) }
     ensures end { result ≡ Ok Head.End → IsAtEnd (S.state source.old).left × (at.new ≡ at.old) }
@@ -73,22 +90,14 @@ pub(crate) fn read_head<S: Source>(
     if is_no_length(long) {
         return Ok(Head::NoName);
     }
-    let named = match read_full(source, &mut buffer[..long], at) {
-        Ok(named) => named,
+    let end = long + 8;
+    let taken = match read_full(source, &mut buffer[..end], at) {
+        Ok(taken) => taken,
         Err(fault) => return Err(fault),
     };
-    if named < long {
+    if taken < end {
         return Ok(Head::Cut);
     }
-    let mut eight = [0; 8];
-    let sized = match read_full(source, &mut eight, at) {
-        Ok(sized) => sized,
-        Err(fault) => return Err(fault),
-    };
-    if sized < 8 {
-        return Ok(Head::Cut);
-    }
-    are_bytes(&eight);
-    let size = u64::from_be_bytes(eight);
+    let size = number_at(buffer, long);
     Ok(Head::Whole { long, size })
 }

@@ -294,7 +294,7 @@ pub fn ingest_next<D: Disk, S: Source>(
     // No write goes past the gate that ends the new ledger.
     ensures ledger { (name : List ℕ) (stored : Stored) → result ≡ Ok (Ingest.Stored name stored) → D.tells → length ((D.state disk.new).files 0) ≤ max (length ((D.state disk.old).files 0)) (next_end ledger.old.end (length name) (stored.nodes * (1 + ledger.old.shape.alpha)) + 1) }
 {
-    let mut buffer = [0; 255];
+    let mut buffer = [0; 263];
     match read_head(source, &mut buffer, at) {
         Ok(Head::Whole { long, size }) => {
             store_frame(alloc, ledger, disk, &buffer[..long], size, source, at, kept)

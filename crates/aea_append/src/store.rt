@@ -154,15 +154,8 @@ pub(crate) fn put_wanted<D: Disk, S: Source>(
     if is_short(want, length) {
         return Ok(None);
     }
-    match commit_object(
-        ledger,
-        disk,
-        name,
-        length,
-        digest,
-        nodes,
-        digests.as_slice(),
-    ) {
+    let digests = digests.as_slice();
+    match commit_object(ledger, disk, name, length, digest, nodes, digests) {
         Ok(()) => {
             *kept = Some(heads);
             Ok(Some(Stored {

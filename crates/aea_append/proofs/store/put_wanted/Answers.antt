@@ -98,15 +98,15 @@ returns-in-Ok-commit_object-clause-writes g c =
     let k = c.in-Ok.taken.length in
     let digest = c.in-Ok.taken.digest in
     let nodes = c.in-Ok.taken.nodes in
-    let digests = c.as_slice.result.now in
+    let digests = c.as_slice-digests.result.now in
     let counted : c.in-Ok.taken.nodes ≡ nodes_for c.args.ledger.now.shape c.in-Ok.taken.length = c.in-Ok.ensures.nodes in
-    let t : TakesObject g.D.Disk.tells c.args.ledger.now.shape c.args.ledger.now.lattice c.args.ledger.now.digests c.in-Ok.taken.length c.in-Ok.taken.digest (g.S.Source.state c.args.source.now).left (g.S.Source.state c.weave_object.new.source).left c.as_slice.result.now (g.D.Disk.state c.args.disk.now).files (g.D.Disk.state c.weave_object.new.disk).files c.in-Ok.taken.heads =
-    subst (λ (d : List (List ℕ)). TakesObject tells v.shape v.lattice v.digests k digest left rest d old.files mid.files c.in-Ok.taken.heads) (sym c.as_slice.ensures.value) c.in-Ok.ensures.took in
+    let t : TakesObject g.D.Disk.tells c.args.ledger.now.shape c.args.ledger.now.lattice c.args.ledger.now.digests c.in-Ok.taken.length c.in-Ok.taken.digest (g.S.Source.state c.args.source.now).left (g.S.Source.state c.weave_object.new.source).left c.as_slice-digests.result.now (g.D.Disk.state c.args.disk.now).files (g.D.Disk.state c.weave_object.new.disk).files c.in-Ok.taken.heads =
+    subst (λ (d : List (List ℕ)). TakesObject tells v.shape v.lattice v.digests k digest left rest d old.files mid.files c.in-Ok.taken.heads) (sym c.as_slice-digests.ensures.value) c.in-Ok.ensures.took in
     let stored : Stored = next_stored v name k digest nodes digests in
     let bad = c.weave_object.result ≡ Err DiskFault in
     let last : c.in-Ok.taken.heads.lattice.n ≡ c.args.ledger.now.lattice.n + c.in-Ok.taken.nodes = (let n = t.nodes in omega (arith, n, counted)) in
     let end : ℕ = v.end + length (entry (Object stored)) + 1 in
-    let long : length c.as_slice.result.now ≡ nodes_for c.args.ledger.now.shape (length t.bytes) * (1 + c.args.ledger.now.shape.alpha) =
+    let long : length c.as_slice-digests.result.now ≡ nodes_for c.args.ledger.now.shape (length t.bytes) * (1 + c.args.ledger.now.shape.alpha) =
     t.woven.digests_are.long ∙ ap (λ (n : ℕ). n * (1 + v.shape.alpha)) (let e : c.in-Ok.taken.heads.lattice.n - v.lattice.n ≡ nodes_for v.shape (length t.bytes) = (omega (arith, last, counted, ap (nodes_for v.shape) t.long)) in e) in
     let fits : v.lattice.n + nodes_for v.shape (length t.bytes) ≤ limit_when v.raised = (let f = c.in-Ok.ensures.fits in omega (arith, f, counted, ap (nodes_for v.shape) t.long)) in
     let size : next_end v.end (length name) (nodes_for v.shape (length t.bytes) * (1 + v.shape.alpha)) ≡ v.end + length (entry (Object stored)) = omega (arith, c.commit_object.ensures.size (ap length t.digest_is ∙ length-sha256 t.bytes), long) in
@@ -127,15 +127,15 @@ returns-in-Err-DiskFault-commit_object-clause-writes g c =
     let k = c.in-Ok.taken.length in
     let digest = c.in-Ok.taken.digest in
     let nodes = c.in-Ok.taken.nodes in
-    let digests = c.as_slice.result.now in
+    let digests = c.as_slice-digests.result.now in
     let counted : c.in-Ok.taken.nodes ≡ nodes_for c.args.ledger.now.shape c.in-Ok.taken.length = c.in-Ok.ensures.nodes in
-    let t : TakesObject g.D.Disk.tells c.args.ledger.now.shape c.args.ledger.now.lattice c.args.ledger.now.digests c.in-Ok.taken.length c.in-Ok.taken.digest (g.S.Source.state c.args.source.now).left (g.S.Source.state c.weave_object.new.source).left c.as_slice.result.now (g.D.Disk.state c.args.disk.now).files (g.D.Disk.state c.weave_object.new.disk).files c.in-Ok.taken.heads =
-    subst (λ (d : List (List ℕ)). TakesObject tells v.shape v.lattice v.digests k digest left rest d old.files mid.files c.in-Ok.taken.heads) (sym c.as_slice.ensures.value) c.in-Ok.ensures.took in
+    let t : TakesObject g.D.Disk.tells c.args.ledger.now.shape c.args.ledger.now.lattice c.args.ledger.now.digests c.in-Ok.taken.length c.in-Ok.taken.digest (g.S.Source.state c.args.source.now).left (g.S.Source.state c.weave_object.new.source).left c.as_slice-digests.result.now (g.D.Disk.state c.args.disk.now).files (g.D.Disk.state c.weave_object.new.disk).files c.in-Ok.taken.heads =
+    subst (λ (d : List (List ℕ)). TakesObject tells v.shape v.lattice v.digests k digest left rest d old.files mid.files c.in-Ok.taken.heads) (sym c.as_slice-digests.ensures.value) c.in-Ok.ensures.took in
     let stored : Stored = next_stored v name k digest nodes digests in
     let bad = c.weave_object.result ≡ Err DiskFault in
     let last : c.in-Ok.taken.heads.lattice.n ≡ c.args.ledger.now.lattice.n + c.in-Ok.taken.nodes = (let n = t.nodes in omega (arith, n, counted)) in
     let end : ℕ = v.end + length (entry (Object stored)) + 1 in
-    let long : length c.as_slice.result.now ≡ nodes_for c.args.ledger.now.shape (length t.bytes) * (1 + c.args.ledger.now.shape.alpha) =
+    let long : length c.as_slice-digests.result.now ≡ nodes_for c.args.ledger.now.shape (length t.bytes) * (1 + c.args.ledger.now.shape.alpha) =
     t.woven.digests_are.long ∙ ap (λ (n : ℕ). n * (1 + v.shape.alpha)) (let e : c.in-Ok.taken.heads.lattice.n - v.lattice.n ≡ nodes_for v.shape (length t.bytes) = (omega (arith, last, counted, ap (nodes_for v.shape) t.long)) in e) in
     let fits : v.lattice.n + nodes_for v.shape (length t.bytes) ≤ limit_when v.raised = (let f = c.in-Ok.ensures.fits in omega (arith, f, counted, ap (nodes_for v.shape) t.long)) in
     let size : next_end v.end (length name) (nodes_for v.shape (length t.bytes) * (1 + v.shape.alpha)) ≡ v.end + length (entry (Object stored)) = omega (arith, c.commit_object.ensures.size (ap length t.digest_is ∙ length-sha256 t.bytes), long) in
@@ -156,15 +156,15 @@ returns-in-Err-NoMemory-commit_object-clause-writes g c =
     let k = c.in-Ok.taken.length in
     let digest = c.in-Ok.taken.digest in
     let nodes = c.in-Ok.taken.nodes in
-    let digests = c.as_slice.result.now in
+    let digests = c.as_slice-digests.result.now in
     let counted : c.in-Ok.taken.nodes ≡ nodes_for c.args.ledger.now.shape c.in-Ok.taken.length = c.in-Ok.ensures.nodes in
-    let t : TakesObject g.D.Disk.tells c.args.ledger.now.shape c.args.ledger.now.lattice c.args.ledger.now.digests c.in-Ok.taken.length c.in-Ok.taken.digest (g.S.Source.state c.args.source.now).left (g.S.Source.state c.weave_object.new.source).left c.as_slice.result.now (g.D.Disk.state c.args.disk.now).files (g.D.Disk.state c.weave_object.new.disk).files c.in-Ok.taken.heads =
-    subst (λ (d : List (List ℕ)). TakesObject tells v.shape v.lattice v.digests k digest left rest d old.files mid.files c.in-Ok.taken.heads) (sym c.as_slice.ensures.value) c.in-Ok.ensures.took in
+    let t : TakesObject g.D.Disk.tells c.args.ledger.now.shape c.args.ledger.now.lattice c.args.ledger.now.digests c.in-Ok.taken.length c.in-Ok.taken.digest (g.S.Source.state c.args.source.now).left (g.S.Source.state c.weave_object.new.source).left c.as_slice-digests.result.now (g.D.Disk.state c.args.disk.now).files (g.D.Disk.state c.weave_object.new.disk).files c.in-Ok.taken.heads =
+    subst (λ (d : List (List ℕ)). TakesObject tells v.shape v.lattice v.digests k digest left rest d old.files mid.files c.in-Ok.taken.heads) (sym c.as_slice-digests.ensures.value) c.in-Ok.ensures.took in
     let stored : Stored = next_stored v name k digest nodes digests in
     let bad = c.weave_object.result ≡ Err DiskFault in
     let last : c.in-Ok.taken.heads.lattice.n ≡ c.args.ledger.now.lattice.n + c.in-Ok.taken.nodes = (let n = t.nodes in omega (arith, n, counted)) in
     let end : ℕ = v.end + length (entry (Object stored)) + 1 in
-    let long : length c.as_slice.result.now ≡ nodes_for c.args.ledger.now.shape (length t.bytes) * (1 + c.args.ledger.now.shape.alpha) =
+    let long : length c.as_slice-digests.result.now ≡ nodes_for c.args.ledger.now.shape (length t.bytes) * (1 + c.args.ledger.now.shape.alpha) =
     t.woven.digests_are.long ∙ ap (λ (n : ℕ). n * (1 + v.shape.alpha)) (let e : c.in-Ok.taken.heads.lattice.n - v.lattice.n ≡ nodes_for v.shape (length t.bytes) = (omega (arith, last, counted, ap (nodes_for v.shape) t.long)) in e) in
     let fits : v.lattice.n + nodes_for v.shape (length t.bytes) ≤ limit_when v.raised = (let f = c.in-Ok.ensures.fits in omega (arith, f, counted, ap (nodes_for v.shape) t.long)) in
     let size : next_end v.end (length name) (nodes_for v.shape (length t.bytes) * (1 + v.shape.alpha)) ≡ v.end + length (entry (Object stored)) = omega (arith, c.commit_object.ensures.size (ap length t.digest_is ∙ length-sha256 t.bytes), long) in
@@ -278,10 +278,10 @@ returns-in-Ok-commit_object-clause-stores g c =
     let k = c.in-Ok.taken.length in
     let digest = c.in-Ok.taken.digest in
     let nodes = c.in-Ok.taken.nodes in
-    let digests = c.as_slice.result.now in
+    let digests = c.as_slice-digests.result.now in
     let counted : c.in-Ok.taken.nodes ≡ nodes_for c.args.ledger.now.shape c.in-Ok.taken.length = c.in-Ok.ensures.nodes in
-    let t : TakesObject g.D.Disk.tells c.args.ledger.now.shape c.args.ledger.now.lattice c.args.ledger.now.digests c.in-Ok.taken.length c.in-Ok.taken.digest (g.S.Source.state c.args.source.now).left (g.S.Source.state c.weave_object.new.source).left c.as_slice.result.now (g.D.Disk.state c.args.disk.now).files (g.D.Disk.state c.weave_object.new.disk).files c.in-Ok.taken.heads =
-    subst (λ (d : List (List ℕ)). TakesObject tells v.shape v.lattice v.digests k digest left rest d old.files mid.files c.in-Ok.taken.heads) (sym c.as_slice.ensures.value) c.in-Ok.ensures.took in
+    let t : TakesObject g.D.Disk.tells c.args.ledger.now.shape c.args.ledger.now.lattice c.args.ledger.now.digests c.in-Ok.taken.length c.in-Ok.taken.digest (g.S.Source.state c.args.source.now).left (g.S.Source.state c.weave_object.new.source).left c.as_slice-digests.result.now (g.D.Disk.state c.args.disk.now).files (g.D.Disk.state c.weave_object.new.disk).files c.in-Ok.taken.heads =
+    subst (λ (d : List (List ℕ)). TakesObject tells v.shape v.lattice v.digests k digest left rest d old.files mid.files c.in-Ok.taken.heads) (sym c.as_slice-digests.ensures.value) c.in-Ok.ensures.took in
     let stored : Stored = next_stored v name k digest nodes digests in
     let bad = c.weave_object.result ≡ Err DiskFault in
     let last : c.in-Ok.taken.heads.lattice.n ≡ c.args.ledger.now.lattice.n + c.in-Ok.taken.nodes = (let n = t.nodes in omega (arith, n, counted)) in
@@ -342,7 +342,7 @@ returns-in-Ok-commit_object-clause-stores g c =
         padded = λ told.
             padded_both v.shape (IsBlockIn v.shape v.lattice.n) old.files mid.files new.files (c.weave_object.ensures.padded (λ e. (let is = c.in-Ok.is in cc)) told) (padded_commit v mid.files new.files (c.commit_object.ensures.writes.contents told));
         long = λ told.
-            let long : length c.as_slice.result.now ≡ nodes_for c.args.ledger.now.shape (length t.bytes) * (1 + c.args.ledger.now.shape.alpha) =
+            let long : length c.as_slice-digests.result.now ≡ nodes_for c.args.ledger.now.shape (length t.bytes) * (1 + c.args.ledger.now.shape.alpha) =
             t.woven.digests_are.long ∙ ap (λ (n : ℕ). n * (1 + v.shape.alpha)) (let e : c.in-Ok.taken.heads.lattice.n - v.lattice.n ≡ nodes_for v.shape (length t.bytes) = (omega (arith, last, counted, ap (nodes_for v.shape) t.long)) in e) in
             let fits : v.lattice.n + nodes_for v.shape (length t.bytes) ≤ limit_when v.raised = (let f = c.in-Ok.ensures.fits in omega (arith, f, counted, ap (nodes_for v.shape) t.long)) in
             let size : next_end v.end (length name) (nodes_for v.shape (length t.bytes) * (1 + v.shape.alpha)) ≡ v.end + length (entry (Object stored)) = omega (arith, c.commit_object.ensures.size (ap length t.digest_is ∙ length-sha256 t.bytes), long) in
@@ -366,10 +366,10 @@ returns-in-Err-DiskFault-commit_object-clause-stores g c =
     let k = c.in-Ok.taken.length in
     let digest = c.in-Ok.taken.digest in
     let nodes = c.in-Ok.taken.nodes in
-    let digests = c.as_slice.result.now in
+    let digests = c.as_slice-digests.result.now in
     let counted : c.in-Ok.taken.nodes ≡ nodes_for c.args.ledger.now.shape c.in-Ok.taken.length = c.in-Ok.ensures.nodes in
-    let t : TakesObject g.D.Disk.tells c.args.ledger.now.shape c.args.ledger.now.lattice c.args.ledger.now.digests c.in-Ok.taken.length c.in-Ok.taken.digest (g.S.Source.state c.args.source.now).left (g.S.Source.state c.weave_object.new.source).left c.as_slice.result.now (g.D.Disk.state c.args.disk.now).files (g.D.Disk.state c.weave_object.new.disk).files c.in-Ok.taken.heads =
-    subst (λ (d : List (List ℕ)). TakesObject tells v.shape v.lattice v.digests k digest left rest d old.files mid.files c.in-Ok.taken.heads) (sym c.as_slice.ensures.value) c.in-Ok.ensures.took in
+    let t : TakesObject g.D.Disk.tells c.args.ledger.now.shape c.args.ledger.now.lattice c.args.ledger.now.digests c.in-Ok.taken.length c.in-Ok.taken.digest (g.S.Source.state c.args.source.now).left (g.S.Source.state c.weave_object.new.source).left c.as_slice-digests.result.now (g.D.Disk.state c.args.disk.now).files (g.D.Disk.state c.weave_object.new.disk).files c.in-Ok.taken.heads =
+    subst (λ (d : List (List ℕ)). TakesObject tells v.shape v.lattice v.digests k digest left rest d old.files mid.files c.in-Ok.taken.heads) (sym c.as_slice-digests.ensures.value) c.in-Ok.ensures.took in
     let stored : Stored = next_stored v name k digest nodes digests in
     let bad = c.weave_object.result ≡ Err DiskFault in
     let last : c.in-Ok.taken.heads.lattice.n ≡ c.args.ledger.now.lattice.n + c.in-Ok.taken.nodes = (let n = t.nodes in omega (arith, n, counted)) in
@@ -475,10 +475,10 @@ returns-in-Ok-commit_object-clause-kept g c =
     let k = c.in-Ok.taken.length in
     let digest = c.in-Ok.taken.digest in
     let nodes = c.in-Ok.taken.nodes in
-    let digests = c.as_slice.result.now in
+    let digests = c.as_slice-digests.result.now in
     let counted : c.in-Ok.taken.nodes ≡ nodes_for c.args.ledger.now.shape c.in-Ok.taken.length = c.in-Ok.ensures.nodes in
-    let t : TakesObject g.D.Disk.tells c.args.ledger.now.shape c.args.ledger.now.lattice c.args.ledger.now.digests c.in-Ok.taken.length c.in-Ok.taken.digest (g.S.Source.state c.args.source.now).left (g.S.Source.state c.weave_object.new.source).left c.as_slice.result.now (g.D.Disk.state c.args.disk.now).files (g.D.Disk.state c.weave_object.new.disk).files c.in-Ok.taken.heads =
-    subst (λ (d : List (List ℕ)). TakesObject tells v.shape v.lattice v.digests k digest left rest d old.files mid.files c.in-Ok.taken.heads) (sym c.as_slice.ensures.value) c.in-Ok.ensures.took in
+    let t : TakesObject g.D.Disk.tells c.args.ledger.now.shape c.args.ledger.now.lattice c.args.ledger.now.digests c.in-Ok.taken.length c.in-Ok.taken.digest (g.S.Source.state c.args.source.now).left (g.S.Source.state c.weave_object.new.source).left c.as_slice-digests.result.now (g.D.Disk.state c.args.disk.now).files (g.D.Disk.state c.weave_object.new.disk).files c.in-Ok.taken.heads =
+    subst (λ (d : List (List ℕ)). TakesObject tells v.shape v.lattice v.digests k digest left rest d old.files mid.files c.in-Ok.taken.heads) (sym c.as_slice-digests.ensures.value) c.in-Ok.ensures.took in
     let same = c.in-Ok-commit_object.ensures.shape in
     let records = c.requires.opened.0 in
     let has = c.requires.opened.1 in

@@ -2,8 +2,12 @@
 #![tactic(auto)]
 
 #[cfg(test)]
+mod archives;
+#[cfg(test)]
 mod parting;
 #[cfg(test)]
 mod putting;
+#[cfg(test)]
+mod refusing;
 #[cfg(test)]
 mod scrubbing;

@@ -15,7 +15,7 @@ use aea_runs::{run_get, run_over, run_put};
 use aea_test_helpers::{shorten, spoil};
 use aea_weave::Heads;
 use sha2::{Digest, Sha256};
-use std::alloc::Global;
+use std::alloc::{AllocError, Global};
 use std::test::Fail;
 
 // The data of six nodes: two of the object `a`, two of `b`, and two of an upload that was given up.
@@ -224,22 +224,43 @@ fn goes_on<D: Disk>(alloc: Global, disk: &mut D) -> Result<bool, Fail> {
     )
 }
 
+// An archive with the two objects on a disk that does not fail.
+fn uploaded(alloc: Global) -> Result<SureDisk, Fail> {
+    let mut disk = SureDisk::new(alloc, 4, 2048, 2048)?;
+    if !begin(alloc, &mut disk)? || upload(alloc, &mut disk)? != Step::Both {
+        return Err(Fail::new("no upload"));
+    }
+    Ok(disk)
+}
+
+// Whether a run of the line ends with this status.
+fn ends<D: Disk>(
+    alloc: Global,
+    disk: &mut D,
+    line: &str,
+    status: Status,
+) -> Result<bool, AllocError> {
+    let left = run_over(alloc, line, disk, 9999)?;
+    Ok(left.status == status)
+}
+
+// Whether a changed byte of a cell of this site is found, and the site is repaired once it is lost.
+fn is_repaired(alloc: Global, site: u8) -> Result<bool, Fail> {
+    let mut disk = uploaded(alloc)?;
+    let is_there = step_of(alloc, &mut disk)? == Step::Both;
+    let is_spoiled = spoil(&mut disk, site, 150)?;
+    let is_found = ends(alloc, &mut disk, "scrub", Status::Damage)?;
+    shorten(&mut disk, site, 0)?;
+    let is_done = ends(alloc, &mut disk, "repair", Status::Done)?;
+    let is_back = step_of(alloc, &mut disk)? == Step::Both;
+    let goes_on = goes_on(alloc, &mut disk)?;
+    Ok(is_there && is_spoiled && is_found && is_done && is_back && goes_on)
+}
+
 #[test]
 fn objects_in_parts_beside_blocks_of_no_object(rt: HostRuntime) -> Result<(), Fail> {
-    let alloc = rt.alloc();
     for site in 1..=4u8 {
-        let mut disk = SureDisk::new(alloc, 4, 2048, 2048)?;
-        assert!(rt; begin(alloc, &mut disk)? && upload(alloc, &mut disk)? == Step::Both);
-        assert!(rt; step_of(alloc, &mut disk)? == Step::Both);
-        // a byte of a cell is changed, and then the site is lost
-        assert!(rt; spoil(&mut disk, site, 150)?, "{site}");
-        let scrubbed = run_over(alloc, "scrub", &mut disk, 999)?;
-        assert!(rt; scrubbed.status == Status::Damage, "{site}");
-        shorten(&mut disk, site, 0)?;
-        let repaired = run_over(alloc, "repair", &mut disk, 9999)?;
-        assert!(rt; repaired.status == Status::Done, "{site}");
-        assert!(rt; step_of(alloc, &mut disk)? == Step::Both, "{site}");
-        assert!(rt; goes_on(alloc, &mut disk)?, "{site}");
+        assert!(rt; is_repaired(rt.alloc(), site)?, "{site}");
     }
     Ok(())
 }
@@ -253,6 +274,19 @@ fn calls_of(alloc: Global) -> Result<[u64; 2], Fail> {
     Ok([begun, disk.calls()])
 }
 
+// How far an upload comes over a disk of which the call after so many fails, and what is there then; none where one object more is
+// not stored.
+fn failing_after(alloc: Global, before: u64) -> Result<Option<(Step, Step)>, Fail> {
+    let inner = SureDisk::new(alloc, 4, 2048, 2048)?;
+    let mut disk = FailDisk::new(alloc, inner, &[before.saturating_add(1)])?;
+    if !begin(alloc, &mut disk)? {
+        return Ok(None);
+    }
+    let came = upload(alloc, &mut disk)?;
+    let stands = step_of(alloc, &mut disk)?;
+    Ok(goes_on(alloc, &mut disk)?.then_some((came, stands)))
+}
+
 #[test]
 fn each_call_of_an_upload_fails(rt: HostRuntime) -> Result<(), Fail> {
     let alloc = rt.alloc();
@@ -260,17 +294,14 @@ fn each_call_of_an_upload_fails(rt: HostRuntime) -> Result<(), Fail> {
     assert!(rt; done > begun);
     let mut last = Step::Woven;
     for before in begun..done {
-        let inner = SureDisk::new(alloc, 4, 2048, 2048)?;
-        let mut disk = FailDisk::new(alloc, inner, &[before.saturating_add(1)])?;
-        assert!(rt; begin(alloc, &mut disk)?);
-        let came = upload(alloc, &mut disk)?;
-        let stands = step_of(alloc, &mut disk)?;
+        let Some((came, stands)) = failing_after(alloc, before)? else {
+            panic!(rt; "{before}");
+        };
         // an object is there, too, where the last sync of its commit alone failed
         assert!(rt;
             stands_so(last, came, stands),
             "{before}: {came:?}, {stands:?}"
         );
-        assert!(rt; goes_on(alloc, &mut disk)?, "{before}");
         last = stands;
     }
     assert!(rt; last == Step::Both);
@@ -295,6 +326,21 @@ fn stands_so(last: Step, came: Step, stands: Step) -> bool {
         && objects_at(stands) <= objects_at(came).saturating_add(1)
 }
 
+// What is there where the disk is stopped after so many calls; none where one object more is not stored.
+fn stopped_after(
+    alloc: Global,
+    disk: &MemDisk,
+    after: u64,
+    loss: Loss,
+) -> Result<Option<Step>, Fail> {
+    if disk.calls() < after {
+        return Ok(None);
+    }
+    let mut stopped = disk.image(alloc, after, loss)?;
+    let stands = step_of(alloc, &mut stopped)?;
+    Ok(goes_on(alloc, &mut stopped)?.then_some(stands))
+}
+
 #[test]
 fn each_stop_of_an_upload(rt: HostRuntime) -> Result<(), Fail> {
     let alloc = rt.alloc();
@@ -305,13 +351,13 @@ fn each_stop_of_an_upload(rt: HostRuntime) -> Result<(), Fail> {
     for loss in [Loss::Kept, Loss::Dropped, Loss::Ones, Loss::Zeros] {
         let mut last = Step::Woven;
         for after in begun..=disk.calls() {
-            let mut stopped = disk.image(alloc, after, loss)?;
-            let stands = step_of(alloc, &mut stopped)?;
+            let Some(stands) = stopped_after(alloc, &disk, after, loss)? else {
+                panic!(rt; "{loss:?} after {after}");
+            };
             assert!(rt;
                 stands_so(last, last, stands),
                 "{loss:?} after {after}: {stands:?}"
             );
-            assert!(rt; goes_on(alloc, &mut stopped)?, "{loss:?} after {after}");
             last = stands;
         }
         assert!(rt; last == Step::Both, "{loss:?}");

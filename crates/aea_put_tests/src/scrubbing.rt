@@ -1,5 +1,6 @@
 //! Scrubs: which blocks of an archive are damaged.
 
+use crate::archives::ends;
 use aea_append::put;
 use aea_cli::Status;
 use aea_disk::{Disk, SureDisk};
@@ -28,91 +29,89 @@ fn put_bytes<D: Disk>(alloc: Global, disk: &mut D, name: &[u8], bytes: &[u8]) ->
     put(alloc, &mut ledger, disk, name, &mut source).is_ok()
 }
 
-// A disk with that archive, and two objects of three nodes and of one; none where it could not be made.
-fn filled(alloc: Global) -> Result<Option<SureDisk>, AllocError> {
+// A disk with that archive, and two objects of three nodes and of one.
+fn filled(alloc: Global) -> Result<SureDisk, Fail> {
     let mut disk = SureDisk::new(alloc, 4, 4096, 4096)?;
     let made = run_over(alloc, LINE, &mut disk, 99)?;
+    let bytes = b"an object of three blocks, 36 bytes.";
     if made.status == Status::Done
-        && put_bytes(
-            alloc,
-            &mut disk,
-            b"first",
-            b"an object of three blocks, 36 bytes.",
-        )
+        && put_bytes(alloc, &mut disk, b"first", bytes)
         && put_bytes(alloc, &mut disk, b"second", b"abc")
     {
-        return Ok(Some(disk));
+        return Ok(disk);
     }
-    Ok(None)
+    Err(Fail::new("no archive"))
+}
+
+// Whether a scrub prints this, and ends with the status that goes with it.
+fn scrubs<D: Disk>(alloc: Global, disk: &mut D, out: &str) -> Result<bool, AllocError> {
+    let status = if out.starts_with("damaged ") {
+        Status::Damage
+    } else {
+        Status::Done
+    };
+    ends(alloc, disk, "scrub", (status, out, ""))
 }
 
 #[test]
 fn a_fresh_archive_has_no_block(rt: HostRuntime) -> Result<(), Fail> {
     let mut disk = SureDisk::new(rt.alloc(), 0, 18, 0)?;
-    let left = run_over(rt.alloc(), "scrub", &mut disk, 99)?;
-    assert!(rt; left.is(Status::Refused, "", "refused: no archive\n"));
+    let none = (Status::Refused, "", "refused: no archive\n");
+    assert!(rt; ends(rt.alloc(), &mut disk, "scrub", none)?);
     let _made = run_over(rt.alloc(), LINE, &mut disk, 99)?;
-    let left = run_over(rt.alloc(), "scrub", &mut disk, 99)?;
-    assert!(rt; left.is(Status::Done, "total 0 damaged 0\n", ""));
+    assert!(rt; scrubs(rt.alloc(), &mut disk, "total 0 damaged 0\n")?);
     Ok(())
 }
 
 #[test]
 fn a_lost_site_is_told(rt: HostRuntime) -> Result<(), Fail> {
-    let Some(mut disk) = filled(rt.alloc())? else {
-        panic!(rt; "no archive");
-    };
-    let left = run_over(rt.alloc(), "scrub", &mut disk, 99)?;
-    assert!(rt; left.is(Status::Done, SOUND, ""));
-    assert!(rt; left.out.flushed == SOUND.len());
-
+    let mut disk = filled(rt.alloc())?;
+    assert!(rt; scrubs(rt.alloc(), &mut disk, SOUND)?);
     assert!(rt; shorten(&mut disk, 3, 0)?);
-    let left = run_over(rt.alloc(), "scrub", &mut disk, 99)?;
-    assert!(rt; left.is(Status::Damage, SITE_3_LOST, ""));
-    assert!(rt; left.out.flushed == SITE_3_LOST.len());
+    assert!(rt; scrubs(rt.alloc(), &mut disk, SITE_3_LOST)?);
     // the objects are there
     let left = run_over(rt.alloc(), "stat", &mut disk, 99)?;
     assert!(rt; left.status == Status::Done);
     Ok(())
 }
 
-#[rattlefmt::skip]
-#[test]
-fn a_changed_byte_is_told(rt: HostRuntime) -> Result<(), Fail> {
-    // a file and a place where a byte is written, and what is said then
-    for (file, place, text) in [
+// A file and a place where a bit is flipped, and what is said then.
+fn places() -> [(u8, u16, &'static str); 5] {
+    [
         (1, 0, "damaged d1\ntotal 16 damaged 1\n"),
         (4, 63, "damaged l1\ntotal 16 damaged 1\n"),
         (2, 64, "damaged d2\ntotal 16 damaged 1\n"),
         (3, 255, "damaged l4\ntotal 16 damaged 1\n"),
         (3, 256, SOUND),
-    ] {
-        let Some(mut disk) = filled(rt.alloc())? else {
-            panic!(rt; "no archive");
-        };
-        let mut byte = [0u8; 1];
-        let _count = disk.read(file, place, &mut byte)?;
-        disk.write(file, place, &[byte[0] ^ 1])?;
-        let left = run_over(rt.alloc(), "scrub", &mut disk, 99)?;
-        assert!(rt; left.out.bytes() == text.as_bytes(), "{file} {place}");
-        let want = if text == SOUND { Status::Done } else { Status::Damage };
-        assert!(rt; left.status == want, "{file} {place}");
+    ]
+}
+
+// Whether this is said where a bit is flipped there.
+fn is_told(alloc: Global, file: u8, place: u16, text: &str) -> Result<bool, Fail> {
+    let mut disk = filled(alloc)?;
+    let (file, place) = (file.min(64), u64::from(place));
+    let mut byte = [0u8; 1];
+    let _count = disk.read(file, place, &mut byte)?;
+    disk.write(file, place, &[byte[0] ^ 1])?;
+    Ok(scrubs(alloc, &mut disk, text)?)
+}
+
+#[test]
+fn a_changed_byte_is_told(rt: HostRuntime) -> Result<(), Fail> {
+    for (file, place, text) in places() {
+        assert!(rt; is_told(rt.alloc(), file, place, text)?, "{file} {place}");
     }
     Ok(())
 }
 
 #[test]
 fn a_cell_at_another_home_is_damaged(rt: HostRuntime) -> Result<(), Fail> {
-    let Some(mut disk) = filled(rt.alloc())? else {
-        panic!(rt; "no archive");
-    };
+    let mut disk = filled(rt.alloc())?;
     // the cell of d1 at the home of h1
     let mut cell = [0u8; 64];
-    let count = disk.read(1, 0, &mut cell)?;
-    assert!(rt; count == 64);
+    assert!(rt; disk.read(1, 0, &mut cell) == Ok(64));
     disk.write(2, 0, &cell)?;
-    let left = run_over(rt.alloc(), "scrub", &mut disk, 99)?;
-    assert!(rt; left.is(Status::Damage, "damaged h1\ntotal 16 damaged 1\n", ""));
+    assert!(rt; scrubs(rt.alloc(), &mut disk, "damaged h1\ntotal 16 damaged 1\n")?);
     Ok(())
 }
 
@@ -121,11 +120,8 @@ fn words_beside_it_are_no_command(rt: HostRuntime) -> Result<(), Fail> {
     for line in ["scrub 1", "scrubs", "Scrub", "scru"] {
         let mut disk = SureDisk::new(rt.alloc(), 0, 18, 0)?;
         let _made = run_over(rt.alloc(), LINE, &mut disk, 99)?;
-        let left = run_over(rt.alloc(), line, &mut disk, 99)?;
-        assert!(rt;
-            left.is(Status::Words, "", "words: no such command\n"),
-            "{line}"
-        );
+        let words = (Status::Words, "", "words: no such command\n");
+        assert!(rt; ends(rt.alloc(), &mut disk, line, words)?, "{line}");
     }
     Ok(())
 }

@@ -3,3 +3,4 @@ pub mod Chains
 pub mod Entries
 pub mod Agreeing
 pub mod Judged
+mod Decided

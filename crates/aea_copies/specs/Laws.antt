@@ -1,7 +1,8 @@
 -- What follows of the grammar of copies.
-use Rattle.std.specs.Prelude.{◌≡◌, ◌≢◌, ℕ, true, List, ◌∷◌, ◌++◌}
+use Rattle.std.specs.Prelude.{◌≡◌, ◌≢◌, ◌⊎◌, ℕ, true, List, ◌∷◌, ◌++◌, length}
 use Rattle.aea_records.specs.Format.{open_gate}
-use Rattle.aea_copies.specs.Format.{text_of}
+use Rattle.aea_records.specs.TableLaws.{AreBytes}
+use Rattle.aea_copies.specs.Format.{copied, text_of}
 use Rattle.aea_copies.specs.Grammar.{ArePieces, IsCopy, IsBadCopyAt}
 
 -- No file is a good copy of two lists of pieces, or with two ends.
@@ -24,3 +25,7 @@ abbrev pub TextsEndOnce : Type 0
 TextsEndOnce =
     (pieces others : List (List ℕ)) (gate last : ℕ) (after behind : List ℕ) → ArePieces true pieces → ArePieces true others
     → gate ≢ open_gate → last ≢ open_gate → text_of pieces ++ gate ∷ after ≡ text_of others ++ last ∷ behind → pieces ≡ others
+
+-- Each file of bytes is a good copy, or is bad at a place.
+abbrev pub IsCopyOrBad : Type 0
+IsCopyOrBad = (bytes : List ℕ) → AreBytes bytes → ((pieces : List (List ℕ)) × IsCopy bytes pieces (length (copied pieces))) ⊎ ((at : ℕ) × IsBadCopyAt bytes at)

@@ -94,16 +94,16 @@ are_apart ledger bytes others pieces piece s t has too on part = record {
 
 -- where one copy ends, its text begins that of the other
 pub first_ends : (ledger bytes others : List ℕ) (pieces : List (List ℕ)) (s : Standing) (turn : Turn) → HasRead ledger bytes pieces s → HasRead ledger others pieces s → IsTurn ledger bytes pieces s turn
-    → ((t : Standing) → turn ≡ GoesOn t → ⊥) → IsComparison bytes others None
+    → ((t : Standing) (same : Bool) → turn ≡ GoesOn t same → ⊥) → IsComparison bytes others None
 first_ends ledger bytes others pieces s Ends has too copy none = λ ps qs end last one two.
     let same : ps ≡ pieces = (has_one_pieces bytes ps pieces end s.place one copy).0 in
     let more = good_goes_on ledger others pieces qs s last too two in
     inl (text_of more.0, ap text_of more.1 ∙ flat_map-append (λ p. p) pieces more.0 ∙ ap (λ (l : List (List ℕ)). text_of l ++ text_of more.0) (sym same))
 first_ends ledger bytes others pieces s BadHere has too bad none = λ ps qs end last one two. absurd (copies_are_not_bad bytes ps end s.place one bad)
-first_ends ledger bytes others pieces s (GoesOn t) has too on none = absurd (none t refl)
+first_ends ledger bytes others pieces s (GoesOn t same) has too on none = absurd (none t same refl)
 
 pub second_ends : (ledger bytes others : List ℕ) (pieces : List (List ℕ)) (s : Standing) (turn : Turn) → HasRead ledger bytes pieces s → HasRead ledger others pieces s → IsTurn ledger others pieces s turn
-    → ((t : Standing) → turn ≡ GoesOn t → ⊥) → IsComparison bytes others None
+    → ((t : Standing) (same : Bool) → turn ≡ GoesOn t same → ⊥) → IsComparison bytes others None
 second_ends ledger bytes others pieces s turn has too is none = λ ps qs end last one two.
     ⊎_elim (λ (b : Begins (text_of qs) (text_of ps)). inr b) (λ (b : Begins (text_of ps) (text_of qs)). inl b)
     (first_ends ledger others bytes pieces s turn too has is none qs ps last end two one)

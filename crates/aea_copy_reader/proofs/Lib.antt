@@ -1,4 +1,6 @@
 mod Taking
 mod Parting
+mod Seeing
 mod Turns
 mod Comparing
+mod Walking

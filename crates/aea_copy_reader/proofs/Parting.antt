@@ -1,5 +1,5 @@
 -- Where two lists part.
-use Rattle.std.proofs.Common.{◌≡◌, ⊎_elim, ℕ, ◌+◌, ◌<◌, ◌≤◌, List, [], ◌∷◌, ◌++◌, length, take, drop, get_or, refl, sym, ap, subst, ◌∙◌, arith}
+use Rattle.std.proofs.Common.{◌≡◌, ⊎_elim, ℕ, ◌+◌, ◌-◌, ◌<◌, ◌≤◌, List, [], ◌∷◌, ◌++◌, length, take, drop, get_or, refl, sym, ap, subst, ◌∙◌, arith}
 use Rattle.std.specs.Prelude.{Option, Some, None, IfSome, Result, Ok, Err, IfOk}
 use Rattle.std.proofs.lemmas.Bool.{cases_lt}
 use Rattle.std.proofs.lemmas.List.{length-take, take-take, drop-take, drop-drop, take_all, take_at, take-append-drop, drop_more, get_or-take}
@@ -24,6 +24,12 @@ parts_here a b at same other = record {
   same = same;
   other = λ whole. other (sym (get_or-take (at + 1) a at 0 (omega arith)) ∙ ap (λ (l : List ℕ). get_or l at 0) whole ∙ get_or-take (at + 1) b at 0 (omega arith));
 }
+
+-- a range of a front
+pub front_part : (rest : List ℕ) (size at n : ℕ) → at + n ≤ size → take n (drop at (take size rest)) ≡ take n (drop at rest)
+front_part rest size at n within =
+    let sum : at + (size - at) ≡ size = omega (arith, within) in
+    ap (λ (k : ℕ). take n (drop at (take k rest))) (sym sum) ∙ ap (take n) (drop-take at (size - at) rest) ∙ take-take n (size - at) (drop at rest) (omega (arith, within))
 
 -- a front is two ranges
 pub take_sum : (n m : ℕ) (l : List ℕ) → take (n + m) l ≡ take n l ++ take m (drop n l)
@@ -98,3 +104,8 @@ some_from (Some x) f p = f x p
 pub ok_from : {T E : Type 0} {P Q : T → Type 0} (r : Result T E) → ((x : T) → P x → Q x) → IfOk r P → IfOk r Q
 ok_from (Ok x) f p = f x p
 ok_from (Err e) f p = tt
+
+-- two facts of what was returned give a third
+pub ok_with : {T E : Type 0} {P Q R : T → Type 0} (r : Result T E) → ((x : T) → P x → Q x → R x) → IfOk r P → IfOk r Q → IfOk r R
+ok_with (Ok x) f p q = f x p q
+ok_with (Err e) f p q = tt

@@ -16,15 +16,9 @@ use Rattle.aea_copy_reader.specs.Judging.{HasRead, IsTurn}
 use Rattle.aea_copy_reader.specs.declared.known.Standing.{Standing}
 use Rattle.aea_copy_reader.specs.declared.known.Turn.{Turn}
 use Rattle.aea_copies.proofs.Ranges.{rest_both}
-use Rattle.aea_copy_reader.proofs.Parting.{take_sum}
+use Rattle.aea_copy_reader.proofs.Parting.{front_part, take_sum}
 use Rattle.aea_copies.proofs.Chains.{copied_push, last_link_push, are_pieces_push, first_push, text_push}
 use Rattle.aea_copies.proofs.Entries.{length-entry, entry_shows, entry_spelled}
-
--- a range of a front
-front_part : (rest : List ℕ) (size at n : ℕ) → at + n ≤ size → take n (drop at (take size rest)) ≡ take n (drop at rest)
-front_part rest size at n within =
-    let sum : at + (size - at) ≡ size = omega (arith, within) in
-    ap (λ (k : ℕ). take n (drop at (take k rest))) (sym sum) ∙ ap (take n) (drop-take at (size - at) rest) ∙ take-take n (size - at) (drop at rest) (omega (arith, within))
 
 -- the piece of an entry has the length that its head says
 pub entry_length : (pieces : List (List ℕ)) (place : ℕ) (rest piece after : List ℕ) (first : Bool) (len : ℕ) → IsEntry pieces place rest piece after → IsHead first (take 11 rest) len → length piece ≡ len

@@ -1,5 +1,5 @@
 -- What is read of a copy, entry by entry, and what a judgement says.
-use Rattle.std.specs.Prelude.{◌≡◌, ◌↔◌, ◌<◌, ◌≤◌, ◌+◌, ◌-◌, ℕ, true, List, [], ◌∷◌, ◌++◌, length, take, drop}
+use Rattle.std.specs.Prelude.{◌≡◌, ◌↔◌, ◌<◌, ◌≤◌, ◌+◌, ◌-◌, ℕ, Bool, true, List, [], ◌∷◌, ◌++◌, length, take, drop}
 use Rattle.aea_disk.specs.Ends.{greatest_place}
 use Rattle.aea_disk.specs.Files.{Files}
 use Rattle.aea_copies.specs.Format.{first_link, last_link, copy_entry, copied, text_of}
@@ -52,10 +52,16 @@ IsNear (Bad at) = at ≤ greatest_place
 abbrev pub IsOn : Standing → Turn → Type 0
 IsOn s Ends = Unit {0}
 IsOn s BadHere = Unit {0}
-IsOn s (GoesOn t) = (s.text < t.text) × (t.place + s.text ≡ s.place + 37 + t.text) × (t.place ≤ greatest_place) × (t.text ≤ t.place)
+IsOn s (GoesOn t same) = (s.text < t.text) × (t.place + s.text ≡ s.place + 37 + t.text) × (t.place ≤ greatest_place) × (t.text ≤ t.place)
 
 -- What was found where a reader was, after these pieces: they are all, the copy is bad there, or there is one more.
 abbrev pub IsTurn : List ℕ → List ℕ → List (List ℕ) → Standing → Turn → Type 0
 IsTurn ledger bytes pieces s Ends = IsCopy bytes pieces s.place
 IsTurn ledger bytes pieces s BadHere = IsBadCopyAt bytes s.place
-IsTurn ledger bytes pieces s (GoesOn t) = HasRead ledger bytes (pieces ++ take (t.text - s.text) (drop (s.place + 5) bytes) ∷ []) t
+IsTurn ledger bytes pieces s (GoesOn t same) = HasRead ledger bytes (pieces ++ take (t.text - s.text) (drop (s.place + 5) bytes) ∷ []) t
+
+-- The other copy had all that was before this place, or not; and so it has what follows it up to the next gate.
+abbrev pub IsSame : (bytes others : List ℕ) (at : ℕ) (had : Bool) → Turn → Type 0
+IsSame bytes others at had Ends = Unit {0}
+IsSame bytes others at had BadHere = Unit {0}
+IsSame bytes others at had (GoesOn t same) = same ≡ true ↔ ((had ≡ true) × (take (t.place - at) (drop at others) ≡ take (t.place - at) (drop at bytes)))

@@ -27,10 +27,18 @@ pub struct Judgement {
     pub differ: Option<u64>,
 }
 
-// What is at a gate: the entries end, or are bad here, or there is one more.
+// What is at a gate: the entries end, or are bad here, or there is one more, which the other copy has too, or not.
 #[derive(Clone, Copy, Debug)]
 pub enum Turn {
     Ends,
     BadHere,
-    GoesOn(Standing),
+    GoesOn { next: Standing, same: bool },
+}
+
+// A copy as it was judged; the last gate up to which the other copy is the same, and whether it is the same up to its end.
+#[derive(Clone, Copy, Debug)]
+pub struct Walked {
+    pub judged: Judged,
+    pub common: Standing,
+    pub same: bool,
 }

@@ -1,0 +1,4 @@
+pub mod Choosing
+pub mod Adopting
+pub mod Mending
+pub mod Keeping

@@ -19,3 +19,8 @@ pub mod Leading
 pub mod Catching
 pub mod Ended
 pub mod Losing
+pub mod Syncs
+pub mod Wholes
+pub mod Adopting
+pub mod Beginning
+pub mod Started

@@ -26,7 +26,7 @@ gate_for : (first second f : ℕ) → IsCopyFile f → (g : ℕ) × IsGateOf fir
 gate_for first second f is = ⊎_elim (λ (a : f ≡ 65). (first, inl (a, refl))) (λ (b : f ≡ 66). (second, inr (b, refl))) is
 
 -- what is shown of an image is shown of other files with the same ledger and sites, where its ledger is as it is
-shows_as_is : (d e c : Files) → ((f : ℕ) → f ≤ 64 → d f ≡ e f) → Shows d c → c 0 ≡ d 0 → Shows e c
+pub shows_as_is : (d e c : Files) → ((f : ℕ) → f ≤ 64 → d f ≡ e f) → Shows d c → c 0 ≡ d 0 → Shows e c
 shows_as_is d e c same shows is = record {
   sites = λ f some near. shows.sites f some near ∙ same f near;
   copies = shows.copies;

@@ -5,3 +5,5 @@ pub mod Ending
 pub mod States
 pub mod Looking
 pub mod Extending
+pub mod Refusing
+pub mod Starting

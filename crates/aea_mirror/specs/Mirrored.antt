@@ -73,3 +73,7 @@ mirror_state tells s kept = record {
   keeps = Keeps s kept.on;
   free = ⊥;
 }
+
+-- the same by the fields of a Mirror
+abbrev pub shown : Type 0 → State → (on : Bool) (end : ℕ) (dead : Bool) (own : ℕ) → State
+shown tells s on end dead own = mirror_state tells s (record { on = on; end = end; dead = dead; own = own })

@@ -1,6 +1,7 @@
 //! What a Mirror shows, and what is kept of a ledger whatever is lost.
 
 ghost use Rattle.aea_mirror.specs.Shown.{KeepsTexts, KeepsLedgers, WritesAreShown, SyncsAreShown};
+ghost use Rattle.aea_mirror.specs.Starting.{WholeCopiesAreGood};
 
 use aea_records::records_are_short;
 
@@ -25,4 +26,9 @@ pub fn writes_are_shown()
 /// While copies are extended a Mirror shows nothing that it did not show before.
 pub fn syncs_are_shown()
     ensures { SyncsAreShown }
+{}
+
+/// A whole copy of pieces that a copy can have is a good one.
+pub fn whole_copies_are_good()
+    ensures { WholeCopiesAreGood }
 {}

@@ -15,12 +15,18 @@
 //! (`Guards`) first. It rests on `aea_disk`, on `aea_copies` and `aea_copy_writer`, and on `aea_ledger` for what a ledger is.
 #![tactic(auto)]
 
+mod begin;
 mod extend;
 mod further;
 mod laws;
 mod mirror;
+mod start;
 mod tail;
 
-pub use laws::{mirrors_keep_ledgers, mirrors_keep_texts, syncs_are_shown, writes_are_shown};
+pub use laws::{
+    mirrors_keep_ledgers, mirrors_keep_texts, syncs_are_shown, whole_copies_are_good,
+    writes_are_shown,
+};
 pub use mirror::Mirror;
+pub use start::StartFault;
 pub use tail::Tail;

@@ -1,49 +1,66 @@
 //! A disk over a lent one, which keeps two copies of the ledger.
 
-ghost use Rattle.std.specs.Prelude.{◌≡◌, ◌⊎◌, ◌≤◌, ◌<◌, ◌^◌, true, false, IsTrue, ◌↔◌};
+ghost use Rattle.std.specs.Prelude.{◌≡◌, ◌⊎◌, ◌≤◌, ◌<◌, ◌+◌, ◌-◌, ◌^◌, [], length, take, drop, get_or, min, true, false, IsTrue, ◌↔◌, Ok, IsErr, IfOk, OnOk, OnErr};
+ghost use Rattle.aea_faults.specs.Faults.{HasCause};
+ghost use Rattle.aea_adopt.specs.Adopting.{AreNear, IsTrueOf};
 ghost use Rattle.aea_disk.specs.Count.{one_more};
-ghost use Rattle.aea_mirror.specs.Mirrored.{mirror_state};
+ghost use Rattle.aea_disk.specs.Files.{ChangesFile, Holds, Torn, IsCut, MayBeCut};
+ghost use Rattle.aea_disk.specs.State.{Passes, Follows, KeepsImages, Settles, IsSynced, IsSure, IsReady, IsRoomy, TakesFrom, HasRoom};
+ghost use Rattle.aea_mirror.specs.Mirrored.{mirror_state, shown};
+ghost use Rattle.aea_mirror.specs.Refusing.{RefusesWrite, RefusesCut, IsRefused, IsCounted, WritesNone, NeverEnds};
 ghost use Rattle.aea_mirror.specs.Guarding.{Guards};
 
 use crate::extend::extend_both;
 use crate::further::{Further, look_further};
 use crate::tail::Tail;
+use aea_adopt::Adopted;
 use aea_disk::{Disk, DiskFault};
 use aea_faults::risen;
 
 /// A disk over a lent one. It shows the ledger and the sites of that, and hides the files of the copies. Where copies are on
 /// it refuses what would change the kept text, and a sync writes what the ledger has more into both copies.
+#[derive(Drop)]
 pub struct Mirror<'a, D: Disk> {
-    disk: &'a mut D,
-    on: bool,
-    end: u64,
-    first: Tail,
-    second: Tail,
-    dead: bool,
-    own: u64,
+    pub(crate) disk: &'a mut D,
+    pub(crate) on: bool,
+    pub(crate) end: u64,
+    pub(crate) first: Tail,
+    pub(crate) second: Tail,
+    pub(crate) dead: bool,
+    pub(crate) own: u64,
     ghost near: { (end ≤ 2 ^ 58) × (first.gate ≤ 2 ^ 58) × (second.gate ≤ 2 ^ 58) × (on ≡ true → 1 ≤ end) },
     ghost guards: { dead ≡ false → D.tells → ∥ Guards (D.state disk.now) on end first second ∥₁ },
 }
 
 impl<'a, D: Disk> Mirror<'a, D> {
-    /// A Mirror over a lent disk, of which this is known: whether copies are on; where they are, at which place the text that
-    /// they keep ends in the ledger, and where each of them ends. It takes no memory.
-    pub fn new(disk: &'a mut D, on: bool, end: u64, first: Tail, second: Tail) -> Mirror<'a, D>
-        requires near { (end ≤ 2 ^ 58) × (first.gate ≤ 2 ^ 58) × (second.gate ≤ 2 ^ 58) × (on ≡ true → 1 ≤ end) }
-        requires guards { D.tells → Guards (D.state disk.old) on end first second }
+    /// A Mirror over a lent disk whose copies were adopted, with what was said of them. It takes no memory.
+    pub fn new(disk: &'a mut D, adopted: Adopted) -> Mirror<'a, D>
+        requires near { AreNear adopted }
+        requires told { D.tells → IsTrueOf (D.state disk.old).files adopted }
+        requires synced { D.tells → IsSynced (D.state disk.old) }
         ensures same { result.disk.ghost_name ≡ disk.entry.ghost_name }
         ensures now { result.disk.now ≡ disk.old }
-        ensures on { result.on ≡ on }
-        ensures end { result.end ≡ end }
-        ensures first { result.first ≡ first }
-        ensures second { result.second ≡ second }
+        ensures on { result.on ≡ adopted.on }
+        ensures end { result.end ≡ adopted.end }
+        ensures gates { (result.first.gate ≡ get_or adopted.gates 0 0) × (result.second.gate ≡ get_or adopted.gates 1 0) }
+        ensures links { (result.first.link ≡ get_or adopted.links 0 []) × (result.second.link ≡ get_or adopted.links 1 []) }
         ensures alive { result.dead ≡ false }
         ensures none { result.own ≡ 0 }
     {
+        let gates = adopted.gates;
+        let links = adopted.links;
+        let first = Tail {
+            gate: gates[0],
+            link: links[0],
+        };
+        let second = Tail {
+            gate: gates[1],
+            link: links[1],
+        };
         Mirror {
             disk,
-            on,
-            end,
+            on: adopted.on,
+            end: adopted.end,
             first,
             second,
             dead: false,
@@ -52,11 +69,13 @@ impl<'a, D: Disk> Mirror<'a, D> {
     }
 
     // Refuses a call, and counts it.
-    fn refuse(&mut self) -> DiskFault
+    pub(crate) fn refuse(&mut self) -> DiskFault
         ensures same { self.new.disk.ghost_name ≡ self.old.disk.ghost_name }
         ensures disk { self.new.disk.now ≡ self.old.disk.now }
         ensures on { self.new.on ≡ self.old.on }
         ensures end { self.new.end ≡ self.old.end }
+        ensures first { self.new.first ≡ self.old.first }
+        ensures second { self.new.second ≡ self.old.second }
         ensures dead { self.new.dead ≡ self.old.dead }
         ensures own { self.new.own ≡ one_more self.old.own }
     {
@@ -66,14 +85,14 @@ impl<'a, D: Disk> Mirror<'a, D> {
 
     // The Mirror refuses a write of this file from this place on.
     fn refuses_write(&self, file: u8, at: u64) -> bool
-        ensures refused { IsTrue result ↔ ((64 < file) ⊎ ((self.now.dead ≡ true) ⊎ ((self.now.on ≡ true) × ((file ≡ 0) × (at < self.now.end))))) }
+        ensures refused { IsTrue result ↔ RefusesWrite self.now.on self.now.end self.now.dead file at }
     {
         file > 64 || self.dead || (self.on && file == 0 && at < self.end)
     }
 
     // The Mirror refuses a cut of this file to this length.
     fn refuses_cut(&self, file: u8, len: u64) -> bool
-        ensures refused { IsTrue result ↔ ((64 < file) ⊎ ((self.now.dead ≡ true) ⊎ ((self.now.on ≡ true) × ((file ≡ 0) × (len ≤ self.now.end))))) }
+        ensures refused { IsTrue result ↔ RefusesCut self.now.on self.now.end self.now.dead file len }
     {
         file > 64 || self.dead || (self.on && file == 0 && len <= self.end)
     }
@@ -105,35 +124,109 @@ impl<'a, D: Disk> Disk for Mirror<'a, D> {
 
     ghost smaller_fits = { λ m f i j le has. (has.0, (has.1.0, D.smaller_fits m.disk.now f i j le has.1.1)) };
 
-    fn len(&mut self, file: u8) -> Result<u64, DiskFault> {
+    fn len(&mut self, file: u8) -> Result<u64, DiskFault>
+        requires { file ≤ 66 }
+        ensures length { IfOk result (λ n. D.tells → n ≡ length ((shown D.tells (D.state self.old.disk.now) self.old.on self.old.end self.old.dead self.old.own).files file)) }
+        ensures contents { D.tells → (shown D.tells (D.state self.new.disk.now) self.new.on self.new.end self.new.dead self.new.own).files ≡ (shown D.tells (D.state self.old.disk.now) self.old.on self.old.end self.old.dead self.old.own).files }
+        ensures crash { KeepsImages (shown D.tells (D.state self.old.disk.now) self.old.on self.old.end self.old.dead self.old.own) (shown D.tells (D.state self.new.disk.now) self.new.on self.new.end self.new.dead self.new.own) }
+        ensures settled { Settles (shown D.tells (D.state self.old.disk.now) self.old.on self.old.end self.old.dead self.old.own) (shown D.tells (D.state self.new.disk.now) self.new.on self.new.end self.new.dead self.new.own) }
+        ensures time { Passes (shown D.tells (D.state self.old.disk.now) self.old.on self.old.end self.old.dead self.old.own) (shown D.tells (D.state self.new.disk.now) self.new.on self.new.end self.new.dead self.new.own) }
+        ensures cause { HasCause (shown D.tells (D.state self.old.disk.now) self.old.on self.old.end self.old.dead self.old.own).faults (shown D.tells (D.state self.new.disk.now) self.new.on self.new.end self.new.dead self.new.own).faults result }
+        ensures sure { IsSure (D.tells × IsReady (shown D.tells (D.state self.old.disk.now) self.old.on self.old.end self.old.dead self.old.own)) (IsRoomy (shown D.tells (D.state self.old.disk.now) self.old.on self.old.end self.old.dead self.old.own)) (shown D.tells (D.state self.old.disk.now) self.old.on self.old.end self.old.dead self.old.own) (shown D.tells (D.state self.new.disk.now) self.new.on self.new.end self.new.dead self.new.own) result }
+        ensures hidden { 64 < file → (result ≡ Ok 0) × (self.new.disk.now ≡ self.old.disk.now) }
+        ensures counts { IsCounted self.old.own self.new.own (D.state self.old.disk.now) (D.state self.new.disk.now) result }
+        ensures same { (self.new.on ≡ self.old.on) × (self.new.end ≡ self.old.end) × (self.new.first ≡ self.old.first) × (self.new.second ≡ self.old.second) × (self.new.dead ≡ self.old.dead) }
+        ensures lent { self.new.disk.ghost_name ≡ self.old.disk.ghost_name }
+    {
         if file > 64 {
             return Ok(0);
         }
         self.disk.len(file)
     }
 
-    fn read(&mut self, file: u8, at: u64, buf: &mut [u8]) -> Result<usize, DiskFault> {
+    fn read(&mut self, file: u8, at: u64, buf: &mut [u8]) -> Result<usize, DiskFault>
+        requires file { file ≤ 66 }
+        requires range { at + length buf.old ≤ 2 ^ 62 }
+        ensures bound { IfOk result (λ k. k ≤ length buf.new) }
+        ensures count { IfOk result (λ k. D.tells → k ≡ min (length buf.new) (length ((shown D.tells (D.state self.old.disk.now) self.old.on self.old.end self.old.dead self.old.own).files file) - at)) }
+        ensures bytes { IfOk result (λ k. D.tells → take k buf.new ≡ take k (drop at ((shown D.tells (D.state self.old.disk.now) self.old.on self.old.end self.old.dead self.old.own).files file))) }
+        ensures contents { D.tells → (shown D.tells (D.state self.new.disk.now) self.new.on self.new.end self.new.dead self.new.own).files ≡ (shown D.tells (D.state self.old.disk.now) self.old.on self.old.end self.old.dead self.old.own).files }
+        ensures crash { KeepsImages (shown D.tells (D.state self.old.disk.now) self.old.on self.old.end self.old.dead self.old.own) (shown D.tells (D.state self.new.disk.now) self.new.on self.new.end self.new.dead self.new.own) }
+        ensures settled { Settles (shown D.tells (D.state self.old.disk.now) self.old.on self.old.end self.old.dead self.old.own) (shown D.tells (D.state self.new.disk.now) self.new.on self.new.end self.new.dead self.new.own) }
+        ensures time { Passes (shown D.tells (D.state self.old.disk.now) self.old.on self.old.end self.old.dead self.old.own) (shown D.tells (D.state self.new.disk.now) self.new.on self.new.end self.new.dead self.new.own) }
+        ensures cause { HasCause (shown D.tells (D.state self.old.disk.now) self.old.on self.old.end self.old.dead self.old.own).faults (shown D.tells (D.state self.new.disk.now) self.new.on self.new.end self.new.dead self.new.own).faults result }
+        ensures sure { IsSure (D.tells × IsReady (shown D.tells (D.state self.old.disk.now) self.old.on self.old.end self.old.dead self.old.own)) (IsRoomy (shown D.tells (D.state self.old.disk.now) self.old.on self.old.end self.old.dead self.old.own)) (shown D.tells (D.state self.old.disk.now) self.old.on self.old.end self.old.dead self.old.own) (shown D.tells (D.state self.new.disk.now) self.new.on self.new.end self.new.dead self.new.own) result }
+        ensures hidden { 64 < file → (result ≡ Ok 0) × (self.new.disk.now ≡ self.old.disk.now) }
+        ensures counts { IsCounted self.old.own self.new.own (D.state self.old.disk.now) (D.state self.new.disk.now) result }
+        ensures same { (self.new.on ≡ self.old.on) × (self.new.end ≡ self.old.end) × (self.new.first ≡ self.old.first) × (self.new.second ≡ self.old.second) × (self.new.dead ≡ self.old.dead) }
+        ensures lent { self.new.disk.ghost_name ≡ self.old.disk.ghost_name }
+    {
         if file > 64 {
             return Ok(0);
         }
         self.disk.read(file, at, buf)
     }
 
-    fn write(&mut self, file: u8, at: u64, bytes: &[u8]) -> Result<(), DiskFault> {
+    fn write(&mut self, file: u8, at: u64, bytes: &[u8]) -> Result<(), DiskFault>
+        requires file { file ≤ 66 }
+        requires range { at + length bytes.now ≤ 2 ^ 62 }
+        ensures written { OnOk result (D.tells → ChangesFile file (Holds at bytes.now) (shown D.tells (D.state self.old.disk.now) self.old.on self.old.end self.old.dead self.old.own).files (shown D.tells (D.state self.new.disk.now) self.new.on self.new.end self.new.dead self.new.own).files) }
+        ensures torn { OnErr result (D.tells → ChangesFile file (Torn at (length bytes.now)) (shown D.tells (D.state self.old.disk.now) self.old.on self.old.end self.old.dead self.old.own).files (shown D.tells (D.state self.new.disk.now) self.new.on self.new.end self.new.dead self.new.own).files) }
+        ensures crash { Follows (ChangesFile file (Torn at (length bytes.now))) (shown D.tells (D.state self.old.disk.now) self.old.on self.old.end self.old.dead self.old.own) (shown D.tells (D.state self.new.disk.now) self.new.on self.new.end self.new.dead self.new.own) }
+        ensures settled { Settles (shown D.tells (D.state self.old.disk.now) self.old.on self.old.end self.old.dead self.old.own) (shown D.tells (D.state self.new.disk.now) self.new.on self.new.end self.new.dead self.new.own) }
+        ensures time { Passes (shown D.tells (D.state self.old.disk.now) self.old.on self.old.end self.old.dead self.old.own) (shown D.tells (D.state self.new.disk.now) self.new.on self.new.end self.new.dead self.new.own) }
+        ensures cause { HasCause (shown D.tells (D.state self.old.disk.now) self.old.on self.old.end self.old.dead self.old.own).faults (shown D.tells (D.state self.new.disk.now) self.new.on self.new.end self.new.dead self.new.own).faults result }
+        ensures sure { IsSure (D.tells × TakesFrom (shown D.tells (D.state self.old.disk.now) self.old.on self.old.end self.old.dead self.old.own) file at) ((shown D.tells (D.state self.old.disk.now) self.old.on self.old.end self.old.dead self.old.own).room file (at + length bytes.now)) (shown D.tells (D.state self.old.disk.now) self.old.on self.old.end self.old.dead self.old.own) (shown D.tells (D.state self.new.disk.now) self.new.on self.new.end self.new.dead self.new.own) result }
+        ensures full { OnOk result (HasRoom (shown D.tells (D.state self.old.disk.now) self.old.on self.old.end self.old.dead self.old.own) → (shown D.tells (D.state self.old.disk.now) self.old.on self.old.end self.old.dead self.old.own).room file (at + length bytes.now)) }
+        ensures refused { RefusesWrite self.old.on self.old.end self.old.dead file at → IsRefused self.old.disk.now self.new.disk.now self.old.own self.new.own result }
+        ensures counts { IsCounted self.old.own self.new.own (D.state self.old.disk.now) (D.state self.new.disk.now) result }
+        ensures same { (self.new.on ≡ self.old.on) × (self.new.end ≡ self.old.end) × (self.new.first ≡ self.old.first) × (self.new.second ≡ self.old.second) × (self.new.dead ≡ self.old.dead) }
+        ensures lent { self.new.disk.ghost_name ≡ self.old.disk.ghost_name }
+    {
         if self.refuses_write(file, at) {
             return Err(self.refuse());
         }
         self.disk.write(file, at, bytes)
     }
 
-    fn cut(&mut self, file: u8, len: u64) -> Result<(), DiskFault> {
+    fn cut(&mut self, file: u8, len: u64) -> Result<(), DiskFault>
+        requires file { file ≤ 66 }
+        requires range { len ≤ 2 ^ 62 }
+        requires within { D.tells → len ≤ length ((shown D.tells (D.state self.old.disk.now) self.old.on self.old.end self.old.dead self.old.own).files file) }
+        ensures cut { OnOk result (D.tells → ChangesFile file (IsCut len) (shown D.tells (D.state self.old.disk.now) self.old.on self.old.end self.old.dead self.old.own).files (shown D.tells (D.state self.new.disk.now) self.new.on self.new.end self.new.dead self.new.own).files) }
+        ensures torn { OnErr result (D.tells → ChangesFile file (MayBeCut len) (shown D.tells (D.state self.old.disk.now) self.old.on self.old.end self.old.dead self.old.own).files (shown D.tells (D.state self.new.disk.now) self.new.on self.new.end self.new.dead self.new.own).files) }
+        ensures crash { Follows (ChangesFile file (MayBeCut len)) (shown D.tells (D.state self.old.disk.now) self.old.on self.old.end self.old.dead self.old.own) (shown D.tells (D.state self.new.disk.now) self.new.on self.new.end self.new.dead self.new.own) }
+        ensures settled { Settles (shown D.tells (D.state self.old.disk.now) self.old.on self.old.end self.old.dead self.old.own) (shown D.tells (D.state self.new.disk.now) self.new.on self.new.end self.new.dead self.new.own) }
+        ensures time { Passes (shown D.tells (D.state self.old.disk.now) self.old.on self.old.end self.old.dead self.old.own) (shown D.tells (D.state self.new.disk.now) self.new.on self.new.end self.new.dead self.new.own) }
+        ensures cause { HasCause (shown D.tells (D.state self.old.disk.now) self.old.on self.old.end self.old.dead self.old.own).faults (shown D.tells (D.state self.new.disk.now) self.new.on self.new.end self.new.dead self.new.own).faults result }
+        ensures sure { IsSure (D.tells × TakesFrom (shown D.tells (D.state self.old.disk.now) self.old.on self.old.end self.old.dead self.old.own) file 0) ((shown D.tells (D.state self.old.disk.now) self.old.on self.old.end self.old.dead self.old.own).room file 0) (shown D.tells (D.state self.old.disk.now) self.old.on self.old.end self.old.dead self.old.own) (shown D.tells (D.state self.new.disk.now) self.new.on self.new.end self.new.dead self.new.own) result }
+        ensures refused { RefusesCut self.old.on self.old.end self.old.dead file len → IsRefused self.old.disk.now self.new.disk.now self.old.own self.new.own result }
+        ensures counts { IsCounted self.old.own self.new.own (D.state self.old.disk.now) (D.state self.new.disk.now) result }
+        ensures same { (self.new.on ≡ self.old.on) × (self.new.end ≡ self.old.end) × (self.new.first ≡ self.old.first) × (self.new.second ≡ self.old.second) × (self.new.dead ≡ self.old.dead) }
+        ensures lent { self.new.disk.ghost_name ≡ self.old.disk.ghost_name }
+    {
         if self.refuses_cut(file, len) {
             return Err(self.refuse());
         }
         self.disk.cut(file, len)
     }
 
-    fn sync(&mut self) -> Result<(), DiskFault> {
+    fn sync(&mut self) -> Result<(), DiskFault>
+        ensures durable { OnOk result (D.tells → IsSynced (shown D.tells (D.state self.new.disk.now) self.new.on self.new.end self.new.dead self.new.own)) }
+        ensures contents { D.tells → (shown D.tells (D.state self.new.disk.now) self.new.on self.new.end self.new.dead self.new.own).files ≡ (shown D.tells (D.state self.old.disk.now) self.old.on self.old.end self.old.dead self.old.own).files }
+        ensures crash { KeepsImages (shown D.tells (D.state self.old.disk.now) self.old.on self.old.end self.old.dead self.old.own) (shown D.tells (D.state self.new.disk.now) self.new.on self.new.end self.new.dead self.new.own) }
+        ensures settled { Settles (shown D.tells (D.state self.old.disk.now) self.old.on self.old.end self.old.dead self.old.own) (shown D.tells (D.state self.new.disk.now) self.new.on self.new.end self.new.dead self.new.own) }
+        ensures time { Passes (shown D.tells (D.state self.old.disk.now) self.old.on self.old.end self.old.dead self.old.own) (shown D.tells (D.state self.new.disk.now) self.new.on self.new.end self.new.dead self.new.own) }
+        ensures cause { HasCause (shown D.tells (D.state self.old.disk.now) self.old.on self.old.end self.old.dead self.old.own).faults (shown D.tells (D.state self.new.disk.now) self.new.on self.new.end self.new.dead self.new.own).faults result }
+        ensures sure { IsSure (D.tells × IsReady (shown D.tells (D.state self.old.disk.now) self.old.on self.old.end self.old.dead self.old.own)) (IsRoomy (shown D.tells (D.state self.old.disk.now) self.old.on self.old.end self.old.dead self.old.own)) (shown D.tells (D.state self.old.disk.now) self.old.on self.old.end self.old.dead self.old.own) (shown D.tells (D.state self.new.disk.now) self.new.on self.new.end self.new.dead self.new.own) result }
+        ensures refused { self.old.dead ≡ true → IsRefused self.old.disk.now self.new.disk.now self.old.own self.new.own result }
+        ensures broken { D.tells → self.old.on ≡ true → NeverEnds ((D.state self.old.disk.now).files 0) → IsErr result × WritesNone D.tells (D.state self.old.disk.now) (D.state self.new.disk.now) × (self.new.dead ≡ self.old.dead) }
+        ensures dies { OnErr result ((self.new.dead ≡ true) ⊎ WritesNone D.tells (D.state self.old.disk.now) (D.state self.new.disk.now)) }
+        ensures lives { OnOk result (self.new.dead ≡ false) }
+        ensures counts { IsCounted self.old.own self.new.own (D.state self.old.disk.now) (D.state self.new.disk.now) result }
+        ensures on { self.new.on ≡ self.old.on }
+        ensures lent { self.new.disk.ghost_name ≡ self.old.disk.ghost_name }
+    {
         if self.dead {
             return Err(self.refuse());
         }

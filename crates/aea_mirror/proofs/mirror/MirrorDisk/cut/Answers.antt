@@ -55,3 +55,6 @@ returns-clause-sure g c =
     cut_sure g.D.Disk.tells c.args.file c.args.len (g.D.Disk.state m.disk.now) (g.D.Disk.state c.cut.new.self) (record { on = m.on; end = m.end; dead = m.dead; own = m.own }) c.cut.result near
     (λ free. g.met.D.Disk.free_taken m.disk.now c.args.file ((g.D.Disk.state m.disk.now).files 0) 0 free)
     c.cut.ensures.cause c.cut.ensures.sure c.cut.ensures.cut
+
+pub returns-then-refuses_cut-clause-same : goal.returns-then-refuses_cut-clause-same
+returns-then-refuses_cut-clause-same g c = let e = c.refuse.ensures in (e.on, e.end, e.first, e.second, e.dead)

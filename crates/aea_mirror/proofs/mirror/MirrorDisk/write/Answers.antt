@@ -63,3 +63,6 @@ returns-clause-sure g c =
     written_sure g.D.Disk.tells c.args.file c.args.at c.args.bytes.now (g.D.Disk.state m.disk.now) (g.D.Disk.state c.write.new.self) (record { on = m.on; end = m.end; dead = m.dead; own = m.own }) c.write.result near
     (λ free. g.met.D.Disk.free_taken m.disk.now c.args.file ((g.D.Disk.state m.disk.now).files 0) c.args.at free)
     c.write.ensures.cause c.write.ensures.sure c.write.ensures.written
+
+pub returns-then-refuses_write-clause-same : goal.returns-then-refuses_write-clause-same
+returns-then-refuses_write-clause-same g c = let e = c.refuse.ensures in (e.on, e.end, e.first, e.second, e.dead)

@@ -65,11 +65,12 @@ def compiled(room, name):
     return path
 
 
-def call_bench():
-    """The program of the crate aea_gauss_bench, which runs calls of lower crates by themselves; it is proved and compiled first."""
-    crate = TOP / "crates/aea_gauss_bench"
-    subprocess.run(["rt", "run", "--", "fill", "1", "64"], cwd=crate, stdout=subprocess.DEVNULL, check=True)
-    return str(crate / "out/aea_gauss_bench")
+def call_bench(name="aea_gauss_bench", *words):
+    """The program of this crate, which runs calls of lower crates by themselves; it is proved and compiled first, and run once with
+    these words in the folder of its crate."""
+    crate = TOP / f"crates/{name}"
+    subprocess.run(["rt", "run", "--", *(words or ("fill", "1", "64"))], cwd=crate, stdout=subprocess.DEVNULL, check=True)
+    return str(crate / f"out/{name}")
 
 
 def library(room, name):
@@ -190,6 +191,16 @@ def traced(words, folder, calls=None, stdin=subprocess.DEVNULL, stdout=subproces
 
 
 # files by chance
+
+
+def bytes_read(words, folder):
+    """What a run prints, and how many bytes it reads, by the system's count."""
+    child = subprocess.Popen(words, cwd=folder, stdin=subprocess.DEVNULL, stdout=subprocess.PIPE)
+    printed = child.stdout.read()
+    os.waitid(os.P_PID, child.pid, os.WEXITED | os.WNOWAIT)
+    counts = Path(f"/proc/{child.pid}/io").read_text()
+    child.wait()
+    return printed, int(counts.split("rchar: ")[1].split()[0])
 
 
 def fill(path, size):

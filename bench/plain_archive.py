@@ -85,6 +85,22 @@ RAISE = record(4, number(4, RAISED))
 # of blocks, their cells and the files of sites
 
 
+def even_ledger(shape, nodes, objects, seed):
+    """The bytes of a ledger of so many nodes, which its objects share out evenly; the digests are by chance. More nodes than the limit
+    stand behind a raise of it."""
+    chance = random.Random(seed)
+    parts = [ledger_head(shape)]
+    if nodes > LIMIT:
+        parts.append(RAISE)
+    first = 1
+    for k in range(objects):
+        name, count = f"object {k}".encode(), (nodes - first + 1) // (objects - k)
+        digest = hashlib.sha256(name).digest()
+        parts.append(object_record(name, count * shape[3], digest, first, count, chance.randbytes(32 * (1 + shape[0]) * count)))
+        first += count
+    return b"".join(parts) + b"\x00"
+
+
 def text_of(k, classes):
     """The text of a block, by its number."""
     return f"{LETTERS[k % classes]}{k // classes + 1}"

@@ -5,6 +5,7 @@ equations are numbers whose bits are theirs."""
 
 import hashlib
 import itertools
+import random
 import re
 from dataclasses import dataclass, field
 

@@ -1,0 +1,349 @@
+//! A disk that keeps two copies up: what it hides and refuses, and records that are added over it, with stops and faults.
+
+use crate::example::{FENCE, RAISE, copy_of, example_copy, joined, ledger};
+use crate::plain::part;
+use crate::stops::LOSSES;
+use crate::three::{
+    Answer, EXAMPLE, adopts, cut, disk_of, has, has_all, has_example, put, set, set_all, whole,
+};
+use crate::watched::Watched;
+use aea_adopt::adopt;
+use aea_disk::{Disk, DiskFault, FailDisk, MemDisk};
+use aea_ledger::open_ledger;
+use aea_mirror::Mirror;
+use std::alloc::{AllocError, Global};
+use std::test::Fail;
+
+// What is answered where the example with a fence more is adopted, and with a fence and a raise.
+const FENCED: Answer = Answer::On {
+    end: 212,
+    gate: 332,
+};
+
+const RAISED: Answer = Answer::On {
+    end: 222,
+    gate: 379,
+};
+
+// The example with a fence, and with a raise of the limit after it.
+fn fenced(alloc: Global) -> Result<Vec<u8>, AllocError> {
+    joined(
+        alloc,
+        &joined(alloc, part(&ledger(), 0, 202), FENCE)?,
+        b"\0",
+    )
+}
+
+fn raised(alloc: Global) -> Result<Vec<u8>, AllocError> {
+    let text = joined(
+        alloc,
+        &joined(alloc, part(&ledger(), 0, 202), FENCE)?,
+        RAISE,
+    )?;
+    joined(alloc, &text, b"\0")
+}
+
+// Whether a Mirror shows no copies, and refuses what would change them, also where it would change nothing.
+fn hides<D: Disk>(mirror: &mut Mirror<D>) -> bool {
+    let mut bytes = [9; 4];
+    let refused = [
+        put(mirror, 65, 285, b"\0"),
+        put(mirror, 66, 0, b""),
+        cut(mirror, 65, 0),
+        cut(mirror, 66, 0),
+    ];
+    mirror.len(65) == Ok(0)
+        && mirror.read(66, 0, &mut bytes) == Ok(0)
+        && refused == [Err(DiskFault); 4]
+}
+
+// Whether a Mirror refuses what would change the kept text, and takes what is after it.
+fn guards<D: Disk>(mirror: &mut Mirror<D>) -> bool {
+    let refused = [
+        put(mirror, 0, 201, b"xx"),
+        put(mirror, 0, 0, b""),
+        cut(mirror, 0, 202),
+        cut(mirror, 0, 0),
+    ];
+    let taken = [
+        put(mirror, 0, 202, b"\0more"),
+        cut(mirror, 0, 203),
+        mirror.sync(),
+    ];
+    refused == [Err(DiskFault); 4] && taken == [Ok(()); 3]
+}
+
+// Whether a Mirror over the example does both, and leaves its files.
+fn refuses_rightly(alloc: Global) -> Result<bool, AllocError> {
+    let copy = example_copy(alloc)?;
+    let Some(mut disk) = disk_of(alloc, &whole(&ledger(), copy.as_slice()))? else {
+        return Ok(false);
+    };
+    let Ok(adopted) = adopt(&mut disk) else {
+        return Ok(false);
+    };
+    let mut mirror = Mirror::new(&mut disk, adopted);
+    let right = hides(&mut mirror) && guards(&mut mirror);
+    Ok(right && has_example(alloc, &mut disk)?)
+}
+
+#[test]
+fn copies_and_the_kept_text_are_refused(rt: HostRuntime) -> Result<(), Fail> {
+    let right = refuses_rightly(rt.alloc())?;
+    assert!(rt; right);
+    Ok(())
+}
+
+// Adds a fence to the ledger of a disk. It says whether it did.
+fn adds_fence<D: Disk>(alloc: Global, disk: &mut D) -> bool {
+    match open_ledger(alloc, disk) {
+        Ok(mut ledger) => ledger.append_fence(disk) == Ok(1),
+        Err(_) => false,
+    }
+}
+
+// Adds a raise of the limit.
+fn adds_raise<D: Disk>(alloc: Global, disk: &mut D) -> bool {
+    match open_ledger(alloc, disk) {
+        Ok(mut ledger) => ledger.append_upgrade(disk) == Ok(()),
+        Err(_) => false,
+    }
+}
+
+// Adds a fence to the ledger of a disk, and a raise of the limit if that is wanted. It says whether it did.
+fn adds<D: Disk>(alloc: Global, disk: &mut D, raises: bool) -> bool {
+    adds_fence(alloc, disk) && (!raises || adds_raise(alloc, disk))
+}
+
+// The same over a Mirror of the disk, once its copies were adopted.
+fn adds_over<D: Disk>(alloc: Global, disk: &mut D, raises: bool) -> bool {
+    match adopt(disk) {
+        Ok(adopted) => adds(alloc, &mut Mirror::new(disk, adopted), raises),
+        Err(_) => false,
+    }
+}
+
+// Whether both records are in the ledger and in both copies, once they were added one after the other.
+fn keeps_up(alloc: Global) -> Result<bool, AllocError> {
+    let copy = example_copy(alloc)?;
+    let Some(mut disk) = disk_of(alloc, &whole(&ledger(), copy.as_slice()))? else {
+        return Ok(false);
+    };
+    if !adds_over(alloc, &mut disk, true) {
+        return Ok(false);
+    }
+    let text = raised(alloc)?;
+    let new = copy_of(alloc, text.as_slice(), &[17, 202, 212, 222])?;
+    Ok(has_all(&mut disk, &whole(text.as_slice(), new.as_slice())) && adopts(&mut disk) == RAISED)
+}
+
+#[test]
+fn each_record_gets_into_both_copies(rt: HostRuntime) -> Result<(), Fail> {
+    let right = keeps_up(rt.alloc())?;
+    assert!(rt; right);
+    Ok(())
+}
+
+// What a commit takes of the disk: writes and syncs, and reads.
+fn taken(alloc: Global, copied: bool) -> Result<Option<(u64, u64, u64)>, AllocError> {
+    let copy = example_copy(alloc)?;
+    let three = if copied { copy.as_slice() } else { b"" };
+    let Some(inner) = disk_of(alloc, &whole(&ledger(), three))? else {
+        return Ok(None);
+    };
+    let mut disk = Watched::new(inner);
+    let Ok(adopted) = adopt(&mut disk) else {
+        return Ok(None);
+    };
+    let before = (disk.writes, disk.syncs, disk.reads);
+    let right = adds(alloc, &mut Mirror::new(&mut disk, adopted), false);
+    let writes = disk.writes.saturating_sub(before.0);
+    let syncs = disk.syncs.saturating_sub(before.1);
+    let reads = disk.reads.saturating_sub(before.2);
+    let ordered = disk.last_of_first < disk.first_of_second || !copied;
+    Ok((right && ordered).then_some((writes, syncs, reads)))
+}
+
+// Both copies together cost a commit eight writes and syncs, four of them syncs, and at most eight reads; 65 comes before 66.
+#[test]
+fn a_commit_costs_eight_calls_more(rt: HostRuntime) -> Result<(), Fail> {
+    let (Some(alone), Some(copied)) = (taken(rt.alloc(), false)?, taken(rt.alloc(), true)?) else {
+        panic!(rt; "not added");
+    };
+    assert!(rt; copied.0 == alone.0.saturating_add(4));
+    assert!(rt; copied.1 == alone.1.saturating_add(4));
+    assert!(rt; copied.2 <= alone.2.saturating_add(8));
+    Ok(())
+}
+
+// Whether what is left of a stop, with one of the three files taken away, is adopted with the text of before or the new one; only
+// the new one at the end.
+fn survives(
+    alloc: Global,
+    disk: &MemDisk,
+    after: u64,
+    at: usize,
+    file: u8,
+    new: Answer,
+) -> Result<bool, AllocError> {
+    let Some(loss) = LOSSES.get(at) else {
+        return Ok(false);
+    };
+    if after > disk.calls() {
+        return Ok(false);
+    }
+    let mut left = disk.image(alloc, after, *loss)?;
+    if set(&mut left, file, b"").is_err() {
+        return Ok(false);
+    }
+    let found = adopts(&mut left);
+    let old = found == EXAMPLE && after < disk.calls();
+    Ok((old || found == new) && is_opened(alloc, &mut left))
+}
+
+// Whether a ledger is opened.
+fn is_opened<D: Disk>(alloc: Global, disk: &mut D) -> bool {
+    open_ledger(alloc, disk).is_ok()
+}
+
+// The first call after which a stop leaves something else, whichever file is lost; none where there is none.
+fn first_wrong_stop(
+    alloc: Global,
+    disk: &MemDisk,
+    begun: u64,
+    new: Answer,
+) -> Result<Option<u64>, AllocError> {
+    for after in begun..=disk.calls() {
+        for at in 0..LOSSES.len() {
+            for file in [0u8, 65, 66] {
+                if !survives(alloc, disk, after, at, file, new)? {
+                    return Ok(Some(after));
+                }
+            }
+        }
+    }
+    Ok(None)
+}
+
+// A disk that lists its calls, with the example and its copies.
+fn listed(alloc: Global) -> Result<Option<MemDisk>, AllocError> {
+    let copy = example_copy(alloc)?;
+    let mut disk = MemDisk::new(alloc, 0, 1024, 0, 512, 8192)?;
+    let made = set_all(&mut disk, &whole(&ledger(), copy.as_slice())).is_ok();
+    Ok(made.then_some(disk))
+}
+
+#[test]
+fn a_record_survives_each_stop_and_loss(rt: HostRuntime) -> Result<(), Fail> {
+    let Some(mut disk) = listed(rt.alloc())? else {
+        panic!(rt; "no disk");
+    };
+    let begun = disk.calls();
+    assert!(rt; adds_over(rt.alloc(), &mut disk, false));
+    let wrong = first_wrong_stop(rt.alloc(), &disk, begun, FENCED)?;
+    assert!(rt; wrong.is_none());
+    Ok(())
+}
+
+// Two records that are made known by one gate and one sync.
+fn adds_two<D: Disk>(alloc: Global, disk: &mut D) -> Result<bool, AllocError> {
+    let Ok(adopted) = adopt(disk) else {
+        return Ok(false);
+    };
+    let mut mirror = Mirror::new(disk, adopted);
+    let text = raised(alloc)?;
+    let written = put(&mut mirror, 0, 203, part(text.as_slice(), 203, 20));
+    let calls = [
+        written,
+        mirror.sync(),
+        put(&mut mirror, 0, 202, b"\x01"),
+        mirror.sync(),
+    ];
+    Ok(calls == [Ok(()); 4])
+}
+
+#[test]
+fn two_records_are_copied_at_once(rt: HostRuntime) -> Result<(), Fail> {
+    let Some(mut disk) = listed(rt.alloc())? else {
+        panic!(rt; "no disk");
+    };
+    let begun = disk.calls();
+    let right = adds_two(rt.alloc(), &mut disk)?;
+    assert!(rt; right);
+    let wrong = first_wrong_stop(rt.alloc(), &disk, begun, RAISED)?;
+    assert!(rt; wrong.is_none());
+    Ok(())
+}
+
+// Whether a sync of what is no list of whole records is refused before a copy is written, and taken once the gate is closed.
+fn refuses_broken(alloc: Global, behind: &[u8]) -> Result<bool, AllocError> {
+    let copy = example_copy(alloc)?;
+    let Some(inner) = disk_of(alloc, &whole(&ledger(), copy.as_slice()))? else {
+        return Ok(false);
+    };
+    let mut disk = Watched::new(inner);
+    let Ok(adopted) = adopt(&mut disk) else {
+        return Ok(false);
+    };
+    let mut mirror = Mirror::new(&mut disk, adopted);
+    let calls = [
+        put(&mut mirror, 0, 203, behind),
+        put(&mut mirror, 0, 202, b"\x01"),
+    ];
+    let refused = mirror.sync();
+    let closed = [put(&mut mirror, 0, 202, b"\0"), mirror.sync()];
+    let stays = has(&mut disk, 65, copy.as_slice()) && has(&mut disk, 66, copy.as_slice());
+    let untouched = disk.last_of_first == 0 && disk.first_of_second == 0;
+    Ok(
+        calls == [Ok(()); 2]
+            && refused == Err(DiskFault)
+            && closed == [Ok(()); 2]
+            && stays
+            && untouched,
+    )
+}
+
+#[test]
+fn a_broken_record_is_refused(rt: HostRuntime) -> Result<(), Fail> {
+    let rows = [
+        b"".as_slice(),
+        b"\x02\0\0\0\x04",
+        b"\x02\0\0\0\x04\0\0\0\x01",
+        b"\x02\xff\xff\xff\xff\0\0\0\x01\0",
+        b"\x02\0\0\0\x04\0\0\0\x01\x01\x04",
+    ];
+    for behind in rows {
+        let right = refuses_broken(rt.alloc(), behind)?;
+        assert!(rt; right);
+    }
+    Ok(())
+}
+
+// With each call of the disk failing once while a record is added, until no call does: the next adoption finds the old text or the
+// new one, whichever file is lost, and a Mirror whose sync had begun to write a copy takes nothing more.
+fn fails_and_stays(alloc: Global) -> Result<bool, AllocError> {
+    let copy = example_copy(alloc)?;
+    for call in 1..400u64 {
+        let Some(inner) = disk_of(alloc, &whole(&ledger(), copy.as_slice()))? else {
+            return Ok(false);
+        };
+        let mut disk = FailDisk::new(alloc, inner, &[call])?;
+        if adds_over(alloc, &mut disk, false) {
+            return Ok(call > 20);
+        }
+        let found = adopts(&mut disk);
+        if (found != EXAMPLE && found != FENCED) || !is_opened(alloc, &mut disk) {
+            return Ok(false);
+        }
+    }
+    Ok(false)
+}
+
+#[test]
+fn each_call_of_a_commit_may_fail(rt: HostRuntime) -> Result<(), Fail> {
+    let right = fails_and_stays(rt.alloc())?;
+    assert!(rt; right);
+    let text = fenced(rt.alloc())?;
+    assert!(rt; text.len() == 213);
+    Ok(())
+}

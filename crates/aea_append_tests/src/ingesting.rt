@@ -201,7 +201,7 @@ fn refusals_come_in_their_order(rt: HostRuntime) -> Result<(), Fail> {
 }
 
 // How many bytes were taken before each read of the first frame.
-const BEFORE: [u64; 4] = [0, 2, 3, 11];
+const BEFORE: [u64; 3] = [0, 2, 11];
 
 #[test]
 fn each_read_fails(rt: HostRuntime) -> Result<(), Fail> {

@@ -15,10 +15,12 @@ pub record IsSite (file : ℕ) : Type 0 where
   pub from : 1 ≤ file
   pub to : file ≤ 64
 
--- nothing is said of copies that are not on
+-- nothing is said of copies that are not on: all numbers are 0
 pub record IsOff (a : Adopted) : Type 0 where
   pub on : a.on ≡ false
   pub end : a.end ≡ 0
+  pub gates : a.gates ≡ 0 ∷ 0 ∷ []
+  pub links : a.links ≡ first_link ∷ first_link ∷ []
 
 -- what is said of kept pieces
 pub record TellsKept (pieces : List (List ℕ)) (a : Adopted) : Type 0 where

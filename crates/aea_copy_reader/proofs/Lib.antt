@@ -4,3 +4,4 @@ mod Seeing
 mod Turns
 mod Comparing
 mod Walking
+mod Reading

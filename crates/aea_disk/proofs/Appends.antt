@@ -10,7 +10,7 @@ use Rattle.std.proofs.lemmas.List.{get_or_default}
 use Rattle.aea_disk.specs.Files.{Files, overwritten}
 use Rattle.aea_disk.specs.Space.{Extent, empty_extent}
 use Rattle.aea_disk.specs.Spaces.{files_of, room_of}
-use Rattle.aea_disk.specs.State.{Passes, Settles}
+use Rattle.aea_disk.specs.State.{Passes, Settles, no_lent}
 use Rattle.aea_disk.specs.Events.{Event, Wrote, Shortened, after, reads_at, next_images, image_at}
 use Rattle.aea_disk.specs.Replays.{same_reads, same_images}
 use Rattle.aea_disk.specs.Log.{Log}
@@ -18,6 +18,7 @@ use Rattle.aea_disk.specs.Logged.{event_of, events_of, end_of, file_of, end_in_f
 use Rattle.aea_disk.specs.declared.mem.Call.{Call}
 use Rattle.aea_disk.specs.declared.mem.Call.TheVariants.{Len, Read, Write, Cut, Sync}
 use Rattle.aea_disk.proofs.Fresh.{get_or-push}
+use Rattle.aea_disk.proofs.Moments.{keeps_none, lasts_as}
 
 -- a call's bytes stay where more bytes come after them
 event_of-append : (bytes more : List ℕ) (call : Call) → end_of call ≤ length bytes → event_of (bytes ++ more) call ≡ event_of bytes call
@@ -89,6 +90,7 @@ lists_time old new call more logged lists =
       beneath = omega (arith, lists.faults);
       syncs = λ b has. has;
       free = λ is. is;
+      lasts = lasts_as (log_state old) (log_state new) (omega (arith, lists.faults)) (keeps_none no_lent);
     }
 
 pub lists_settled : (old new : Log) (call : Call) (more : List ℕ) → Lists old new call more → Settles (log_state old) (log_state new)

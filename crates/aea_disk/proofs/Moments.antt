@@ -1,9 +1,9 @@
 -- How what a crash may leave goes on from call to call: the lemmas by which a client composes its calls.
-use Rattle.std.proofs.Common.{◌≡◌, ◌≢◌, ◌⊎◌, ◌↔◌, ⊎_elim, ℕ, ◌+◌, ◌≤◌, List, length, take, drop, refl, sym, ◌∙◌, ap, subst, arith}
+use Rattle.std.proofs.Common.{◌≡◌, ◌≢◌, ◌⊎◌, ◌↔◌, ⊎_elim, ℕ, Bool, false, max, ◌+◌, ◌-◌, ◌^◌, ◌<◌, ◌≤◌, List, length, take, drop, refl, sym, ◌∙◌, ap, subst, arith}
 use Rattle.std.proofs.lemmas.Bool.{cases_eq, cases_lt}
 use Rattle.aea_disk.specs.Files.{Files, ChangesFile, Torn}
 use Rattle.aea_disk.specs.Steps.{torn_range}
-use Rattle.aea_disk.specs.State.{State, Passes, Follows, KeepsImages, Settles, EveryImage, During, Stays, SomeGivesEvery, HasEarlier, IsSynced, IsFixed, KeepsOthers, KeepsWhere, HasRange}
+use Rattle.aea_disk.specs.State.{State, Lent, KeepsLent, Lasts, lent_of, Goes, Passes, Follows, KeepsImages, Settles, EveryImage, During, Stays, SomeGivesEvery, HasEarlier, IsSynced, IsFixed, KeepsOthers, KeepsWhere, HasRange}
 
 -- a call that adds no moment and no image takes any step that may leave the files
 pub no_time : (step : Files → Files → Type 0) (old new : State) → new.moment ≤ old.moment → ((t : ℕ) (c : Files) → new.image t c → old.image t c) → ((c : Files) → step c c) → Follows step old new
@@ -31,9 +31,73 @@ during_both old mid new P first second early late t c from to here =
     (λ after. late t c (omega arith) to here)
     (cases_lt t mid.moment)
 
+-- What is lent stays while no call is made,
+pub keeps_none : (l : Lent) → KeepsLent l l
+keeps_none l = record {
+  name = refl;
+  set = refl;
+  later = omega arith;
+  keeps = λ t c early. (λ here. here, λ here. here);
+  counts = omega arith;
+  stops = omega arith;
+  room = λ f n has. has;
+  beneath = omega arith;
+  syncs = λ b has. has;
+  free = λ is. is;
+  same = λ c. (λ has. has, λ has. has);
+  holds = λ every t c from to here. let is : t ≡ l.moment = omega arith in every c (subst (λ (m : ℕ). l.image m c) is here);
+}
+
+-- and over calls that are made one after the other.
+keeps_both : (old mid new : Lent) → KeepsLent old mid → KeepsLent mid new → KeepsLent old new
+keeps_both old mid new first second = record {
+  name = second.name ∙ first.name;
+  set = second.set ∙ first.set;
+  later = omega (arith, first.later, second.later);
+  keeps = λ t c early.
+      let one = first.keeps t c early in
+      let two = second.keeps t c (omega (arith, first.later)) in
+      (λ here. one.0 (two.0 here), λ here. two.1 (one.1 here));
+  counts = omega (arith, first.counts, second.counts);
+  stops = let one = first.stops in let two = second.stops in omega (arith, one, two);
+  room = λ f n has. second.room f n (first.room f n has);
+  beneath = omega (arith, first.beneath, second.beneath);
+  syncs = λ b has. second.syncs b (first.syncs b has);
+  free = λ is. second.free (first.free is);
+  same = λ c. let one = first.same c in let two = second.same c in (λ has. one.0 (two.0 has), λ has. two.1 (one.1 has));
+  holds = λ every t c from to here.
+      let later = first.later in
+      ⊎_elim
+      (λ (before : t < mid.moment). first.holds every t c from (omega (arith, before)) ((second.keeps t c (omega (arith, before))).0 here))
+      (λ (after : mid.moment ≤ t). (first.same c).0 (second.holds (λ d there. (first.same d).1 (first.holds every mid.moment d later (omega arith) there)) t c after to here))
+      (cases_lt t mid.moment);
+}
+
+-- the count stops, and what is lent stays
+pub lasts_as : (old new : State) → new.faults ≤ max old.faults (2 ^ 64 - 1) → KeepsLent old.lent new.lent → Lasts old new
+unfolding Lasts
+lasts_as old new stops keeps = (stops, keeps)
+
+pub lasts_stops : (old new : State) → Lasts old new → new.faults ≤ max old.faults (2 ^ 64 - 1)
+unfolding Lasts
+lasts_stops old new lasts = lasts.0
+
+pub lasts_lent : (old new : State) → Lasts old new → KeepsLent old.lent new.lent
+unfolding Lasts
+lasts_lent old new lasts = lasts.1
+
+lasts_none : (s : State) → Lasts s s
+lasts_none s = lasts_as s s (omega arith) (keeps_none s.lent)
+
+lasts_both : (old mid new : State) → Lasts old mid → Lasts mid new → Lasts old new
+lasts_both old mid new first second =
+    let one = lasts_stops old mid first in
+    let two = lasts_stops mid new second in
+    lasts_as old new (omega (arith, one, two)) (keeps_both old.lent mid.lent new.lent (lasts_lent old mid first) (lasts_lent mid new second))
+
 -- time passes from each state to itself, as where no call is made
 pub passes_none : (s : State) → Passes s s
-passes_none s = record { later = omega arith; keeps = λ t c early. (λ here. here, λ here. here); room = λ f n has. has; beneath = omega arith; syncs = λ b has. has; free = λ is. is }
+passes_none s = record { later = omega arith; keeps = λ t c early. (λ here. here, λ here. here); room = λ f n has. has; beneath = omega arith; syncs = λ b has. has; free = λ is. is; lasts = lasts_none s }
 
 -- where time passes from one state to a second, and from that to a third, it passes from first to third
 pub passes_both : (old mid new : State) → Passes old mid → Passes mid new → Passes old new
@@ -47,7 +111,48 @@ passes_both old mid new first second = record {
   beneath = omega (arith, first.beneath, second.beneath);
   syncs = λ b has. second.syncs b (first.syncs b has);
   free = λ is. second.free (first.free is);
+  lasts = lasts_both old mid new first.lasts second.lasts;
 }
+
+-- time passes from one state to another,
+pub goes_passes : (old new : State) → old.faults ≤ new.faults → Passes old new → Goes old new
+goes_passes old new counts passes = record {
+  name = refl;
+  set = refl;
+  later = passes.later;
+  keeps = passes.keeps;
+  counts = counts;
+  stops = lasts_stops old new passes.lasts;
+  room = passes.room;
+  beneath = passes.beneath;
+  syncs = passes.syncs;
+  free = passes.free;
+  same = λ c. (λ has. has, λ has. has);
+  holds = λ every t c from to here. tt;
+}
+
+-- and so it does where both are lent
+pub goes_lent : (name other : ℕ) (set also : Bool) (holds held : Files → Type 0) (old new : State) → KeepsLent (lent_of name set holds old) (lent_of other also held new) → Goes old new
+goes_lent name other set also holds held old new lasts = record {
+  name = refl;
+  set = refl;
+  later = lasts.later;
+  keeps = lasts.keeps;
+  counts = lasts.counts;
+  stops = lasts.stops;
+  room = lasts.room;
+  beneath = lasts.beneath;
+  syncs = lasts.syncs;
+  free = lasts.free;
+  same = λ c. (λ has. has, λ has. has);
+  holds = λ every t c from to here. tt;
+}
+
+pub goes_none : (s : State) → Goes s s
+goes_none s = keeps_none (lent_of 0 false (λ c. Unit {0}) s)
+
+pub goes_both : (old mid new : State) → Goes old mid → Goes mid new → Goes old new
+goes_both old mid new first second = keeps_both (lent_of 0 false (λ c. Unit {0}) old) (lent_of 0 false (λ c. Unit {0}) mid) (lent_of 0 false (λ c. Unit {0}) new) first second
 
 -- a weaker fact at each image
 pub during_more : (old new : State) (P Q : Files → Type 0) → ((c : Files) → P c → Q c) → During old new P → During old new Q

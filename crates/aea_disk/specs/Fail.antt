@@ -13,7 +13,7 @@ pub record Failing (D : Type 0) : Type 0 where
 
 -- the inner disk's meanings with a count of its own, and no capacity that is guaranteed
 abbrev pub with_faults : State → ℕ → State
-with_faults s n = record { files = s.files; moment = s.moment; image = s.image; faults = n; room = λ f m. ⊥; beneath = n; takes = λ f b at. Unit {0}; keeps = λ b. Unit {0}; free = Unit {0} }
+with_faults s n = record { files = s.files; moment = s.moment; image = s.image; faults = n; room = λ f m. ⊥; beneath = n; takes = λ f b at. Unit {0}; keeps = λ b. Unit {0}; free = Unit {0}; lent = s.lent }
 
 -- the number of the next call, counted from 1, and the greatest u64 from there on
 abbrev pub next_call : ℕ → ℕ

@@ -5,7 +5,7 @@ use Rattle.aea_disk.specs.Space.{Extent}
 use Rattle.aea_disk.specs.Spaces.{files_of, room_of, room_for}
 use Rattle.aea_disk.specs.Replays.{reads_image}
 use Rattle.std.proofs.Common.{le_refl}
-use Rattle.aea_disk.specs.State.{State}
+use Rattle.aea_disk.specs.State.{State, no_lent}
 use Rattle.aea_disk.specs.Events.{Event, Looked, Wrote, Shortened, Synced, reads_at, image_at}
 use Rattle.aea_disk.specs.Log.{Log}
 use Rattle.aea_disk.specs.declared.mem.Call.{Call}
@@ -57,6 +57,7 @@ log_state d = record {
   takes = λ f b at. Unit {0};
   keeps = λ b. Unit {0};
   free = Unit {0};
+  lent = no_lent;
 }
 
 -- a law of the disk: it may be left as it reads

@@ -3,7 +3,7 @@ use Rattle.std.specs.Prelude.{◌≡◌, ℕ, ◌≤◌, ◌<◌, List, [], leng
 use Rattle.std.proofs.Common.{le_trans}
 use Rattle.aea_disk.specs.Files.{Files}
 use Rattle.aea_disk.specs.Space.{Extent, empty_extent}
-use Rattle.aea_disk.specs.State.{State}
+use Rattle.aea_disk.specs.State.{State, no_lent}
 
 pub record Memory : Type 0 where
   pub spaces : List Extent
@@ -19,7 +19,7 @@ room_of spaces f = (slice_index_or spaces f empty_extent).room
 
 -- no images of it are known, and no call fails that stays within the capacities
 abbrev pub sure_state : Memory → State
-sure_state m = record { files = files_of m.spaces; moment = 0; image = λ t c. ⊥; faults = m.faults; room = λ f n. n ≤ room_of m.spaces f; beneath = m.faults; takes = λ f b at. Unit {0}; keeps = λ b. Unit {0}; free = Unit {0} }
+sure_state m = record { files = files_of m.spaces; moment = 0; image = λ t c. ⊥; faults = m.faults; room = λ f n. n ≤ room_of m.spaces f; beneath = m.faults; takes = λ f b at. Unit {0}; keeps = λ b. Unit {0}; free = Unit {0}; lent = no_lent }
 
 -- the ledger's capacity for file 0 and the last two, a site's for 1 to `sites`, and none for the others
 abbrev pub room_for : ℕ → ℕ → ℕ → ℕ → ℕ

@@ -1,7 +1,39 @@
 -- What a disk means: its files, its moments, and what a crash may have left at each.
-use Rattle.std.specs.Prelude.{◌≡◌, ◌≢◌, ◌↔◌, ◌<◌, ◌≤◌, ℕ, List, length, take, drop, Result, OnOk, OnErr, IsOk}
+use Rattle.std.specs.Prelude.{◌≡◌, ◌≢◌, ◌↔◌, ◌<◌, ◌≤◌, ◌-◌, ◌^◌, max, Bool, false, ℕ, List, length, take, drop, Result, OnOk, OnErr, IsOk}
 use Rattle.aea_faults.specs.Faults.{Rose}
 use Rattle.aea_disk.specs.Files.{Files}
+
+-- Of a disk that hands its calls on to one that it is lent: which one that is, by the name of the loan, and how the borrower is set;
+-- the lent disk's clock, its images, how often a call of it has failed, and what it says of its capacities and its rules; and
+-- what the borrower sees to in each image of it.
+pub record Lent : Type 1 where
+  pub name : ℕ
+  pub set : Bool
+  pub moment : ℕ
+  pub image : ℕ → Files → Type 0
+  pub faults : ℕ
+  pub room : ℕ → ℕ → Type 0
+  pub beneath : ℕ
+  pub keeps : List ℕ → Type 0
+  pub free : Type 0
+  pub holds : Files → Type 0
+
+-- What calls leave of it: it is the same one, and the borrower is set as before; its time goes on, its counts do not fall, and the
+-- one of its faults stops at the greatest u64; the images of earlier moments, the capacities and the rules stay; and where each
+-- image has what the borrower sees to, so has each image of each moment of the calls.
+pub record KeepsLent (old new : Lent) : Type 0 where
+  pub name : new.name ≡ old.name
+  pub set : new.set ≡ old.set
+  pub later : old.moment ≤ new.moment
+  pub keeps : (t : ℕ) (c : Files) → t ≤ old.moment → new.image t c ↔ old.image t c
+  pub counts : old.faults ≤ new.faults
+  pub stops : new.faults ≤ max old.faults (2 ^ 64 - 1)
+  pub room : (f n : ℕ) → old.room f n → new.room f n
+  pub beneath : old.beneath ≤ new.beneath
+  pub syncs : (bytes : List ℕ) → old.keeps bytes → new.keeps bytes
+  pub free : old.free → new.free
+  pub same : (c : Files) → new.holds c ↔ old.holds c
+  pub holds : ((c : Files) → old.image old.moment c → old.holds c) → (t : ℕ) (c : Files) → old.moment ≤ t → t ≤ new.moment → new.image t c → old.holds c
 
 pub record State : Type 1 where
   -- what a read gives, where the disk's contents are known
@@ -23,8 +55,14 @@ pub record State : Type 1 where
   pub keeps : List ℕ → Type 0
   -- the disk has no such rule at all
   pub free : Type 0
+  -- what it is lent; nothing, for a disk that hands no call on
+  pub lent : Lent
 
--- Time goes on, the count beneath does not fall, and a call leaves the images of earlier moments and the capacities as they are.
+-- The count of faults stops at the greatest u64, and what is lent stays. A proof looks into this only where it says so.
+unfoldable pub Lasts : State → State → Type 0
+Lasts old new = (new.faults ≤ max old.faults (2 ^ 64 - 1)) × KeepsLent old.lent new.lent
+
+-- Time goes on, the count beneath does not fall, and a call leaves the images of earlier moments, the capacities and what is lent as they are.
 pub record Passes (old new : State) : Type 0 where
   pub later : old.moment ≤ new.moment
   pub keeps : (t : ℕ) (c : Files) → t ≤ old.moment → new.image t c ↔ old.image t c
@@ -32,6 +70,20 @@ pub record Passes (old new : State) : Type 0 where
   pub beneath : old.beneath ≤ new.beneath
   pub syncs : (bytes : List ℕ) → old.keeps bytes → new.keeps bytes
   pub free : old.free → new.free
+  pub lasts : Lasts old new
+
+-- nothing is lent
+abbrev pub no_lent : Lent
+no_lent = record { name = 0; set = false; moment = 0; image = λ t c. ⊥; faults = 0; room = λ f n. ⊥; beneath = 0; keeps = λ b. ⊥; free = ⊥; holds = λ c. ⊥ }
+
+-- a disk of this state as a borrower has it that hands its calls on, under this name, set so, and with what it sees to
+abbrev pub lent_of : ℕ → Bool → (Files → Type 0) → State → Lent
+lent_of name set holds s = record { name = name; set = set; moment = s.moment; image = s.image; faults = s.faults; room = s.room; beneath = s.beneath; keeps = s.keeps; free = s.free; holds = holds }
+
+-- of a disk as it is, whoever has it: time goes on, the counts do not fall, and the images of earlier moments, the capacities and the
+-- rules stay
+abbrev pub Goes : State → State → Type 0
+Goes old new = KeepsLent (lent_of 0 false (λ c. Unit {0}) old) (lent_of 0 false (λ c. Unit {0}) new)
 
 -- each image of a moment of the call is an image from before it, after the step
 abbrev pub Follows : (Files → Files → Type 0) → State → State → Type 0

@@ -2,6 +2,7 @@ ghost use Rattle.std.specs.Prelude.{◌≡◌, ◌+◌, ◌≤◌, length, IfOk}
 ghost use Rattle.aea_faults.specs.Faults.{HasCause};
 ghost use Rattle.aea_disk.specs.Count.{faults_after};
 ghost use Rattle.aea_disk.specs.Silent.{silent_state};
+ghost use Rattle.aea_disk.specs.State.{Passes};
 
 use crate::folder::Folder;
 use crate::{Disk, DiskFault};
@@ -39,10 +40,12 @@ impl<R: Files<File = File>> DirDisk<R> {
     }
 
     // Counts the call where it failed.
+    #[tactic(auto, using(crate::proofs::Lending::silent_passes))]
     fn counted<T>(&mut self, answer: io::Result<T>) -> Result<T, DiskFault>
         ensures ok { IfOk result (λ v. answer ≡ Ok v) }
         ensures counted { self.new ≡ faults_after self.old result }
         ensures cause { HasCause self.old self.new result }
+        ensures time { Passes (silent_state self.old) (silent_state self.new) }
     {
         match answer {
             Ok(value) => Ok(value),

@@ -127,6 +127,7 @@ impl MemDisk {
     }
 
     // Counts a fault.
+    #[tactic(auto, using(crate::proofs::Lending::refused_log))]
     fn refuse(&mut self) -> DiskFault
         ensures counted { self.new ≡ record self.old { faults = one_more self.old.faults } }
         ensures cause { self.old.faults ≤ self.new.faults }

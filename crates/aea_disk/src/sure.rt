@@ -110,24 +110,29 @@ impl Disk for SureDisk {
 
     ghost smaller_fits = { λ d f m n le has. room_smaller d f m n le has };
 
+    #[tactic(auto, using(crate::proofs::Lending::sure_time))]
     fn len(&mut self, file: u8) -> Result<u64, DiskFault>
         requires { file ≤ 66 }
         ensures length { IsOkAnd result (λ n. n ≡ length (files_of self.old.spaces file)) }
         ensures same { self.new ≡ self.old }
+        ensures time { Passes (sure_state self.old) (sure_state self.new) }
     {
         Ok(self.spaces[file as usize].len() as u64)
     }
 
+    #[tactic(auto, using(crate::proofs::Lending::sure_time))]
     fn read(&mut self, file: u8, at: u64, buf: &mut [u8]) -> Result<usize, DiskFault>
         requires file { file ≤ 66 }
         requires range { at + length buf.old ≤ 2 ^ 62 }
         ensures count { IsOkAnd result (λ k. k ≡ min (length buf.new) (length (files_of self.old.spaces file) - at)) }
         ensures bytes { IfOk result (λ k. take k buf.new ≡ take k (drop at (files_of self.old.spaces file))) }
         ensures same { self.new ≡ self.old }
+        ensures time { Passes (sure_state self.old) (sure_state self.new) }
     {
         Ok(self.spaces[file as usize].read(at as usize, buf))
     }
 
+    #[tactic(auto, using(crate::proofs::Lending::sure_time))]
     fn write(&mut self, file: u8, at: u64, bytes: &[u8]) -> Result<(), DiskFault>
         requires file { file ≤ 66 }
         requires range { at + length bytes.now ≤ 2 ^ 62 }
@@ -137,6 +142,7 @@ impl Disk for SureDisk {
         ensures rooms { (f : ℕ) → room_of self.new.spaces f ≡ room_of self.old.spaces f }
         ensures count { OnOk result (self.new.faults ≡ self.old.faults) }
         ensures cause { HasCause self.old.faults self.new.faults result }
+        ensures time { Passes (sure_state self.old) (sure_state self.new) }
     {
         let space = &mut self.spaces[file as usize];
         if at as usize + bytes.len() > space.room() {
@@ -147,20 +153,24 @@ impl Disk for SureDisk {
         Ok(())
     }
 
+    #[tactic(auto, using(crate::proofs::Lending::sure_time))]
     fn cut(&mut self, file: u8, len: u64) -> Result<(), DiskFault>
         requires file { file ≤ 66 }
         requires range { len ≤ 2 ^ 62 }
         ensures cut { IsOk result × ChangesFile file (IsCut len) (files_of self.old.spaces) (files_of self.new.spaces) }
         ensures rooms { (f : ℕ) → room_of self.new.spaces f ≡ room_of self.old.spaces f }
         ensures count { self.new.faults ≡ self.old.faults }
+        ensures time { Passes (sure_state self.old) (sure_state self.new) }
     {
         self.spaces[file as usize].cut(len as usize);
         Ok(())
     }
 
+    #[tactic(auto, using(crate::proofs::Lending::sure_time))]
     fn sync(&mut self) -> Result<(), DiskFault>
         ensures ok { IsOk result }
         ensures same { self.new ≡ self.old }
+        ensures time { Passes (sure_state self.old) (sure_state self.new) }
     {
         Ok(())
     }

@@ -140,3 +140,6 @@ returns-clause-made g c = λ told pieces can.
     let filled = rw c.in-Some.is at c.in_ok-written.ensures.filled in
     let all = filled told pieces there in
     (all.0, holds_made (whole_copy pieces) (third.files file) (fourth.files file) refl all.1 (c.in_ok-open_gate_at.ensures.opened told).here)
+
+pub returns-in_err-clear-clause-any_moment : goal.returns-in_err-clear-clause-any_moment
+returns-in_err-clear-clause-any_moment g c told pieces can t d from to here = ⊎_elim (λ same. inl same) (λ none. inr (inl none)) (c.clear.ensures.any_moment told t d from to here)

@@ -1,4 +1,5 @@
 use Rattle.std.proofs.Common.{◌≡◌, ◌≢◌, List, ℕ, refl, sym, ◌∙◌, ap, subst, arith}
+use Rattle.aea_disk.proofs.Moments.{passes_none}
 use Rattle.aea_lattice.specs.declared.grid.Lattice.{Lattice}
 use Rattle.aea_lattice.specs.Blocks.{HasBlock, number_of}
 use Rattle.aea_shelf.specs.Places.{HasAtHome}
@@ -37,3 +38,6 @@ returns-else-strike-clause-goes g c x payload recorded was going =
     go_on c.cells_have_lengths.ensures c.numbers_tell_blocks.ensures v x c.args.permille c.args.k payload b old old alpha has number recorded (homes_stay v.shape (λ a. a ≢ b) old old refl)
     (subst (λ (cell : List ℕ). HasAtHome v.shape b cell old) (sym is) (going.rest b has (omega (arith, number))))
     going
+
+pub returns-else-strike-clause-time : goal.returns-else-strike-clause-time
+returns-else-strike-clause-time g c = passes_none (g.D.Disk.state c.args.disk.now)

@@ -55,3 +55,11 @@ pub returns-clause-time : goal.returns-clause-time
 returns-clause-time g c =
     passes_both (g.D.Disk.state c.args.disk.now) (g.D.Disk.state c.create.new.disk) (g.D.Disk.state c.store.new.disk) c.create.ensures.time
     (passes_both (g.D.Disk.state c.create.new.disk) (g.D.Disk.state c.open.new.disk) (g.D.Disk.state c.store.new.disk) c.open.ensures.reads.time c.store.ensures.time)
+
+pub returns-in_err-ledger-clause-time : goal.returns-in_err-ledger-clause-time
+returns-in_err-ledger-clause-time g c = passes_both (g.D.Disk.state c.args.disk.now) (g.D.Disk.state c.create.new.disk) (g.D.Disk.state c.open.new.disk) c.create.ensures.time c.open.ensures.reads.time
+
+pub returns-in_err-store-clause-time : goal.returns-in_err-store-clause-time
+returns-in_err-store-clause-time g c =
+    passes_both (g.D.Disk.state c.args.disk.now) (g.D.Disk.state c.open.new.disk) (g.D.Disk.state c.store.new.disk)
+    (passes_both (g.D.Disk.state c.args.disk.now) (g.D.Disk.state c.create.new.disk) (g.D.Disk.state c.open.new.disk) c.create.ensures.time c.open.ensures.reads.time) c.store.ensures.time

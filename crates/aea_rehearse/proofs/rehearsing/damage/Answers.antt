@@ -1,5 +1,5 @@
 use Rattle.std.proofs.Common.{ℕ, ◌*◌, length, sym, ◌∙◌, ap, subst, arith}
-use Rattle.aea_disk.proofs.Moments.{passes_both}
+use Rattle.aea_disk.proofs.Moments.{passes_none, passes_both}
 use Rattle.aea_rehearse.specs.Rooms.{HasRehearsalRoom}
 use Rattle.aea_rehearse.specs.Building.{AreLeft}
 use Rattle.aea_rehearse.proofs.Homes.{cells_room_stays}
@@ -38,3 +38,6 @@ returns-clause-altered g c =
 
 pub returns-clause-time : goal.returns-clause-time
 returns-clause-time g c = passes_both (g.D.Disk.state c.args.disk.now) (g.D.Disk.state c.build.new.disk) (g.D.Disk.state c.alter.new.disk) c.build.ensures.time c.alter.ensures.time
+
+pub returns-in_err-bytes-clause-time : goal.returns-in_err-bytes-clause-time
+returns-in_err-bytes-clause-time g c = passes_none (g.D.Disk.state c.args.disk.now)

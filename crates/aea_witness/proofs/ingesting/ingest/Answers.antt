@@ -77,3 +77,6 @@ meet_cut-requires-clause-count g c =
     let long = ap length c.new-source.ensures in
     let none = c.requires.none in
     omega (arith, first, long, none)
+
+pub returns-in_err-meet_cut-clause-time : goal.returns-in_err-meet_cut-clause-time
+returns-in_err-meet_cut-clause-time g c = passes_both (g.D.Disk.state c.args.disk.now) (g.D.Disk.state c.take_in.new.disk) (g.D.Disk.state c.meet_cut.new.disk) c.take_in.ensures.time c.meet_cut.ensures.time

@@ -33,3 +33,6 @@ returns-clause-mended g c puts p =
 
 pub returns-clause-time : goal.returns-clause-time
 returns-clause-time g c = passes_both (g.D.Disk.state c.args.disk.now) (g.D.Disk.state c.lose.new.disk) (g.D.Disk.state c.mend.new.disk) c.lose.ensures.time c.mend.ensures.time
+
+pub returns-in_err-outcome-clause-time : goal.returns-in_err-outcome-clause-time
+returns-in_err-outcome-clause-time g c = passes_both (g.D.Disk.state c.args.disk.now) (g.D.Disk.state c.lose.new.disk) (g.D.Disk.state c.mend.new.disk) c.lose.ensures.time c.mend.ensures.time

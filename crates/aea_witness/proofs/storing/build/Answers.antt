@@ -93,3 +93,6 @@ returns-clause-time g c =
     let three = g.D.Disk.state c.ingest.new.disk in
     passes_both (g.D.Disk.state c.args.disk.now) made three c.create.ensures.time
     (passes_both made opened three c.open.ensures.reads.time (passes_both opened one three c.store.ensures.time (passes_both one two three c.store-2.ensures.time c.ingest.ensures.time)))
+
+pub returns-in_err-ledger-clause-time : goal.returns-in_err-ledger-clause-time
+returns-in_err-ledger-clause-time g c = passes_both (g.D.Disk.state c.args.disk.now) (g.D.Disk.state c.create.new.disk) (g.D.Disk.state c.open.new.disk) c.create.ensures.time c.open.ensures.reads.time

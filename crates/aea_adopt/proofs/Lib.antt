@@ -6,3 +6,4 @@ pub mod Answered
 pub mod Keeping
 pub mod Stages
 pub mod Leaving
+pub mod Left

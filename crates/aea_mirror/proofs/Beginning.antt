@@ -20,8 +20,8 @@ use Rattle.aea_mirror.specs.Ending.{ends_once}
 use Rattle.aea_mirror.specs.Guarding.{AreFixed}
 use Rattle.aea_mirror.specs.Looking.{IsFurther}
 use Rattle.aea_mirror.specs.Refusing.{NeverEnds, WritesNone}
-use Rattle.aea_mirror.specs.Shown.{Shows}
-use Rattle.aea_mirror.specs.Starting.{NoneBegun, MayBeStarted, HasStarted, FitsMaking, FitsStart, ShowsNoMore}
+use Rattle.aea_mirror.specs.Shown.{Shows, NoneBegun}
+use Rattle.aea_mirror.specs.Starting.{MayBeStarted, HasStarted, FitsMaking, FitsStart, ShowsNoMore}
 use Rattle.aea_mirror.proofs.Doubling.{copy_only}
 use Rattle.aea_mirror.proofs.Guards.{good_begun}
 use Rattle.aea_mirror.proofs.Records.{length-copied}

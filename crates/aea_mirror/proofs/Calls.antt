@@ -6,10 +6,12 @@ use Rattle.aea_faults.specs.Faults.{Rose, HasCause}
 use Rattle.aea_disk.specs.Count.{one_more}
 use Rattle.aea_disk.specs.Files.{Files, ChangesFile, Torn, Holds, IsCut, MayBeCut}
 use Rattle.aea_disk.specs.Steps.{changes_none, torn_none}
+use Rattle.aea_disk.proofs.Moments.{lasts_as, lasts_stops}
 use Rattle.aea_disk.specs.State.{State, Passes, Follows, KeepsImages, Settles, TakesFrom, KeepsTaking, IsSure}
 use Rattle.aea_mirror.specs.Shown.{Shows}
-use Rattle.aea_mirror.specs.Mirrored.{Kept, HoldsText, Takes, mirror_state, outer, added}
+use Rattle.aea_mirror.specs.Mirrored.{Kept, HoldsText, Takes, SeesTo, mirror_state, outer, added}
 use Rattle.aea_mirror.specs.States.{outer_near, outer_same}
+use Rattle.aea_mirror.proofs.Seeing.{KeepsCopies}
 use Rattle.aea_mirror.proofs.Texts.{taken_after, text_written, text_cut}
 
 pub shown_contents : (old new : Files) → new ≡ old → outer new ≡ outer old
@@ -36,8 +38,12 @@ shown_follows tells file step old new k l shown follows t c from to here =
 pub shown_settles : (tells : Type 0) (old new : State) (k l : Kept) → Settles old new → Settles (mirror_state tells old k) (mirror_state tells new l)
 shown_settles tells old new k l settles t u c after le to here = (here.0, (here.1.0, settles t u here.1.0 after le to here.1.1, here.1.2))
 
-pub shown_time : (tells : Type 0) (old new : State) (k l : Kept) → l.on ≡ k.on → old.faults ≤ new.faults → Passes old new → Passes (mirror_state tells old k) (mirror_state tells new l)
-shown_time tells old new k l same kept time = record {
+-- what the Mirror sees to holds of each image alike where copies are on alike
+pub sees_alike : (tells : Type 0) (a b : Bool) → b ≡ a → (c : Files) → SeesTo tells b c ↔ SeesTo tells a c
+sees_alike tells a b same c = (λ has. subst (λ (on : Bool). SeesTo tells on c) same has, λ has. subst (λ (on : Bool). SeesTo tells on c) (sym same) has)
+
+pub shown_time : (tells : Type 0) (old new : State) (k l : Kept) → l.on ≡ k.on → l.name ≡ k.name → old.faults ≤ new.faults → KeepsCopies tells k.on old new → Passes old new → Passes (mirror_state tells old k) (mirror_state tells new l)
+shown_time tells old new k l same name kept good time = record {
   later = time.later;
   keeps = λ t c early. (
     λ here. (here.0, (here.1.0, (time.keeps t here.1.0 early).0 here.1.1, here.1.2)),
@@ -47,17 +53,45 @@ shown_time tells old new k l same kept time = record {
   beneath = kept;
   syncs = λ b has. (time.free has.0, time.syncs b has.1, ⊎_elim (λ (off : k.on ≡ false). inl (same ∙ off)) (λ some. inr (some.0, some.1, record { first = time.room 65 _ some.2.first; second = time.room 66 _ some.2.second })) has.2);
   free = λ none. absurd none;
+  lasts = lasts_as _ _ (omega arith) (record {
+    name = name;
+    set = same;
+    later = time.later;
+    keeps = time.keeps;
+    counts = kept;
+    stops = lasts_stops old new time.lasts;
+    room = time.room;
+    beneath = time.beneath;
+    syncs = time.syncs;
+    free = time.free;
+    same = λ c. sees_alike tells k.on l.on same c;
+    holds = λ every t c from to here told. good told (λ d was. every d was told) t c from to here;
+  });
 }
 
 -- a call that is not handed on takes no time
-pub refused_time : (tells : Type 0) (s t : State) (k l : Kept) → t ≡ s → l.on ≡ k.on → Passes (mirror_state tells s k) (mirror_state tells t l)
-refused_time tells s t k l is same = subst (λ (u : State). Passes (mirror_state tells s k) (mirror_state tells u l)) (sym is) (record {
+pub refused_time : (tells : Type 0) (s t : State) (k l : Kept) → t ≡ s → l.on ≡ k.on → l.name ≡ k.name → Passes (mirror_state tells s k) (mirror_state tells t l)
+refused_time tells s t k l is same name = subst (λ (u : State). Passes (mirror_state tells s k) (mirror_state tells u l)) (sym is) (record {
   later = omega arith;
   keeps = λ t c early. (λ here. here, λ here. here);
   room = λ f n has. has;
   beneath = omega arith;
   syncs = λ b has. (has.0, has.1, ⊎_elim (λ (off : k.on ≡ false). inl (same ∙ off)) (λ some. inr some) has.2);
   free = λ none. absurd none;
+  lasts = lasts_as _ _ (omega arith) (record {
+    name = name;
+    set = same;
+    later = omega arith;
+    keeps = λ t c early. (λ here. here, λ here. here);
+    counts = omega arith;
+    stops = omega arith;
+    room = λ f n has. has;
+    beneath = omega arith;
+    syncs = λ b has. has;
+    free = λ is. is;
+    same = λ c. sees_alike tells k.on l.on same c;
+    holds = λ every t c from to here. let now : t ≡ s.moment = omega (arith, from, to) in every c (subst (λ (m : ℕ). s.image m c) now here);
+  });
 })
 
 pub refused_keeps : (tells : Type 0) (s : State) (k l : Kept) → KeepsImages (mirror_state tells s k) (mirror_state tells s l)

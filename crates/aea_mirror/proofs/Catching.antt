@@ -20,6 +20,7 @@ use Rattle.aea_mirror.specs.Extending.{IsShut, IsGateOf, Phase, HasEntries, Fits
 use Rattle.aea_mirror.specs.Looking.{IsFurther}
 use Rattle.aea_mirror.specs.Mirrored.{Kept, HasCopyRoom, mirror_state}
 use Rattle.aea_mirror.specs.Ending.{ends_once}
+use Rattle.aea_mirror.specs.Shown.{AreGood}
 use Rattle.aea_mirror.proofs.Guards.{guards_read}
 use Rattle.aea_mirror.proofs.Showing.{mended_closed}
 use Rattle.aea_mirror.proofs.Spending.{as_further}
@@ -27,7 +28,7 @@ use Rattle.aea_mirror.proofs.Records.{length-chain}
 use Rattle.aea_mirror.proofs.Phases.{phase_reads}
 use Rattle.aea_mirror.proofs.Syncing.{Known, sync_keeps, sync_settles}
 use Rattle.aea_mirror.proofs.Knowing.{HasTwoTexts, known_here, known_out, texts_stay}
-use Rattle.aea_mirror.proofs.Extended.{two_texts, all_on, fits_copied}
+use Rattle.aea_mirror.proofs.Extended.{two_texts, goods_stay, all_on, fits_copied}
 use Rattle.aea_mirror.proofs.Records.{shaped_are_pieces}
 use Rattle.aea_mirror.proofs.Leading.{reaches_join, kept_holds, further_fits}
 
@@ -152,6 +153,26 @@ texts_more s n end last first second guards phase further bodies =
     two_texts s n end last first second are pieces.0 pieces.2
     (λ valid. fits_copied are.pieces pieces.0 first.gate are.one.gate (subst (λ (l : List ℕ). first.gate + length (chain l pieces.0) ≤ greatest_place) are.one.link pieces.1.fits))
     phase (bodies pieces.0 pieces.1)) ∣₁
+
+-- and both copies are good
+pub goods_more : (s n : State) (end last : ℕ) (first second : Tail) → ∥ Guards s true end first second ∥₁ → Phase first.gate second.gate s n
+    → ((before : ℕ) → first.gate ≡ copied_end (before + 1) end → IsFurther (s.files 0) before end (Until last))
+    → ((more : List (List ℕ)) → FitsBoth first second more end last (s.files 0) → During s n (λ c. (f g : ℕ) → IsGateOf first.gate second.gate f g → get_or (c f) g 0 ≡ 1 → HasEntries g first.link more (c f)))
+    → During s n AreGood
+goods_more s n end last first second guards phase further bodies t d from to image = record {
+  good = λ f is. ∥∥₁_elim guards ∥∥₁_prop (λ was. (by was).good f is);
+  kept = ∥∥₁_elim guards ∥∥₁_prop (λ was. (by was).kept);
+}
+  where
+    by : Guards s true end first second → AreGood d
+    by was =
+        let are = was.are refl in
+        let here = kept_holds s end first second are in
+        let more = further here.0.records here.1 in
+        let pieces = further_fits s end last first second are here.0.records more.0 here.1 more.1 in
+        goods_stay s n end last first second are pieces.0 pieces.2
+        (λ valid. fits_copied are.pieces pieces.0 first.gate are.one.gate (subst (λ (l : List ℕ). first.gate + length (chain l pieces.0) ≤ greatest_place) are.one.link pieces.1.fits))
+        phase (bodies pieces.0 pieces.1) t d from to image
 
 -- ---- once both copies are extended
 

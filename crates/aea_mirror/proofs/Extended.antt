@@ -1,18 +1,20 @@
 -- A Mirror whose copies were extended: what it knows then, and while that was done.
 use Rattle.std.proofs.Common.{◌≡◌, ◌≢◌, ◌⊎◌, ⊎_elim, inl, inr, ℕ, ◌+◌, ◌<◌, ◌≤◌, false, List, [], ◌∷◌, ◌++◌, length, take, drop, get_or, refl, sym, ap, ◌∙◌, subst, arith}
 use Rattle.std.proofs.lemmas.Bool.{cases_eq}
-use Rattle.std.proofs.lemmas.List.{length-append, take-append-drop, take-take, drop-take}
+use Rattle.std.proofs.lemmas.List.{length-append, append-nil, take-append-drop, take-take, drop-take}
 use Rattle.aea_disk.specs.Ends.{greatest_place}
+use Rattle.aea_disk.specs.Files.{Files}
 use Rattle.aea_disk.specs.State.{State, During, IsSynced}
 use Rattle.aea_records.specs.Format.{open_gate}
 use Rattle.aea_copies.specs.Format.{chain, copied, text_of, first_link, last_link}
 use Rattle.aea_copies.specs.Grammar.{is_first, ArePieces}
-use Rattle.aea_copies.specs.Kept.{IsCopyFile, IsGood, mended}
+use Rattle.aea_copies.specs.Kept.{IsCopyFile, IsGood, AreKept, mended}
 use Rattle.aea_copies.proofs.Judged.{has_one_pieces}
 use Rattle.aea_copy_writer.specs.Entries.{HasPieces}
 use Rattle.aea_mirror.specs.declared.tail.Tail.{Tail}
 use Rattle.aea_mirror.specs.Guarding.{BeginsWith, EndsCopy, AreOnWith}
 use Rattle.aea_mirror.specs.Extending.{HasEntries, IsGateOf, Phase, EndsAfter, HasExtended}
+use Rattle.aea_mirror.specs.Shown.{AreGood}
 use Rattle.aea_mirror.proofs.Extending.{good_closed, good_more, copied_join, text_join, link_join}
 use Rattle.aea_mirror.proofs.Records.{shaped_are_pieces}
 use Rattle.aea_mirror.proofs.Showing.{mended_closed}
@@ -79,6 +81,81 @@ two_goods pieces more old new good some fits front long opened =
     (λ (shut : get_or new (length (copied pieces)) 0 ≢ open_gate). inl (good_closed pieces old new good front long shut))
     (cases_eq (get_or new (length (copied pieces)) 0) open_gate)
 
+-- in each image of the phase each copy is good with the kept pieces, or with these and those of the further records
+goods_at : (s n : State) (end last : ℕ) (first second : Tail) (are : AreOnWith s end first second) (more : List (List ℕ)) → GoesOn end last are.pieces more (s.files 0) → (ArePieces false more → length (copied (are.pieces ++ more)) ≤ greatest_place)
+    → Phase first.gate second.gate s n
+    → During s n (λ c. (f g : ℕ) → IsGateOf first.gate second.gate f g → get_or (c f) g 0 ≡ open_gate → HasEntries g first.link more (c f))
+    → During s n (λ d. (f g : ℕ) → IsGateOf first.gate second.gate f g → IsCopyFile f → g ≡ length (copied are.pieces) → IsGood are.pieces (d f) ⊎ (IsGood (are.pieces ++ more) (d f) × ArePieces false more))
+goods_at s n end last first second are more on fits phase bodies t d from to image f g of is here =
+    let fronts = phase.fronts t d from to image f g of in
+    two_goods are.pieces more (s.files f) (d f) (are.guarded.good f is) on.some fits
+    (ap (λ (n : ℕ). take n (d f)) (sym here) ∙ fronts.0 ∙ ap (λ (n : ℕ). take n (s.files f)) here) (omega (arith, here, fronts.1))
+    (λ opened.
+    let has = subst (λ (l : List ℕ). HasEntries (length (copied are.pieces)) l more (d f)) are.one.link (subst (λ (n : ℕ). HasEntries n first.link more (d f)) here (bodies t d from to image f g of (ap (λ (n : ℕ). get_or (d f) n 0) here ∙ opened))) in
+    (has, shaped_are_pieces more on.has.shaped has.are))
+
+-- a text of either is a beginning of both
+begins_both : (pieces more others : List (List ℕ)) → (others ≡ pieces) ⊎ (others ≡ pieces ++ more) → (rest : List ℕ) × (text_of (pieces ++ more) ≡ text_of others ++ rest)
+begins_both pieces more others is =
+    ⊎_elim
+    (λ (old : others ≡ pieces). (text_of more, text_join pieces more ∙ ap (λ (p : List (List ℕ)). text_of p ++ text_of more) (sym old)))
+    (λ (new : others ≡ pieces ++ more). ([], ap text_of (sym new) ∙ sym (append-nil (text_of others))))
+    is
+
+-- the copies of files are good with these pieces, or with these and more
+abbrev AreEither : List (List ℕ) → List (List ℕ) → Files → Type 0
+AreEither pieces more files = (f : ℕ) → IsCopyFile f → IsGood pieces (files f) ⊎ (IsGood (pieces ++ more) (files f) × ArePieces false more)
+
+-- then pieces are kept
+either_kept : (pieces more : List (List ℕ)) (files : Files) → AreEither pieces more files → (some : List (List ℕ)) × AreKept files some
+either_kept pieces more files are = pick (are 65 (inl refl)) (are 66 (inr refl))
+  where
+    one_of : (f : ℕ) (others : List (List ℕ)) → IsCopyFile f → IsGood others (files f) → (others ≡ pieces) ⊎ (others ≡ pieces ++ more)
+    one_of f others is good =
+        ⊎_elim
+        (λ (old : IsGood pieces (files f)). inl (has_one_pieces (files f) others pieces (length (copied others)) (length (copied pieces)) good old).0)
+        (λ (new : IsGood (pieces ++ more) (files f) × ArePieces false more). inr (has_one_pieces (files f) others (pieces ++ more) (length (copied others)) (length (copied (pieces ++ more))) good new.0).0)
+        (are f is)
+
+    all_kept : (f : ℕ) → IsCopyFile f → IsGood (pieces ++ more) (files f) → AreKept files (pieces ++ more)
+    all_kept f is good = record { file = f; is = is; good = good; longest = λ g others copy there. begins_both pieces more others (one_of g others copy there) }
+
+    pick : IsGood pieces (files 65) ⊎ (IsGood (pieces ++ more) (files 65) × ArePieces false more) → IsGood pieces (files 66) ⊎ (IsGood (pieces ++ more) (files 66) × ArePieces false more) → (some : List (List ℕ)) × AreKept files some
+    pick (inr new) two = (pieces ++ more, all_kept 65 (inl refl) new.0)
+    pick (inl old) (inr new) = (pieces ++ more, all_kept 66 (inr refl) new.0)
+    pick (inl one) (inl two) = (
+      pieces,
+      record {
+        file = 65;
+        is = inl refl;
+        good = one;
+        longest = λ g others copy there.
+            let same : others ≡ pieces =
+            ⊎_elim
+            (λ (a : g ≡ 65). (has_one_pieces (files 65) others pieces (length (copied others)) (length (copied pieces)) (subst (λ (n : ℕ). IsGood others (files n)) a there) one).0)
+            (λ (b : g ≡ 66). (has_one_pieces (files 66) others pieces (length (copied others)) (length (copied pieces)) (subst (λ (n : ℕ). IsGood others (files n)) b there) two).0)
+            copy in
+            ([], ap text_of (sym same) ∙ sym (append-nil (text_of others)));
+      },
+    )
+
+-- so both are good in each image of the phase
+pub goods_stay : (s n : State) (end last : ℕ) (first second : Tail) (are : AreOnWith s end first second) (more : List (List ℕ)) → GoesOn end last are.pieces more (s.files 0) → (ArePieces false more → length (copied (are.pieces ++ more)) ≤ greatest_place)
+    → Phase first.gate second.gate s n
+    → During s n (λ c. (f g : ℕ) → IsGateOf first.gate second.gate f g → get_or (c f) g 0 ≡ open_gate → HasEntries g first.link more (c f))
+    → During s n AreGood
+goods_stay s n end last first second are more on fits phase bodies t d from to image = record {
+  good = λ f is. ⊎_elim (λ (old : IsGood are.pieces (d f)). ∣ (are.pieces, old) ∣₁) (λ (new : IsGood (are.pieces ++ more) (d f) × ArePieces false more). ∣ (are.pieces ++ more, new.0) ∣₁) (either f is);
+  kept = ∣ either_kept are.pieces more d either ∣₁;
+}
+  where
+    either : AreEither are.pieces more d
+    either f is =
+        ⊎_elim
+        (λ (a : f ≡ 65). goods_at s n end last first second are more on fits phase bodies t d from to image f first.gate (inl (a, refl)) is are.one.gate)
+        (λ (b : f ≡ 66). goods_at s n end last first second are more on fits phase bodies t d from to image f second.gate (inr (b, refl)) is are.two.gate)
+        is
+
 -- in each image of the phase a good copy has the kept pieces or the text of all of the ledger
 pub two_texts : (s n : State) (end last : ℕ) (first second : Tail) (are : AreOnWith s end first second) (more : List (List ℕ)) → GoesOn end last are.pieces more (s.files 0) → (ArePieces false more → length (copied (are.pieces ++ more)) ≤ greatest_place)
     → Phase first.gate second.gate s n
@@ -92,17 +169,12 @@ two_texts s n end last first second are more on fits phase bodies t d from to im
   where
     by_gate : (g : ℕ) → IsGateOf first.gate second.gate f g → g ≡ length (copied are.pieces) → (others ≡ are.pieces) ⊎ IsWholeText end (s.files 0) others
     by_gate g of here =
-        let fronts = phase.fronts t d from to image f g of in
         ⊎_elim
         (λ (old : IsGood are.pieces (d f)). inl (has_one_pieces (d f) others are.pieces (length (copied others)) (length (copied are.pieces)) good old).0)
         (λ (new : IsGood (are.pieces ++ more) (d f) × ArePieces false more).
         let same : others ≡ are.pieces ++ more = (has_one_pieces (d f) others (are.pieces ++ more) (length (copied others)) (length (copied (are.pieces ++ more))) good new.0).0 in
         inr (subst (IsWholeText end (s.files 0)) (sym same) (whole_text end last are.pieces more (s.files 0) on new.1)))
-        (two_goods are.pieces more (s.files f) (d f) (are.guarded.good f is) on.some fits
-        (ap (λ (n : ℕ). take n (d f)) (sym here) ∙ fronts.0 ∙ ap (λ (n : ℕ). take n (s.files f)) here) (omega (arith, here, fronts.1))
-        (λ opened.
-        let has = subst (λ (l : List ℕ). HasEntries (length (copied are.pieces)) l more (d f)) are.one.link (subst (λ (n : ℕ). HasEntries n first.link more (d f)) here (bodies t d from to image f g of (ap (λ (n : ℕ). get_or (d f) n 0) here ∙ opened))) in
-        (has, shaped_are_pieces more on.has.shaped has.are)))
+        (goods_at s n end last first second are more on fits phase bodies t d from to image f g of is here)
 
 -- once both are extended, all of it is kept
 pub all_on : (s n : State) (end last : ℕ) (first second next_first next_second : Tail) (are : AreOnWith s end first second) (more : List (List ℕ)) → GoesOn end last are.pieces more (s.files 0)

@@ -3,6 +3,7 @@ pub mod Showing
 pub mod Texts
 pub mod Cuts
 pub mod Guards
+pub mod Seeing
 pub mod Calls
 pub mod Written
 pub mod Walking
@@ -24,3 +25,4 @@ pub mod Wholes
 pub mod Adopting
 pub mod Beginning
 pub mod Started
+pub mod Ready

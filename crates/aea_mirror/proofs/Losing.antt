@@ -55,7 +55,7 @@ ledger_kinds : (shape : Shape) (rs : List Record) → All IsShort rs → AreKind
 ledger_kinds shape rs short = (record { long = refl; gate = refl }, entry_kinds rs short)
 
 -- bytes that are the same up to a gate that ends them are a ledger of the same records
-same_ledger : (shape : Shape) (records : List Record) (pieces : List (List ℕ)) (old new : List ℕ) → AreKinds true pieces → All IsShort records
+pub same_ledger : (shape : Shape) (records : List Record) (pieces : List (List ℕ)) (old new : List ℕ) → AreKinds true pieces → All IsShort records
     → HasText (text_of pieces) old → HasText (text_of pieces) new → HasLedger shape records old → HasLedger shape records new
 same_ledger shape records pieces old new are short one two ledger =
     let spelling : text_of pieces ++ one.gate ∷ one.after ≡ text_of (header shape ∷ map entry records) ++ ledger.gate ∷ ledger.after =

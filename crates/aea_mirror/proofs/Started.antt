@@ -15,7 +15,8 @@ use Rattle.aea_copy_writer.specs.Parts.{part_of}
 use Rattle.aea_mirror.specs.declared.tail.Tail.{Tail}
 use Rattle.aea_mirror.specs.Guarding.{AreFixed, Guards}
 use Rattle.aea_mirror.specs.Mirrored.{Kept, mirror_state}
-use Rattle.aea_mirror.specs.Starting.{ArePiecesOf, NoneBegun, HasStarted, ShowsNoMore}
+use Rattle.aea_mirror.specs.Shown.{NoneBegun}
+use Rattle.aea_mirror.specs.Starting.{ArePiecesOf, HasStarted, ShowsNoMore}
 use Rattle.aea_mirror.proofs.Adopting.{guards_whole}
 use Rattle.aea_mirror.proofs.Calls.{refused_keeps}
 use Rattle.aea_mirror.proofs.Catching.{whole_kept}

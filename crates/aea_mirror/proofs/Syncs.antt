@@ -18,9 +18,10 @@ use Rattle.aea_mirror.specs.Mirrored.{Kept, mirror_state, added}
 use Rattle.aea_mirror.specs.Refusing.{NeverEnds}
 use Rattle.aea_mirror.proofs.Calls.{shown_time}
 use Rattle.aea_mirror.proofs.Guards.{guards_read}
-use Rattle.aea_mirror.proofs.Catching.{Looked, keeps_reads, all_kept, all_settled, texts_more, guards_more, whole_kept, fits_more}
+use Rattle.aea_mirror.proofs.Catching.{Looked, keeps_reads, all_kept, all_settled, texts_more, goods_more, guards_more, whole_kept, fits_more}
 use Rattle.aea_mirror.proofs.Ended.{shut_at_last, takes_on}
 use Rattle.aea_mirror.proofs.Leading.{reaches_join, kept_holds}
+use Rattle.aea_mirror.proofs.Seeing.{KeepsCopies, kept_copies, both_copies}
 use Rattle.aea_mirror.proofs.Syncing.{sync_durable}
 
 -- what a Mirror knows it knows after the sync of the lent disk and the look
@@ -31,15 +32,15 @@ known_now tells fault r b s on end first second contents crash time reads guards
     ∣ guards_read r s on end first second (reads.contents told ∙ contents told) (keeps_reads tells fault r b s crash time reads) (passes_both r b s time reads.time) was ∣₁)
 
 -- time goes on over both
-pub time_now : (tells fault : Type 0) (r b s : State) (k l : Kept) → l.on ≡ k.on → r.faults ≤ b.faults → Passes r b → OnlyReads tells fault b s → Passes (mirror_state tells r k) (mirror_state tells s l)
-time_now tells fault r b s k l same kept time reads =
-    shown_time tells r s k l same (let more = reads.kept in omega (arith, kept, more)) (passes_both r b s time reads.time)
+pub time_now : (tells fault : Type 0) (r b s : State) (k l : Kept) → l.on ≡ k.on → l.name ≡ k.name → r.faults ≤ b.faults → KeepsImages r b → Passes r b → OnlyReads tells fault b s → Passes (mirror_state tells r k) (mirror_state tells s l)
+time_now tells fault r b s k l same name kept crash time reads =
+    shown_time tells r s k l same name (let more = reads.kept in omega (arith, kept, more)) (kept_copies tells k.on r s (keeps_reads tells fault r b s crash time reads)) (passes_both r b s time reads.time)
 
 -- and over what is written then
-pub time_then : (tells fault taken fits late : Type 0) (step : Files → Files → Type 0) (r b s n : State) (k l : Kept) → l.on ≡ k.on → r.faults ≤ b.faults → Passes r b → OnlyReads tells fault b s → OnlyWrites tells taken fits late step s n
+pub time_then : (tells fault taken fits late : Type 0) (step : Files → Files → Type 0) (r b s n : State) (k l : Kept) → l.on ≡ k.on → l.name ≡ k.name → r.faults ≤ b.faults → KeepsCopies tells k.on r n → Passes r b → OnlyReads tells fault b s → OnlyWrites tells taken fits late step s n
     → Passes (mirror_state tells r k) (mirror_state tells n l)
-time_then tells fault taken fits late step r b s n k l same kept time reads writes =
-    shown_time tells r n k l same (let more = reads.kept in let most = writes.kept in omega (arith, kept, more, most))
+time_then tells fault taken fits late step r b s n k l same name kept good time reads writes =
+    shown_time tells r n k l same name (let more = reads.kept in let most = writes.kept in omega (arith, kept, more, most)) good
     (passes_both r s n (passes_both r b s time reads.time) writes.time)
 
 -- what was found holds of the ledger as it reads then
@@ -59,6 +60,12 @@ module _ (tells : Type 0) (r s n : State) (k l : Kept) (last : ℕ) (first secon
     pub more_kept : KeepsImages (mirror_state tells r k) (mirror_state tells n l)
     more_kept =
         all_kept tells r s n k l k.end first second now read_r read_s phase (λ told. texts_more s n k.end last first second (now.guards told) (phase told) (found told) (bodies told))
+
+    -- both copies are good in each image
+    pub more_good : k.on ≡ true → KeepsCopies tells k.on r n
+    more_good on =
+        both_copies tells k.on r s n on now.time (λ told. (phase told).time) (kept_copies tells k.on r s now.crash)
+        (λ told. goods_more s n k.end last first second (now.guards told) (phase told) (found told) (bodies told))
 
     pub more_settled : Settles (mirror_state tells r k) (mirror_state tells n l)
     more_settled =

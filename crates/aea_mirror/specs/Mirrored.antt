@@ -2,8 +2,9 @@
 use Rattle.std.specs.Prelude.{◌≡◌, ◌⊎◌, ◌<◌, ◌≤◌, ◌+◌, ◌-◌, ◌^◌, ℕ, Bool, true, false, min, nat_le, if◌then◌else◌, List, [], length, get_or}
 use Rattle.aea_disk.specs.Files.{Files}
 use Rattle.aea_disk.specs.Ends.{Reaches, EndsAt, IsBare, copied_end}
-use Rattle.aea_disk.specs.State.{State}
-use Rattle.aea_mirror.specs.Shown.{Shows}
+use Rattle.aea_disk.specs.State.{State, lent_of}
+use Rattle.aea_adopt.specs.declared.answers.Adopted.{Adopted}
+use Rattle.aea_mirror.specs.Shown.{Shows, AreAs}
 
 -- the files that a Mirror shows: those of the copies are empty
 abbrev pub outer : Files → Files
@@ -13,13 +14,18 @@ outer c f = if nat_le f 64 then c f else []
 abbrev pub added : ℕ → ℕ → ℕ
 added faults own = min (faults + own) (2 ^ 64 - 1)
 
--- what a Mirror keeps beside the lent disk: whether copies are on, where the kept text ends, whether it is dead, since a copy
--- could not be written, and how many calls it refused
+-- what a Mirror keeps beside the lent disk: the name of the loan, whether copies are on, where the kept text ends, whether it is dead,
+-- since a copy could not be written, and how many calls it refused
 pub record Kept : Type 0 where
+  pub name : ℕ
   pub on : Bool
   pub end : ℕ
   pub dead : Bool
   pub own : ℕ
+
+-- what a Mirror keeps right after copies were adopted, under this name of its loan
+abbrev pub fresh : ℕ → Adopted → Kept
+fresh name adopted = record { name = name; on = adopted.on; end = adopted.end; dead = false; own = 0 }
 
 -- The kept text is a part of the ledger: the header, whose gate is open, and so many whole records up to this place.
 pub record HoldsText (end : ℕ) (bytes : List ℕ) : Type 0 where
@@ -60,6 +66,10 @@ pub record HasCopyRoom (s : State) (records last : ℕ) : Type 0 where
 abbrev pub Keeps : State → Bool → List ℕ → Type 0
 Keeps s on bytes = s.free × s.keeps bytes × ((on ≡ false) ⊎ ((last : ℕ) × (ends : EndsAt bytes last) × HasCopyRoom s ends.records last))
 
+-- what a Mirror sees to in each image of the lent disk
+abbrev pub SeesTo : Type 0 → Bool → Files → Type 0
+SeesTo tells on c = tells → AreAs on c
+
 -- What the Mirror's state is, by that of the lent disk and what the Mirror keeps.
 abbrev pub mirror_state : Type 0 → State → Kept → State
 mirror_state tells s kept = record {
@@ -72,8 +82,9 @@ mirror_state tells s kept = record {
   takes = Takes tells s kept;
   keeps = Keeps s kept.on;
   free = ⊥;
+  lent = lent_of kept.name kept.on (SeesTo tells kept.on) s;
 }
 
 -- the same by the fields of a Mirror
-abbrev pub shown : Type 0 → State → (on : Bool) (end : ℕ) (dead : Bool) (own : ℕ) → State
-shown tells s on end dead own = mirror_state tells s (record { on = on; end = end; dead = dead; own = own })
+abbrev pub shown : Type 0 → State → (name : ℕ) (on : Bool) (end : ℕ) (dead : Bool) (own : ℕ) → State
+shown tells s name on end dead own = mirror_state tells s (record { name = name; on = on; end = end; dead = dead; own = own })

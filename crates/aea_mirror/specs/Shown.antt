@@ -1,11 +1,12 @@
 -- What a mirror shows of the files of the disk beneath, and what follows for them.
-use Rattle.std.specs.Prelude.{◌≡◌, ◌≢◌, ◌⊎◌, ◌≤◌, ◌<◌, ℕ, List, [], length, take, slice_index}
+use Rattle.std.specs.Prelude.{◌≡◌, ◌≢◌, ◌⊎◌, ◌≤◌, ◌<◌, ℕ, Bool, true, false, List, [], length, take, slice_index}
 use Rattle.aea_lattice.specs.declared.shape.Shape.{Shape}
 use Rattle.aea_disk.specs.Files.{Files, ChangesFile, Torn}
 use Rattle.aea_records.specs.Format.{Record}
 use Rattle.aea_ledger.specs.Stops.{HasLedger}
 use Rattle.aea_records.specs.Format.{open_gate}
 use Rattle.aea_copies.specs.Format.{text_of}
+use Rattle.aea_copies.specs.Grammar.{IsBegun}
 use Rattle.aea_copies.specs.Kept.{IsCopyFile, IsGood, AreKept, mended, LeavesAdopted, HasText}
 
 -- Over a disk with these files a mirror may show those: the sites' files are the same, and no copies are seen; the ledger is
@@ -14,6 +15,20 @@ pub record Shows (files shown : Files) : Type 0 where
   pub sites : (f : ℕ) → 1 ≤ f → f ≤ 64 → shown f ≡ files f
   pub copies : (f : ℕ) → 65 ≤ f → shown f ≡ []
   pub ledger : (shown 0 ≡ files 0) ⊎ ((f : ℕ) × (pieces : List (List ℕ)) × IsCopyFile f × IsGood pieces (files f) × (shown 0 ≡ mended (text_of pieces) (files 0)))
+
+-- each copy is good, with some pieces, and the text of one begins with that of the other, so that some pieces are kept
+pub record AreGood (files : Files) : Type 0 where
+  pub good : (f : ℕ) → IsCopyFile f → ∥ ((pieces : List (List ℕ)) × IsGood pieces (files f)) ∥₁
+  pub kept : ∥ ((pieces : List (List ℕ)) × AreKept files pieces) ∥₁
+
+-- no copy is begun
+abbrev pub NoneBegun : Files → Type 0
+NoneBegun files = (f : ℕ) → IsCopyFile f → IsBegun (files f) → ⊥
+
+-- where copies are on both are good, and where they are not none is begun
+abbrev pub AreAs : Bool → Files → Type 0
+AreAs true files = AreGood files
+AreAs false files = NoneBegun files
 
 -- What damage may leave of files: any ledger; of the two copies one that is good and stays, and the other one as it is or
 -- not good; the other files stay.

@@ -4,22 +4,18 @@ use Rattle.aea_disk.specs.Ends.{EndsAt}
 use Rattle.aea_disk.specs.Files.{Files}
 use Rattle.aea_disk.specs.State.{State}
 use Rattle.aea_copies.specs.Format.{text_of, whole_copy}
-use Rattle.aea_copies.specs.Grammar.{IsBegun, CanBeCopied}
+use Rattle.aea_copies.specs.Grammar.{CanBeCopied}
 use Rattle.aea_copies.specs.Kept.{IsCopyFile, IsGood, HasText}
 use Rattle.aea_copy_writer.specs.Anew.{IsNoneOrMade, FitsCopy}
 use Rattle.aea_mirror.specs.declared.tail.Tail.{Tail}
 use Rattle.aea_mirror.specs.Guarding.{EndsCopy}
 use Rattle.aea_mirror.specs.Mirrored.{HasCopyRoom}
-use Rattle.aea_mirror.specs.Shown.{Shows}
+use Rattle.aea_mirror.specs.Shown.{Shows, NoneBegun}
 
 -- these are the pieces of the ledger: a copy can have them, and it has their text, with a gate after it that is not open
 pub record ArePiecesOf (ledger : List ℕ) (pieces : List (List ℕ)) : Type 0 where
   pub can : CanBeCopied pieces
   pub text : HasText (text_of pieces) ledger
-
--- no copy is begun
-abbrev pub NoneBegun : Files → Type 0
-NoneBegun files = (f : ℕ) → IsCopyFile f → IsBegun (files f) → ⊥
 
 -- No copy is begun; or the first is whole with these pieces, and the second is not begun, or whole too.
 abbrev pub MayBeStarted : List (List ℕ) → Files → Type 0

@@ -1,5 +1,6 @@
 -- The laws of a Mirror's state that the trait of a disk asks for, and what it shows of the files.
-use Rattle.std.proofs.Common.{◌≡◌, ◌≢◌, ◌⊎◌, inl, inr, ⊎_elim, ◌<◌, ◌≤◌, ℕ, Bool, false, if◌then◌else◌, nat_le, List, [], length, get_or, refl, ◌∙◌, ap, subst, arith}
+use Rattle.std.proofs.Common.{◌≡◌, ◌≢◌, ◌⊎◌, inl, inr, ⊎_elim, ◌<◌, ◌≤◌, ℕ, Bool, false, if◌then◌else◌, nat_le, List, [], length, get_or, refl, sym, ◌∙◌, ap, subst, arith}
+use Rattle.std.proofs.lemmas.Bool.{cases_lt}
 use Rattle.std.proofs.lemmas.Bool.Decides.{nat_tests}
 use Rattle.aea_disk.specs.Files.{Files}
 use Rattle.aea_disk.specs.Ends.{EndsAt, IsBare}
@@ -17,6 +18,16 @@ outer_far c f far = grind (arith, nat_tests)
 
 pub outer_same : (c d : Files) (f : ℕ) → c f ≡ d f → outer c f ≡ outer d f
 outer_same c d f same = ap (λ (l : List ℕ). if nat_le f 64 then l else []) same
+
+-- what is shown of two files with the same ledger and sites is the same
+pub outer_all : (c d : Files) → ((f : ℕ) → f ≤ 64 → c f ≡ d f) → outer c ≡ outer d
+outer_all c d same = λ i f. (at f) i
+  where
+    at : (f : ℕ) → outer c f ≡ outer d f
+    at f = ⊎_elim
+        (λ (far : 64 < f). outer_far c f far ∙ sym (outer_far d f far))
+        (λ (near : f ≤ 64). outer_near c f near ∙ same f near ∙ sym (outer_near d f near))
+        (cases_lt 64 f)
 
 -- files are shown as they read
 pub shows_outer : (c : Files) → Shows c (outer c)

@@ -12,7 +12,8 @@ ghost use Rattle.aea_copy_writer.specs.Anew.{CanMake};
 ghost use Rattle.aea_copy_writer.specs.Parts.{part_of};
 ghost use Rattle.aea_mirror.specs.Guarding.{AreFixed, EndsCopy};
 ghost use Rattle.aea_mirror.specs.Refusing.{NeverEnds, WritesNone};
-ghost use Rattle.aea_mirror.specs.Starting.{NoneBegun, MayBeStarted, HasStarted, FitsMaking, FitsStart, ShowsNoMore};
+ghost use Rattle.aea_mirror.specs.Shown.{NoneBegun};
+ghost use Rattle.aea_mirror.specs.Starting.{MayBeStarted, HasStarted, FitsMaking, FitsStart, ShowsNoMore};
 
 use crate::further::{Further, look_further};
 use crate::tail::Tail;

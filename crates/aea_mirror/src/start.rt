@@ -45,8 +45,8 @@ impl<'a, D: Disk> Mirror<'a, D> {
         ensures crash { Follows (KeepsFiles (λ f. f ≤ 64)) (D.state self.old.disk.now) (D.state self.new.disk.now) }
         ensures bare { D.tells → self.old.on ≡ false → NeverEnds ((D.state self.old.disk.now).files 0) → IsErr result × WritesNone D.tells (D.state self.old.disk.now) (D.state self.new.disk.now) }
         // The Mirror shows nothing that it might not show before, and at Ok the files as they read.
-        ensures shown { KeepsImages (shown D.tells (D.state self.old.disk.now) self.old.on self.old.end self.old.dead self.old.own) (shown D.tells (D.state self.new.disk.now) self.new.on self.new.end self.new.dead self.new.own) }
-        ensures durable { OnOk result (D.tells → IsSynced (shown D.tells (D.state self.new.disk.now) self.new.on self.new.end self.new.dead self.new.own)) }
+        ensures shown { KeepsImages (shown D.tells (D.state self.old.disk.now) self.old.disk.ghost_name self.old.on self.old.end self.old.dead self.old.own) (shown D.tells (D.state self.new.disk.now) self.new.disk.ghost_name self.new.on self.new.end self.new.dead self.new.own) }
+        ensures durable { OnOk result (D.tells → IsSynced (shown D.tells (D.state self.new.disk.now) self.new.disk.ghost_name self.new.on self.new.end self.new.dead self.new.own)) }
         ensures time { Passes (D.state self.old.disk.now) (D.state self.new.disk.now) }
         ensures earlier { HasEarlier (D.state self.old.disk.now) (D.state self.new.disk.now) }
         // When it fails: each fault is counted once; of a ledger with an end beneath; and none comes where there is space.

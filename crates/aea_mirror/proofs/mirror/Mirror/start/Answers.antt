@@ -47,7 +47,7 @@ returns-then-self-clause-bare g c told off never =
 pub returns-then-self-clause-shown : goal.returns-then-self-clause-shown
 returns-then-self-clause-shown g c =
     let m = c.args.self.now in
-    idle_keeps g.D.Disk.tells (g.D.Disk.state c.args.self.now.disk.now) (g.D.Disk.state c.args.self.now.disk.now) (record { on = m.on; end = m.end; dead = m.dead; own = m.own }) (record { on = m.on; end = m.end; dead = m.dead; own = m.own }) refl
+    idle_keeps g.D.Disk.tells (g.D.Disk.state c.args.self.now.disk.now) (g.D.Disk.state c.args.self.now.disk.now) (record { name = m.disk.ghost_name; on = m.on; end = m.end; dead = m.dead; own = m.own }) (record { name = m.disk.ghost_name; on = m.on; end = m.end; dead = m.dead; own = m.own }) refl
 
 pub returns-then-self-clause-time : goal.returns-then-self-clause-time
 returns-then-self-clause-time g c =
@@ -105,7 +105,7 @@ returns-then-self-2-clause-shown g c =
     let m = c.args.self.now in
     let q = c.refuse.new.self in
     let same : g.D.Disk.state c.refuse.new.self.disk.now ≡ (g.D.Disk.state c.args.self.now.disk.now) = ap g.D.Disk.state c.refuse.ensures.disk in
-    idle_keeps g.D.Disk.tells (g.D.Disk.state c.args.self.now.disk.now) (g.D.Disk.state q.disk.now) (record { on = m.on; end = m.end; dead = m.dead; own = m.own }) (record { on = q.on; end = q.end; dead = q.dead; own = q.own }) same
+    idle_keeps g.D.Disk.tells (g.D.Disk.state c.args.self.now.disk.now) (g.D.Disk.state q.disk.now) (record { name = m.disk.ghost_name; on = m.on; end = m.end; dead = m.dead; own = m.own }) (record { name = q.disk.ghost_name; on = q.on; end = q.end; dead = q.dead; own = q.own }) same
 
 pub returns-then-self-2-clause-time : goal.returns-then-self-2-clause-time
 returns-then-self-2-clause-time g c =
@@ -191,7 +191,7 @@ returns-in-Ok-Some-clause-bare g c told off never =
 pub returns-in-Ok-Some-clause-shown : goal.returns-in-Ok-Some-clause-shown
 returns-in-Ok-Some-clause-shown g c =
     let m = c.args.self.now in
-    started_keeps g.D.Disk.tells (g.D.Disk.state c.args.self.now.disk.now) (g.D.Disk.state c.begin_copies.new.disk) (record { on = m.on; end = m.end; dead = m.dead; own = m.own }) (record { on = true; end = c.in-Ok-Some.begun.end; dead = false; own = m.own }) c.in-Ok-Some.ensures.shown
+    started_keeps g.D.Disk.tells (g.D.Disk.state c.args.self.now.disk.now) (g.D.Disk.state c.begin_copies.new.disk) (record { name = m.disk.ghost_name; on = m.on; end = m.end; dead = m.dead; own = m.own }) (record { name = m.disk.ghost_name; on = true; end = c.in-Ok-Some.begun.end; dead = false; own = m.own }) c.in-Ok-Some.ensures.shown
 
 pub returns-in-Ok-Some-clause-durable : goal.returns-in-Ok-Some-clause-durable
 returns-in-Ok-Some-clause-durable g c told_ =
@@ -201,7 +201,7 @@ returns-in-Ok-Some-clause-durable g c told_ =
     let made = (rw c.in-Ok-Some.field-0-is at x.made) in
     let ends = (rw c.in-Ok-Some.field-0-is at x.ends) in
     let synced = (rw c.in-Ok-Some.field-0-is at x.durable) in
-    started_durable g.D.Disk.tells (g.D.Disk.state c.begin_copies.new.disk) (record { on = true; end = c.in-Ok-Some.begun.end; dead = false; own = m.own }) b.end b.first b.second synced (λ told. ∣ started_knows (g.D.Disk.state c.args.self.now.disk.now) (g.D.Disk.state c.begin_copies.new.disk) b.end b.first b.second (ends told).0 (ends told).1 (made told) (synced told) (x.writes.contents told 0 (omega arith)) ∣₁) (λ told. started_shut (g.D.Disk.state c.args.self.now.disk.now) (g.D.Disk.state c.begin_copies.new.disk) b.end b.first b.second (ends told).0 (ends told).1 (made told) (synced told) (x.writes.contents told 0 (omega arith)))
+    started_durable g.D.Disk.tells (g.D.Disk.state c.begin_copies.new.disk) (record { name = m.disk.ghost_name; on = true; end = c.in-Ok-Some.begun.end; dead = false; own = m.own }) b.end b.first b.second synced (λ told. ∣ started_knows (g.D.Disk.state c.args.self.now.disk.now) (g.D.Disk.state c.begin_copies.new.disk) b.end b.first b.second (ends told).0 (ends told).1 (made told) (synced told) (x.writes.contents told 0 (omega arith)) ∣₁) (λ told. started_shut (g.D.Disk.state c.args.self.now.disk.now) (g.D.Disk.state c.begin_copies.new.disk) b.end b.first b.second (ends told).0 (ends told).1 (made told) (synced told) (x.writes.contents told 0 (omega arith)))
 
 pub returns-in-Ok-Some-clause-time : goal.returns-in-Ok-Some-clause-time
 returns-in-Ok-Some-clause-time g c =
@@ -261,7 +261,7 @@ returns-in-Ok-None-clause-shown g c =
     let m = c.args.self.now in
     let q = c.refuse-in-Ok-None.new.self in
     let same : g.D.Disk.state c.refuse-in-Ok-None.new.self.disk.now ≡ (g.D.Disk.state c.begin_copies.new.disk) = ap g.D.Disk.state c.refuse-in-Ok-None.ensures.disk in
-    subst (λ (u : State). KeepsImages (mirror_state g.D.Disk.tells (g.D.Disk.state c.args.self.now.disk.now) (record { on = m.on; end = m.end; dead = m.dead; own = m.own })) (mirror_state g.D.Disk.tells u (record { on = q.on; end = q.end; dead = q.dead; own = q.own }))) (sym same) (started_keeps g.D.Disk.tells (g.D.Disk.state c.args.self.now.disk.now) (g.D.Disk.state c.begin_copies.new.disk) (record { on = m.on; end = m.end; dead = m.dead; own = m.own }) (record { on = q.on; end = q.end; dead = q.dead; own = q.own }) c.in-Ok-None.ensures.shown)
+    subst (λ (u : State). KeepsImages (mirror_state g.D.Disk.tells (g.D.Disk.state c.args.self.now.disk.now) (record { name = m.disk.ghost_name; on = m.on; end = m.end; dead = m.dead; own = m.own })) (mirror_state g.D.Disk.tells u (record { name = q.disk.ghost_name; on = q.on; end = q.end; dead = q.dead; own = q.own }))) (sym same) (started_keeps g.D.Disk.tells (g.D.Disk.state c.args.self.now.disk.now) (g.D.Disk.state c.begin_copies.new.disk) (record { name = m.disk.ghost_name; on = m.on; end = m.end; dead = m.dead; own = m.own }) (record { name = q.disk.ghost_name; on = q.on; end = q.end; dead = q.dead; own = q.own }) c.in-Ok-None.ensures.shown)
 
 pub returns-in-Ok-None-clause-time : goal.returns-in-Ok-None-clause-time
 returns-in-Ok-None-clause-time g c =
@@ -320,7 +320,7 @@ returns-in-Err-clause-bare g c told off never =
 pub returns-in-Err-clause-shown : goal.returns-in-Err-clause-shown
 returns-in-Err-clause-shown g c =
     let m = c.args.self.now in
-    started_keeps g.D.Disk.tells (g.D.Disk.state c.args.self.now.disk.now) (g.D.Disk.state c.begin_copies.new.disk) (record { on = m.on; end = m.end; dead = m.dead; own = m.own }) (record { on = m.on; end = m.end; dead = true; own = m.own }) c.in-Err.ensures.shown
+    started_keeps g.D.Disk.tells (g.D.Disk.state c.args.self.now.disk.now) (g.D.Disk.state c.begin_copies.new.disk) (record { name = m.disk.ghost_name; on = m.on; end = m.end; dead = m.dead; own = m.own }) (record { name = m.disk.ghost_name; on = m.on; end = m.end; dead = true; own = m.own }) c.in-Err.ensures.shown
 
 pub returns-in-Err-clause-time : goal.returns-in-Err-clause-time
 returns-in-Err-clause-time g c =

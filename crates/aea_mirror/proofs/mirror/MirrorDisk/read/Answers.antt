@@ -2,6 +2,9 @@ use Rattle.std.proofs.Common.{refl}
 use Rattle.std.proofs.Math.Logic.{∥∥₁_elim, ∥∥₁_prop}
 use Rattle.aea_mirror.proofs.Calls.{shown_time}
 use Rattle.aea_mirror.proofs.Guards.{guards_read}
+use Rattle.aea_disk.proofs.Moments.{passes_none}
+use Rattle.aea_mirror.specs.Mirrored.{mirror_state}
+use Rattle.aea_mirror.proofs.Seeing.{kept_copies}
 use Rattle.aea_mirror.proofs.mirror.MirrorDisk.read.Goals as goal
 
 pub invariant_of-self : goal.invariant_of-self
@@ -17,4 +20,9 @@ invariant_of-self g c =
 pub returns-clause-time : goal.returns-clause-time
 returns-clause-time g c =
     let m = c.args.self.now in
-    shown_time g.D.Disk.tells (g.D.Disk.state m.disk.now) (g.D.Disk.state c.read.new.self) (record { on = m.on; end = m.end; dead = m.dead; own = m.own }) (record { on = m.on; end = m.end; dead = m.dead; own = m.own }) refl c.read.ensures.cause.kept c.read.ensures.time
+    shown_time g.D.Disk.tells (g.D.Disk.state m.disk.now) (g.D.Disk.state c.read.new.self) (record { name = m.disk.ghost_name; on = m.on; end = m.end; dead = m.dead; own = m.own }) (record { name = m.disk.ghost_name; on = m.on; end = m.end; dead = m.dead; own = m.own }) refl refl c.read.ensures.cause.kept (kept_copies g.D.Disk.tells m.on (g.D.Disk.state m.disk.now) (g.D.Disk.state c.read.new.self) c.read.ensures.crash) c.read.ensures.time
+
+pub returns-then-file-gt64-clause-time : goal.returns-then-file-gt64-clause-time
+returns-then-file-gt64-clause-time g c =
+    let m = c.args.self.now in
+    passes_none (mirror_state g.D.Disk.tells (g.D.Disk.state m.disk.now) (record { name = m.disk.ghost_name; on = m.on; end = m.end; dead = m.dead; own = m.own }))

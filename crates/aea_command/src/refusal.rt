@@ -63,11 +63,11 @@ pub enum Refusal {
     BadMessage { at: u64 },
     /// There is a message more than a session takes, which are 16,777,216.
     TooManyMessages,
-    /// The archive has copies of its ledger. No command returns it yet.
+    /// The archive has copies of its ledger.
     CopiesAreOn,
-    /// Neither copy of the ledger is good: the byte, counted from 0, at which each of them is bad. No command returns it yet.
+    /// Neither copy of the ledger is good: the byte, counted from 0, at which each of them is bad.
     CopiesBad { first: u64, second: u64 },
-    /// Both copies of the ledger are good, and they differ at this byte, counted from 0. No command returns it yet.
+    /// Both copies of the ledger are good, and their texts differ at this byte, counted from 0.
     CopiesDiffer { at: u64 },
 }
 

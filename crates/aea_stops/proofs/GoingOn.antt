@@ -12,7 +12,10 @@ use Rattle.aea_records.specs.Format.{Stored, Record, Joined, digests_of, spelled
 use Rattle.aea_records.specs.Laws.{HasOneReading, DigestsAreCounted}
 use Rattle.aea_ledger.specs.Stops.{HasLedger, HasOpening}
 use Rattle.aea_ledger.specs.Values.{Opened}
-use Rattle.aea_archive.specs.Blocks.{IsIntactBy}
+use Rattle.aea_shelf.specs.Places.{home_file}
+use Rattle.aea_shelf.proofs.Cells.{intact_same}
+use Rattle.aea_shelf.proofs.Runs.{no_home_in_ledger}
+use Rattle.aea_archive.specs.Blocks.{recorded_in}
 use Rattle.aea_archive.specs.Next.{NewObject, AreNextRecords}
 use Rattle.aea_archive.specs.Stretches.{HasAtLeast, HasPrefix}
 use Rattle.aea_messages.specs.declared.message.Message.{Message}
@@ -23,7 +26,7 @@ use Rattle.aea_command.specs.Openings.{OpensOr, OpensThen}
 use Rattle.aea_command.proofs.OpeningCases.{opening_more}
 use Rattle.aea_command_store.specs.Adding.{AddsRecord}
 use Rattle.aea_command_store.specs.Fence.{next_fence}
-use Rattle.aea_stops.specs.GoingOn.{PutRun, IngestRun, SessionRun, RunKind, Putting, Ingesting, Sessioning, Fencing, Raising, Leaving, DoesRun, StoppedRun, IsPutOf, AreRecordsFor, IsUnadded, IsAdded, IsLeftBy, KeepsBlocks, AllSpareBlocks, StopsKeepPuts}
+use Rattle.aea_stops.specs.GoingOn.{PutRun, IngestRun, SessionRun, RunKind, Putting, Ingesting, Sessioning, Fencing, Raising, Leaving, DoesRun, StoppedRun, IsPutOf, AreRecordsFor, IsUnadded, IsAdded, IsLeftBy, IsFoundOf, KeepsBlocks, AllSpareBlocks, StopsKeepPuts}
 use Rattle.aea_command_store.specs.Growing.{Grows}
 use Rattle.aea_command_store.specs.Ingest.{MayBeLast, StoresFrames, GrowsSurely}
 use Rattle.aea_command_store.specs.Put.{EndsStored, MayHavePut, Stores}
@@ -356,19 +359,25 @@ blocks_both : (shape : Shape) (records between later : List Record) (old mid new
 blocks_both shape records between later old mid new first second b on was =
     second b on (λ few. first b (record { after = on.after; most = few; used = on.used }) was)
 
+-- blocks lie in the other files
+found_blocks : (shape : Shape) (records : List Record) (left found : Files) → IsFoundOf left found → KeepsBlocks shape records records left found
+found_blocks shape records left found is b on was =
+    intact_same shape b (recorded_in shape (digests_of records) b) left found (is.others (home_file shape b) (no_home_in_ledger shape b)) (was on.most)
+
 pub stops_keep : HasOneReading → DigestsAreCounted → CellsHaveLengths → CellsHaveParts → (D tells : Type 0) (state : D → State) → StopsKeepPuts {D = D} tells state
-stops_keep reading counts lengths parts D tells state told shape records [] first last ledger same =
-    let there : HasLedger shape records (last 0) = subst (λ (c : Files). HasLedger shape records (c 0)) (sym same) ledger in
-    let keeps : KeepsBlocks shape records records first last = λ b on was. subst (λ (c : Files). IsIntactBy shape (digests_of records) c b) (sym same) (was on.most) in
+stops_keep reading counts lengths parts D tells state told shape records [] first last ledger found =
+    let there : HasLedger shape records (last 0) = found.ledger shape records ledger in
+    let keeps : KeepsBlocks shape records records first last = found_blocks shape records first last found in
     let nil : records ≡ records ++ [] = sym (append-nil records) in
     ([], refl, subst (λ (l : List Record). HasLedger shape l (last 0)) nil there, λ all. subst (λ (l : List Record). KeepsBlocks shape records l first last) nil keeps)
 stops_keep reading counts lengths parts D tells state told shape records (r ∷ runs) first last ledger goes =
-    let here : HasLedger shape records ((state r.old).files 0) = subst (λ (c : Files). HasLedger shape records (c 0)) (sym goes.0) ledger in
+    let here : HasLedger shape records ((state r.old).files 0) = goes.0.ledger shape records ledger in
     let left = left_as reading D tells state told shape records r here goes.1 r.kind r.does in
     let rest = stops_keep reading counts lengths parts D tells state told shape (records ++ left.0) runs r.files last left.2 goes.2 in
     let all : (records ++ left.0) ++ rest.0 ≡ records ++ (left.0 ++ rest.0) = append_assoc records left.0 rest.0 in
     let keeps : AllSpareBlocks D tells state (r ∷ runs) → KeepsBlocks shape records ((records ++ left.0) ++ rest.0) first last = λ spare.
     blocks_both shape records (records ++ left.0) ((records ++ left.0) ++ rest.0) first r.files last
-    (subst (λ (c : Files). KeepsBlocks shape records (records ++ left.0) c r.files) goes.0 (blocks_left reading counts lengths parts D tells state told shape records r here spare.0 left.0 left.1 left.2))
+    (blocks_both shape records records (records ++ left.0) first (state r.old).files r.files (found_blocks shape records first (state r.old).files goes.0)
+    (blocks_left reading counts lengths parts D tells state told shape records r here spare.0 left.0 left.1 left.2))
     (rest.3 spare.1) in
     (left.0 ++ rest.0, (left.0, rest.0, refl, left.1, rest.1), subst (λ (l : List Record). HasLedger shape l (last 0)) all rest.2, λ spare. subst (λ (l : List Record). KeepsBlocks shape records l first last) all (keeps spare))

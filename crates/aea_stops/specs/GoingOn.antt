@@ -161,11 +161,17 @@ IsLeftBy tells shape records (Fencing answer) ended added = IsUnadded answer end
 IsLeftBy tells shape records (Raising answer) ended added = IsUnadded answer ended added ⊎ IsAdded answer (next_raise records) added
 IsLeftBy tells shape records Leaving ended added = added ≡ []
 
--- The runs went on one after the other, from these files to those that the last stop left: each began over a disk that
--- reads as what the stop before it had left, and with nothing pending on its ledger.
+-- These files are found where those were left: all but the ledger are the same, and of that whatever shape and records it has. So
+-- it is where nothing came between; and where the ledger was damaged, or lost, and made anew from a copy.
+pub record IsFoundOf (left found : Files) : Type 0 where
+  pub others : (f : ℕ) → f ≢ 0 → found f ≡ left f
+  pub ledger : (shape : Shape) (records : List Record) → HasLedger shape records (left 0) → HasLedger shape records (found 0)
+
+-- The runs went on one after the other, from these files to those that are found after the last stop: each began over a disk that
+-- reads as what is found after the stop before it, and with nothing pending on its ledger.
 abbrev pub GoOn : (D tells : Type 0) (state : D → State) → Files → List (StoppedRun D tells state) → Files → Type 0
-GoOn D tells state first [] last = last ≡ first
-GoOn D tells state first (r ∷ runs) last = ((state r.old).files ≡ first) × IsFixed (state r.old) 0 × GoOn D tells state r.files runs last
+GoOn D tells state first [] last = IsFoundOf first last
+GoOn D tells state first (r ∷ runs) last = IsFoundOf first (state r.old).files × IsFixed (state r.old) 0 × GoOn D tells state r.files runs last
 
 -- the records are those that the runs left after these, in order, in an archive of this shape
 abbrev pub AreKept : (D tells : Type 0) (state : D → State) → Shape → List Record → List (StoppedRun D tells state) → List Record → Type 0
@@ -196,7 +202,7 @@ abbrev pub AllSpareBlocks : (D tells : Type 0) (state : D → State) → List (S
 AllSpareBlocks D tells state [] = Unit {0}
 AllSpareBlocks D tells state (r ∷ runs) = SparesBlocks r.kind tells (state r.old) (state r.new) × AllSpareBlocks D tells state runs
 
--- However many runs there are, and wherever each was stopped: the ledger that the last stop left has the records that were
+-- However many runs there are, and wherever each was stopped: the ledger that is found after the last stop has the records that were
 -- there before the first, and after them, in order, those that the runs added, of each that was acknowledged. And where each run
 -- began with nothing pending, every block of these is intact, and so is each block that was so before the first run.
 abbrev pub StopsKeepPuts : {D : Type 0} → Type 0 → (D → State) → Type 0

@@ -24,7 +24,7 @@ use Rattle.aea_archive.specs.Cells.{IsBesides}
 use Rattle.aea_archive.specs.Next.{NewObject}
 use Rattle.aea_archive.proofs.Cells.{changes_none}
 use Rattle.aea_command.specs.declared.refusal.Refusal.{Refusal}
-use Rattle.aea_command.specs.declared.refusal.Refusal.TheVariants.{NoArchive, LedgerBad, BadName, NameTaken, CatalogFull, HeadDamaged, Full, BadStream, Occupied}
+use Rattle.aea_command.specs.declared.refusal.Refusal.TheVariants.{CopiesBad, CopiesDiffer, NoArchive, LedgerBad, BadName, NameTaken, CatalogFull, HeadDamaged, Full, BadStream, Occupied}
 use Rattle.aea_command.specs.declared.refusal.Failure.{Failure}
 use Rattle.aea_command.specs.declared.refusal.Failure.TheVariants as failure
 use Rattle.aea_command.specs.Causes.{Refuses, RefusesBy, IsDecided, IsFirst, place_of}
@@ -177,6 +177,8 @@ module _ (reading : HasOneReading) (tells : Type 0) (v : Opened) (left rest : Op
       by_input : tells → (why : Refusal) → (IsAfterOpening why → IsSome left) → IngestCauses old.files (unwrap_or left []) why → IsSome left
       by_input told NoArchive some cause = absurd (opened_no_opening tells old mid v opens told NoArchive cause)
       by_input told (LedgerBad at) some cause = absurd (opened_no_opening tells old mid v opens told (LedgerBad at) cause)
+      by_input told (CopiesBad first second) some cause = absurd cause.1.cause
+      by_input told (CopiesDiffer at) some cause = absurd cause.1.cause
       by_input told why some cause = some tt
 
       wider : (why : Refusal) → OpenedCauses old.files (unwrap_or left []) why → IngestCauses old.files (unwrap_or left []) why

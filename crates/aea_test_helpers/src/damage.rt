@@ -6,7 +6,7 @@ use aea_place::home;
 
 /// Flips all bits of a byte of a file. Returns whether the file has one at this place, at most 2^40.
 pub fn spoil<D: Disk>(disk: &mut D, file: u8, at: u64) -> Result<bool, DiskFault> {
-    if 64 < file || 1 << 40 < at {
+    if 66 < file || 1 << 40 < at {
         return Ok(false);
     }
     let mut byte = [0u8; 1];
@@ -43,7 +43,7 @@ pub fn spoil_block<D: Disk>(disk: &mut D, shape: &Shape, number: u32) -> Result<
 
 /// Cuts a file to this length, at most 2^40 bytes. Returns whether the file is as long.
 pub fn shorten<D: Disk>(disk: &mut D, file: u8, to: u64) -> Result<bool, DiskFault> {
-    if 64 < file || 1 << 40 < to {
+    if 66 < file || 1 << 40 < to {
         return Ok(false);
     }
     let long = disk.len(file)?;

@@ -167,10 +167,10 @@ pub const DRILL: Case = Case {
 const CREATE: Case = Case {
     line: CREATE_LINE,
     out: "created 3 2 5 16 4\n",
-    calls: 10,
+    calls: 13,
     commits: &[Commit {
         reads: 0,
-        calls: 10,
+        calls: 13,
         line: "created 3 2 5 16 4\n",
     }],
     stands: &[ALONE, ALONE],
@@ -180,7 +180,7 @@ const CREATE: Case = Case {
 const STAT: Case = Case {
     line: "stat",
     out: "{\"alpha\":3,\"block\":16,\"nodes\":3,\"objects\":2,\"p\":5,\"s\":2,\"sites\":4}\n",
-    calls: 5,
+    calls: 8,
     ..OVER_TWO
 };
 
@@ -188,7 +188,7 @@ const LIST: Case = Case {
     line: "list",
     out: "3 ba7816bf8f01cfea414140de5dae2223b00361a396177a9cb410ff61f20015ad a\n\
         17 8378b19d693ee89e2ca594b6ec0abfaadc4fe1831eaca2f748f0b71ede38892e b\n",
-    calls: 5,
+    calls: 8,
     ..OVER_TWO
 };
 
@@ -196,10 +196,10 @@ pub const PUT: Case = Case {
     line: "put b",
     input: "0123456789abcdefg",
     out: STORED_B,
-    calls: 21,
+    calls: 24,
     commits: &[Commit {
         reads: 18,
-        calls: 21,
+        calls: 24,
         line: STORED_B,
     }],
     objects: &[A, B],
@@ -213,16 +213,16 @@ pub const INGEST: Case = Case {
     out: "stored 2 17 8378b19d693ee89e2ca594b6ec0abfaadc4fe1831eaca2f748f0b71ede38892e b\n\
         stored 1 3 ba7816bf8f01cfea414140de5dae2223b00361a396177a9cb410ff61f20015ad c\nend 2\n",
     pieces: 3,
-    calls: 30,
+    calls: 33,
     commits: &[
         Commit {
             reads: 28,
-            calls: 21,
+            calls: 24,
             line: STORED_B,
         },
         Commit {
             reads: 42,
-            calls: 30,
+            calls: 33,
             line: STORED_C,
         },
     ],
@@ -234,7 +234,7 @@ pub const INGEST: Case = Case {
 const GET: Case = Case {
     line: "get b",
     out: "0123456789abcdefg",
-    calls: 9,
+    calls: 12,
     ..OVER_TWO
 };
 
@@ -242,17 +242,17 @@ const FETCH: Case = Case {
     turned: TORN,
     line: "fetch b",
     out: "0123456789abcdefg",
-    calls: 14,
+    calls: 17,
     ..OVER_TWO
 };
 
 const FENCE: Case = Case {
     line: "fence",
     out: "fence 1\n",
-    calls: 9,
+    calls: 12,
     commits: &[Commit {
         reads: 0,
-        calls: 9,
+        calls: 12,
         line: "fence 1\n",
     }],
     stands: &[BEHIND_A, BEHIND_A_FENCE],
@@ -262,10 +262,10 @@ const FENCE: Case = Case {
 const UPGRADE: Case = Case {
     line: "upgrade",
     out: "upgraded 1048576\n",
-    calls: 9,
+    calls: 12,
     commits: &[Commit {
         reads: 0,
-        calls: 9,
+        calls: 12,
         line: "upgraded 1048576\n",
     }],
     stands: &[BEHIND_A, BEHIND_A_RAISE],
@@ -277,7 +277,7 @@ const SCRUB: Case = Case {
     line: "scrub",
     status: Status::Damage,
     out: "damaged d1\ndamaged r1\ndamaged d2\ndamaged l2\ntotal 12 damaged 4\n",
-    calls: 17,
+    calls: 20,
     ..OVER_TWO
 };
 
@@ -285,10 +285,10 @@ const REPAIR: Case = Case {
     turned: TORN,
     line: "repair",
     out: RESTORED,
-    calls: 26,
+    calls: 29,
     commits: &[Commit {
         reads: 0,
-        calls: 26,
+        calls: 29,
         line: RESTORED,
     }],
     stands: &[BEHIND_B, BEHIND_B],
@@ -299,7 +299,7 @@ const EXPLAIN: Case = Case {
     turned: TORN,
     line: "explain d1",
     out: "damaged d1\nsum h1\n",
-    calls: 9,
+    calls: 12,
     ..OVER_TWO
 };
 
@@ -307,7 +307,7 @@ pub const VERIFY: Case = Case {
     line: "verify",
     input: RESTORED,
     out: "accepted\n",
-    calls: 17,
+    calls: 20,
     ..OVER_TWO
 };
 
@@ -324,7 +324,7 @@ const SITES: Case = Case {
         pair 1 2 lost 0\npair 1 3 lost 0\npair 1 4 lost 0\n\
         pair 2 3 lost 0\npair 2 4 lost 0\npair 3 4 lost 0\n",
     pieces: 10,
-    calls: 5,
+    calls: 8,
     ..OVER_ONE
 };
 

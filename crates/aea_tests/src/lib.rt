@@ -6,6 +6,8 @@ mod cases;
 #[cfg(test)]
 mod devices;
 #[cfg(test)]
+mod mirrored;
+#[cfg(test)]
 mod standing;
 #[cfg(test)]
 mod streams;

@@ -1,0 +1,8 @@
+use Rattle.aea_cli.proofs.StayGood.{stay_good, kept_adopted}
+use Rattle.aea_cli.proofs.keeping.copies_stay_good.Goals as goal
+
+pub returns-clause-good : goal.returns-clause-good
+returns-clause-good g c told command old new i j o p answer run = stay_good _ g.D.Disk.tells g.D.Disk.state told command old new i j o p answer run
+
+pub returns-clause-found : goal.returns-clause-found
+returns-clause-found g c told command old new i j o p answer beneath kept = kept_adopted _ g.D.Disk.tells g.D.Disk.state told command old new i j o p answer beneath kept

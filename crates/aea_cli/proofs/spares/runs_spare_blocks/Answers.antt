@@ -1,5 +1,0 @@
-use Rattle.aea_cli.proofs.Sparing.{spare_blocks}
-use Rattle.aea_cli.proofs.spares.runs_spare_blocks.Goals as goal
-
-pub returns : goal.returns
-returns g c = spare_blocks c.ledgers_have_one_reading.ensures c.survivors_are_told.ensures _ g.D.Disk.tells g.D.Disk.state

@@ -1,0 +1,5 @@
+mod Over
+mod Beginning
+mod Starting
+mod Refused
+mod Running

@@ -1,0 +1,5 @@
+pub mod Commands
+pub mod Runs
+pub mod Uses
+pub mod Alike
+mod Sparing

@@ -1,0 +1,30 @@
+-- What holds of a run of `upgrade`.
+use Rattle.std.proofs.Common.{◌≡◌, Err}
+use Rattle.aea_io.specs.Streams.{SourceState, SinkState}
+use Rattle.aea_disk.specs.State.{State}
+use Rattle.aea_dispatch.specs.declared.command.Command.TheVariants.{Upgrade}
+use Rattle.aea_command.specs.declared.refusal.Failure.TheVariants as failure
+use Rattle.aea_command_store.specs.Adding.{KeepsTheRest}
+use Rattle.aea_command.specs.Causes.{Refuses}
+use Rattle.aea_dispatch.specs.Does.{Runs}
+use Rattle.aea_dispatch.proofs.Runs.Unrefused.{none_held}
+use Rattle.aea_command.specs.Failures.{Answer, NeverClashes}
+use Rattle.aea_command_store.specs.Upgrade.{next_raise, UpgradeCauses, Upgrades}
+use Rattle.aea_command.specs.Worlds.{world}
+use Rattle.aea_command_store.proofs.Adding.Running.{rest_stays, adds_opens}
+use Rattle.aea_command.proofs.Refusing.{refuses_by_told}
+
+-- what `upgrade` did, when it is refused, and that it keeps each other file give what holds of its run
+pub upgrade_runs : (tells : Type 0) (old new : State) (input : SourceState) (before after : SinkState) (answer : Answer)
+    → Upgrades tells old new before after answer → Refuses tells (UpgradeCauses (old.files 0)) answer → KeepsTheRest tells (answer ≡ Err failure.Disk) old new
+    → NeverClashes answer
+    → Runs Upgrade (world tells old input before) (world tells new input after) answer
+upgrade_runs tells old new input before after answer upgrades refuses rest honest = record {
+  does = upgrades;
+  refuses = λ early. refuses_by_told _ _ _ _ (λ why told. told.0 tt) refuses;
+  disk_fits = λ told ready fits. (upgrades.adds.in_room told ready fits).0;
+  output_fits = λ told fits e. let room = fits (none_held _ _ answer refuses (λ why. told.disk tt) e) in (upgrades.prints.in_room room.room room.told room.enough).0 e;
+  honest = λ told is. honest;
+  stays = rest_stays tells _ old new rest;
+  opens = adds_opens next_raise tells old new answer upgrades.adds;
+}

@@ -1,0 +1,4 @@
+pub mod Words
+pub mod Does
+pub mod Sound
+pub mod Sparing

@@ -1,0 +1,4 @@
+mod Between
+mod Blocks
+mod Chain
+mod Staying

@@ -2,6 +2,9 @@
 may stand after a stop of a command that writes. `bench/torture` judges kills by it, `bench/powercut` and `bench/images` power cuts.
 It is no program by itself.
 
+Where an archive has copies of its ledger, each run first adopts them: so the ledger that stands after a stop is the one that the next
+run makes of the three files, and each copy is whole after that run.
+
 A kill leaves the files as the calls before it made them. A power cut may take back, or leave in any part, what was not made sure:
 so where a repair was cut the homes of the blocks that it restores may hold anything (`torn`). All else has to hold after both: the
 ledger is the one before or one with what was under way, what was acknowledged is there, and an intact block stays."""
@@ -9,11 +12,11 @@ ledger is the one before or one with what was under way, what was acknowledged i
 import subprocess
 import time
 
-from plain_archive import MOST_FENCES, Plain, is_name, judged_ledger, number, stored_line
+from measuring import lay_ledgers
+from plain_archive import COPIES, LEDGER, MOST_FENCES, Plain, adopted, copy_of, grown, is_copy_begun, is_name, judged_ledger, number, stored_line
 from sessions import Machine
 
 SECONDS = 300
-LEDGER = "ledger.aea"
 
 
 class Wrong(Exception):
@@ -39,7 +42,7 @@ class Archive:
     def __init__(self, folder, program, shape, counts):
         self.folder, self.program, self.shape, self.counts = folder, program, shape, counts
         self.plain = None
-        self.files, self.ledger = dict.fromkeys(range(1, shape[4] + 1)), None
+        self.files, self.ledger, self.copies = dict.fromkeys(range(1, shape[4] + 1)), None, [None, None]
         self.took, self.log = {}, []
 
     # the folder
@@ -54,8 +57,19 @@ class Archive:
                 files[site] = self.site(site).read_bytes()
             except FileNotFoundError:
                 files[site] = None
-        ledger = self.folder / LEDGER
-        return files, ledger.read_bytes() if ledger.exists() else None
+        return files, self.read_file(LEDGER)
+
+    def read_file(self, name):
+        path = self.folder / name
+        return path.read_bytes() if path.exists() else None
+
+    def read_copies(self):
+        return [self.read_file(name) for name in COPIES]
+
+    def lay_ledgers(self, ledger, copies):
+        """Puts the files of the ledger and of both copies there, or takes them away."""
+        self.ledger, self.copies = ledger, list(copies)
+        lay_ledgers(self.folder, {name: content for name, content in zip((LEDGER, *COPIES), (ledger, *copies)) if content is not None})
 
     def lay(self, site, content):
         """Puts a site's file there as it is to be, or takes it away."""
@@ -88,14 +102,15 @@ class Archive:
     def look(self):
         """Compares all files with what they have to be."""
         files, ledger = self.read()
-        if ledger != self.ledger:
-            raise Wrong(f"the ledger is {shortened(ledger or b'gone')!r} and not {shortened(self.ledger or b'gone')!r}")
+        for name, told, wanted in zip((LEDGER, *COPIES), (ledger, *self.read_copies()), (self.ledger, *self.copies)):
+            if told != wanted:
+                raise Wrong(f"{name} is {shortened(told or b'gone')!r} and not {shortened(wanted or b'gone')!r}")
         for site, content in files.items():
             if content != self.files[site]:
                 told, wanted = content or b"", self.files[site] or b""
                 at = next((k for k, (a, b) in enumerate(zip(told, wanted)) if a != b), min(len(told), len(wanted)))
                 raise Wrong(f"site {site} differs at {at}: {told[at:at + 80]!r} and not {wanted[at:at + 80]!r}; {len(told)} bytes and not {len(wanted)}")
-        others = {path.name for path in self.folder.iterdir()} - {LEDGER} - {f"site-{site:02}" for site in self.files}
+        others = {path.name for path in self.folder.iterdir()} - {LEDGER, *COPIES} - {f"site-{site:02}" for site in self.files}
         if others:
             raise Wrong(f"the folder has {others}")
 
@@ -114,6 +129,27 @@ class Archive:
                 raise Wrong(f"{plain.text(k)} is not intact after its commit")
         self.files = files
 
+    # copies of the ledger
+
+    def is_on(self):
+        """Whether copies are on."""
+        return any(is_copy_begun(copy or b"") for copy in self.copies)
+
+    def adopt(self):
+        """Takes the files of the ledger and its copies as a run leaves them that adopts them; gives what it is refused for, or none."""
+        refused, (self.ledger, *self.copies) = adopted(self.ledger, self.copies)
+        return refused
+
+    def adopt_found(self):
+        """The same, of the files as they are. They may not be refused."""
+        self.ledger, self.copies = self.read_file(LEDGER), self.read_copies()
+        refused = self.adopt()
+        if refused:
+            raise Wrong(f"{refused}, of {shortened(self.ledger or b'gone')!r} and {[shortened(it or b'gone') for it in self.copies]}")
+
+    def begin_copies(self):
+        self.copies = [copy_of(self.plain.ledger)] * 2
+
     # runs
 
     def run(self, words, source=b""):
@@ -124,7 +160,9 @@ class Archive:
         return ran.returncode, ran.stdout, ran.stderr
 
     def told(self, words, wanted, source=b""):
-        """Runs a command, which has to end so."""
+        """Runs a command, which has to end so. One that is a command adopts copies first."""
+        if wanted[0] != 2:
+            self.adopt()
         self.log.append(f"{words} < {len(source)} bytes")
         self.compare(words, self.run(words, source), wanted)
 
@@ -180,6 +218,9 @@ class Archive:
         after.add_raise()
         return (0, b"upgraded 1048576\n", b""), after
 
+    def expected_copies(self):
+        return self.refused("copies are on") if self.is_on() else (0, b"copies on\n", b"")
+
     def session(self):
         """The machine of a session over the archive as it is, and none; or no machine, and the refusal."""
         damaged = self.damaged()
@@ -200,7 +241,9 @@ class Archive:
         if after.ledger == self.plain.ledger:
             return
         files = self.with_cells(after, range(len(self.plain.cells), len(after.cells)))
-        self.ledger = after.ledger + b"\x00" + self.ledger[len(after.ledger) + 1:]
+        self.ledger = grown(self.ledger, after.ledger + b"\x00")
+        if self.is_on():
+            self.copies = [grown(copy, copy_of(after.ledger)) for copy in self.copies]
         self.plain, self.files = after, files
 
     def fresh_name(self, chance, others=()):
@@ -277,8 +320,8 @@ class Archive:
         the archive had, `first` states are of a run before this one that was stopped; `sure` of them it acknowledged, and the others
         may be gone after a power cut until this run prints something. Where it prints more than these lines, `said` is what it printed
         of them."""
-        _, ledger = self.read()
-        ledger = ledger or b""
+        self.adopt_found()
+        ledger = self.ledger or b""
         at = [k for k, it in enumerate(states) if ledger.startswith(it.ledger) and ledger[len(it.ledger):len(it.ledger) + 1] not in (b"", b"\x01")]
         if len(at) != 1:
             raise Wrong(f"{words}, {how}: the ledger is {shortened(ledger)!r}, none of {len(states)} that may be there")
@@ -298,7 +341,6 @@ class Archive:
         if told[0] is None and at > first + whole:
             self.counts["records that were added and not acknowledged"] += 1
         self.counts[f"objects of {how} runs"] += len(after.objects) - len(self.plain.objects)
-        self.ledger = ledger
         self.settle(after, range(len(self.plain.cells), len(after.cells)))
         self.plain = after
         self.stat_and_list()
@@ -308,12 +350,25 @@ class Archive:
         if not wanted[1].startswith(told[1]) or not wanted[2].startswith(told[2]):
             raise Wrong(f"{words}, {how}: printed {shortened(told[1])!r} {told[2]!r}; wanted the first part of {shortened(wanted[1])!r} {wanted[2]!r}")
 
+    def copied_or_not(self, told, how="killed"):
+        """Takes the files as a `copies` left them that was stopped where no copy was begun: none is, or the first one is whole; and both are
+        where it had printed or ended."""
+        before, one = self.ledger, copy_of(self.plain.ledger)
+        self.first_part(["copies"], told, (0, b"copies on\n", b""), how)
+        found = self.read_copies()
+        is_done, is_on = told[0] is not None or bool(told[1]), any(is_copy_begun(copy or b"") for copy in found)
+        self.adopt_found()
+        if self.ledger != before or is_on and found[0] != one or is_done and found != [one, one]:
+            raise Wrong(f"copies, {how}: the files are {shortened(self.ledger or b'gone')!r} and {[shortened(it or b'gone') for it in found]}")
+        self.stat_and_list()
+
     def made_or_not(self, told, how="killed", wanted=b""):
         """Whether the whole empty archive stands after a create that was stopped, which would have printed this as its error; else
         there has to be none."""
         if not self.made().startswith(told[1]) or not wanted.startswith(told[2]):
             raise Wrong(f"create, {how}: printed {told[1]!r} {told[2]!r}")
-        files, self.ledger = self.read()
+        files, _ = self.read()
+        self.adopt_found()
         if any(content is not None for content in files.values()):
             raise Wrong("create made a file of a site")
         empty = Plain(self.shape)
@@ -341,8 +396,11 @@ class Archive:
     def part_of_repair(self, restored, how, torn=False):
         """The files as they are, which have to be those of a repair that stopped after some of these blocks or in one of them; and how
         many are restored."""
-        files, ledger = self.read()
-        if ledger != self.ledger:
+        files, before = self.read()[0], self.ledger
+        self.adopt_found()
+        # where a ledger was made of a copy nothing may stand behind its records
+        end = len(self.plain.ledger)
+        if self.ledger != before and not (self.is_on() and self.ledger[:end] == self.plain.ledger and self.ledger[end:end + 1] not in (b"", b"\x01")):
             raise Wrong(f"repair, {how}: the ledger was changed")
         done, whole = 0, self.with_cells(self.plain, restored)
         for k, cell in enumerate(self.plain.cells):

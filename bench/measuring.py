@@ -17,7 +17,7 @@ import sys
 import tempfile
 from pathlib import Path
 
-from plain_archive import LIMIT, home_of, site_file
+from plain_archive import COPIES, LEDGER, LIMIT, home_of, site_file
 
 TOP = Path(__file__).resolve().parent.parent
 SEED = 20181
@@ -190,7 +190,22 @@ def traced(words, folder, calls=None, stdin=subprocess.DEVNULL, stdout=subproces
     return ran, lines
 
 
-# files by chance
+# files
+
+
+def lay(folder, files):
+    """Puts files into a folder, by their names, and the folders below it that they need."""
+    for name, content in files.items():
+        path = Path(folder) / name
+        path.parent.mkdir(exist_ok=True)
+        path.write_bytes(content)
+
+
+def lay_ledgers(folder, files):
+    """Puts the ledger and its copies into a folder as they are among these files, and takes those away that are not."""
+    for name in (LEDGER, *COPIES):
+        (Path(folder) / name).unlink(missing_ok=True)
+    lay(folder, {name: files[name] for name in (LEDGER, *COPIES) if name in files})
 
 
 def bytes_read(words, folder):

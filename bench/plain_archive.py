@@ -1,5 +1,5 @@
-"""A plain archive, written from docs/FORMATS.md alone: its ledger, its cells and where they stand, the lattice, what the known
-blocks determine and by what, and what is told of a loss report. `bench/torture` compares the program with it, and the other
+"""A plain archive, written from docs/FORMATS.md alone: its ledger, the copies of that, its cells and where they stand, the lattice,
+what the known blocks determine and by what, and what is told of a loss report. `bench/torture` compares the program with it, and the other
 scripts take from it what stands in files. It is no program by itself; SHA-256 is that of hashlib, and sets of blocks and of
 equations are numbers whose bits are theirs."""
 
@@ -10,6 +10,7 @@ import re
 from dataclasses import dataclass, field
 
 LETTERS = "dhrl"
+LEDGER, COPIES = "ledger.aea", ("ledger-2.aea", "ledger-3.aea")
 LIMIT, RAISED = 65536, 1048576
 MOST_FENCES = 16
 NUMBER = rb"(0|[1-9][0-9]*)"
@@ -81,6 +82,92 @@ def fence_record(node):
 
 
 RAISE = record(4, number(4, RAISED))
+
+
+# of copies of a ledger
+
+
+def piece_ends(text):
+    """Where the header of a ledger and each of its records ends. All is given that stands before the gate that ends it."""
+    ends = [17]
+    while ends[-1] < len(text):
+        ends.append(ends[-1] + 6 + int.from_bytes(text[ends[-1] + 2:ends[-1] + 6], "big"))
+    return ends
+
+
+def copy_of(text):
+    """A whole copy of a ledger, of which all is given that stands before the gate that ends it."""
+    parts, link, at = [b"\x01AEACOPY1"], bytes(32), 0
+    for end in piece_ends(text):
+        entry = number(4, end - at) + text[at:end]
+        link = hashlib.sha256(link + entry).digest()
+        parts.append(b"\x01" + entry + link)
+        at = end
+    return b"".join(parts) + b"\x00"
+
+
+def is_copy_begun(copy):
+    """Whether these bytes of a copy's file begin one."""
+    return len(copy) >= 10 and copy[0] == 1
+
+
+def judged_copy(copy):
+    """What is told of the bytes of a copy's file: its text and none where it is good, else none and the place where it is bad."""
+    if not is_copy_begun(copy):
+        return None, 0
+    if copy[1:9] != b"AEACOPY1":
+        return None, 1
+    pieces, link, gate = [], bytes(32), 9
+    while copy[gate:gate + 1] == b"\x01":
+        size = int.from_bytes(copy[gate + 1:gate + 5], "big")
+        entry, end = copy[gate + 1:gate + 5 + size], gate + 37 + size
+        wanted = 17 if not pieces else 6 + int.from_bytes(entry[6:10], "big")
+        link = hashlib.sha256(link + entry).digest()
+        if len(copy) < end or size != wanted or entry[4:5] != b"\x01" or copy[end - 32:end] != link:
+            return None, gate
+        pieces.append(entry[4:])
+        gate = end
+    return (b"".join(pieces), None) if pieces and len(copy) > gate else (None, gate)
+
+
+def adopted(ledger, copies):
+    """What a run makes of the files of the ledger and of its copies before it does anything else: what it is refused for, or none, and
+    the three files then. Of a file that is not there the bytes are none."""
+    files = [ledger, *copies]
+    if not any(is_copy_begun(copy or b"") for copy in copies):
+        return None, files
+    judged = [judged_copy(copy or b"") for copy in copies]
+    short, kept = sorted((text or b"" for text, _ in judged), key=len)
+    if not kept:
+        return f"copies bad at {judged[0][1]} and {judged[1][1]}", files
+    if not kept.startswith(short):
+        return f"copies differ at {next(at for at, (a, b) in enumerate(zip(short, kept)) if a != b)}", files
+    has = (ledger or b"")[:len(kept)] == kept and len(ledger) > len(kept)
+    files[0] = ledger if has and ledger[len(kept)] != 1 else kept + b"\x00" + (ledger[len(kept) + 1:] if has else b"")
+    files[1:] = [copy if text == kept else copy_of(kept) for copy, (text, _) in zip(copies, judged)]
+    return None, files
+
+
+def adopted_in(files):
+    """The same of all files of an archive, by their names: what it is refused for, or none, and all files then."""
+    refused, three = adopted(files.get(LEDGER), [files.get(name) for name in COPIES])
+    return refused, {**files, **{name: file for name, file in zip((LEDGER, *COPIES), three) if file is not None}}
+
+
+def with_copies(files):
+    """The files with two copies of the ledger, which ends with its closed gate."""
+    return {**files, **dict.fromkeys(COPIES, copy_of(files[LEDGER][:-1]))}
+
+
+def has_copies(files):
+    """Whether copies are on in these files."""
+    return any(is_copy_begun(files.get(name, b"")) for name in COPIES)
+
+
+def grown(file, whole):
+    """A file to which entries were added after the gate that ended it, so that this is what it has up to the new one: what stands
+    behind that stays."""
+    return whole + file[len(whole):]
 
 
 # of blocks, their cells and the files of sites

@@ -1,6 +1,6 @@
 /* Ends a program by SIGKILL at one of the calls by which it changes files or prints: `bench/torture` preloads it. STOP_AT is the
    number of the call, from 1 on, before which it is killed; with STOP_HALF a write has written its first half by then, and with
-   STOP_LEDGER the calls are counted from the first write to a ledger on. */
+   STOP_FROM the calls are counted from the first write or cut on of a file that has these letters in its path. */
 #define _GNU_SOURCE
 #include <dlfcn.h>
 #include <signal.h>
@@ -12,26 +12,27 @@
 #include <unistd.h>
 
 static long left = -1;
-static int half, waits;
+static int half;
+static const char *waits;
 
 __attribute__((constructor)) static void begin(void) {
     const char *at = getenv("STOP_AT");
     left = at ? atol(at) : -1;
     half = getenv("STOP_HALF") != NULL;
-    waits = getenv("STOP_LEDGER") != NULL;
+    waits = getenv("STOP_FROM");
 }
 
 /* Whether this call is the one. */
 static int is_last(void) { return !waits && left > 0 && --left == 0; }
 
-/* Whether this write to a file is the one. */
+/* Whether this write or cut of a file is the one. */
 static int is_last_of(int file) {
     if (waits) {
         char link[32], path[4096];
         snprintf(link, sizeof link, "/proc/self/fd/%d", file);
         ssize_t many = readlink(link, path, sizeof path - 1);
         path[many < 0 ? 0 : many] = 0;
-        waits = strstr(path, "/ledger.aea") == NULL;
+        if (strstr(path, waits)) waits = NULL;
     }
     return is_last();
 }
@@ -84,13 +85,13 @@ int fdatasync(int file) {
 
 int ftruncate(int file, off_t size) {
     REAL(ftruncate);
-    if (is_last()) stop();
+    if (is_last_of(file)) stop();
     return real(file, size);
 }
 
 int ftruncate64(int file, off64_t size) {
     REAL(ftruncate64);
-    if (is_last()) stop();
+    if (is_last_of(file)) stop();
     return real(file, size);
 }
 

@@ -1,0 +1,157 @@
+//! Copies that are begun.
+
+use crate::archives::{LISTED, bare, copied, ends, files_of, has_files, store_abc};
+use crate::harms::{Harm, inflict_all};
+use aea_cli::Status;
+use aea_disk::{Disk, SureDisk};
+use aea_runs::{Faults, NONE, run_failing, run_over};
+use aea_test_helpers::file_bytes;
+use sha2::{Digest, Sha256};
+use std::alloc::Global;
+use std::test::Fail;
+
+const COPIES_ON: &str = "copies on\n";
+
+const ARE_ON: &str = "refused: copies are on\n";
+
+// The SHA-256 of a copy of the ledger with the object `a`, as another program computes it.
+const SUM: &[u8; 32] =
+    b"\xc4\xf1\x41\x1c\x83\x72\x96\xd0\x0e\xc4\x17\x9e\x27\xbb\xd3\x2c\x6e\x6c\xb5\xf8\x61\x23\x8f\xb8\xac\xe1\xb1\xaa\x94\x52\x3e\xc8";
+
+// The bytes at these places: the three gates, and the lengths of the two pieces before the second and the third.
+const PLACES: [(usize, u8); 11] = [
+    (9, 1),
+    (10, 0),
+    (11, 0),
+    (12, 0),
+    (13, 17),
+    (63, 1),
+    (64, 0),
+    (65, 0),
+    (66, 0),
+    (67, 185),
+    (285, 0),
+];
+
+// Whether a file is that copy: its length, its gates, the lengths of its pieces, and its digest.
+fn is_copy<D: Disk>(alloc: Global, disk: &mut D, file: u8) -> Result<bool, Fail> {
+    let copy = file_bytes(alloc, disk, file)?;
+    let bytes = copy.as_slice();
+    for (place, byte) in PLACES {
+        if bytes.get(place) != Some(&byte) {
+            return Ok(false);
+        }
+    }
+    Ok(bytes.len() == 286 && Sha256::digest(bytes) == *SUM)
+}
+
+// Whether both copies are that, and the ledger and the sites are those of the archive without copies.
+fn are_begun<D: Disk>(alloc: Global, disk: &mut D) -> Result<bool, Fail> {
+    let mut plain = bare(alloc)?;
+    for file in 0..5u8 {
+        let bytes = file_bytes(alloc, &mut plain, file)?;
+        if file_bytes(alloc, disk, file)?.as_slice() != bytes.as_slice() {
+            return Ok(false);
+        }
+    }
+    Ok(is_copy(alloc, disk, 65)? && is_copy(alloc, disk, 66)?)
+}
+
+#[test]
+fn copies_are_begun_once(rt: HostRuntime) -> Result<(), Fail> {
+    let alloc = rt.alloc();
+    let mut disk = bare(alloc)?;
+    let is_said = ends(alloc, &mut disk, "copies", (Status::Done, COPIES_ON, ""))?;
+    assert!(rt; is_said);
+    let are_there = are_begun(alloc, &mut disk)?;
+    assert!(rt; are_there);
+    let is_refused = ends(alloc, &mut disk, "copies", (Status::Refused, "", ARE_ON))?;
+    assert!(rt; is_refused);
+    let are_there = are_begun(alloc, &mut disk)?;
+    assert!(rt; are_there);
+    Ok(())
+}
+
+// Whether copies are refused with this line where such damage is done to an archive without copies, and nothing is written.
+fn is_refused(alloc: Global, harms: &[Harm], err: &str) -> Result<bool, Fail> {
+    let mut disk = bare(alloc)?;
+    let is_harmed = inflict_all(&mut disk, harms)?;
+    let files = files_of(alloc, &mut disk)?;
+    let is_said = ends(alloc, &mut disk, "copies", (Status::Refused, "", err))?;
+    Ok(is_harmed && is_said && has_files(alloc, &mut disk, files.as_slice())?)
+}
+
+#[test]
+fn no_copies_are_begun_of_a_bad_ledger(rt: HostRuntime) -> Result<(), Fail> {
+    let rows = [
+        (Harm::Cut(0, 0), "refused: no archive\n"),
+        (Harm::Byte(0, 0, 7), "refused: no archive\n"),
+        (Harm::Byte(0, 9, 4), "refused: ledger bad at 9\n"),
+        (Harm::Cut(0, 202), "refused: ledger bad at 202\n"),
+    ];
+    for (harm, err) in rows {
+        let right = is_refused(rt.alloc(), &[harm], err)?;
+        assert!(rt; right, "{err}");
+    }
+    Ok(())
+}
+
+// Whether copies that are begun once both were removed are those that were there.
+fn are_begun_anew(alloc: Global) -> Result<bool, Fail> {
+    let mut disk = copied(alloc)?;
+    let harms = [Harm::Cut(65, 0), Harm::Byte(66, 0, 0)];
+    let is_harmed = inflict_all(&mut disk, &harms)?;
+    let is_off = ends(alloc, &mut disk, "list", (Status::Done, LISTED, ""))?;
+    let still = file_bytes(alloc, &mut disk, 65)?.is_empty();
+    let is_said = ends(alloc, &mut disk, "copies", (Status::Done, COPIES_ON, ""))?;
+    Ok(is_harmed && is_off && still && is_said && are_begun(alloc, &mut disk)?)
+}
+
+#[test]
+fn copies_that_are_gone_are_begun_anew(rt: HostRuntime) -> Result<(), Fail> {
+    let right = are_begun_anew(rt.alloc())?;
+    assert!(rt; right);
+    Ok(())
+}
+
+// Whether the copies are there where the line cannot be printed: there is no space for it, or the first call of the output fails.
+fn are_begun_silently(alloc: Global, faults: Faults) -> Result<bool, Fail> {
+    let mut disk = bare(alloc)?;
+    let ended = run_failing(alloc, "copies", &mut disk, b"", faults)?;
+    let is_fault = ended.status == Status::Output;
+    let is_told = ended.err.bytes() == b"fault: output\n".as_slice();
+    Ok(is_fault && is_told && are_begun(alloc, &mut disk)?)
+}
+
+#[test]
+fn copies_are_begun_before_that_is_said(rt: HostRuntime) -> Result<(), Fail> {
+    for (out_room, out_call) in [(9, 0), (99, 1), (99, 2)] {
+        let faults = Faults {
+            out_room,
+            out_call,
+            ..NONE
+        };
+        let right = are_begun_silently(rt.alloc(), faults)?;
+        assert!(rt; right, "{out_room} {out_call}");
+    }
+    Ok(())
+}
+
+// Whether copies are a fault where the disk has this capacity for each ledger file, and the archive is there afterwards.
+fn is_too_small(alloc: Global, room: usize) -> Result<bool, Fail> {
+    let mut disk = SureDisk::new(alloc, 4, room, 1024)?;
+    store_abc(alloc, &mut disk)?;
+    let left = run_over(alloc, "copies", &mut disk, 99)?;
+    let is_said = left.is(Status::Disk, "", "fault: disk\n");
+    Ok(is_said && ends(alloc, &mut disk, "get a", (Status::Done, "abc", ""))?)
+}
+
+// The ledger has 203 bytes, and a copy of it 286.
+#[test]
+fn a_disk_that_lacks_one_byte_is_at_fault(rt: HostRuntime) -> Result<(), Fail> {
+    for room in [203usize, 240, 285] {
+        let right = is_too_small(rt.alloc(), room)?;
+        assert!(rt; right, "{room}");
+    }
+    Ok(())
+}

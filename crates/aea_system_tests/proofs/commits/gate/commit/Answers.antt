@@ -5,6 +5,7 @@ use Rattle.aea_disk.proofs.Moments.{others_both, stays_both, stays_same}
 use Rattle.aea_system_tests.specs.Gate.{HasNew, TakesWrite, FitsWrite, TakesGate, FitsGate}
 use Rattle.aea_system_tests.proofs.Gates.{new_of_old, new_of_new}
 use Rattle.aea_system_tests.proofs.Surely.{sure_failed, sure_committed}
+use Rattle.aea_disk.proofs.Moments.{passes_both}
 use Rattle.aea_system_tests.proofs.commits.gate.commit.Goals as goal
 
 on_ok_two : {T E P Q R : Type 0} (r : Result T E) → (P → Q → R) → OnOk r P → OnOk r Q → OnOk r R
@@ -53,3 +54,6 @@ returns-clause-sure g c =
     let e = c.in_ok-write_body.ensures in
     sure_committed g.D.Disk.tells c.args.gate c.args.body.now first second (g.D.Disk.state c.open_gate.new.disk) c.open_gate.result
     (λ told. record { here = e.written told; others = e.others.reads told }) (g.met.D.Disk.smaller_fits c.write_body.new.disk 0) e.time e.sure c.open_gate.ensures.sure
+
+pub returns-clause-time : goal.returns-clause-time
+returns-clause-time g c = passes_both (g.D.Disk.state c.args.disk.now) (g.D.Disk.state c.write_body.new.disk) (g.D.Disk.state c.open_gate.new.disk) c.write_body.ensures.time c.open_gate.ensures.time

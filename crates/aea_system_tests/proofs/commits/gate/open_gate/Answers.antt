@@ -6,6 +6,7 @@ use Rattle.aea_disk.proofs.Moments.{during_change, during_then_kept, stays_step,
 use Rattle.aea_system_tests.specs.Gate.{HasOldOrNew, HasNew, TakesWrite, FitsWrite}
 use Rattle.aea_system_tests.proofs.Gates.{torn_gate, old_same, not_new}
 use Rattle.aea_system_tests.proofs.Surely.{sure_failed, sure_written}
+use Rattle.aea_disk.proofs.Moments.{passes_both}
 use Rattle.aea_system_tests.proofs.commits.gate.open_gate.Goals as goal
 
 pub returns-in_err-write-clause-any_moment : goal.returns-in_err-write-clause-any_moment
@@ -76,3 +77,6 @@ pub returns-clause-sure : goal.returns-clause-sure
 returns-clause-sure g c =
     let e = c.in_ok-write.ensures in
     sure_written g.D.Disk.tells 0 (c.args.gate) (1 ∷ []) (g.D.Disk.state c.args.disk.now) (g.D.Disk.state c.write.new.self) (g.D.Disk.state c.sync.new.self) c.sync.result e.written e.time e.sure c.sync.ensures.sure
+
+pub returns-clause-time : goal.returns-clause-time
+returns-clause-time g c = passes_both (g.D.Disk.state c.args.disk.now) (g.D.Disk.state c.write.new.self) (g.D.Disk.state c.sync.new.self) c.write.ensures.time c.sync.ensures.time

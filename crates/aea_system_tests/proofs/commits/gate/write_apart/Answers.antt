@@ -6,6 +6,7 @@ use Rattle.aea_disk.specs.State.{HasRange, TakesFrom}
 use Rattle.aea_disk.proofs.Moments.{during_none, during_then_kept, held_change, passes_none, others_change, others_then_kept}
 use Rattle.aea_system_tests.specs.Gate.{TakesWrite, FitsWrite}
 use Rattle.aea_system_tests.proofs.Surely.{sure_failed, sure_written}
+use Rattle.aea_disk.proofs.Moments.{passes_both}
 use Rattle.aea_system_tests.proofs.commits.gate.write_apart.Goals as goal
 
 pub returns-in_err-write-clause-held : goal.returns-in_err-write-clause-held
@@ -54,3 +55,6 @@ pub returns-clause-sure : goal.returns-clause-sure
 returns-clause-sure g c =
     let e = c.in_ok-write.ensures in
     sure_written g.D.Disk.tells c.args.file (c.args.at) (c.args.bytes.now) (g.D.Disk.state c.args.disk.now) (g.D.Disk.state c.write.new.self) (g.D.Disk.state c.sync.new.self) c.sync.result e.written e.time e.sure c.sync.ensures.sure
+
+pub returns-clause-time : goal.returns-clause-time
+returns-clause-time g c = passes_both (g.D.Disk.state c.args.disk.now) (g.D.Disk.state c.write.new.self) (g.D.Disk.state c.sync.new.self) c.write.ensures.time c.sync.ensures.time

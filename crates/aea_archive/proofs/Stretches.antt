@@ -9,7 +9,8 @@ use Rattle.aea_lattice.specs.Shapes.{IsBlockOf}
 use Rattle.aea_envelope.specs.Cells.{cell_of}
 use Rattle.aea_disk.specs.Files.{Files}
 use Rattle.aea_disk.specs.State.{State, Passes, EveryImage, During, Stays, SomeGivesEvery, HasEarlier, KeepsOthers}
-use Rattle.aea_disk.proofs.Moments.{during_both, during_more, stays_both, stays_during, stays_same, stays_never, gives_none, gives_every, gives_both, held_by_others}
+use Rattle.aea_disk.proofs.Moments.{during_both, during_more, held_by_others}
+use Rattle.aea_disk.proofs.Stays.{stays_both, stays_during, stays_same, stays_never, gives_none, gives_every, gives_both}
 use Rattle.aea_shelf.specs.Places.{cell_size, home_file, home_place, HasAtHome}
 use Rattle.aea_shelf.specs.Writes.{KeepsShelf}
 use Rattle.aea_shelf.proofs.Runs.{during_shelf, no_home_in_ledger}

@@ -3,6 +3,7 @@ pub mod Adding
 pub mod FenceLemmas
 pub mod UpgradeLemmas
 pub mod Committing
+pub mod Agreeing
 pub mod Growing
 pub mod Wides
 pub mod PutLemmas

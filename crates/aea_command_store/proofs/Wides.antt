@@ -17,7 +17,7 @@ use Rattle.aea_archive.specs.Next.{NewObject, woven_parity, IsNextStored, AreNex
 use Rattle.aea_archive.proofs.Pieces.{cut-length, cut-bytes}
 use Rattle.aea_archive.proofs.Values.{last_inside}
 use Rattle.aea_append.specs.Puts.{AreLastsWide, AreBlocksWide}
-use Rattle.aea_command_store.proofs.Growing.{last_was, enters_last}
+use Rattle.aea_command_store.proofs.Agreeing.{last_was, enters_last}
 
 module _ (shape : Shape) (l m : Lattice) (payload : BlockId → List ℕ) (name bytes : List ℕ) (o : Stored) (next : IsNextStored shape l m payload name bytes o) (alpha : l.alpha ≡ shape.alpha) (lasts : AreLastsWide shape l payload) (are : AreBytes bytes) where
   no_fewer : l.n ≤ m.n

@@ -6,7 +6,8 @@ use Rattle.aea_disk.specs.Files.{Files, ChangesFile, Holds, Torn, IsCut, MayBeCu
 use Rattle.aea_disk.specs.Steps.{holds_torn, changes_wider}
 use Rattle.aea_disk.specs.State.{State, Passes, Follows, KeepsImages, Settles, IsReady, IsRoomy, KeepsTaking, IsSure, IsSynced, KeepsOthers, KeepsWhere}
 use Rattle.aea_disk.specs.Frames.{OnlyReads, OnlyWrites}
-use Rattle.aea_disk.proofs.Moments.{passes_none, passes_both, during_none, during_both, during_then_kept, earlier_none, earlier_step, earlier_kept, earlier_both}
+use Rattle.aea_disk.proofs.Moments.{passes_none, passes_both, during_none, during_both, during_then_kept}
+use Rattle.aea_disk.proofs.Stays.{earlier_none, earlier_step, earlier_kept, earlier_both}
 
 -- what is taken, where the calls did not fail and left the files
 pub ready_later : (old mid : State) → mid.files ≡ old.files → KeepsTaking old mid → IsReady old → IsReady mid

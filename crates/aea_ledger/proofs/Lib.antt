@@ -3,6 +3,8 @@ pub mod Pieces
 pub mod Writes
 pub mod Creates
 pub mod Steps
+pub mod JoinedSteps
+pub mod ShortSteps
 pub mod Gates
 pub mod Starts
 pub mod Small

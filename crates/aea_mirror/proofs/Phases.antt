@@ -4,7 +4,8 @@ use Rattle.std.proofs.lemmas.Bool.{cases_eq, cases_lt}
 use Rattle.aea_disk.specs.Files.{Files, ChangesOnly}
 use Rattle.aea_disk.specs.Frames.{OnlyReads, OnlyWrites}
 use Rattle.aea_disk.specs.State.{State, IsSynced}
-use Rattle.aea_disk.proofs.Moments.{passes_both, earlier_both}
+use Rattle.aea_disk.proofs.Moments.{passes_both}
+use Rattle.aea_disk.proofs.Stays.{earlier_both}
 use Rattle.aea_mirror.specs.Extending.{IsShut, Extends, IsGateOf, Phase}
 
 far_from : (first second f g gate : ℕ) → f ≤ 64 → IsGateOf first second g gate → f ≢ g

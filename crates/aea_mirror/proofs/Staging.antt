@@ -6,7 +6,8 @@ use Rattle.aea_disk.specs.Files.{Files, ChangesFile, Torn}
 use Rattle.aea_disk.specs.Steps.{torn_front, torn_range}
 use Rattle.aea_disk.specs.Frames.{OnlyWrites}
 use Rattle.aea_disk.specs.State.{State, Passes, During, KeepsImages, Settles, HasEarlier, IsSynced}
-use Rattle.aea_disk.proofs.Moments.{passes_both, earlier_both}
+use Rattle.aea_disk.proofs.Moments.{passes_both}
+use Rattle.aea_disk.proofs.Stays.{earlier_both}
 use Rattle.aea_records.specs.Format.{open_gate}
 use Rattle.aea_copy_writer.specs.Changes.{KeepsFront}
 use Rattle.aea_copy_writer.specs.Entries.{after_gate}

@@ -1,7 +1,9 @@
 pub mod Standing
 pub mod SumReading
+pub mod Leads
 pub mod WordReading
 pub mod Rows
 pub mod Rising
 pub mod Compact
+pub mod Used
 pub mod Small

@@ -1,117 +1,37 @@
 -- The word of a free column is a codeword, its column is an end, and the free columns are the ends.
-use Rattle.std.proofs.Common.{◌≡◌, ◌≢◌, ℕ, zero, suc, ◌<◌, ◌≤◌, Bool, true, false, not, ◌&&◌, ◌||◌, ◌==◌, List, [], ◌∷◌, ◌++◌, filter, get_or, length, refl, sym, ◌∙◌, ap, subst, arith, inl, inr, IsTrue}
+use Rattle.std.proofs.Common.{◌≡◌, ◌≢◌, ℕ, suc, ◌<◌, ◌≤◌, Bool, true, false, not, ◌&&◌, ◌||◌, ◌==◌, List, ◌∷◌, filter, get_or, length, refl, sym, ◌∙◌, ap, subst, arith, inl, inr, IsTrue}
 use Rattle.std.specs.List.{list_any}
-use Rattle.std.proofs.lemmas.Bool.{cases_Bool, cases_lt, cases_eq, and_parts, and_from, or_cases, or_left, or_right, eq-eqb, ne_eqb, eqb-true, true≢false, false≢true, not-true, or_parts}
-use Rattle.aea_lattice.specs.declared.blocks.Class.{Class}
-use Rattle.aea_lattice.specs.declared.blocks.Class.TheVariants.{Datum, Horiz, Right, Left}
+use Rattle.std.proofs.lemmas.Bool.{cases_Bool, cases_lt, cases_eq, and_parts, and_from, or_cases, eq-eqb, ne_eqb, true≢false, false≢true, not-true, or_parts}
+use Rattle.aea_lattice.specs.declared.blocks.Class.TheVariants.{Datum}
 use Rattle.aea_lattice.specs.declared.blocks.BlockId.{BlockId}
 use Rattle.aea_lattice.specs.declared.blocks.EqId.{EqId}
 use Rattle.aea_lattice.specs.declared.grid.Lattice.{Lattice}
 use Rattle.aea_lattice.specs.Blocks.{block_of, same_block, HasBlock, number_of, blocks_count, blocks_of, block_at}
-use Rattle.aea_lattice.specs.Strands.{strand_of, is_on, prefix, nodes_to}
-use Rattle.aea_lattice.specs.Equations.{HasEquation, equation_of, equation_blocks, is_odd_count, equations_of, adds_up_to, codeword_at, is_in_codeword}
+use Rattle.aea_lattice.specs.Strands.{nodes_to}
+use Rattle.aea_lattice.specs.Equations.{HasEquation, equation_of, equation_blocks, equations_of, adds_up_to, is_in_codeword}
 use Rattle.aea_lattice.specs.Facts.{MeetsEvenly, Misses}
 use Rattle.aea_lattice.proofs.Codewords.{even-codeword, codeword-even, data_of}
 use Rattle.aea_lattice.proofs.Equations.{number_below, number_equal, same_block-equal, same_block-refl}
 use Rattle.aea_lattice.specs.Parity.{differ}
 use Rattle.aea_gauss_laws.specs.Parities.{odd_below}
 use Rattle.aea_lattice.specs.Lists.{same_equation, is_listed, has_node}
-use Rattle.aea_lattice.proofs.Odd.{Each, Each-append, Each-more, odd-same, differ-self}
+use Rattle.aea_lattice.proofs.Odd.{Each-more, odd-same, differ-self}
 use Rattle.aea_lattice.proofs.Once.{each-blocks_of, odd-at, same_equation-equal}
 use Rattle.aea_lattice.proofs.Even.{sums_even}
 use Rattle.aea_gauss_laws.proofs.Given.{odd_below-blocks, row-meets, row_of, set_at, and-no}
 use Rattle.aea_lattice.proofs.BlockAt.{block_at-number, block_at-inside, number-block_at}
-use Rattle.aea_gauss_laws.proofs.Columns.{odd_below-none, odd_below-one, odd_below-same, odd_below-differ, and-true, meets}
+use Rattle.aea_gauss_laws.proofs.Columns.{odd_below-none, odd_below-one, odd_below-same, meets}
 use Rattle.aea_gauss_words.specs.Matrices.{sum_of_rows, IsLead, IsReduction}
 use Rattle.aea_lattice.specs.LeastWord.{IsEndOf, IsEnd, IsWordOfEnd, IsWord}
 use Rattle.aea_fates.specs.Live.{is_live, live_equations}
 use Rattle.aea_readings.specs.Starts.{columns, row_at, start, rows_of}
 use Rattle.aea_readings.specs.Readings.{has_none_below, is_lead, equations_in, IsFree, word_at, nodes_in, IsRowWith}
-use Rattle.aea_fates.proofs.Kept.{IsSame, any-filter, filter-ordered}
+use Rattle.aea_fates.proofs.Kept.{any-filter, filter-ordered}
 use Rattle.aea_gauss_words.proofs.Reduced.{least, nothing, find_least, lead_unique, odd_some, odd_other, not_same, row_is_sum_of_rows, meets_sum}
 use Rattle.aea_readings.proofs.Standing.{row_low}
 use Rattle.aea_fates.proofs.Listing.{equation_listed, equations_same}
 use Rattle.aea_readings.proofs.SumReading.{row_adds}
-
--- ---- the test for a lead
-
-none_below : (r : ℕ → Bool) (c : ℕ) → has_none_below r c ≡ true → (k : ℕ) → k < c → r k ≡ false
-none_below r zero h k less = absurd (omega arith)
-none_below r (suc c) h k less =
-    let both = and_parts (has_none_below r c) (not (r c)) h in
-    elim (cases_lt k c) [
-      | inl lt ↦ none_below r c both.0 k lt
-      | inr ge ↦ let same : c ≡ k = omega arith in ap r (sym same) ∙ not-true (r c) both.1
-    ]
-
-below_none : (r : ℕ → Bool) (c : ℕ) → ((k : ℕ) → k < c → r k ≡ false) → has_none_below r c ≡ true
-below_none r zero h = refl
-below_none r (suc c) h = and_from (has_none_below r c) (not (r c)) (below_none r c (λ k less. h k (omega arith))) (ap not (h c (omega arith)))
-
--- the least column of a row passes the test for it
-pub lead_test : (cols : ℕ) (r : ℕ → Bool) (c : ℕ) → IsLead cols r c → is_lead r c ≡ true
-lead_test cols r c lead = and_from (r c) (has_none_below r c) lead.here (below_none r c lead.least)
-
--- a column below `cols` that passes the test is the least column of the row
-pub test_lead : (cols : ℕ) (r : ℕ → Bool) (c : ℕ) → c < cols → is_lead r c ≡ true → IsLead cols r c
-test_lead cols r c less h =
-    let both = and_parts (r c) (has_none_below r c) h in
-    record { below = less; here = both.0; least = none_below r c both.1 }
-
--- ---- codewords of nodes that agree on the nodes of the lattice
-
--- what holds of each number from 1 to i holds of each node up to i
-pub each-nodes_to : (i : ℕ) (P : ℕ → Type 0) → ((k : ℕ) → 1 ≤ k → k ≤ i → P k) → Each P (nodes_to i)
-each-nodes_to zero P h = tt
-each-nodes_to (suc i) P h = Each-append P (nodes_to i) (suc i ∷ []) (each-nodes_to i P (λ k first most. h k first (omega arith))) (h (suc i) (omega arith) (omega arith), tt)
-
-each-filter : {A : Type 0} → (P : A → Type 0) (p : A → Bool) (xs : List A) → Each P xs → Each P (filter p xs)
-each-filter P p [] h = tt
-each-filter P p (x ∷ xs) h =
-    elim (cases_Bool (p x)) [
-      | inl yes' ↦ rw yes' (h.0, each-filter P p xs h.1)
-      | inr no' ↦ rw no' (each-filter P p xs h.1)
-    ]
-
-prefix_same : (l : Lattice) (s t : ℕ → Bool) (c : Class) (i : ℕ) → ((k : ℕ) → 1 ≤ k → k ≤ i → s k ≡ t k) → is_odd_count s (prefix l c i) ≡ is_odd_count t (prefix l c i)
-prefix_same l s t c i h = odd-same s t (prefix l c i) (each-filter (λ k. s k ≡ t k) (is_on l c (strand_of l c i) i) (nodes_to i) (each-nodes_to i (λ k. s k ≡ t k) h))
-
-codeword_class : (l : Lattice) (s t : ℕ → Bool) (i : ℕ) (c : Class) → 1 ≤ i → ((k : ℕ) → 1 ≤ k → k ≤ i → s k ≡ t k) → codeword_at l s i c ≡ codeword_at l t i c
-codeword_class l s t i Datum first h = h i first (omega arith)
-codeword_class l s t i Horiz first h = prefix_same l s t Horiz i h
-codeword_class l s t i Right first h = prefix_same l s t Right i h
-codeword_class l s t i Left first h = prefix_same l s t Left i h
-
-pub codeword_same : (l : Lattice) (s t : ℕ → Bool) → ((k : ℕ) → 1 ≤ k → k ≤ l.n → s k ≡ t k) → (b : BlockId) → HasBlock l b → is_in_codeword l s b ≡ is_in_codeword l t b
-codeword_same l s t h b has = codeword_class l s t b.node b.class has.first (λ k first most. h k first (let last = has.last in omega arith))
-
--- ---- nodes as a list
-
-same_node : IsSame (λ (i k : ℕ). i == k)
-same_node = record { itself = λ k. eq-eqb k k refl; equal = λ i k h. eqb-true i k h }
-
-any-append : (p : ℕ → Bool) (xs ys : List ℕ) → list_any p ys ≡ true → list_any p (xs ++ ys) ≡ true
-any-append p [] ys h = h
-any-append p (x ∷ xs) ys h = or_right (p x) (list_any p (xs ++ ys)) (any-append p xs ys h)
-
-any-append_left : (p : ℕ → Bool) (xs ys : List ℕ) → list_any p xs ≡ true → list_any p (xs ++ ys) ≡ true
-any-append_left p [] ys h = absurd (false≢true h)
-any-append_left p (x ∷ xs) ys h =
-    elim (or_cases (p x) (list_any p xs) h) [
-      | inl here ↦ or_left (p x) (list_any p (xs ++ ys)) here
-      | inr there ↦ or_right (p x) (list_any p (xs ++ ys)) (any-append_left p xs ys there)
-    ]
-
-node_listed : (i n : ℕ) → 1 ≤ i → i ≤ n → has_node (nodes_to n) i ≡ true
-node_listed i zero first most = absurd (omega arith)
-node_listed i (suc n) first most =
-    elim (cases_eq i (suc n)) [
-      | inl same ↦ any-append (λ k. i == k) (nodes_to n) (suc n ∷ []) (or_left (i == suc n) false (eq-eqb i (suc n) same))
-      | inr other ↦ any-append_left (λ k. i == k) (nodes_to n) (suc n ∷ []) (node_listed i n first (omega arith))
-    ]
-
-nodes_kept : (p : ℕ → Bool) (n i : ℕ) → 1 ≤ i → i ≤ n → has_node (filter p (nodes_to n)) i ≡ p i
-nodes_kept p n i first most = any-filter (λ (i k : ℕ). i == k) same_node p i (nodes_to n) (node_listed i n first most)
+use Rattle.aea_readings.proofs.Leads.{lead_test, test_lead, codeword_same, same_node, nodes_kept, meets_at, meets-differ}
 
 -- ---- the word of a free column
 
@@ -163,20 +83,6 @@ module _ (l : Lattice) (known : BlockId → Bool) (m : ℕ → ℕ → Bool) (re
   -- f itself, and the leads of the rows that have f
   abbrev word : ℕ → ℕ → Bool
   word f k = differ (k == f) (led f k)
-
-  meets_at : (r : ℕ → Bool) (f n : ℕ) → f < n → meets r (λ k. k == f) n ≡ r f
-  meets_at r f n less =
-      odd_below-one (λ k. r k && (k == f)) n f less (λ k k_less other. ap (λ b. r k && b) (ne_eqb k f other) ∙ and-no (r k))
-      ∙ ap (λ b. r f && b) (eq-eqb f f refl) ∙ and-true (r f)
-
-  meets-differ : (r x y : ℕ → Bool) (n : ℕ) → meets r (λ k. differ (x k) (y k)) n ≡ differ (meets r x n) (meets r y n)
-  meets-differ r x y n =
-      odd_below-same (λ k. r k && differ (x k) (y k)) (λ k. differ (r k && x k) (r k && y k)) n (λ k less. and-over (r k) (x k) (y k))
-      ∙ odd_below-differ (λ k. r k && x k) (λ k. r k && y k) n
-    where
-      and-over : (a b c : Bool) → (a && differ b c) ≡ differ (a && b) (a && c)
-      and-over true b c = refl
-      and-over false b c = refl
 
   -- each row meets the word evenly
   row_word : (f : ℕ) → f < blocks_count l → (i : ℕ) → i < rows → meets (m i) (word f) (blocks_count l) ≡ false

@@ -15,7 +15,7 @@ use Rattle.aea_records.proofs.OneMore.{nodes_of-push, nodes_of-append, digests_o
 use Rattle.aea_archive.specs.Blocks.{IsBlockOn, recorded_in}
 use Rattle.aea_archive.specs.Next.{NewObject, AreDigestsOn, AreNextRecords}
 use Rattle.aea_machine.specs.Closings.{Closing, AreClosedRecords}
-use Rattle.aea_command_store.proofs.Growing.{digests_of-append}
+use Rattle.aea_command_store.proofs.Agreeing.{digests_of-append}
 
 -- Records that add the nodes after the first of two numbers up to the second, of blocks with these payloads: each is of one object,
 -- and has the digests of its new blocks.

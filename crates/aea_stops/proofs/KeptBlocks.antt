@@ -29,7 +29,7 @@ use Rattle.aea_command_store.specs.Fence.{next_fence}
 use Rattle.aea_stops.specs.GoingOn.{RunKind, Putting, Ingesting, Sessioning, Fencing, Raising, Leaving, DoesRun, StoppedRun, IsLeftBy, KeepsBlocks, LeavesBlocks, SparesBlocks}
 use Rattle.aea_command_store.specs.Growing.{GrowsBy, Grows}
 use Rattle.aea_command_store.specs.Upgrade.{next_raise}
-use Rattle.aea_command_store.proofs.Growing.{nodes_take}
+use Rattle.aea_command_store.proofs.Agreeing.{nodes_take}
 use Rattle.aea_command_store.proofs.IngestLemmas.Heads.{recorded_more}
 use Rattle.aea_command_session.specs.Closes.{GrowsByCloses, ClosesAll, closes_of}
 use Rattle.aea_stops.proofs.Chains.{AddNodes, of_objects, of_closes, nodes_added, digest_of_new}

@@ -11,7 +11,7 @@ use Rattle.aea_lattice.specs.Equations.{is_odd_count, codeword_at, is_in_codewor
 use Rattle.aea_lattice.specs.Parity.{differ}
 use Rattle.aea_gauss_laws.specs.Parities.{odd_below}
 use Rattle.aea_lattice.proofs.Odd.{odd-differ, odd-none, odd-same, differ-and, differ-assoc, differ-self, differ-false_r, Each}
-use Rattle.aea_readings.proofs.WordReading.{each-nodes_to}
+use Rattle.aea_readings.proofs.Leads.{each-nodes_to}
 use Rattle.aea_sweep.specs.Sweep.{sum_of_words}
 
 pub one_of : (a b : Bool) → differ a b ≡ true → (a ≡ true) ⊎ (b ≡ true)

@@ -24,6 +24,7 @@ pub mod Places
 pub mod Whole
 pub mod Alongs
 pub mod Labelling
+pub mod OpenStretch
 pub mod Stretching
 pub mod Taking
 pub mod Telling

@@ -32,7 +32,7 @@ use Rattle.aea_gauss_laws.proofs.Bits.{given-determined}
 use Rattle.aea_sweep.proofs.States.{same_words}
 use Rattle.aea_sweep.proofs.Places.{few_classes}
 use Rattle.aea_sweep.proofs.Passing.{none_above}
-use Rattle.aea_sweep.proofs.Stretching.{one_node}
+use Rattle.aea_sweep.proofs.OpenStretch.{one_node}
 use Rattle.aea_sweep.proofs.Taking.{low_out, eq_swap}
 use Rattle.aea_sweep.proofs.Merging.{rise-append}
 

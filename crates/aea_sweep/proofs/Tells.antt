@@ -14,7 +14,7 @@ use Rattle.aea_gauss_laws.specs.Parities.{odd_below}
 use Rattle.aea_gauss_laws.proofs.Columns.{odd_below-none, odd_below-one, and-true, and-false}
 use Rattle.aea_gauss_words.proofs.Reduced.{odd_some}
 use Rattle.aea_lattice.proofs.GreatestBelow.{greatest, nothing, find_greatest}
-use Rattle.aea_readings.proofs.WordReading.{codeword_same}
+use Rattle.aea_readings.proofs.Leads.{codeword_same}
 use Rattle.aea_sweep.specs.Sweep.{IsOpen, AreEnds, sum_of_words}
 use Rattle.aea_sweep.proofs.StepLaws.{EndsTellWords}
 use Rattle.aea_sweep.proofs.Codes.{codeword-sum}

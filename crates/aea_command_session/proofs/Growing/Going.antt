@@ -36,7 +36,7 @@ use Rattle.aea_session.specs.declared.work.Work.{Work}
 use Rattle.aea_session.specs.Closes.{AddsCloses}
 use Rattle.aea_session.specs.Stands.{KeepsMachine, StandsFor}
 use Rattle.aea_command_store.proofs.Committing.{long_behind, long_both}
-use Rattle.aea_command_store.proofs.Growing.{joined, joined_low, joined_high, adds_same}
+use Rattle.aea_command_store.proofs.Agreeing.{joined, joined_low, joined_high, adds_same}
 use Rattle.aea_command_session.proofs.Growing.Joining.{at_first, closed_more, closed_same, closed_lattice}
 
 -- the change that leaves the blocks of so many nodes, and the files that are not the archive's

@@ -13,7 +13,7 @@ use Rattle.aea_ledger.specs.Stops.{HasLedger}
 use Rattle.aea_archive.specs.Stretches.{HasAtLeast}
 use Rattle.aea_machine.specs.Closings.{Closing, IsNextClosed, AreClosedRecords}
 use Rattle.aea_machine.specs.Machine.{runs_of}
-use Rattle.aea_command_store.proofs.Growing.{take_behind}
+use Rattle.aea_command_store.proofs.Agreeing.{take_behind}
 
 -- ---- files with some of the records
 

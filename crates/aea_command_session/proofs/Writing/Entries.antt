@@ -13,7 +13,7 @@ use Rattle.aea_ledger.specs.Values.{Opened}
 use Rattle.aea_machine.specs.Closings.{Closing}
 use Rattle.aea_machine.specs.Machine.{runs_of}
 use Rattle.aea_session.specs.Closes.{IsRecordOfClose, AreRecordsOfCloses, close_entry}
-use Rattle.aea_command_store.proofs.Growing.{follow_behind}
+use Rattle.aea_command_store.proofs.Agreeing.{follow_behind}
 use Rattle.aea_command_session.specs.Space.{end_with_closes}
 
 -- ---- one record

@@ -17,7 +17,7 @@ use Rattle.aea_archive.specs.Next.{NewObject}
 use Rattle.aea_archive.proofs.Records.{one_lattice}
 use Rattle.aea_command_store.specs.Growing.{StaysGrown}
 use Rattle.aea_command_store.specs.Put.{HasDamagedHead}
-use Rattle.aea_command_store.proofs.Growing.{grown_lattice}
+use Rattle.aea_command_store.proofs.Agreeing.{grown_lattice}
 use Rattle.aea_command_store.proofs.IngestLemmas.Going.{HasGone}
 use Rattle.aea_command_store.proofs.IngestLemmas.Heads.{lasts_were_intact, lasts_are_intact}
 use Rattle.aea_command_store.proofs.PutLemmas.Reading.{head_here, head_there}

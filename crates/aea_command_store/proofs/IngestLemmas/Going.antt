@@ -42,7 +42,8 @@ use Rattle.aea_append.specs.declared.store.Stored.{Stored}
 use Rattle.aea_command_store.specs.Growing.{Grows, StaysGrown, HasGrown}
 use Rattle.aea_command_store.specs.Ingest.{GrowsSurely, frames_of, stored_lines, IsOfObject, AreOfObjects, FitsFrames}
 use Rattle.aea_command_store.specs.Put.{stored_line, stored_text}
-use Rattle.aea_command_store.proofs.Growing.{follow_behind, grows_both, first_of_both, grown_both, all_both}
+use Rattle.aea_command_store.proofs.Agreeing.{follow_behind}
+use Rattle.aea_command_store.proofs.Growing.{grows_both, first_of_both, grown_both, all_both}
 use Rattle.aea_command_store.proofs.PutLemmas.Opening.{changes}
 use Rattle.aea_archive.proofs.Honest.{stands}
 use Rattle.aea_archive.proofs.Records.{one_lattice}

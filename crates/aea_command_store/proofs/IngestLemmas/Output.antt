@@ -19,7 +19,7 @@ use Rattle.aea_command.proofs.Reading.{has_ledger_of}
 use Rattle.aea_command_store.specs.Growing.{StaysGrown}
 use Rattle.aea_command_store.specs.Ingest.{AreOfObjects, WouldStore, FitsLines, frames_of, stored_lines, end_line}
 use Rattle.aea_command_store.specs.Put.{HasDamagedHead}
-use Rattle.aea_command_store.proofs.Growing.{follow_behind}
+use Rattle.aea_command_store.proofs.Agreeing.{follow_behind}
 use Rattle.aea_command_store.proofs.PutLemmas.Reading.{head_there}
 use Rattle.aea_command_store.proofs.IngestLemmas.Filling.{taken_all}
 use Rattle.aea_command_store.proofs.IngestLemmas.Heads.{lasts_were_intact}

@@ -25,7 +25,7 @@ use Rattle.aea_command.specs.Causes.{place_of, IsFirst, IsStopped}
 use Rattle.aea_command.specs.Failures.{Answer, ingest_failure}
 use Rattle.aea_command_store.specs.Ingest.{Filled, filled_by, filled_all, HasPlace, FitsLimit, FrameCauses, IsRefusedBehind, IsRefusedAt, OpenedCauses, EndCauses, MayAllBeTaken, AreOfObjects, frames_of}
 use Rattle.aea_command_store.specs.Put.{HasDamagedHead}
-use Rattle.aea_command_store.proofs.Growing.{follow_behind}
+use Rattle.aea_command_store.proofs.Agreeing.{follow_behind}
 use Rattle.aea_command_store.proofs.IngestLemmas.Causing.{place_of_entry, entry_of_place, too_long, is_too_long, inside, ends_inside, names_are_free, free_are_new, as_many, none_before_bad, none_before_taken, none_before_many, none_before_place, none_before_length, none_before_cut, no_cause}
 use Rattle.aea_command_store.proofs.IngestLemmas.Filling.{filled_is, taken_all, one_cut, HasNoFrame}
 use Rattle.aea_command.proofs.Reading.{has_ledger_of, from_reading}

@@ -16,7 +16,7 @@ use Rattle.aea_archive.specs.Lasts.{AreLastsIntact}
 use Rattle.aea_archive.specs.Next.{NewObject}
 use Rattle.aea_append.specs.Causes.{MayEnter, next_end}
 use Rattle.aea_command_store.specs.Ingest.{Filled, filled_by, filled_more, filled_all, MayBeTaken, MayAllBeTaken, AreOfObjects, FitsFrames, frames_of, end_with}
-use Rattle.aea_command_store.proofs.Growing.{follow_behind}
+use Rattle.aea_command_store.proofs.Agreeing.{follow_behind}
 use Rattle.aea_command_store.proofs.IngestLemmas.Causing.{enters, entered, limit_is}
 use Rattle.aea_command_store.proofs.IngestLemmas.Filling.{filled_is, taken_all}
 use Rattle.aea_command_store.proofs.IngestLemmas.Rooming.{spelled_next}

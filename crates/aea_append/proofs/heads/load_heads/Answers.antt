@@ -1,4 +1,4 @@
-use Rattle.aea_disk.proofs.Moments.{earlier_none}
+use Rattle.aea_disk.proofs.Stays.{earlier_none}
 use Rattle.aea_disk.proofs.Frames.{reads_none, reads_as}
 use Rattle.aea_append.proofs.Loaded.{loaded_values, damaged_named, heads_come}
 use Rattle.aea_append.proofs.heads.load_heads.Goals as goal

@@ -1,5 +1,5 @@
 use Rattle.std.proofs.Common.{subst}
-use Rattle.aea_disk.proofs.Moments.{earlier_none}
+use Rattle.aea_disk.proofs.Stays.{earlier_none}
 use Rattle.aea_disk.proofs.Frames.{reads_none, reads_as}
 use Rattle.std.specs.Prelude.{IsSome}
 use Rattle.aea_append.proofs.Kept.{kept_as, kept_intact}

@@ -1,7 +1,7 @@
 use Rattle.std.proofs.Common.{Option, Some, refl, sym, ◌∙◌, ap, subst}
 use Rattle.std.specs.Prelude.{IsErr}
 use Rattle.aea_lattice.specs.declared.blocks.BlockId.{BlockId}
-use Rattle.aea_disk.proofs.Moments.{earlier_none}
+use Rattle.aea_disk.proofs.Stays.{earlier_none}
 use Rattle.aea_disk.proofs.Frames.{ok_fine, reads_none, reads_as}
 use Rattle.aea_weave.specs.Stored.{all_strands}
 use Rattle.aea_archive.specs.Lasts.{IsLastParity, IsFirstDamagedLast}

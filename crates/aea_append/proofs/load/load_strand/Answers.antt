@@ -5,7 +5,7 @@ use Rattle.aea_lattice.specs.declared.grid.Lattice.{Lattice}
 use Rattle.aea_lattice.specs.Blocks.{block_of, HasParity}
 use Rattle.aea_lattice.specs.Ends.{strands_of, last_open}
 use Rattle.aea_envelope.specs.Cells.{block_digest, cell_of}
-use Rattle.aea_disk.proofs.Moments.{earlier_none, earlier_kept}
+use Rattle.aea_disk.proofs.Stays.{earlier_none, earlier_kept}
 use Rattle.aea_disk.proofs.Frames.{reads_none}
 use Rattle.aea_shelf.specs.Places.{HasAtHome}
 use Rattle.aea_shelf.specs.Intact.{payload_in}

@@ -4,7 +4,7 @@ use Rattle.std.proofs.lemmas.Bool.Decides.{nat_tests}
 use Rattle.aea_lattice.specs.declared.grid.Lattice.{Lattice}
 use Rattle.aea_lattice.specs.Blocks.{HasParity, HasBlock}
 use Rattle.aea_lattice.specs.Ends.{strands_of, last_open}
-use Rattle.aea_disk.proofs.Moments.{earlier_none, earlier_both}
+use Rattle.aea_disk.proofs.Stays.{earlier_none, earlier_both}
 use Rattle.aea_disk.proofs.Frames.{ok_fine, reads_none, reads_both, reads_as}
 use Rattle.aea_weave.specs.Woven.{strands_before, head_of}
 use Rattle.aea_append.specs.Loading.{IsLesser}

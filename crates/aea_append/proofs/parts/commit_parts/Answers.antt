@@ -4,7 +4,8 @@ use Rattle.std.specs.Prelude.{IsErr}
 use Rattle.std.specs.List.{sum_by}
 use Rattle.aea_disk.specs.Files.{Files, ChangesOnly}
 use Rattle.aea_disk.specs.State.{State, KeepsImages, IsReady, IsRoomy}
-use Rattle.aea_disk.proofs.Moments.{during_kept, earlier_kept}
+use Rattle.aea_disk.proofs.Moments.{during_kept}
+use Rattle.aea_disk.proofs.Stays.{earlier_kept}
 use Rattle.aea_disk.proofs.Frames.{ok_fine, ready_later, reads_one, reads_then_writes, reads_writes, writes_as, writes_others}
 use Rattle.aea_envelope.specs.Cells.{cell_of}
 use Rattle.aea_shelf.specs.Places.{home_file, home_place}

@@ -2,7 +2,8 @@ use Rattle.std.proofs.Common.{[], ◌∷◌, ◌++◌, ℕ, List, sym, subst}
 use Rattle.std.proofs.lemmas.Result.{on_ok_weaker}
 use Rattle.aea_disk.specs.Files.{Files, ChangesFile, ChangesOnly, Torn}
 use Rattle.aea_disk.proofs.Frames.{writes_wider}
-use Rattle.aea_disk.proofs.Moments.{during_change, stays_step}
+use Rattle.aea_disk.proofs.Moments.{during_change}
+use Rattle.aea_disk.proofs.Stays.{stays_step}
 use Rattle.aea_records.specs.Grammar.{IsLedger}
 use Rattle.aea_ledger.specs.Taking.{TakesThrough, FitsThrough}
 use Rattle.aea_ledger.specs.Stops.{HasLedger, HasOldOrNew}

@@ -2,7 +2,8 @@ use Rattle.std.proofs.Common.{[], ◌∷◌, ◌++◌, ◌+◌, length}
 use Rattle.std.proofs.lemmas.Result.{on_ok_weaker}
 use Rattle.aea_disk.specs.Files.{ChangesFile, ChangesOnly, Torn}
 use Rattle.aea_disk.proofs.Frames.{writes_wider}
-use Rattle.aea_disk.proofs.Moments.{during_change, stays_never}
+use Rattle.aea_disk.proofs.Moments.{during_change}
+use Rattle.aea_disk.proofs.Stays.{stays_never}
 use Rattle.aea_records.specs.Format.{spelled}
 use Rattle.aea_ledger.specs.Taking.{TakesBehind, FitsThrough}
 use Rattle.aea_ledger.specs.Stops.{HasLedger, closed}

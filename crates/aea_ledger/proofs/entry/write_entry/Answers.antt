@@ -2,7 +2,8 @@ use Rattle.std.proofs.Common.{◌≢◌, ◌+◌, ℕ, List, [], ◌∷◌, ◌+
 use Rattle.std.proofs.lemmas.Result.{on_ok_weaker}
 use Rattle.aea_disk.specs.Files.{Files, ChangesOnly, overwritten}
 use Rattle.aea_disk.proofs.Frames.{ok_fine, writes_both, writes_faulted, writes_wider, keeps_both}
-use Rattle.aea_disk.proofs.Moments.{during_both, during_more, stays_both}
+use Rattle.aea_disk.proofs.Moments.{during_both, during_more}
+use Rattle.aea_disk.proofs.Stays.{stays_both}
 use Rattle.aea_ledger.specs.Taking.{TakesBehind, TakesThrough, TakesCommit, FitsThrough, FitsCommit}
 use Rattle.aea_ledger.specs.Stops.{HasLedger, HasOldOrNew, closed, committed}
 use Rattle.aea_ledger.proofs.entry.write_entry.Goals as goal

@@ -13,7 +13,7 @@ use Rattle.aea_catalog.specs.declared.objects.Extent.{Extent}
 use Rattle.aea_records.specs.Fields.{are_apart}
 use Rattle.aea_records.specs.Catalogued.{first_of}
 use Rattle.aea_records.specs.Format.{nodes_for}
-use Rattle.aea_ledger.proofs.Steps.{joined_goes, joined_put, joined_read, parts_missing, parts_bad, joined_missing, joined_wrong}
+use Rattle.aea_ledger.proofs.JoinedSteps.{joined_goes, joined_put, joined_read, parts_missing, parts_bad, joined_missing, joined_wrong}
 use Rattle.aea_ledger.proofs.reader.Reader.read_joined.Goals as goal
 
 pub returns-then-not-branch-clause-bad : goal.returns-then-not-branch-clause-bad

@@ -4,7 +4,7 @@ use Rattle.aea_records.specs.declared.heads.HeadFields.{HeadFields}
 use Rattle.aea_records.specs.declared.heads.HeadFields.TheVariants.{Fenced, Raised}
 use Rattle.aea_ledger.specs.Readings.{IsAtHead}
 use Rattle.aea_ledger.proofs.Passed.{passed_over}
-use Rattle.aea_ledger.proofs.Steps.{fence_read, raise_read, fence_wrong, raise_wrong}
+use Rattle.aea_ledger.proofs.ShortSteps.{fence_read, raise_read, fence_wrong, raise_wrong}
 use Rattle.aea_ledger.proofs.reader.Reader.read_record.Goals as goal
 
 pub returns-then-found-ne4-clause-bad : goal.returns-then-found-ne4-clause-bad

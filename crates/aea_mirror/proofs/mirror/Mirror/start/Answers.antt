@@ -1,7 +1,8 @@
 use Rattle.std.proofs.Common.{◌≡◌, ◌≤◌, ◌∙◌, inl, inr, false, true, ℕ, length, refl, sym, ap, subst, arith}
 use Rattle.aea_disk.specs.Files.{KeepsFiles}
 use Rattle.aea_disk.specs.State.{State, Passes, Follows, During, KeepsImages, HasEarlier}
-use Rattle.aea_disk.proofs.Moments.{no_time, passes_none, earlier_none}
+use Rattle.aea_disk.proofs.Moments.{no_time, passes_none}
+use Rattle.aea_disk.proofs.Stays.{earlier_none}
 use Rattle.aea_copies.specs.Format.{text_of}
 use Rattle.aea_mirror.specs.Mirrored.{mirror_state}
 use Rattle.aea_mirror.specs.Refusing.{WritesNone}

@@ -1,6 +1,6 @@
 use Rattle.std.proofs.Common.{◌≡◌, Err, refl, sym, ◌∙◌, ap, subst}
 use Rattle.aea_machine.specs.Machine.{begun}
-use Rattle.aea_disk.proofs.Moments.{earlier_none}
+use Rattle.aea_disk.proofs.Stays.{earlier_none}
 use Rattle.aea_disk.proofs.Frames.{reads_none, reads_as}
 use Rattle.aea_ledger.specs.Values.{HasSomeRecords}
 use Rattle.aea_append.specs.declared.heads.HeadFault.TheVariants as loading

@@ -1,7 +1,8 @@
 use Rattle.std.proofs.Common.{Result, Ok, Err, ◌+◌, sym, subst}
 use Rattle.std.specs.Prelude.{OnOk}
 use Rattle.aea_disk.specs.Files.{Files}
-use Rattle.aea_disk.proofs.Moments.{others_both, stays_both, stays_same}
+use Rattle.aea_disk.proofs.Moments.{others_both}
+use Rattle.aea_disk.proofs.Stays.{stays_both, stays_same}
 use Rattle.aea_system_tests.specs.Gate.{HasNew, TakesWrite, FitsWrite, TakesGate, FitsGate}
 use Rattle.aea_system_tests.proofs.Gates.{new_of_old, new_of_new}
 use Rattle.aea_system_tests.proofs.Surely.{sure_failed, sure_committed}

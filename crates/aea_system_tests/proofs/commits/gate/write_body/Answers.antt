@@ -2,7 +2,8 @@ use Rattle.std.proofs.Common.{◌+◌, length}
 use Rattle.std.proofs.lemmas.Result.{on_ok_weaker}
 use Rattle.aea_disk.specs.Files.{Files, ChangesFile, Torn}
 use Rattle.aea_disk.specs.State.{TakesFrom}
-use Rattle.aea_disk.proofs.Moments.{during_change, during_then_kept, stays_step, stays_kept, stays_both, others_change, others_then_kept, synced_fixed}
+use Rattle.aea_disk.proofs.Moments.{during_change, during_then_kept, others_change, others_then_kept, synced_fixed}
+use Rattle.aea_disk.proofs.Stays.{stays_step, stays_kept, stays_both}
 use Rattle.aea_system_tests.specs.Gate.{HasOld, HasNew, TakesWrite, FitsWrite}
 use Rattle.aea_system_tests.proofs.Gates.{torn_body, old_same, not_new}
 use Rattle.aea_system_tests.proofs.Surely.{sure_failed, sure_written}

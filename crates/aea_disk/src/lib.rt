@@ -9,7 +9,8 @@
 //! `OnlyWrites`). It rests on `aea_faults`.
 //!
 //! A function over any disk gets its clauses from those of its calls by these lemmas of
-//! `Rattle.aea_disk.proofs.Moments`. Each takes the states before, between and after the calls.
+//! `Rattle.aea_disk.proofs.Moments`, and of `Stays` beside it (those that begin with `stays`, `earlier` and `gives`). Each
+//! takes the states before, between and after the calls.
 //!
 //! - time: `passes_none`, `passes_both`
 //! - a fact about every image: `during_none` before the first call; `during_step`, `during_change`, `during_kept`

@@ -7,3 +7,4 @@ pub mod Keeping
 pub mod Stages
 pub mod Leaving
 pub mod Left
+pub mod Faultless

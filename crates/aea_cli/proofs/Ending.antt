@@ -9,6 +9,7 @@ use Rattle.aea_adopt.specs.declared.answers.Adopted.{Adopted}
 use Rattle.aea_adopt.specs.declared.answers.AdoptFault.{AdoptFault}
 use Rattle.aea_adopt.specs.declared.answers.AdoptFault.TheVariants as adopting
 use Rattle.aea_adopt.proofs.Left.{adopted_leaves, adopted_on}
+use Rattle.aea_adopt.proofs.Faultless.{adopted_not}
 use Rattle.aea_mirror.specs.Mirrored.{mirror_state, fresh}
 use Rattle.aea_mirror.proofs.Ready.{made_ready}
 use Rattle.aea_command.specs.declared.refusal.Failure.TheVariants as failure
@@ -22,7 +23,7 @@ use Rattle.aea_dispatch.specs.declared.command.Command.{Command}
 use Rattle.aea_dispatch.specs.declared.command.Command.TheVariants as command
 use Rattle.aea_dispatch.specs.declared.command.Command.TheVariants.{Drill, Create, Stat, Put, Ingest, Get, Fetch, Fence, Upgrade, Scrub, Repair, Explain, Verify, Rehearse, Sites, Session, Copies}
 use Rattle.aea_dispatch.specs.Does.{UsesDisk, Causes, FitsOutput, IsHonest, IsTold, IsToldFor, PrintsEarly}
-use Rattle.aea_cli.specs.Beneath.{adopting_failure, met_world, IsUnbegun, IsUnadopted, RunsAdopted, RunsBeneath, RunCauses, IsHonestRun, FitsRun, FitsOutputRun}
+use Rattle.aea_cli.specs.Beneath.{adopting_failure, met_world, HasNotBegun, IsUnadopted, RunsAdopted, RunsBeneath, RunCauses, IsHonestRun, FitsRun, FitsOutputRun}
 use Rattle.aea_cli.specs.Ends.{IsSoundRun}
 use Rattle.aea_cli.proofs.Refusing.{first_met, met_first, first_bad, first_differ}
 use Rattle.aea_cli.proofs.Sounds.{sound_unbegun, sound_unadopted, sound_adopted}
@@ -58,9 +59,6 @@ unadopted_disk : (fault : AdoptFault) → (let a : Answer = Err (adopting_failur
 unadopted_disk (adopting.CopiesBad first second) e = let h : (let a : Answer = Err (failure.Refused (CopiesBad first second)) in a ≡ Err failure.Disk) = e in absurd (cc)
 unadopted_disk (adopting.CopiesDiffer at) e = let h : (let a : Answer = Err (failure.Refused (CopiesDiffer at)) in a ≡ Err failure.Disk) = e in absurd (cc)
 unadopted_disk adopting.DiskFault e = refl
-
-adopted_not : (a : Adopted) → (let r : Result Adopted AdoptFault = Ok a in r ≡ Err adopting.DiskFault) → ⊥
-adopted_not a e = cc
 
 -- what a command meets over a Mirror that was just made is told by the files, whether copies are on, and the streams
 honest_met : (c : Command) (tells : Type 0) (old mid : State) (i : SourceState) (o : SinkState) (a : Adopted) (name : ℕ) → IsHonest c (met_world (world tells old i o) mid.files a.on) → IsHonest c (world tells (mirror_state tells mid (fresh name a)) i o)
@@ -116,7 +114,7 @@ module _ (D tells : Type 0) (state : D → State) (command : Command) (old new :
     -- a refusal is the first reason that holds
     pub beneath_only : (PrintsEarly command → answer ≢ Err failure.Output) → (why : Refusal) → answer ≡ Err (failure.Refused why) → IsToldFor command before why → IsFirst (RunCauses command before) why
     beneath_only early why is known = ⊎_elim
-        (λ (un : IsUnbegun old new i j o p answer). absurd (memory_not_refused why (sym un.is ∙ is)))
+        (λ (un : HasNotBegun old new i j o p answer). absurd (memory_not_refused why (sym un.is ∙ is)))
         (λ (more : IsUnadopted D tells state old new i j o p answer ⊎ RunsAdopted D tells state command old new i j o p answer). ⊎_elim
         (λ (un : IsUnadopted D tells state old new i j o p answer). by_fault un.fault un.adopts why (sym un.is ∙ is))
         (λ (run : RunsAdopted D tells state command old new i j o p answer). first_met tells told command uses (state old) (state run.mid) i o run.adopted run.name run.adopts why ((run.runs.refuses early).only why is known))
@@ -126,7 +124,7 @@ module _ (D tells : Type 0) (state : D → State) (command : Command) (old new :
     -- nothing fails where there is space
     pub beneath_disk : FitsRun D tells state command old i o → answer ≢ Err failure.Disk
     beneath_disk fits is = ⊎_elim
-        (λ (un : IsUnbegun old new i j o p answer). memory_not_disk (sym un.is ∙ is))
+        (λ (un : HasNotBegun old new i j o p answer). memory_not_disk (sym un.is ∙ is))
         (λ (more : IsUnadopted D tells state old new i j o p answer ⊎ RunsAdopted D tells state command old new i j o p answer). ⊎_elim
         (λ (un : IsUnadopted D tells state old new i j o p answer). (un.adopts.writes.sure told (fits.free uses) (fits.adopting uses)).0 (unadopted_disk un.fault (sym un.is ∙ is)))
         (λ (run : RunsAdopted D tells state command old new i j o p answer). run.runs.disk_fits told (ready_then run told) (fits.over uses run.mid run.adopted run.name run.adopts) is)
@@ -135,7 +133,7 @@ module _ (D tells : Type 0) (state : D → State) (command : Command) (old new :
 
     pub beneath_output : IsTold command before → FitsOutputRun command before → answer ≢ Err failure.Output
     beneath_output known fits is = ⊎_elim
-        (λ (un : IsUnbegun old new i j o p answer). memory_not_output (sym un.is ∙ is))
+        (λ (un : HasNotBegun old new i j o p answer). memory_not_output (sym un.is ∙ is))
         (λ (more : IsUnadopted D tells state old new i j o p answer ⊎ RunsAdopted D tells state command old new i j o p answer). ⊎_elim
         (λ (un : IsUnadopted D tells state old new i j o p answer). unadopted_not_output un.fault (sym un.is ∙ is))
         (λ (run : RunsAdopted D tells state command old new i j o p answer).
@@ -148,7 +146,7 @@ module _ (D tells : Type 0) (state : D → State) (command : Command) (old new :
 
     pub beneath_honest : IsHonestRun command before → NeverClashes answer
     beneath_honest honest b recorded computed is = ⊎_elim
-        (λ (un : IsUnbegun old new i j o p answer). memory_never_clashes b recorded computed (sym un.is ∙ is))
+        (λ (un : HasNotBegun old new i j o p answer). memory_never_clashes b recorded computed (sym un.is ∙ is))
         (λ (more : IsUnadopted D tells state old new i j o p answer ⊎ RunsAdopted D tells state command old new i j o p answer). ⊎_elim
         (λ (un : IsUnadopted D tells state old new i j o p answer). unadopted_never_clashes un.fault b recorded computed (sym un.is ∙ is))
         (λ (run : RunsAdopted D tells state command old new i j o p answer).
@@ -187,7 +185,7 @@ module _ (D tells : Type 0) (state : D → State) (command : Command) (old new :
     pub beneath_always : (why : Refusal) → IsToldFor command before why → IsFirst (RunCauses command before) why → FitsRun D tells state command old i o → (PrintsEarly command → answer ≢ Err failure.Output)
         → (answer ≡ Err (failure.Refused why)) ⊎ ((answer ≡ Err failure.Input) ⊎ (answer ≡ Err failure.Memory))
     beneath_always why known first fits early = ⊎_elim
-        (λ (un : IsUnbegun old new i j o p answer). inr (inr un.is))
+        (λ (un : HasNotBegun old new i j o p answer). inr (inr un.is))
         (λ (more : IsUnadopted D tells state old new i j o p answer ⊎ RunsAdopted D tells state command old new i j o p answer). ⊎_elim
         (λ (un : IsUnadopted D tells state old new i j o p answer). inl (by_unadopted un.fault un.adopts un.is fits why first))
         (λ (run : RunsAdopted D tells state command old new i j o p answer).

@@ -8,6 +8,7 @@ use Rattle.aea_adopt.specs.Adopts.{Adopts}
 use Rattle.aea_adopt.specs.declared.answers.Adopted.{Adopted}
 use Rattle.aea_adopt.specs.declared.answers.AdoptFault.{AdoptFault}
 use Rattle.aea_adopt.specs.declared.answers.AdoptFault.TheVariants as adopting
+use Rattle.aea_adopt.proofs.Faultless.{adopted_not}
 use Rattle.aea_mirror.specs.Mirrored.{Kept, mirror_state}
 use Rattle.aea_command.specs.declared.refusal.Failure.{Failure}
 use Rattle.aea_command.specs.declared.refusal.Failure.TheVariants as failure
@@ -75,9 +76,6 @@ sound_unadopted tells old new i o fault adopts =
       out_still = λ no. refl;
       time = goes_passes old new writes.kept writes.time;
     }
-
-adopted_not : (a : Adopted) → (let r : Result Adopted AdoptFault = Ok a in r ≡ Err adopting.DiskFault) → ⊥
-adopted_not a e = cc
 
 -- the command ran over a Mirror that was just made
 pub sound_adopted : (tells : Type 0) (old mid new : State) (k l : Kept) (i j : SourceState) (o p : SinkState) (a : Adopted) (answer : Answer) → Adopts tells old mid (Ok a) → k.own ≡ 0 → (tells → IsReady (mirror_state tells mid k))

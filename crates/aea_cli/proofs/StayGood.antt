@@ -16,6 +16,7 @@ use Rattle.aea_adopt.specs.Adopts.{Adopts}
 use Rattle.aea_adopt.specs.declared.answers.Adopted.{Adopted}
 use Rattle.aea_adopt.specs.declared.answers.AdoptFault.{AdoptFault}
 use Rattle.aea_adopt.specs.declared.answers.AdoptFault.TheVariants as adopting
+use Rattle.aea_adopt.proofs.Faultless.{adopted_not}
 use Rattle.aea_mirror.specs.declared.tail.Tail.{Tail}
 use Rattle.aea_mirror.specs.Mirrored.{mirror_state, fresh}
 use Rattle.aea_mirror.specs.Shown.{AreGood, AreAs}
@@ -78,9 +79,6 @@ is_copies Verify = inr (λ e. let h : Verify ≡ Copies = e in cc)
 is_copies (Rehearse number nodes permille) = inr (λ e. let h : Rehearse number nodes permille ≡ Copies = e in cc)
 is_copies Sites = inr (λ e. let h : Sites ≡ Copies = e in cc)
 is_copies Session = inr (λ e. let h : Session ≡ Copies = e in cc)
-
-adopted_not : (a : Adopted) → (let r : Result Adopted AdoptFault = Ok a in r ≡ Err adopting.DiskFault) → ⊥
-adopted_not a e = cc
 
 module _ (D tells : Type 0) (state : D → State) (told : tells) (command : Command) (old new : D) (i j : SourceState) (o p : SinkState) (answer : Answer) where
   pub stay_good : (run : RunsAdopted D tells state command old new i j o p answer) → StayGood D tells state command old new i j o p answer run

@@ -36,7 +36,7 @@ adopting_answer (Ok adopted) = Ok adopted
 adopting_answer (Err fault) = Err (adopting_failure fault)
 
 -- Memory ran out for a word of the command, before the first call: nothing was done.
-pub record IsUnbegun {D : Type 0} (old new : D) (i j : SourceState) (o p : SinkState) (answer : Answer) : Type 0 where
+pub record HasNotBegun {D : Type 0} (old new : D) (i j : SourceState) (o p : SinkState) (answer : Answer) : Type 0 where
   pub is : answer ≡ Err failure.Memory
   pub disk : new ≡ old
   pub input : j ≡ i
@@ -68,7 +68,7 @@ pub record RunsAdopted (D tells : Type 0) (state : D → State) (command : Comma
 -- Of a run of a command that uses the disk, by the disk's values and what they mean.
 abbrev pub RunsBeneath : (D tells : Type 0) (state : D → State) → Command → (old new : D) (i j : SourceState) (o p : SinkState) → Answer → Type 0
 RunsBeneath D tells state command old new i j o p answer =
-    IsUnbegun old new i j o p answer ⊎ (IsUnadopted D tells state old new i j o p answer ⊎ RunsAdopted D tells state command old new i j o p answer)
+    HasNotBegun old new i j o p answer ⊎ (IsUnadopted D tells state old new i j o p answer ⊎ RunsAdopted D tells state command old new i j o p answer)
 
 -- what a command meets over a Mirror of a disk that reads so, with copies on or not
 abbrev pub met_world : World → Files → Bool → World

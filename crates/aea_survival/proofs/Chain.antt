@@ -1,15 +1,13 @@
 -- Runs over a disk with copies, as runs over what a Mirror shows of it.
-use Rattle.std.proofs.Common.{◌≡◌, List, [], ◌∷◌, ◌++◌, Result, Ok, Err}
+use Rattle.std.proofs.Common.{List, [], ◌∷◌, ◌++◌}
 use Rattle.aea_lattice.specs.declared.shape.Shape.{Shape}
 use Rattle.aea_disk.specs.Files.{Files}
 use Rattle.aea_disk.specs.State.{State, IsFixed}
 use Rattle.aea_envelope.specs.Facts.{CellsHaveLengths, CellsHaveParts}
 use Rattle.aea_records.specs.Format.{Record}
 use Rattle.aea_records.specs.Laws.{HasOneReading, DigestsAreCounted, RecordsAreShort}
-use Rattle.aea_adopt.specs.declared.answers.Adopted.{Adopted}
-use Rattle.aea_adopt.specs.declared.answers.AdoptFault.{AdoptFault}
-use Rattle.aea_adopt.specs.declared.answers.AdoptFault.TheVariants as adopting
 use Rattle.aea_adopt.proofs.Left.{adopted_leaves, adopted_can}
+use Rattle.aea_adopt.proofs.Faultless.{adopted_not}
 use Rattle.aea_mirror.specs.Mirrored.{Kept, mirror_state, fresh, outer}
 use Rattle.aea_mirror.specs.Shown.{Shows}
 use Rattle.aea_mirror.proofs.Ready.{made_synced}
@@ -22,9 +20,6 @@ use Rattle.aea_survival.proofs.Blocks.{shown_blocks}
 module _ (short : RecordsAreShort) (D tells : Type 0) (state : D → State) (told : tells) where
   abbrev shown_state : D × Kept → State
   shown_state x = mirror_state tells (state x.0) x.1
-
-  adopted_fault : (a : Adopted) → (let r : Result Adopted AdoptFault = Ok a in r ≡ Err adopting.DiskFault) → ⊥
-  adopted_fault a e = cc
 
   -- one of them, with what a Mirror may show of the files that the stop left
   as_stopped : (r : StoppedOver D tells state) (shown : Files) → Shows r.files shown → StoppedRun (D × Kept) tells shown_state
@@ -42,7 +37,7 @@ module _ (short : RecordsAreShort) (D tells : Type 0) (state : D → State) (tol
 
   -- nothing is pending on the ledger that a run finds
   is_fixed : (r : StoppedOver D tells state) → IsFixed (shown_state (r.mid, fresh r.name r.adopted)) 0
-  is_fixed r c here = made_synced tells (state r.mid) r.adopted r.name (r.adopts.synced (adopted_fault r.adopted)) r.adopts.told c here 0
+  is_fixed r c here = made_synced tells (state r.mid) r.adopted r.name (r.adopts.synced (adopted_not r.adopted)) r.adopts.told c here 0
 
   -- all of them: they go on over what is shown, and what they keep and spare is the same
   record AsStopped (runs : List (StoppedOver D tells state)) (shown last : Files) : Type 1 where

@@ -1,5 +1,5 @@
 -- One step of a reader: over a gate and the record of an object whose nodes are all new.
-use Rattle.std.proofs.Common.{◌≡◌, ◌≢◌, ℕ, ◌+◌, ◌*◌, ◌<◌, ◌≤◌, Bool, true, false, ◌&&◌, ◌==◌, List, ◌∷◌, ◌++◌, length, take, drop, Result, Err, Some, None, refl, sym, ap, subst, ◌∙◌, append_assoc, arith, inr}
+use Rattle.std.proofs.Common.{◌≡◌, ◌≢◌, ℕ, ◌+◌, ◌*◌, ◌<◌, ◌≤◌, Bool, true, false, ◌&&◌, ◌==◌, List, [], ◌∷◌, ◌++◌, length, take, drop, Result, Err, Some, None, refl, sym, ap, subst, ◌∙◌, append_assoc, arith, inr}
 use Rattle.std.specs.Prelude.{slice_index, if◌then◌else◌, nat_le}
 use Rattle.std.specs.List.{list_any, sum_by}
 use Rattle.std.specs.FinMap.{get, insert, empty}

@@ -12,6 +12,7 @@ mod Rooms
 mod Storing
 mod Leaving
 mod Wanted
+mod Committed
 mod Ended
 mod Frames
 mod Ingesting

@@ -1,7 +1,6 @@
-use Rattle.std.proofs.Common.{◌≡◌, inl, inr, ℕ, ◌+◌, ◌-◌, ◌*◌, ◌≤◌, Err, [], ◌∷◌, ◌++◌, List, length, refl, sym, ◌∙◌, ap, subst, arith}
+use Rattle.std.proofs.Common.{◌≡◌, inl, inr, ℕ, ◌+◌, ◌*◌, Err, [], ◌∷◌, ◌++◌, List, length, refl, sym, ◌∙◌, ap, subst, arith}
 use Rattle.aea_lattice.specs.declared.grid.Lattice.{Lattice}
 use Rattle.std.specs.List.{sum_by}
-use Rattle.sha2.proofs.Facts256.{length-sha256}
 use Rattle.aea_disk.specs.Files.{Files}
 use Rattle.aea_disk.proofs.Frames.{writes_as}
 use Rattle.aea_shelf.proofs.Cells.{keeps_intact}
@@ -12,20 +11,19 @@ use Rattle.aea_ledger.specs.Stops.{committed}
 use Rattle.aea_archive.specs.Blocks.{IsBlockIn}
 use Rattle.aea_archive.specs.Cells.{AreAtHome, FitsRows, IsNoSite}
 use Rattle.aea_archive.proofs.Cells.{fixed_kept}
-use Rattle.aea_append.specs.Causes.{next_end}
-use Rattle.aea_ledger.specs.Taking.{FitsAdding}
 use Rattle.aea_append.proofs.Faults.{ok_no_fault, met_fault}
 use Rattle.aea_disk.proofs.Moments.{during_then_kept}
 use Rattle.aea_archive.specs.Next.{NewObject, object_blocks}
-use Rattle.aea_append.specs.Taking.{TakesObject, room_left}
+use Rattle.aea_append.specs.Taking.{room_left}
 use Rattle.aea_append.specs.Puts.{AreBlocksWide}
 use Rattle.aea_records.specs.TableLaws.{AreBytes}
 use Rattle.aea_ledger.specs.Values.{HasRecords}
 use Rattle.aea_append.specs.declared.fault.PutFault.TheVariants.{DiskFault, HeadDamaged, Full}
-use Rattle.aea_append.proofs.Wanted.{wanted_of, wanted_ledger, not_both}
+use Rattle.aea_append.proofs.Wanted.{wanted_of, not_both}
 use Rattle.aea_append.proofs.Faults.{ok_not_over, read_not_over}
 use Rattle.aea_append.proofs.Rooms.{not_less}
-use Rattle.aea_append.proofs.Leaving.{one_of, cells_wider, stores_none, leaves_ledger, stopped_before, both_write, adds_put, its_later, cells_stay, padded_commit}
+use Rattle.aea_append.proofs.Committed.{taken_with, record_end, commits}
+use Rattle.aea_append.proofs.Leaving.{one_of, cells_wider, stores_none, leaves_ledger, stopped_before, adds_put, its_later, cells_stay, padded_commit}
 use Rattle.aea_append.proofs.Storing.{next_woven, more_where, added_of, woven_to, next_of, more_of, honest_of, digests_to}
 use Rattle.aea_append.proofs.Kept.{kept_after}
 use Rattle.aea_append.proofs.Space.{none_damaged}
@@ -33,144 +31,60 @@ use Rattle.aea_append.proofs.store.put_wanted.Goals as goal
 
 pub returns-in-Err-DiskFault-clause-writes : goal.returns-in-Err-DiskFault-clause-writes
 returns-in-Err-DiskFault-clause-writes g c =
-    let old = g.D.Disk.state c.args.disk.now in
-    let mid = g.D.Disk.state c.weave_object.new.disk in
-    let v = c.args.ledger.now in
-    let left = (g.S.Source.state c.args.source.now).left in
-    let rest = (g.S.Source.state c.weave_object.new.source).left in
-    writes_as g.D.Disk.tells _ _ (c.weave_object.result ≡ Err DiskFault) _ _ old mid (λ is. c.in-Err-DiskFault.is ∙ ap Err c.in-Err-DiskFault.field-0-is) (λ is. cc) (cells_wider g.D.Disk.tells (c.weave_object.result ≡ Err DiskFault) v c.args.name.now c.args.want left rest old mid c.weave_object.ensures.writes)
+    writes_as g.D.Disk.tells _ _ (c.weave_object.result ≡ Err DiskFault) _ _ _ _ (λ is. c.in-Err-DiskFault.is ∙ ap Err c.in-Err-DiskFault.field-0-is) (λ is. cc) (cells_wider g.D.Disk.tells (c.weave_object.result ≡ Err DiskFault) c.args.ledger.now c.args.name.now c.args.want _ _ _ _ c.weave_object.ensures.writes)
 
 pub returns-in-Err-HeadDamaged-clause-writes : goal.returns-in-Err-HeadDamaged-clause-writes
 returns-in-Err-HeadDamaged-clause-writes g c =
-    let old = g.D.Disk.state c.args.disk.now in
-    let mid = g.D.Disk.state c.weave_object.new.disk in
-    let v = c.args.ledger.now in
-    let left = (g.S.Source.state c.args.source.now).left in
-    let rest = (g.S.Source.state c.weave_object.new.source).left in
-    writes_as g.D.Disk.tells _ _ (c.weave_object.result ≡ Err DiskFault) _ _ old mid (λ is. absurd (let e = is in cc)) (λ is. absurd (let e = met_fault c.in-Err-HeadDamaged.is c.in-Err-HeadDamaged.field-0-is is in cc)) (cells_wider g.D.Disk.tells (c.weave_object.result ≡ Err DiskFault) v c.args.name.now c.args.want left rest old mid c.weave_object.ensures.writes)
+    writes_as g.D.Disk.tells _ _ (c.weave_object.result ≡ Err DiskFault) _ _ _ _ (λ is. absurd (let e = is in cc)) (λ is. absurd (let e = met_fault c.in-Err-HeadDamaged.is c.in-Err-HeadDamaged.field-0-is is in cc)) (cells_wider g.D.Disk.tells (c.weave_object.result ≡ Err DiskFault) c.args.ledger.now c.args.name.now c.args.want _ _ _ _ c.weave_object.ensures.writes)
 
 pub returns-in-Err-Full-clause-writes : goal.returns-in-Err-Full-clause-writes
 returns-in-Err-Full-clause-writes g c =
-    let old = g.D.Disk.state c.args.disk.now in
-    let mid = g.D.Disk.state c.weave_object.new.disk in
-    let v = c.args.ledger.now in
-    let left = (g.S.Source.state c.args.source.now).left in
-    let rest = (g.S.Source.state c.weave_object.new.source).left in
-    writes_as g.D.Disk.tells _ _ (c.weave_object.result ≡ Err DiskFault) _ _ old mid (λ is. absurd (let e = is in cc)) (λ is. absurd (let e = met_fault c.in-Err-Full.is c.in-Err-Full.field-0-is is in cc)) (cells_wider g.D.Disk.tells (c.weave_object.result ≡ Err DiskFault) v c.args.name.now c.args.want left rest old mid c.weave_object.ensures.writes)
+    writes_as g.D.Disk.tells _ _ (c.weave_object.result ≡ Err DiskFault) _ _ _ _ (λ is. absurd (let e = is in cc)) (λ is. absurd (let e = met_fault c.in-Err-Full.is c.in-Err-Full.field-0-is is in cc)) (cells_wider g.D.Disk.tells (c.weave_object.result ≡ Err DiskFault) c.args.ledger.now c.args.name.now c.args.want _ _ _ _ c.weave_object.ensures.writes)
 
 pub returns-in-Err-ReadFault-clause-writes : goal.returns-in-Err-ReadFault-clause-writes
 returns-in-Err-ReadFault-clause-writes g c =
-    let old = g.D.Disk.state c.args.disk.now in
-    let mid = g.D.Disk.state c.weave_object.new.disk in
-    let v = c.args.ledger.now in
-    let left = (g.S.Source.state c.args.source.now).left in
-    let rest = (g.S.Source.state c.weave_object.new.source).left in
-    writes_as g.D.Disk.tells _ _ (c.weave_object.result ≡ Err DiskFault) _ _ old mid (λ is. absurd (let e = is in cc)) (λ is. absurd (let e = met_fault c.in-Err-ReadFault.is c.in-Err-ReadFault.field-0-is is in cc)) (cells_wider g.D.Disk.tells (c.weave_object.result ≡ Err DiskFault) v c.args.name.now c.args.want left rest old mid c.weave_object.ensures.writes)
+    writes_as g.D.Disk.tells _ _ (c.weave_object.result ≡ Err DiskFault) _ _ _ _ (λ is. absurd (let e = is in cc)) (λ is. absurd (let e = met_fault c.in-Err-ReadFault.is c.in-Err-ReadFault.field-0-is is in cc)) (cells_wider g.D.Disk.tells (c.weave_object.result ≡ Err DiskFault) c.args.ledger.now c.args.name.now c.args.want _ _ _ _ c.weave_object.ensures.writes)
 
 pub returns-in-Err-NoMemory-clause-writes : goal.returns-in-Err-NoMemory-clause-writes
 returns-in-Err-NoMemory-clause-writes g c =
-    let old = g.D.Disk.state c.args.disk.now in
-    let mid = g.D.Disk.state c.weave_object.new.disk in
-    let v = c.args.ledger.now in
-    let left = (g.S.Source.state c.args.source.now).left in
-    let rest = (g.S.Source.state c.weave_object.new.source).left in
-    writes_as g.D.Disk.tells _ _ (c.weave_object.result ≡ Err DiskFault) _ _ old mid (λ is. absurd (let e = is in cc)) (λ is. absurd (let e = met_fault c.in-Err-NoMemory.is c.in-Err-NoMemory.field-0-is is in cc)) (cells_wider g.D.Disk.tells (c.weave_object.result ≡ Err DiskFault) v c.args.name.now c.args.want left rest old mid c.weave_object.ensures.writes)
+    writes_as g.D.Disk.tells _ _ (c.weave_object.result ≡ Err DiskFault) _ _ _ _ (λ is. absurd (let e = is in cc)) (λ is. absurd (let e = met_fault c.in-Err-NoMemory.is c.in-Err-NoMemory.field-0-is is in cc)) (cells_wider g.D.Disk.tells (c.weave_object.result ≡ Err DiskFault) c.args.ledger.now c.args.name.now c.args.want _ _ _ _ c.weave_object.ensures.writes)
 
 pub returns-then-is_short-clause-writes : goal.returns-then-is_short-clause-writes
 returns-then-is_short-clause-writes g c =
-    let old = g.D.Disk.state c.args.disk.now in
-    let mid = g.D.Disk.state c.weave_object.new.disk in
-    let v = c.args.ledger.now in
-    let left = (g.S.Source.state c.args.source.now).left in
-    let rest = (g.S.Source.state c.weave_object.new.source).left in
-    writes_as g.D.Disk.tells _ _ (c.weave_object.result ≡ Err DiskFault) _ _ old mid (λ is. absurd (let e = is in cc)) (λ is. absurd (ok_no_fault c.in-Ok.is is)) (cells_wider g.D.Disk.tells (c.weave_object.result ≡ Err DiskFault) v c.args.name.now c.args.want left rest old mid c.weave_object.ensures.writes)
+    writes_as g.D.Disk.tells _ _ (c.weave_object.result ≡ Err DiskFault) _ _ _ _ (λ is. absurd (let e = is in cc)) (λ is. absurd (ok_no_fault c.in-Ok.is is)) (cells_wider g.D.Disk.tells (c.weave_object.result ≡ Err DiskFault) c.args.ledger.now c.args.name.now c.args.want _ _ _ _ c.weave_object.ensures.writes)
 
 pub returns-in-Ok-commit_object-clause-writes : goal.returns-in-Ok-commit_object-clause-writes
 returns-in-Ok-commit_object-clause-writes g c =
     let old = g.D.Disk.state c.args.disk.now in
     let mid = g.D.Disk.state c.weave_object.new.disk in
-    let new = g.D.Disk.state c.commit_object.new.disk in
-    let v = c.args.ledger.now in
-    let name = c.args.name.now in
-    let tells = g.D.Disk.tells in
     let left = (g.S.Source.state c.args.source.now).left in
     let rest = (g.S.Source.state c.weave_object.new.source).left in
-    let k = c.in-Ok.taken.length in
-    let digest = c.in-Ok.taken.digest in
-    let nodes = c.in-Ok.taken.nodes in
-    let digests = c.as_slice-digests.result.now in
-    let counted : c.in-Ok.taken.nodes ≡ nodes_for c.args.ledger.now.shape c.in-Ok.taken.length = c.in-Ok.ensures.nodes in
-    let t : TakesObject g.D.Disk.tells c.args.ledger.now.shape c.args.ledger.now.lattice c.args.ledger.now.digests c.in-Ok.taken.length c.in-Ok.taken.digest (g.S.Source.state c.args.source.now).left (g.S.Source.state c.weave_object.new.source).left c.as_slice-digests.result.now (g.D.Disk.state c.args.disk.now).files (g.D.Disk.state c.weave_object.new.disk).files c.in-Ok.taken.heads =
-    subst (λ (d : List (List ℕ)). TakesObject tells v.shape v.lattice v.digests k digest left rest d old.files mid.files c.in-Ok.taken.heads) (sym c.as_slice-digests.ensures.value) c.in-Ok.ensures.took in
-    let stored : Stored = next_stored v name k digest nodes digests in
-    let bad = c.weave_object.result ≡ Err DiskFault in
-    let last : c.in-Ok.taken.heads.lattice.n ≡ c.args.ledger.now.lattice.n + c.in-Ok.taken.nodes = (let n = t.nodes in omega (arith, n, counted)) in
-    let end : ℕ = v.end + length (entry (Object stored)) + 1 in
-    let long : length c.as_slice-digests.result.now ≡ nodes_for c.args.ledger.now.shape (length t.bytes) * (1 + c.args.ledger.now.shape.alpha) =
-    t.woven.digests_are.long ∙ ap (λ (n : ℕ). n * (1 + v.shape.alpha)) (let e : c.in-Ok.taken.heads.lattice.n - v.lattice.n ≡ nodes_for v.shape (length t.bytes) = (omega (arith, last, counted, ap (nodes_for v.shape) t.long)) in e) in
-    let fits : v.lattice.n + nodes_for v.shape (length t.bytes) ≤ limit_when v.raised = (let f = c.in-Ok.ensures.fits in omega (arith, f, counted, ap (nodes_for v.shape) t.long)) in
-    let size : next_end v.end (length name) (nodes_for v.shape (length t.bytes) * (1 + v.shape.alpha)) ≡ v.end + length (entry (Object stored)) = omega (arith, c.commit_object.ensures.size (ap length t.digest_is ∙ length-sha256 t.bytes), long) in
-    writes_as tells _ _ _ _ _ old new (λ is. absurd (let e = is in cc)) (λ is. absurd (ok_no_fault c.in-Ok-commit_object.is is))
-    (both_write tells bad _ v name c.args.want left rest (v.end + length (entry (Object stored))) old mid new (ok_no_fault c.in-Ok.is) c.weave_object.ensures.writes c.commit_object.ensures.writes
-    (λ told has. subst (FitsAdding old 1) size (wanted_ledger v name c.args.want left rest old has t.bytes t.taken c.in-Ok.ensures.end (λ n is. (let cut = c.in-Ok.ensures.cut n is in let all = c.is_short.ensures.no c.if-is_short.false n is in omega (arith, cut.0, all, t.long))) c.requires.enters (c.in-Ok.ensures.intact told) fits)))
+    let t = taken_with g.D.Disk.tells c.args.ledger.now c.in-Ok.taken.length c.in-Ok.taken.digest left rest _ _ old mid c.in-Ok.taken.heads c.as_slice-digests.ensures.value c.in-Ok.ensures.took in
+    writes_as g.D.Disk.tells _ _ _ _ _ old (g.D.Disk.state c.commit_object.new.disk) (λ is. absurd (let e = is in cc)) (λ is. absurd (ok_no_fault c.in-Ok-commit_object.is is))
+    (commits g.D.Disk.tells c.args.ledger.now c.args.name.now c.in-Ok.taken.length c.in-Ok.taken.nodes c.in-Ok.taken.digest left rest c.as_slice-digests.result.now old mid c.in-Ok.ensures.nodes t c.commit_object.ensures.size
+    c.args.want _ (c.weave_object.result ≡ Err DiskFault) _ (ok_no_fault c.in-Ok.is) c.requires.enters c.in-Ok.ensures.intact c.in-Ok.ensures.end (λ n is. (let cut = c.in-Ok.ensures.cut n is in let all = c.is_short.ensures.no c.if-is_short.false n is in omega (arith, cut.0, all))) c.in-Ok.ensures.fits c.weave_object.ensures.writes c.commit_object.ensures.writes)
 
 pub returns-in-Err-DiskFault-commit_object-clause-writes : goal.returns-in-Err-DiskFault-commit_object-clause-writes
 returns-in-Err-DiskFault-commit_object-clause-writes g c =
     let old = g.D.Disk.state c.args.disk.now in
     let mid = g.D.Disk.state c.weave_object.new.disk in
-    let new = g.D.Disk.state c.commit_object.new.disk in
-    let v = c.args.ledger.now in
-    let name = c.args.name.now in
-    let tells = g.D.Disk.tells in
     let left = (g.S.Source.state c.args.source.now).left in
     let rest = (g.S.Source.state c.weave_object.new.source).left in
-    let k = c.in-Ok.taken.length in
-    let digest = c.in-Ok.taken.digest in
-    let nodes = c.in-Ok.taken.nodes in
-    let digests = c.as_slice-digests.result.now in
-    let counted : c.in-Ok.taken.nodes ≡ nodes_for c.args.ledger.now.shape c.in-Ok.taken.length = c.in-Ok.ensures.nodes in
-    let t : TakesObject g.D.Disk.tells c.args.ledger.now.shape c.args.ledger.now.lattice c.args.ledger.now.digests c.in-Ok.taken.length c.in-Ok.taken.digest (g.S.Source.state c.args.source.now).left (g.S.Source.state c.weave_object.new.source).left c.as_slice-digests.result.now (g.D.Disk.state c.args.disk.now).files (g.D.Disk.state c.weave_object.new.disk).files c.in-Ok.taken.heads =
-    subst (λ (d : List (List ℕ)). TakesObject tells v.shape v.lattice v.digests k digest left rest d old.files mid.files c.in-Ok.taken.heads) (sym c.as_slice-digests.ensures.value) c.in-Ok.ensures.took in
-    let stored : Stored = next_stored v name k digest nodes digests in
-    let bad = c.weave_object.result ≡ Err DiskFault in
-    let last : c.in-Ok.taken.heads.lattice.n ≡ c.args.ledger.now.lattice.n + c.in-Ok.taken.nodes = (let n = t.nodes in omega (arith, n, counted)) in
-    let end : ℕ = v.end + length (entry (Object stored)) + 1 in
-    let long : length c.as_slice-digests.result.now ≡ nodes_for c.args.ledger.now.shape (length t.bytes) * (1 + c.args.ledger.now.shape.alpha) =
-    t.woven.digests_are.long ∙ ap (λ (n : ℕ). n * (1 + v.shape.alpha)) (let e : c.in-Ok.taken.heads.lattice.n - v.lattice.n ≡ nodes_for v.shape (length t.bytes) = (omega (arith, last, counted, ap (nodes_for v.shape) t.long)) in e) in
-    let fits : v.lattice.n + nodes_for v.shape (length t.bytes) ≤ limit_when v.raised = (let f = c.in-Ok.ensures.fits in omega (arith, f, counted, ap (nodes_for v.shape) t.long)) in
-    let size : next_end v.end (length name) (nodes_for v.shape (length t.bytes) * (1 + v.shape.alpha)) ≡ v.end + length (entry (Object stored)) = omega (arith, c.commit_object.ensures.size (ap length t.digest_is ∙ length-sha256 t.bytes), long) in
-    writes_as tells _ _ _ _ _ old new (λ is. c.in-Err-DiskFault-commit_object.is ∙ ap Err c.in-Err-DiskFault-commit_object.field-0-is) (λ is. cc)
-    (both_write tells bad _ v name c.args.want left rest (v.end + length (entry (Object stored))) old mid new (ok_no_fault c.in-Ok.is) c.weave_object.ensures.writes c.commit_object.ensures.writes
-    (λ told has. subst (FitsAdding old 1) size (wanted_ledger v name c.args.want left rest old has t.bytes t.taken c.in-Ok.ensures.end (λ n is. (let cut = c.in-Ok.ensures.cut n is in let all = c.is_short.ensures.no c.if-is_short.false n is in omega (arith, cut.0, all, t.long))) c.requires.enters (c.in-Ok.ensures.intact told) fits)))
+    let t = taken_with g.D.Disk.tells c.args.ledger.now c.in-Ok.taken.length c.in-Ok.taken.digest left rest _ _ old mid c.in-Ok.taken.heads c.as_slice-digests.ensures.value c.in-Ok.ensures.took in
+    writes_as g.D.Disk.tells _ _ _ _ _ old (g.D.Disk.state c.commit_object.new.disk) (λ is. c.in-Err-DiskFault-commit_object.is ∙ ap Err c.in-Err-DiskFault-commit_object.field-0-is) (λ is. cc)
+    (commits g.D.Disk.tells c.args.ledger.now c.args.name.now c.in-Ok.taken.length c.in-Ok.taken.nodes c.in-Ok.taken.digest left rest c.as_slice-digests.result.now old mid c.in-Ok.ensures.nodes t c.commit_object.ensures.size
+    c.args.want _ (c.weave_object.result ≡ Err DiskFault) _ (ok_no_fault c.in-Ok.is) c.requires.enters c.in-Ok.ensures.intact c.in-Ok.ensures.end (λ n is. (let cut = c.in-Ok.ensures.cut n is in let all = c.is_short.ensures.no c.if-is_short.false n is in omega (arith, cut.0, all))) c.in-Ok.ensures.fits c.weave_object.ensures.writes c.commit_object.ensures.writes)
 
 pub returns-in-Err-NoMemory-commit_object-clause-writes : goal.returns-in-Err-NoMemory-commit_object-clause-writes
 returns-in-Err-NoMemory-commit_object-clause-writes g c =
     let old = g.D.Disk.state c.args.disk.now in
     let mid = g.D.Disk.state c.weave_object.new.disk in
-    let new = g.D.Disk.state c.commit_object.new.disk in
-    let v = c.args.ledger.now in
-    let name = c.args.name.now in
-    let tells = g.D.Disk.tells in
     let left = (g.S.Source.state c.args.source.now).left in
     let rest = (g.S.Source.state c.weave_object.new.source).left in
-    let k = c.in-Ok.taken.length in
-    let digest = c.in-Ok.taken.digest in
-    let nodes = c.in-Ok.taken.nodes in
-    let digests = c.as_slice-digests.result.now in
-    let counted : c.in-Ok.taken.nodes ≡ nodes_for c.args.ledger.now.shape c.in-Ok.taken.length = c.in-Ok.ensures.nodes in
-    let t : TakesObject g.D.Disk.tells c.args.ledger.now.shape c.args.ledger.now.lattice c.args.ledger.now.digests c.in-Ok.taken.length c.in-Ok.taken.digest (g.S.Source.state c.args.source.now).left (g.S.Source.state c.weave_object.new.source).left c.as_slice-digests.result.now (g.D.Disk.state c.args.disk.now).files (g.D.Disk.state c.weave_object.new.disk).files c.in-Ok.taken.heads =
-    subst (λ (d : List (List ℕ)). TakesObject tells v.shape v.lattice v.digests k digest left rest d old.files mid.files c.in-Ok.taken.heads) (sym c.as_slice-digests.ensures.value) c.in-Ok.ensures.took in
-    let stored : Stored = next_stored v name k digest nodes digests in
-    let bad = c.weave_object.result ≡ Err DiskFault in
-    let last : c.in-Ok.taken.heads.lattice.n ≡ c.args.ledger.now.lattice.n + c.in-Ok.taken.nodes = (let n = t.nodes in omega (arith, n, counted)) in
-    let end : ℕ = v.end + length (entry (Object stored)) + 1 in
-    let long : length c.as_slice-digests.result.now ≡ nodes_for c.args.ledger.now.shape (length t.bytes) * (1 + c.args.ledger.now.shape.alpha) =
-    t.woven.digests_are.long ∙ ap (λ (n : ℕ). n * (1 + v.shape.alpha)) (let e : c.in-Ok.taken.heads.lattice.n - v.lattice.n ≡ nodes_for v.shape (length t.bytes) = (omega (arith, last, counted, ap (nodes_for v.shape) t.long)) in e) in
-    let fits : v.lattice.n + nodes_for v.shape (length t.bytes) ≤ limit_when v.raised = (let f = c.in-Ok.ensures.fits in omega (arith, f, counted, ap (nodes_for v.shape) t.long)) in
-    let size : next_end v.end (length name) (nodes_for v.shape (length t.bytes) * (1 + v.shape.alpha)) ≡ v.end + length (entry (Object stored)) = omega (arith, c.commit_object.ensures.size (ap length t.digest_is ∙ length-sha256 t.bytes), long) in
-    writes_as tells _ _ _ _ _ old new (λ is. absurd (let e = is in cc)) (λ is. absurd (let e = met_fault c.in-Err-NoMemory-commit_object.is c.in-Err-NoMemory-commit_object.field-0-is is in cc))
-    (both_write tells bad _ v name c.args.want left rest (v.end + length (entry (Object stored))) old mid new (ok_no_fault c.in-Ok.is) c.weave_object.ensures.writes c.commit_object.ensures.writes
-    (λ told has. subst (FitsAdding old 1) size (wanted_ledger v name c.args.want left rest old has t.bytes t.taken c.in-Ok.ensures.end (λ n is. (let cut = c.in-Ok.ensures.cut n is in let all = c.is_short.ensures.no c.if-is_short.false n is in omega (arith, cut.0, all, t.long))) c.requires.enters (c.in-Ok.ensures.intact told) fits)))
+    let t = taken_with g.D.Disk.tells c.args.ledger.now c.in-Ok.taken.length c.in-Ok.taken.digest left rest _ _ old mid c.in-Ok.taken.heads c.as_slice-digests.ensures.value c.in-Ok.ensures.took in
+    writes_as g.D.Disk.tells _ _ _ _ _ old (g.D.Disk.state c.commit_object.new.disk) (λ is. absurd (let e = is in cc)) (λ is. absurd (let e = met_fault c.in-Err-NoMemory-commit_object.is c.in-Err-NoMemory-commit_object.field-0-is is in cc))
+    (commits g.D.Disk.tells c.args.ledger.now c.args.name.now c.in-Ok.taken.length c.in-Ok.taken.nodes c.in-Ok.taken.digest left rest c.as_slice-digests.result.now old mid c.in-Ok.ensures.nodes t c.commit_object.ensures.size
+    c.args.want _ (c.weave_object.result ≡ Err DiskFault) _ (ok_no_fault c.in-Ok.is) c.requires.enters c.in-Ok.ensures.intact c.in-Ok.ensures.end (λ n is. (let cut = c.in-Ok.ensures.cut n is in let all = c.is_short.ensures.no c.if-is_short.false n is in omega (arith, cut.0, all))) c.in-Ok.ensures.fits c.weave_object.ensures.writes c.commit_object.ensures.writes)
 
 pub commit_object-requires-clause-fixed : goal.commit_object-requires-clause-fixed
 commit_object-requires-clause-fixed g c told =
@@ -253,10 +167,9 @@ returns-then-is_short-clause-stores g c =
     let mid = g.D.Disk.state c.weave_object.new.disk in
     let t = c.in-Ok.ensures.took in
     let s = c.is_short.ensures.yes c.if-is_short.true in
-    let long = t.long in
     record {
       ended = record {
-        ended = (s.0, s.1, (c.in-Ok.ensures.cut s.0 s.1).1 s.2, (t.bytes, t.taken, (let l = s.2 in omega (arith, long, l))));
+        ended = (s.0, s.1, (c.in-Ok.ensures.cut s.0 s.1).1 s.2, (t.bytes, t.taken, (let l = s.2 in omega (arith, t.long, l))));
         heads = c.in-Ok.ensures.intact;
         fits = λ n some. not_less (room_left c.args.ledger.now) n (λ past. ok_not_over c.in-Ok.is (c.weave_object.ensures.over n some past));
         none = stores_none g.D.Disk.tells (c.weave_object.result ≡ Err DiskFault) c.args.ledger.now old mid c.requires.fixed c.weave_object.ensures.writes (c.weave_object.ensures.padded (λ bad. ok_no_fault c.in-Ok.is bad));
@@ -280,8 +193,7 @@ returns-in-Ok-commit_object-clause-stores g c =
     let nodes = c.in-Ok.taken.nodes in
     let digests = c.as_slice-digests.result.now in
     let counted : c.in-Ok.taken.nodes ≡ nodes_for c.args.ledger.now.shape c.in-Ok.taken.length = c.in-Ok.ensures.nodes in
-    let t : TakesObject g.D.Disk.tells c.args.ledger.now.shape c.args.ledger.now.lattice c.args.ledger.now.digests c.in-Ok.taken.length c.in-Ok.taken.digest (g.S.Source.state c.args.source.now).left (g.S.Source.state c.weave_object.new.source).left c.as_slice-digests.result.now (g.D.Disk.state c.args.disk.now).files (g.D.Disk.state c.weave_object.new.disk).files c.in-Ok.taken.heads =
-    subst (λ (d : List (List ℕ)). TakesObject tells v.shape v.lattice v.digests k digest left rest d old.files mid.files c.in-Ok.taken.heads) (sym c.as_slice-digests.ensures.value) c.in-Ok.ensures.took in
+    let t = taken_with tells v k digest left rest _ digests old mid c.in-Ok.taken.heads c.as_slice-digests.ensures.value c.in-Ok.ensures.took in
     let stored : Stored = next_stored v name k digest nodes digests in
     let bad = c.weave_object.result ≡ Err DiskFault in
     let last : c.in-Ok.taken.heads.lattice.n ≡ c.args.ledger.now.lattice.n + c.in-Ok.taken.nodes = (let n = t.nodes in omega (arith, n, counted)) in
@@ -342,10 +254,7 @@ returns-in-Ok-commit_object-clause-stores g c =
         padded = λ told.
             padded_both v.shape (IsBlockIn v.shape v.lattice.n) old.files mid.files new.files (c.weave_object.ensures.padded (λ e. (let is = c.in-Ok.is in cc)) told) (padded_commit v mid.files new.files (c.commit_object.ensures.writes.contents told));
         long = λ told.
-            let long : length c.as_slice-digests.result.now ≡ nodes_for c.args.ledger.now.shape (length t.bytes) * (1 + c.args.ledger.now.shape.alpha) =
-            t.woven.digests_are.long ∙ ap (λ (n : ℕ). n * (1 + v.shape.alpha)) (let e : c.in-Ok.taken.heads.lattice.n - v.lattice.n ≡ nodes_for v.shape (length t.bytes) = (omega (arith, last, counted, ap (nodes_for v.shape) t.long)) in e) in
-            let fits : v.lattice.n + nodes_for v.shape (length t.bytes) ≤ limit_when v.raised = (let f = c.in-Ok.ensures.fits in omega (arith, f, counted, ap (nodes_for v.shape) t.long)) in
-            let size : next_end v.end (length name) (nodes_for v.shape (length t.bytes) * (1 + v.shape.alpha)) ≡ v.end + length (entry (Object stored)) = omega (arith, c.commit_object.ensures.size (ap length t.digest_is ∙ length-sha256 t.bytes), long) in
+            let size = record_end tells v name k nodes digest left rest digests old mid counted t c.commit_object.ensures.size in
             let same = ap length ((c.weave_object.ensures.writes.contents told).stay 0 (inl refl)) in
             let most = c.commit_object.ensures.long told in
             let n : c.in-Ok.taken.nodes * (1 + v.shape.alpha) ≡ nodes_for v.shape (length t.bytes) * (1 + v.shape.alpha) = ap (λ (x : ℕ). x * (1 + v.shape.alpha)) (counted ∙ ap (nodes_for v.shape) (sym t.long)) in
@@ -368,8 +277,7 @@ returns-in-Err-DiskFault-commit_object-clause-stores g c =
     let nodes = c.in-Ok.taken.nodes in
     let digests = c.as_slice-digests.result.now in
     let counted : c.in-Ok.taken.nodes ≡ nodes_for c.args.ledger.now.shape c.in-Ok.taken.length = c.in-Ok.ensures.nodes in
-    let t : TakesObject g.D.Disk.tells c.args.ledger.now.shape c.args.ledger.now.lattice c.args.ledger.now.digests c.in-Ok.taken.length c.in-Ok.taken.digest (g.S.Source.state c.args.source.now).left (g.S.Source.state c.weave_object.new.source).left c.as_slice-digests.result.now (g.D.Disk.state c.args.disk.now).files (g.D.Disk.state c.weave_object.new.disk).files c.in-Ok.taken.heads =
-    subst (λ (d : List (List ℕ)). TakesObject tells v.shape v.lattice v.digests k digest left rest d old.files mid.files c.in-Ok.taken.heads) (sym c.as_slice-digests.ensures.value) c.in-Ok.ensures.took in
+    let t = taken_with tells v k digest left rest _ digests old mid c.in-Ok.taken.heads c.as_slice-digests.ensures.value c.in-Ok.ensures.took in
     let stored : Stored = next_stored v name k digest nodes digests in
     let bad = c.weave_object.result ≡ Err DiskFault in
     let last : c.in-Ok.taken.heads.lattice.n ≡ c.args.ledger.now.lattice.n + c.in-Ok.taken.nodes = (let n = t.nodes in omega (arith, n, counted)) in
@@ -477,8 +385,7 @@ returns-in-Ok-commit_object-clause-kept g c =
     let nodes = c.in-Ok.taken.nodes in
     let digests = c.as_slice-digests.result.now in
     let counted : c.in-Ok.taken.nodes ≡ nodes_for c.args.ledger.now.shape c.in-Ok.taken.length = c.in-Ok.ensures.nodes in
-    let t : TakesObject g.D.Disk.tells c.args.ledger.now.shape c.args.ledger.now.lattice c.args.ledger.now.digests c.in-Ok.taken.length c.in-Ok.taken.digest (g.S.Source.state c.args.source.now).left (g.S.Source.state c.weave_object.new.source).left c.as_slice-digests.result.now (g.D.Disk.state c.args.disk.now).files (g.D.Disk.state c.weave_object.new.disk).files c.in-Ok.taken.heads =
-    subst (λ (d : List (List ℕ)). TakesObject tells v.shape v.lattice v.digests k digest left rest d old.files mid.files c.in-Ok.taken.heads) (sym c.as_slice-digests.ensures.value) c.in-Ok.ensures.took in
+    let t = taken_with tells v k digest left rest _ digests old mid c.in-Ok.taken.heads c.as_slice-digests.ensures.value c.in-Ok.ensures.took in
     let same = c.in-Ok-commit_object.ensures.shape in
     let records = c.requires.opened.0 in
     let has = c.requires.opened.1 in

@@ -86,6 +86,10 @@ module _ (tells : Type 0) (v : Work) (m : Machine) (slot : ℕ) (s t : Slot) (k 
   pub count_is : k.lattice.n - v.ledger.lattice.n ≡ length (more_of shape m o.upload)
   count_is = let n = ready.grown.nodes in omega (arith, n)
 
+  -- as the heads and the ledger count them
+  pub count_now : (next n : ℕ) → next ≡ k.lattice.n + 1 → n ≡ v.ledger.lattice.n → next - 1 - n ≡ length (more_of shape m o.upload)
+  count_now next n is first = let e = count_is in omega (arith, e, is, first)
+
   pub named : IsName t.name
   named = subst IsName (sym ready.closes.name) (kept.names.named slot o.upload o.there)
 

@@ -23,6 +23,7 @@ mod CloseOpen
 mod CloseRecord
 mod CloseKeeps
 mod CloseAdds
+mod CloseWrites
 mod ClosedTaking
 mod Ceilings
 mod Served

@@ -12,7 +12,7 @@ use Rattle.aea_copy_reader.specs.Judging.{IsJudged}
 use Rattle.aea_copy_reader.specs.declared.known.Judgement.{Judgement}
 use Rattle.aea_adopt.specs.declared.choice.Kept.{Kept}
 use Rattle.aea_adopt.specs.Choosing.{IsKept}
-use Rattle.aea_adopt.specs.Adopting.{MayBeAdopted, IsAdopted, IsOff, TellsKept, IsTrueOf}
+use Rattle.aea_adopt.specs.Adopting.{MayBeAdopted, IsAdopted, IsOff, RevealsKept, IsTrueOf}
 use Rattle.aea_adopt.specs.declared.answers.Adopted.{Adopted}
 use Rattle.aea_adopt.specs.declared.answers.AdoptFault.{AdoptFault}
 use Rattle.aea_adopt.specs.declared.answers.AdoptFault.TheVariants.{DiskFault}
@@ -96,10 +96,10 @@ true_of : (old new : Files) (a : Adopted) → IsAdopted old new (Ok a) → IsTru
 true_of old new a is = ⊎_elim
     (λ (off : (AreOn old → ⊥) × IsOff a × KeepsFiles (λ f. Unit {0}) old new).
     inl ((λ (on : AreOn new). off.0 (⊎_elim (λ (one : IsBegun (new 65)). inl (subst IsBegun (off.2 65 tt) one)) (λ (two : IsBegun (new 66)). inr (subst IsBegun (off.2 66 tt) two)) on)), off.1))
-    (λ (on : (pieces : List (List ℕ)) × AreKept old pieces × TellsKept pieces a × LeavesAdopted old new).
+    (λ (on : (pieces : List (List ℕ)) × AreKept old pieces × RevealsKept pieces a × LeavesAdopted old new).
     inr (on.0, subst (HasText (text_of on.0)) (sym (on.3.ledger on.0 on.1)) (mended_ends (text_of on.0) (old 0)), on.3.copies on.0 on.1, on.2))
     is
 
-pub true_after : (tells : Type 0) (old new : Files) (r : Result Adopted AdoptFault) → (tells → IsAdopted old new r) → IfOk r (λ a. tells → IsTrueOf new a)
-true_after tells old new (Ok a) is = λ told. true_of old new a (is told)
-true_after tells old new (Err fault) is = tt
+pub true_after : (reveals : Type 0) (old new : Files) (r : Result Adopted AdoptFault) → (reveals → IsAdopted old new r) → IfOk r (λ a. reveals → IsTrueOf new a)
+true_after reveals old new (Ok a) is = λ revealed. true_of old new a (is revealed)
+true_after reveals old new (Err fault) is = tt

@@ -24,21 +24,21 @@ pub keeps_none : (s : State) → KeepsImages s s
 keeps_none s t c from to here = let is : t ≡ s.moment = omega arith in subst (λ (m : ℕ). s.image m c) is here
 
 -- calls that only read, as a frame of any step that may leave the files
-pub only_read : (tells fault fits : Type 0) (step : Files → Files → Type 0) (old new : State) → ((f : ℕ) (b : List ℕ) (m : ℕ) → old.free → old.takes f b m) → ((c : Files) → step c c) → (fits → IsRoomy old) → OnlyReads tells fault old new → OnlyWrites tells old.free fits fault step old new
-only_read tells fault fits step old new all none roomy reads = reads_writes tells old.free fits fault step old new (free_ready old all) roomy none reads
+pub only_read : (reveals fault fits : Type 0) (step : Files → Files → Type 0) (old new : State) → ((f : ℕ) (b : List ℕ) (m : ℕ) → old.free → old.takes f b m) → ((c : Files) → step c c) → (fits → IsRoomy old) → OnlyReads reveals fault old new → OnlyWrites reveals old.free fits fault step old new
+only_read reveals fault fits step old new all none roomy reads = reads_writes reveals old.free fits fault step old new (free_ready old all) roomy none reads
 
 -- and other calls after them
-pub only_read_then : (tells first fault fits late : Type 0) (step : Files → Files → Type 0) (old mid new : State) → (first → ⊥) → ((f : ℕ) (b : List ℕ) (m : ℕ) → old.free → old.takes f b m) → ((c : Files) → step c c) → (fits → IsRoomy old)
-    → (tells → fits → mid.files ≡ old.files → Passes old mid → late) → OnlyReads tells first old mid → OnlyWrites tells mid.free late fault step mid new → OnlyWrites tells old.free fits fault step old new
-only_read_then tells first fault fits late step old mid new fine all none roomy later early then =
-    reads_then_writes tells old.free mid.free fits late first fault step old mid new fine none (free_ready old all) (λ told is same goes. early.time.free is) roomy later early then
+pub only_read_then : (reveals first fault fits late : Type 0) (step : Files → Files → Type 0) (old mid new : State) → (first → ⊥) → ((f : ℕ) (b : List ℕ) (m : ℕ) → old.free → old.takes f b m) → ((c : Files) → step c c) → (fits → IsRoomy old)
+    → (reveals → fits → mid.files ≡ old.files → Passes old mid → late) → OnlyReads reveals first old mid → OnlyWrites reveals mid.free late fault step mid new → OnlyWrites reveals old.free fits fault step old new
+only_read_then reveals first fault fits late step old mid new fine all none roomy later early then =
+    reads_then_writes reveals old.free mid.free fits late first fault step old mid new fine none (free_ready old all) (λ revealed is same goes. early.time.free is) roomy later early then
 
 -- calls of one step, and others of another after them
-pub only_both : (tells first fault fits late : Type 0) (one two step : Files → Files → Type 0) (old mid new : State) → (first → ⊥) → ((c d : Files) → one c d → step c d) → ((c d e : Files) → one c d → two d e → step c e)
-    → (tells → fits → one old.files mid.files → Passes old mid → late) → OnlyWrites tells old.free fits first one old mid → OnlyWrites tells mid.free late fault two mid new → OnlyWrites tells old.free fits fault step old new
-only_both tells first fault fits late one two step old mid new fine alone both later early then =
-    writes_both tells old.free old.free mid.free fits fits late first fault one two step old mid new fine alone both (λ told is. is) (λ told is step goes. early.time.free is) (λ told fit. fit) later early then
+pub only_both : (reveals first fault fits late : Type 0) (one two step : Files → Files → Type 0) (old mid new : State) → (first → ⊥) → ((c d : Files) → one c d → step c d) → ((c d e : Files) → one c d → two d e → step c e)
+    → (reveals → fits → one old.files mid.files → Passes old mid → late) → OnlyWrites reveals old.free fits first one old mid → OnlyWrites reveals mid.free late fault two mid new → OnlyWrites reveals old.free fits fault step old new
+only_both reveals first fault fits late one two step old mid new fine alone both later early then =
+    writes_both reveals old.free old.free mid.free fits fits late first fault one two step old mid new fine alone both (λ revealed is. is) (λ revealed is step goes. early.time.free is) (λ revealed fit. fit) later early then
 
 -- a wider step, and fewer that fit
-pub only_wider : (tells fault fits wider : Type 0) (one step : Files → Files → Type 0) (old new : State) → ((c d : Files) → one c d → step c d) → (tells → wider → fits) → OnlyWrites tells old.free fits fault one old new → OnlyWrites tells old.free wider fault step old new
-only_wider tells fault fits wider one step old new alone fit writes = writes_wider tells old.free fits old.free wider fault one step old new alone (λ told is. is) fit writes
+pub only_wider : (reveals fault fits wider : Type 0) (one step : Files → Files → Type 0) (old new : State) → ((c d : Files) → one c d → step c d) → (reveals → wider → fits) → OnlyWrites reveals old.free fits fault one old new → OnlyWrites reveals old.free wider fault step old new
+only_wider reveals fault fits wider one step old new alone fit writes = writes_wider reveals old.free fits old.free wider fault one step old new alone (λ revealed is. is) fit writes

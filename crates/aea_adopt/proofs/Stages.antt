@@ -109,14 +109,14 @@ no_site : (file : ℕ) → (IsSite file → ⊥) → (c d : Files) → ChangesOn
 no_site file none c d changes f site = changes f (λ (e : f ≡ file). none (subst IsSite e site))
 
 -- calls that change one file which is no site's, by what fits in all
-pub sites_first : (tells fault fits wider : Type 0) (file : ℕ) (old new : State) → (IsSite file → ⊥) → (tells → wider → fits) → OnlyWrites tells old.free fits fault (ChangesOnly file) old new → OnlyWrites tells old.free wider fault (KeepsFiles IsSite) old new
-sites_first tells fault fits wider file old new none fit writes = only_wider tells fault fits wider (ChangesOnly file) (KeepsFiles IsSite) old new (no_site file none) fit writes
+pub sites_first : (reveals fault fits wider : Type 0) (file : ℕ) (old new : State) → (IsSite file → ⊥) → (reveals → wider → fits) → OnlyWrites reveals old.free fits fault (ChangesOnly file) old new → OnlyWrites reveals old.free wider fault (KeepsFiles IsSite) old new
+sites_first reveals fault fits wider file old new none fit writes = only_wider reveals fault fits wider (ChangesOnly file) (KeepsFiles IsSite) old new (no_site file none) fit writes
 
 -- calls that change no site's file, and then others that change one file which is no site's
-pub sites_both : (tells first fault fits late : Type 0) (file : ℕ) (old mid new : State) → (IsSite file → ⊥) → (first → ⊥) → (tells → fits → Passes old mid → late)
-    → OnlyWrites tells old.free fits first (KeepsFiles IsSite) old mid → OnlyWrites tells mid.free late fault (ChangesOnly file) mid new → OnlyWrites tells old.free fits fault (KeepsFiles IsSite) old new
-sites_both tells first fault fits late file old mid new none fine later early then =
-    only_both tells first fault fits late (KeepsFiles IsSite) (ChangesOnly file) (KeepsFiles IsSite) old mid new fine (λ c d keeps. keeps) (λ c d e one two f site. no_site file none d e two f site ∙ one f site) (λ told fit step passes. later told fit passes) early then
+pub sites_both : (reveals first fault fits late : Type 0) (file : ℕ) (old mid new : State) → (IsSite file → ⊥) → (first → ⊥) → (reveals → fits → Passes old mid → late)
+    → OnlyWrites reveals old.free fits first (KeepsFiles IsSite) old mid → OnlyWrites reveals mid.free late fault (ChangesOnly file) mid new → OnlyWrites reveals old.free fits fault (KeepsFiles IsSite) old new
+sites_both reveals first fault fits late file old mid new none fine later early then =
+    only_both reveals first fault fits late (KeepsFiles IsSite) (ChangesOnly file) (KeepsFiles IsSite) old mid new fine (λ c d keeps. keeps) (λ c d e one two f site. no_site file none d e two f site ∙ one f site) (λ revealed fit step passes. later revealed fit passes) early then
 
 -- what has space for all has it for the ledger
 pub fits_ledger : (s : State) (j : Judgement) (k : Kept) → FitsKeeping s j k → FitsChange s 0 (k.standing.text + 1)

@@ -23,7 +23,7 @@ pub record IsOff (a : Adopted) : Type 0 where
   pub links : a.links ≡ first_link ∷ first_link ∷ []
 
 -- what is said of kept pieces
-pub record TellsKept (pieces : List (List ℕ)) (a : Adopted) : Type 0 where
+pub record RevealsKept (pieces : List (List ℕ)) (a : Adopted) : Type 0 where
   pub on : a.on ≡ true
   pub end : a.end ≡ length (text_of pieces)
   pub gates : a.gates ≡ length (copied pieces) ∷ length (copied pieces) ∷ []
@@ -41,7 +41,7 @@ pub record AreNear (a : Adopted) : Type 0 where
 abbrev pub IsTrueOf : Files → Adopted → Type 0
 IsTrueOf files a =
     ((AreOn files → ⊥) × IsOff a)
-    ⊎ ((pieces : List (List ℕ)) × HasText (text_of pieces) (files 0) × ((f : ℕ) → IsCopyFile f → IsGood pieces (files f)) × TellsKept pieces a)
+    ⊎ ((pieces : List (List ℕ)) × HasText (text_of pieces) (files 0) × ((f : ℕ) → IsCopyFile f → IsGood pieces (files f)) × RevealsKept pieces a)
 
 -- What a stop may leave while copies are adopted, of files that read as old once the first sync has succeeded: the sites
 -- stay; where nothing is kept all stays; else each copy is as it was, or not begun, or whole with the kept pieces, and one
@@ -59,7 +59,7 @@ pub record MayBeAdopted (old new : Files) : Type 0 where
 abbrev pub IsAdopted : Files → Files → Result Adopted AdoptFault → Type 0
 IsAdopted old new (Ok a) =
     ((AreOn old → ⊥) × IsOff a × KeepsFiles (λ f. Unit {0}) old new)
-    ⊎ ((pieces : List (List ℕ)) × AreKept old pieces × TellsKept pieces a × LeavesAdopted old new)
+    ⊎ ((pieces : List (List ℕ)) × AreKept old pieces × RevealsKept pieces a × LeavesAdopted old new)
 IsAdopted old new (Err (CopiesBad first second)) = AreBad old first second × KeepsFiles (λ f. Unit {0}) old new
 IsAdopted old new (Err (CopiesDiffer at)) = AreDifferent old at × KeepsFiles (λ f. Unit {0}) old new
 IsAdopted old new (Err DiskFault) = MayBeAdopted old new

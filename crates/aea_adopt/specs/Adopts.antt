@@ -12,13 +12,13 @@ use Rattle.aea_adopt.specs.declared.answers.AdoptFault.{AdoptFault}
 use Rattle.aea_adopt.specs.declared.answers.AdoptFault.TheVariants.{DiskFault}
 
 -- Of a call, with the disk before and after it, and its answer: the clauses of `adopt`, in its order.
-pub record Adopts (tells : Type 0) (old new : State) (result : Result Adopted AdoptFault) : Type 0 where
-  pub answers : tells → IsAdopted old.files new.files result
-  pub told : IfOk result (λ a. tells → IsTrueOf new.files a)
+pub record Adopts (reveals : Type 0) (old new : State) (result : Result Adopted AdoptFault) : Type 0 where
+  pub answers : reveals → IsAdopted old.files new.files result
+  pub revealed : IfOk result (λ a. reveals → IsTrueOf new.files a)
   pub near : IfOk result AreNear
-  pub exactly : tells → IsAnswered old.files result
-  pub idle : tells → LeavesAdopted old.files old.files → KeepsImages old new × (new.files ≡ old.files)
-  pub stops : tells → HasOpening old new (λ c. MayBeAdopted old.files c)
-  pub opened : result ≢ Err DiskFault → tells → IsOpened old new (λ c. MayBeAdopted old.files c)
-  pub synced : result ≢ Err DiskFault → tells → IsSynced new
-  pub writes : OnlyWrites tells old.free (FitsAdopting old) (result ≡ Err DiskFault) (KeepsFiles IsSite) old new
+  pub exactly : reveals → IsAnswered old.files result
+  pub idle : reveals → LeavesAdopted old.files old.files → KeepsImages old new × (new.files ≡ old.files)
+  pub stops : reveals → HasOpening old new (λ c. MayBeAdopted old.files c)
+  pub opened : result ≢ Err DiskFault → reveals → IsOpened old new (λ c. MayBeAdopted old.files c)
+  pub synced : result ≢ Err DiskFault → reveals → IsSynced new
+  pub writes : OnlyWrites reveals old.free (FitsAdopting old) (result ≡ Err DiskFault) (KeepsFiles IsSite) old new

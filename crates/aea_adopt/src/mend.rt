@@ -25,8 +25,8 @@ pub(crate) enum Gate {
 // Which gate is at a place of the ledger.
 fn gate_at<D: Disk>(disk: &mut D, at: u64) -> Result<Gate, DiskFault>
     requires { at ≤ greatest_place }
-    ensures gate { IfOk result (λ gate. D.tells → IsGateAt ((D.state disk.old).files 0) at gate) }
-    ensures reads { OnlyReads D.tells (IsErr result) (D.state disk.old) (D.state disk.new) }
+    ensures gate { IfOk result (λ gate. D.reveals → IsGateAt ((D.state disk.old).files 0) at gate) }
+    ensures reads { OnlyReads D.reveals (IsErr result) (D.state disk.old) (D.state disk.new) }
 {
     let mut byte = [0; 1];
     let count = disk.read(0, at, &mut byte)?;
@@ -43,8 +43,8 @@ fn gate_at<D: Disk>(disk: &mut D, at: u64) -> Result<Gate, DiskFault>
 // Which gate is after the text that is kept, where the ledger begins with it.
 fn gate_after<D: Disk>(disk: &mut D, kept: &Kept) -> Result<Gate, DiskFault>
     requires { kept.now.standing.text ≤ greatest_place }
-    ensures gate { IfOk result (λ gate. D.tells → (pieces : List (List ℕ)) → IsKept (D.state disk.old).files pieces kept.now → IsGateAfter (text_of pieces) ((D.state disk.old).files 0) gate) }
-    ensures reads { OnlyReads D.tells (IsErr result) (D.state disk.old) (D.state disk.new) }
+    ensures gate { IfOk result (λ gate. D.reveals → (pieces : List (List ℕ)) → IsKept (D.state disk.old).files pieces kept.now → IsGateAfter (text_of pieces) ((D.state disk.old).files 0) gate) }
+    ensures reads { OnlyReads D.reveals (IsErr result) (D.state disk.old) (D.state disk.new) }
 {
     if !kept.standing.in_ledger {
         return Ok(Gate::Missing);
@@ -56,13 +56,13 @@ fn gate_after<D: Disk>(disk: &mut D, kept: &Kept) -> Result<Gate, DiskFault>
 pub(crate) fn mend_ledger<D: Disk>(disk: &mut D, kept: &Kept) -> Result<(), DiskFault>
     requires close { kept.now.standing.text ≤ greatest_place }
     requires source { IsCopyFile kept.now.source }
-    requires synced { D.tells → IsSynced (D.state disk.old) }
-    ensures any_moment { D.tells → (pieces : List (List ℕ)) → IsKept (D.state disk.old).files pieces kept.now → During (D.state disk.old) (D.state disk.new) (λ c. MayBeMended (text_of pieces) ((D.state disk.old).files 0) (c 0)) }
-    ensures reads { D.tells → (pieces : List (List ℕ)) → IsKept (D.state disk.old).files pieces kept.now → MayBeMended (text_of pieces) ((D.state disk.old).files 0) ((D.state disk.new).files 0) }
-    ensures mended { OnOk result (D.tells → (pieces : List (List ℕ)) → IsKept (D.state disk.old).files pieces kept.now → (D.state disk.new).files 0 ≡ mended (text_of pieces) ((D.state disk.old).files 0)) }
-    ensures idle { D.tells → (pieces : List (List ℕ)) → IsKept (D.state disk.old).files pieces kept.now → mended (text_of pieces) ((D.state disk.old).files 0) ≡ (D.state disk.old).files 0 → KeepsImages (D.state disk.old) (D.state disk.new) }
-    ensures durable { OnOk result (D.tells → (pieces : List (List ℕ)) → IsKept (D.state disk.old).files pieces kept.now → IsSynced (D.state disk.new)) }
-    ensures writes { OnlyWrites D.tells (D.state disk.old).free (FitsChange (D.state disk.old) 0 (kept.now.standing.text + 1)) (IsErr result) (ChangesOnly 0) (D.state disk.old) (D.state disk.new) }
+    requires synced { D.reveals → IsSynced (D.state disk.old) }
+    ensures any_moment { D.reveals → (pieces : List (List ℕ)) → IsKept (D.state disk.old).files pieces kept.now → During (D.state disk.old) (D.state disk.new) (λ c. MayBeMended (text_of pieces) ((D.state disk.old).files 0) (c 0)) }
+    ensures reads { D.reveals → (pieces : List (List ℕ)) → IsKept (D.state disk.old).files pieces kept.now → MayBeMended (text_of pieces) ((D.state disk.old).files 0) ((D.state disk.new).files 0) }
+    ensures mended { OnOk result (D.reveals → (pieces : List (List ℕ)) → IsKept (D.state disk.old).files pieces kept.now → (D.state disk.new).files 0 ≡ mended (text_of pieces) ((D.state disk.old).files 0)) }
+    ensures idle { D.reveals → (pieces : List (List ℕ)) → IsKept (D.state disk.old).files pieces kept.now → mended (text_of pieces) ((D.state disk.old).files 0) ≡ (D.state disk.old).files 0 → KeepsImages (D.state disk.old) (D.state disk.new) }
+    ensures durable { OnOk result (D.reveals → (pieces : List (List ℕ)) → IsKept (D.state disk.old).files pieces kept.now → IsSynced (D.state disk.new)) }
+    ensures writes { OnlyWrites D.reveals (D.state disk.old).free (FitsChange (D.state disk.old) 0 (kept.now.standing.text + 1)) (IsErr result) (ChangesOnly 0) (D.state disk.old) (D.state disk.new) }
 {
     match gate_after(disk, kept)? {
         Gate::Missing => {

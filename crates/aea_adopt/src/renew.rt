@@ -33,13 +33,13 @@ pub(crate) fn renew<D: Disk>(
 ) -> Result<(), DiskFault>
     requires file { IsCopyFile file }
     requires close { text ≤ greatest_place }
-    requires synced { D.tells → IsSynced (D.state disk.old) }
-    ensures any_moment { D.tells → (pieces : List (List ℕ)) → CanMake pieces text ((D.state disk.old).files 0) → During (D.state disk.old) (D.state disk.new) (λ c. MayBeRenewed pieces ((D.state disk.old).files file) (c file)) }
-    ensures reads { D.tells → (pieces : List (List ℕ)) → CanMake pieces text ((D.state disk.old).files 0) → MayBeRenewed pieces ((D.state disk.old).files file) ((D.state disk.new).files file) }
-    ensures renewed { OnOk result (D.tells → (pieces : List (List ℕ)) → CanMake pieces text ((D.state disk.old).files 0) → (IsUp judged.now text → ⊥) → (D.state disk.new).files file ≡ whole_copy pieces) }
-    ensures up { IsUp judged.now text → (D.tells → (D.state disk.new).files ≡ (D.state disk.old).files) × KeepsImages (D.state disk.old) (D.state disk.new) }
-    ensures durable { OnOk result (D.tells → (pieces : List (List ℕ)) → CanMake pieces text ((D.state disk.old).files 0) → IsSynced (D.state disk.new)) }
-    ensures writes { OnlyWrites D.tells (D.state disk.old).free (FitsCopy (D.state disk.old) file text) (IsErr result) (ChangesOnly file) (D.state disk.old) (D.state disk.new) }
+    requires synced { D.reveals → IsSynced (D.state disk.old) }
+    ensures any_moment { D.reveals → (pieces : List (List ℕ)) → CanMake pieces text ((D.state disk.old).files 0) → During (D.state disk.old) (D.state disk.new) (λ c. MayBeRenewed pieces ((D.state disk.old).files file) (c file)) }
+    ensures reads { D.reveals → (pieces : List (List ℕ)) → CanMake pieces text ((D.state disk.old).files 0) → MayBeRenewed pieces ((D.state disk.old).files file) ((D.state disk.new).files file) }
+    ensures renewed { OnOk result (D.reveals → (pieces : List (List ℕ)) → CanMake pieces text ((D.state disk.old).files 0) → (IsUp judged.now text → ⊥) → (D.state disk.new).files file ≡ whole_copy pieces) }
+    ensures up { IsUp judged.now text → (D.reveals → (D.state disk.new).files ≡ (D.state disk.old).files) × KeepsImages (D.state disk.old) (D.state disk.new) }
+    ensures durable { OnOk result (D.reveals → (pieces : List (List ℕ)) → CanMake pieces text ((D.state disk.old).files 0) → IsSynced (D.state disk.new)) }
+    ensures writes { OnlyWrites D.reveals (D.state disk.old).free (FitsCopy (D.state disk.old) file text) (IsErr result) (ChangesOnly file) (D.state disk.old) (D.state disk.new) }
 {
     if is_up(judged, text) {
         return Ok(());

@@ -15,28 +15,28 @@ use Rattle.aea_append.specs.Wanted.{EndsBy, StoresWanted, StoresNone, KeepsWante
 use Rattle.aea_append.proofs.Rooms.{all_long, fits_room}
 use Rattle.aea_append.proofs.Wanted.{over_none, there_long}
 
-module _ {tells untaken : Type 0} {v w : Opened} {name : List ℕ} {want : Option ℕ} {left rest : Option (List ℕ)} {before after : ℕ} {old new : State} where
+module _ {reveals untaken : Type 0} {v w : Opened} {name : List ℕ} {want : Option ℕ} {left rest : Option (List ℕ)} {before after : ℕ} {old new : State} where
   -- what is left by this result
-  pub ended_as : {r s : Result (Option Stored) PutFault} → r ≡ s → StoresWanted tells untaken v w name want left rest before after old new r → EndsBy tells untaken v w name want left rest before after old new s
-  ended_as {r} {s} is e = subst (λ (x : Result (Option Stored) PutFault). EndsBy tells untaken v w name want left rest before after old new x) is e.ended
+  pub ended_as : {r s : Result (Option Stored) PutFault} → r ≡ s → StoresWanted reveals untaken v w name want left rest before after old new r → EndsBy reveals untaken v w name want left rest before after old new s
+  ended_as {r} {s} is e = subst (λ (x : Result (Option Stored) PutFault). EndsBy reveals untaken v w name want left rest before after old new x) is e.ended
 
   -- where it is refused as too long, it is
-  pub over_as : {r : Result (Option Stored) PutFault} {n : ℕ} → r ≡ Err (Full n) → StoresWanted tells untaken v w name want left rest before after old new r → IsOver v want left rest
+  pub over_as : {r : Result (Option Stored) PutFault} {n : ℕ} → r ≡ Err (Full n) → StoresWanted reveals untaken v w name want left rest before after old new r → IsOver v want left rest
   over_as is e = (ended_as is e).over
 
   -- where a last parity is damaged, that is the refusal
-  pub head_refused_by : {T : Type 0} {r : Result (Option Stored) PutFault} (f : PutFault) → r ≡ Err f → StoresWanted tells untaken v w name want left rest before after old new r → tells → (a : BlockId) → IsDamagedLast v.shape v.lattice v.digests old.files a → IsHeadRefused {T = T} (Err f)
-  head_refused_by (HeadDamaged b) is e told a damaged = inl (b, refl)
-  head_refused_by (Full nodes) is e told a damaged = absurd (damaged.damaged ((ended_as is e).heads told a damaged.last))
-  head_refused_by ReadFault is e told a damaged = absurd (damaged.damaged ((ended_as is e).heads told a damaged.last))
-  head_refused_by DiskFault is e told a damaged = inr (inl refl)
-  head_refused_by NoMemory is e told a damaged = inr (inr refl)
-  head_refused_by BadName is e told a damaged = absurd (ended_as is e)
-  head_refused_by NameTaken is e told a damaged = absurd (ended_as is e)
-  head_refused_by CatalogFull is e told a damaged = absurd (ended_as is e)
+  pub head_refused_by : {T : Type 0} {r : Result (Option Stored) PutFault} (f : PutFault) → r ≡ Err f → StoresWanted reveals untaken v w name want left rest before after old new r → reveals → (a : BlockId) → IsDamagedLast v.shape v.lattice v.digests old.files a → IsHeadRefused {T = T} (Err f)
+  head_refused_by (HeadDamaged b) is e revealed a damaged = inl (b, refl)
+  head_refused_by (Full nodes) is e revealed a damaged = absurd (damaged.damaged ((ended_as is e).heads revealed a damaged.last))
+  head_refused_by ReadFault is e revealed a damaged = absurd (damaged.damaged ((ended_as is e).heads revealed a damaged.last))
+  head_refused_by DiskFault is e revealed a damaged = inr (inl refl)
+  head_refused_by NoMemory is e revealed a damaged = inr (inr refl)
+  head_refused_by BadName is e revealed a damaged = absurd (ended_as is e)
+  head_refused_by NameTaken is e revealed a damaged = absurd (ended_as is e)
+  head_refused_by CatalogFull is e revealed a damaged = absurd (ended_as is e)
 
   -- where a number of bytes is wanted that exceeds the space, that is the refusal
-  pub over_refused_by : {T : Type 0} {r : Result (Option Stored) PutFault} (f : PutFault) → r ≡ Err f → StoresWanted tells untaken v w name want left rest before after old new r → (n : ℕ) → want ≡ Some n → room_left v < n → (f ≡ Full v.lattice.n) ⊎ IsHeadRefused {T = T} (Err f)
+  pub over_refused_by : {T : Type 0} {r : Result (Option Stored) PutFault} (f : PutFault) → r ≡ Err f → StoresWanted reveals untaken v w name want left rest before after old new r → (n : ℕ) → want ≡ Some n → room_left v < n → (f ≡ Full v.lattice.n) ⊎ IsHeadRefused {T = T} (Err f)
   over_refused_by (HeadDamaged b) is e n some past = inr (inl (b, refl))
   over_refused_by (Full nodes) is e n some past = inl (ap Full (ended_as is e).nodes_is)
   over_refused_by ReadFault is e n some past = absurd (let within = (ended_as is e).fits n some in omega (arith, within, past))
@@ -47,7 +47,7 @@ module _ {tells untaken : Type 0} {v w : Opened} {name : List ℕ} {want : Optio
   over_refused_by CatalogFull is e n some past = absurd (ended_as is e)
 
   -- each fault is that more was wanted than fits, or one before it
-  pub full_refused_by : {T : Type 0} {r : Result (Option Stored) PutFault} (f : PutFault) → r ≡ Err f → StoresWanted tells untaken v w name want left rest before after old new r → (f ≡ Full v.lattice.n) ⊎ ((f ≡ ReadFault) ⊎ IsHeadRefused {T = T} (Err f))
+  pub full_refused_by : {T : Type 0} {r : Result (Option Stored) PutFault} (f : PutFault) → r ≡ Err f → StoresWanted reveals untaken v w name want left rest before after old new r → (f ≡ Full v.lattice.n) ⊎ ((f ≡ ReadFault) ⊎ IsHeadRefused {T = T} (Err f))
   full_refused_by (HeadDamaged b) is e = inr (inr (inl (b, refl)))
   full_refused_by (Full nodes) is e = inl (ap Full (ended_as is e).nodes_is)
   full_refused_by ReadFault is e = inr (inl refl)
@@ -58,19 +58,19 @@ module _ {tells untaken : Type 0} {v w : Opened} {name : List ℕ} {want : Optio
   full_refused_by CatalogFull is e = absurd (ended_as is e)
 
   -- where no reason for a refusal holds, and neither the disk nor the source is at fault, memory ran out
-  pub complete_by : {r : Result (Option Stored) PutFault} (f : PutFault) → r ≡ Err f → StoresWanted tells untaken v w name want left rest before after old new r → tells → (bytes : List ℕ) → left ≡ Some bytes → AreLastsIntact v.shape v.lattice v.digests old.files
+  pub complete_by : {r : Result (Option Stored) PutFault} (f : PutFault) → r ≡ Err f → StoresWanted reveals untaken v w name want left rest before after old new r → reveals → (bytes : List ℕ) → left ≡ Some bytes → AreLastsIntact v.shape v.lattice v.digests old.files
       → v.lattice.n + nodes_for v.shape (long_of want bytes) ≤ limit_when v.raised → (f ≡ DiskFault → ⊥) → (f ≡ ReadFault → ⊥) → f ≡ NoMemory
-  complete_by (HeadDamaged b) is e told bytes has intact fits disk source = absurd (let h = ended_as is e in (h.first told).damaged.damaged (intact b h.last))
-  complete_by (Full nodes) is e told bytes has intact fits disk source = absurd (over_none v want left rest bytes has (ended_as is e).over fits)
-  complete_by ReadFault is e told bytes has intact fits disk source = absurd (source refl)
-  complete_by DiskFault is e told bytes has intact fits disk source = absurd (disk refl)
-  complete_by NoMemory is e told bytes has intact fits disk source = refl
-  complete_by BadName is e told bytes has intact fits disk source = absurd (ended_as is e)
-  complete_by NameTaken is e told bytes has intact fits disk source = absurd (ended_as is e)
-  complete_by CatalogFull is e told bytes has intact fits disk source = absurd (ended_as is e)
+  complete_by (HeadDamaged b) is e revealed bytes has intact fits disk source = absurd (let h = ended_as is e in (h.first revealed).damaged.damaged (intact b h.last))
+  complete_by (Full nodes) is e revealed bytes has intact fits disk source = absurd (over_none v want left rest bytes has (ended_as is e).over fits)
+  complete_by ReadFault is e revealed bytes has intact fits disk source = absurd (source refl)
+  complete_by DiskFault is e revealed bytes has intact fits disk source = absurd (disk refl)
+  complete_by NoMemory is e revealed bytes has intact fits disk source = refl
+  complete_by BadName is e revealed bytes has intact fits disk source = absurd (ended_as is e)
+  complete_by NameTaken is e revealed bytes has intact fits disk source = absurd (ended_as is e)
+  complete_by CatalogFull is e revealed bytes has intact fits disk source = absurd (ended_as is e)
 
   -- after each fault but one of the disk, nothing was stored
-  pub none_by : {r : Result (Option Stored) PutFault} (f : PutFault) → r ≡ Err f → StoresWanted tells untaken v w name want left rest before after old new r → (f ≡ DiskFault → ⊥) → StoresNone tells v w old new
+  pub none_by : {r : Result (Option Stored) PutFault} (f : PutFault) → r ≡ Err f → StoresWanted reveals untaken v w name want left rest before after old new r → (f ≡ DiskFault → ⊥) → StoresNone reveals v w old new
   none_by (HeadDamaged b) is e fine = (ended_as is e).none
   none_by (Full nodes) is e fine = (ended_as is e).none
   none_by ReadFault is e fine = (ended_as is e).none
@@ -80,9 +80,9 @@ module _ {tells untaken : Type 0} {v w : Opened} {name : List ℕ} {want : Optio
   none_by NameTaken is e fine = absurd (ended_as is e)
   none_by CatalogFull is e fine = absurd (ended_as is e)
 
-module _ {tells : Type 0} {v w : Opened} {name : List ℕ} {want : Option ℕ} {left rest : Option (List ℕ)} {before after : ℕ} {old new : State} where
+module _ {reveals : Type 0} {v w : Opened} {name : List ℕ} {want : Option ℕ} {left rest : Option (List ℕ)} {before after : ℕ} {old new : State} where
   -- a number of bytes that was stored fitted
-  pub kept_within : (stored : Stored) → KeepsWanted tells v w name want left rest before after old new stored → (n : ℕ) → want ≡ Some n → room_left v < n → ⊥
+  pub kept_within : (stored : Stored) → KeepsWanted reveals v w name want left rest before after old new stored → (n : ℕ) → want ≡ Some n → room_left v < n → ⊥
   kept_within stored e n some past =
       let cut : IsCut name n left rest e.kept.0 = subst (λ (x : Option ℕ). IsWanted x name left rest e.kept.0) some e.kept.1 in
       let long = cut.long in
@@ -91,7 +91,7 @@ module _ {tells : Type 0} {v w : Opened} {name : List ℕ} {want : Option ℕ} {
       omega (arith, long, size, fits, past)
 
   -- and so did all
-  pub kept_all : (stored : Stored) → KeepsWanted tells v w name want left rest before after old new stored → (bytes : List ℕ) → left ≡ Some bytes → want ≡ None → limit_when v.raised < v.lattice.n + nodes_for v.shape (length bytes) → ⊥
+  pub kept_all : (stored : Stored) → KeepsWanted reveals v w name want left rest before after old new stored → (bytes : List ℕ) → left ≡ Some bytes → want ≡ None → limit_when v.raised < v.lattice.n + nodes_for v.shape (length bytes) → ⊥
   kept_all stored e bytes is all past =
       let whole : IsWhole name left rest e.kept.0 = subst (λ (x : Option ℕ). IsWanted x name left rest e.kept.0) all e.kept.1 in
       let long = all_long left bytes e.kept.0.bytes rest is whole.taken whole.end in
@@ -99,8 +99,8 @@ module _ {tells : Type 0} {v w : Opened} {name : List ℕ} {want : Option ℕ} {
       omega (arith, fits, past, ap (nodes_for v.shape) (sym long ∙ sym e.kept.2.size))
 
 -- a source that ended had fewer bytes
-pub ended_short : {tells : Type 0} {v w : Opened} {want : Option ℕ} {left rest : Option (List ℕ)} {old new : State} → EndsBefore tells v w want left rest old new → (bytes : List ℕ) → left ≡ Some bytes → IsThere want bytes → ⊥
-ended_short {tells} {v} {w} {want} {left} {rest} {old} {new} e bytes is there =
+pub ended_short : {reveals : Type 0} {v w : Opened} {want : Option ℕ} {left rest : Option (List ℕ)} {old new : State} → EndsBefore reveals v w want left rest old new → (bytes : List ℕ) → left ≡ Some bytes → IsThere want bytes → ⊥
+ended_short {reveals} {v} {w} {want} {left} {rest} {old} {new} e bytes is there =
     let all = all_long left bytes e.ended.3.0 rest is e.ended.3.1 e.ended.2 in
     let less = e.ended.3.2 in
     omega (arith, all, less, there_long want e.ended.0 bytes e.ended.1 there)

@@ -17,28 +17,28 @@ use Rattle.aea_append.proofs.Cuts.{nil_of}
 use Rattle.aea_append.specs.Frames.{name_length, frame_name, object_length, frame_head, HasNameLength, HasNoName, HasHead, HasBadName, EndsInHead, EndsInside}
 
 -- what is left of a source whose bytes are known
-pub told_some : (stream bytes : List ℕ) (rest : Option (List ℕ)) → Consumes (Some stream) rest bytes → (ys : List ℕ) × (rest ≡ Some ys) × (stream ≡ bytes ++ ys)
-told_some stream bytes None none = absurd none
-told_some stream bytes (Some ys) is = (ys, refl, is)
+pub revealed_some : (stream bytes : List ℕ) (rest : Option (List ℕ)) → Consumes (Some stream) rest bytes → (ys : List ℕ) × (rest ≡ Some ys) × (stream ≡ bytes ++ ys)
+revealed_some stream bytes None none = absurd none
+revealed_some stream bytes (Some ys) is = (ys, refl, is)
 
-pub told_rest : (left rest : Option (List ℕ)) (stream bytes : List ℕ) → left ≡ Some stream → Consumes left rest bytes → (ys : List ℕ) × (rest ≡ Some ys) × (stream ≡ bytes ++ ys)
-told_rest left rest stream bytes is taken = told_some stream bytes rest (subst (λ (l : Option (List ℕ)). Consumes l rest bytes) is taken)
+pub revealed_rest : (left rest : Option (List ℕ)) (stream bytes : List ℕ) → left ≡ Some stream → Consumes left rest bytes → (ys : List ℕ) × (rest ≡ Some ys) × (stream ≡ bytes ++ ys)
+revealed_rest left rest stream bytes is taken = revealed_some stream bytes rest (subst (λ (l : Option (List ℕ)). Consumes l rest bytes) is taken)
 
 -- at its end it is all that was taken
-pub told_end : (left rest : Option (List ℕ)) (stream bytes : List ℕ) → left ≡ Some stream → Consumes left rest bytes → IsAtEnd rest → length stream ≡ length bytes
-told_end left rest stream bytes is taken end =
-    let some = told_rest left rest stream bytes is taken in
+pub revealed_end : (left rest : Option (List ℕ)) (stream bytes : List ℕ) → left ≡ Some stream → Consumes left rest bytes → IsAtEnd rest → length stream ≡ length bytes
+revealed_end left rest stream bytes is taken end =
+    let some = revealed_rest left rest stream bytes is taken in
     let none : some.0 ≡ [] = subst IsAtEnd some.1 end in
     omega (arith, ap length some.2, length-append bytes some.0, ap length none)
 
 -- what was read into two bytes, and was as many
-pub told_full : (left rest : Option (List ℕ)) (stream bytes : List ℕ) (k : ℕ) → left ≡ Some stream → TakesFirst left rest k bytes → length bytes ≤ k → (ys : List ℕ) × (rest ≡ Some ys) × (stream ≡ bytes ++ ys)
-told_full left rest stream bytes k is first full = told_rest left rest stream bytes is (subst (Consumes left rest) (take_all k bytes full) first.taken)
+pub revealed_full : (left rest : Option (List ℕ)) (stream bytes : List ℕ) (k : ℕ) → left ≡ Some stream → TakesFirst left rest k bytes → length bytes ≤ k → (ys : List ℕ) × (rest ≡ Some ys) × (stream ≡ bytes ++ ys)
+revealed_full left rest stream bytes k is first full = revealed_rest left rest stream bytes is (subst (Consumes left rest) (take_all k bytes full) first.taken)
 
 -- what was read ended before the buffer was full
-pub told_short : (left rest : Option (List ℕ)) (stream bytes : List ℕ) (k : ℕ) → left ≡ Some stream → TakesFirst left rest k bytes → k < length bytes → length stream ≡ k
-told_short left rest stream bytes k is first short =
-    told_end left rest stream (take k bytes) is first.taken (first.end short) ∙ omega (arith, length-take k bytes, short)
+pub revealed_short : (left rest : Option (List ℕ)) (stream bytes : List ℕ) (k : ℕ) → left ≡ Some stream → TakesFirst left rest k bytes → k < length bytes → length stream ≡ k
+revealed_short left rest stream bytes k is first short =
+    revealed_end left rest stream (take k bytes) is first.taken (first.end short) ∙ omega (arith, length-take k bytes, short)
 
 pub name_length_is : (stream two ys : List ℕ) → length two ≡ 2 → stream ≡ two ++ ys → name_length stream ≡ from_be_bytes w16 two
 name_length_is stream two ys long is = ap (λ (s : List ℕ). from_be_bytes w16 (take 2 s)) is ∙ ap (from_be_bytes w16) (take_at two ys 2 long)
@@ -71,7 +71,7 @@ length-head name size = length-append (to_be_bytes w16 (length name)) (name ++ t
 -- what is left after a head that was taken of a source whose bytes are known
 pub behind_head : (left mid : Option (List ℕ)) (stream name : List ℕ) (size : ℕ) → left ≡ Some stream → Consumes left mid (frame_head name size) → (ys : List ℕ) × (mid ≡ Some ys) × (length stream ≡ 10 + length name + length ys)
 behind_head left mid stream name size is taken =
-    let some = told_rest left mid stream (frame_head name size) is taken in
+    let some = revealed_rest left mid stream (frame_head name size) is taken in
     (some.0, some.1, ap length some.2 ∙ length-append (frame_head name size) some.0 ∙ omega (arith, length-head name size))
 
 -- ---- what was read of a source whose bytes are known: two bytes, and then a name with eight bytes after it
@@ -86,14 +86,14 @@ pub has_name : (stream : List ℕ) (long : ℕ) → 2 ≤ length stream → name
 has_name stream long there is least most = record { there = there; least = omega (arith, is, least); most = omega (arith, is, most) }
 
 -- the length of the name
-pub told_length : (s0 s1 : Option (List ℕ)) (stream two : List ℕ) (k long : ℕ) → s0 ≡ Some stream → TakesFirst s0 s1 k two → length two ≡ 2 → 2 ≤ k → long ≡ from_be_bytes w16 two → (name_length stream ≡ long) × (2 ≤ length stream)
-told_length s0 s1 stream two k long is first wide full number =
-    let some = told_full s0 s1 stream two k is first (omega (arith, wide, full)) in
+pub revealed_length : (s0 s1 : Option (List ℕ)) (stream two : List ℕ) (k long : ℕ) → s0 ≡ Some stream → TakesFirst s0 s1 k two → length two ≡ 2 → 2 ≤ k → long ≡ from_be_bytes w16 two → (name_length stream ≡ long) × (2 ≤ length stream)
+revealed_length s0 s1 stream two k long is first wide full number =
+    let some = revealed_full s0 s1 stream two k is first (omega (arith, wide, full)) in
     (name_length_is stream two some.0 wide some.2 ∙ sym number, omega (arith, ap length some.2, length-append two some.0, wide))
 
-pub told_none : (s0 s1 : Option (List ℕ)) (stream two : List ℕ) (k long : ℕ) → s0 ≡ Some stream → TakesFirst s0 s1 k two → length two ≡ 2 → 2 ≤ k → long ≡ from_be_bytes w16 two → (long ≡ 0) ⊎ (255 < long) → HasNoName stream
-told_none s0 s1 stream two k long is first wide full number none =
-    let l = told_length s0 s1 stream two k long is first wide full number in
+pub revealed_none : (s0 s1 : Option (List ℕ)) (stream two : List ℕ) (k long : ℕ) → s0 ≡ Some stream → TakesFirst s0 s1 k two → length two ≡ 2 → 2 ≤ k → long ≡ from_be_bytes w16 two → (long ≡ 0) ⊎ (255 < long) → HasNoName stream
+revealed_none s0 s1 stream two k long is first wide full number none =
+    let l = revealed_length s0 s1 stream two k long is first wide full number in
     record { there = l.1; none = ⊎_elim (λ zero. inl (l.0 ∙ zero)) (λ more. inr (omega (arith, l.0, more))) none }
 
 -- the name and the eight bytes after it are the two parts of what was read at once, also at the front of a longer buffer
@@ -112,22 +112,22 @@ halves more rest long wide =
     )
 
 -- the source ended in the name, or in the length of the object after it
-pub told_cut : (s0 s1 s2 : Option (List ℕ)) (stream two more : List ℕ) (k j long : ℕ) → s0 ≡ Some stream → TakesFirst s0 s1 k two → length two ≡ 2 → 2 ≤ k → long ≡ from_be_bytes w16 two → 1 ≤ long → long ≤ 255
+pub revealed_cut : (s0 s1 s2 : Option (List ℕ)) (stream two more : List ℕ) (k j long : ℕ) → s0 ≡ Some stream → TakesFirst s0 s1 k two → length two ≡ 2 → 2 ≤ k → long ≡ from_be_bytes w16 two → 1 ≤ long → long ≤ 255
     → TakesFirst s1 s2 j more → length more ≡ long + 8 → j < long + 8 → EndsInHead stream
-told_cut s0 s1 s2 stream two more k j long is first wide full number least most second size short =
-    let l = told_length s0 s1 stream two k long is first wide full number in
-    let some = told_full s0 s1 stream two k is first (omega (arith, wide, full)) in
-    let rest = told_short s1 s2 some.0 more j some.1 second (omega (arith, short, size)) in
+revealed_cut s0 s1 s2 stream two more k j long is first wide full number least most second size short =
+    let l = revealed_length s0 s1 stream two k long is first wide full number in
+    let some = revealed_full s0 s1 stream two k is first (omega (arith, wide, full)) in
+    let rest = revealed_short s1 s2 some.0 more j some.1 second (omega (arith, short, size)) in
     inr (has_name stream long l.1 l.0 least most, omega (arith, ap length some.2, length-append two some.0, wide, rest, short, l.0))
 
 -- the whole head was read
-pub told_whole : (s0 s1 s2 : Option (List ℕ)) (stream two name eight : List ℕ) (k j long size : ℕ) → s0 ≡ Some stream → TakesFirst s0 s1 k two → length two ≡ 2 → 2 ≤ k → long ≡ from_be_bytes w16 two → 1 ≤ long → long ≤ 255
+pub revealed_whole : (s0 s1 s2 : Option (List ℕ)) (stream two name eight : List ℕ) (k j long size : ℕ) → s0 ≡ Some stream → TakesFirst s0 s1 k two → length two ≡ 2 → 2 ≤ k → long ≡ from_be_bytes w16 two → 1 ≤ long → long ≤ 255
     → TakesFirst s1 s2 j (name ++ eight) → length name ≡ long → length eight ≡ 8 → long + 8 ≤ j → size ≡ from_be_bytes w64 eight
     → HasHead stream × (name ≡ frame_name stream) × (size ≡ object_length stream) × (long ≡ name_length stream)
-told_whole s0 s1 s2 stream two name eight k j long size is first wide full number least most second width eight_wide whole value =
-    let l = told_length s0 s1 stream two k long is first wide full number in
-    let some = told_full s0 s1 stream two k is first (omega (arith, wide, full)) in
-    let rest = told_full s1 s2 some.0 (name ++ eight) j some.1 second (omega (arith, length-append name eight, width, eight_wide, whole)) in
+revealed_whole s0 s1 s2 stream two name eight k j long size is first wide full number least most second width eight_wide whole value =
+    let l = revealed_length s0 s1 stream two k long is first wide full number in
+    let some = revealed_full s0 s1 stream two k is first (omega (arith, wide, full)) in
+    let rest = revealed_full s1 s2 some.0 (name ++ eight) j some.1 second (omega (arith, length-append name eight, width, eight_wide, whole)) in
     let more : some.0 ≡ name ++ (eight ++ rest.0) = rest.2 ∙ append_assoc name eight rest.0 in
     let all : stream ≡ two ++ (name ++ (eight ++ rest.0)) = some.2 ∙ ap (λ (l : List ℕ). two ++ l) more in
     let named : from_be_bytes w16 two ≡ length name = sym number ∙ sym width in

@@ -97,16 +97,16 @@ head_fault {T} {x} {f} from (inr (inl disk)) = inr (inl (went from (fault_is f p
 head_fault {T} {x} {f} from (inr (inr memory)) = inr (inr (went from (fault_is f put.NoMemory memory)))
 
 -- nothing was written
-pub nothing_written : (tells taken fits fault : Type 0) (v : Opened) (s : State) → (fault → ⊥)
-    → OnlyWrites tells taken fits fault (ChangesArchive v.shape (limit_when v.raised) (IsBlockIn v.shape v.lattice.n) (IsBesides v.shape)) s s
-nothing_written tells taken fits fault v s fine =
-    writes_as tells taken fits ⊥ fault (ChangesArchive v.shape (limit_when v.raised) (IsBlockIn v.shape v.lattice.n) (IsBesides v.shape)) s s fine (λ none. absurd none)
-    (writes_none tells taken fits (ChangesArchive v.shape (limit_when v.raised) (IsBlockIn v.shape v.lattice.n) (IsBesides v.shape)) s
+pub nothing_written : (reveals taken fits fault : Type 0) (v : Opened) (s : State) → (fault → ⊥)
+    → OnlyWrites reveals taken fits fault (ChangesArchive v.shape (limit_when v.raised) (IsBlockIn v.shape v.lattice.n) (IsBesides v.shape)) s s
+nothing_written reveals taken fits fault v s fine =
+    writes_as reveals taken fits ⊥ fault (ChangesArchive v.shape (limit_when v.raised) (IsBlockIn v.shape v.lattice.n) (IsBesides v.shape)) s s fine (λ none. absurd none)
+    (writes_none reveals taken fits (ChangesArchive v.shape (limit_when v.raised) (IsBlockIn v.shape v.lattice.n) (IsBesides v.shape)) s
     (λ c. changes_none v.shape (limit_when v.raised) (IsBlockIn v.shape v.lattice.n) (IsBesides v.shape) c))
 
 -- so the ledger's file stays
-pub leaves_same : (tells : Type 0) → tells → (v : Opened) (s : State) → IsFixed s 0 → LeavesLedger s s
-leaves_same tells told v s fixed = leaves_ledger tells ⊥ told v s s fixed (cells_none tells ⊥ v.shape (limit_when v.raised) (IsBlockIn v.shape v.lattice.n) s (λ none. none))
+pub leaves_same : (reveals : Type 0) → reveals → (v : Opened) (s : State) → IsFixed s 0 → LeavesLedger s s
+leaves_same reveals revealed v s fixed = leaves_ledger reveals ⊥ revealed v s s fixed (cells_none reveals ⊥ v.shape (limit_when v.raised) (IsBlockIn v.shape v.lattice.n) s (λ none. none))
 
 -- what does not fit is more than the space
 pub over_room : RecordsAreFew → (v : Opened) (k : ℕ) → HasSomeRecords v → limit_when v.raised < v.lattice.n + nodes_for v.shape k → room_left v < k

@@ -30,14 +30,14 @@ use Rattle.aea_append.specs.Keeping.{AreLastHeads, HasKeptHeads}
 use Rattle.aea_append.proofs.Takings.{grown_same}
 
 -- heads that are kept go on from the ledger
-pub kept_as : (tells : Type 0) (v : Opened) (files : Files) (kept : Option Woven) (heads : Woven) → kept ≡ Some heads → HasKeptHeads tells v files kept → AreLastHeads tells v files heads
-kept_as tells v files kept heads is has = subst (HasKeptHeads tells v files) is has
+pub kept_as : (reveals : Type 0) (v : Opened) (files : Files) (kept : Option Woven) (heads : Woven) → kept ≡ Some heads → HasKeptHeads reveals v files kept → AreLastHeads reveals v files heads
+kept_as reveals v files kept heads is has = subst (HasKeptHeads reveals v files) is has
 
 -- while heads are kept, every last parity is intact, if the disk's contents are known
-pub kept_intact : CellsHaveLengths → CellsHaveParts → (tells : Type 0) (v : Opened) (files : Files) (heads : Woven) → AreLastHeads tells v files heads → tells → AreLastsIntact v.shape v.lattice v.digests files
-kept_intact lengths parts tells v files heads are told b last =
+pub kept_intact : CellsHaveLengths → CellsHaveParts → (reveals : Type 0) (v : Opened) (files : Files) (heads : Woven) → AreLastHeads reveals v files heads → reveals → AreLastsIntact v.shape v.lattice v.digests files
+kept_intact lengths parts reveals v files heads are revealed b last =
     let has = are.woven in
-    (stands lengths parts v.shape b (recorded_in v.shape v.digests b) (has.payload b) files (has.lasts_wide b last) (has.lasts b last) (has.homes told b last)).intact
+    (stands lengths parts v.shape b (recorded_in v.shape v.digests b) (has.payload b) files (has.lasts_wide b last) (has.lasts b last) (has.homes revealed b last)).intact
 
 module _ (shape : Shape) (l m : Lattice) (n : ℕ) (grown : IsGrown l n m) (more : l.n ≤ m.n) (alpha : l.alpha ≡ shape.alpha) where
   -- a last parity that is no new block was one before
@@ -78,13 +78,13 @@ module _ (shape : Shape) (l m : Lattice) (n : ℕ) (grown : IsGrown l n m) (more
 
 -- Heads after nodes that were woven go on from the lattice with these nodes, where the ledger has the digests of their blocks
 -- after those that it had, the homes of the old blocks stayed, and the cells of the new ones are at theirs.
-pub woven_on : CellsHaveLengths → (tells : Type 0) (shape : Shape) (l : Lattice) (recorded : List (List ℕ)) (first files after : Files) (w : Woven) (datas digests : List (List ℕ))
+pub woven_on : CellsHaveLengths → (reveals : Type 0) (shape : Shape) (l : Lattice) (recorded : List (List ℕ)) (first files after : Files) (w : Woven) (datas digests : List (List ℕ))
     → l.alpha ≡ shape.alpha → length recorded ≡ l.n * (1 + shape.alpha)
-    → (has : HasWoven tells shape l recorded first files w datas digests)
-    → (tells → KeepsHomes shape (IsBlockIn shape l.n) first after)
-    → (tells → AreAtHome shape l.n w.lattice.n has.payload after)
-    → HasWoven tells shape w.lattice (recorded ++ digests) after after w [] []
-woven_on lengths tells shape l recorded first files after w datas digests alpha long has stays cells =
+    → (has : HasWoven reveals shape l recorded first files w datas digests)
+    → (reveals → KeepsHomes shape (IsBlockIn shape l.n) first after)
+    → (reveals → AreAtHome shape l.n w.lattice.n has.payload after)
+    → HasWoven reveals shape w.lattice (recorded ++ digests) after after w [] []
+woven_on lengths reveals shape l recorded first files after w datas digests alpha long has stays cells =
     let m = w.lattice in
     let n = l.n + length datas in
     let nodes = has.grown.nodes in
@@ -97,8 +97,8 @@ woven_on lengths tells shape l recorded first files after w datas digests alpha 
           let was : IsLastParity l b = last_was shape l m n has.grown more alpha b last old in
           has.lasts b was ∙ sym (recorded_old shape l m n has.grown more alpha recorded digests b long (last_inside l b was)))
           (cases_lt l.n b.node);
-      homes = λ told b last. ⊎_elim
-          (λ new. cells told b (last_new shape l m n has.grown more alpha b last new))
+      homes = λ revealed b last. ⊎_elim
+          (λ new. cells revealed b (last_new shape l m n has.grown more alpha b last new))
           (λ old.
           let was : IsLastParity l b = last_was shape l m n has.grown more alpha b last old in
           let inside : HasBlock l b = last_inside l b was in
@@ -107,8 +107,8 @@ woven_on lengths tells shape l recorded first files after w datas digests alpha 
           let most = l.in_range in
           let size = (lengths b (has.payload b)).2 in
           let wide = has.lasts_wide b was in
-          stays told b (cell_of b (has.payload b)) (record { first = at; last = omega (arith, old, most); used = omega (arith, used, alpha) }) (record { after = omega (arith, at); most = old; used = omega (arith, used, alpha) })
-          (omega (arith, size, wide)) (has.homes told b was))
+          stays revealed b (cell_of b (has.payload b)) (record { first = at; last = omega (arith, old, most); used = omega (arith, used, alpha) }) (record { after = omega (arith, at); most = old; used = omega (arith, used, alpha) })
+          (omega (arith, size, wide)) (has.homes revealed b was))
           (cases_lt l.n b.node);
       lasts_wide = λ b last. ⊎_elim
           (λ new. has.wide b (last_new shape l m n has.grown more alpha b last new))
@@ -122,27 +122,27 @@ woven_on lengths tells shape l recorded first files after w datas digests alpha 
         long = (let z : w.lattice.n - w.lattice.n ≡ 0 = omega arith in let e : 0 ≡ 0 * (1 + shape.alpha) = omega arith in e ∙ ap (λ (k : ℕ). k * (1 + shape.alpha)) (sym z));
         each = λ b on. absurd (let x = on.after in let y = on.most in omega (arith, x, y));
       };
-      cells = λ told b on. absurd (let x = on.after in let y = on.most in omega (arith, x, y));
+      cells = λ revealed b on. absurd (let x = on.after in let y = on.most in omega (arith, x, y));
       wide = λ b on. absurd (let x = on.after in let y = on.most in omega (arith, x, y));
     }
 
 -- so heads that were stepped by all that a record has are kept for the ledger that has it
-pub kept_after : CellsHaveLengths → (tells : Type 0) (v w : Opened) (first files after : Files) (heads : Woven) (datas digests : List (List ℕ))
+pub kept_after : CellsHaveLengths → (reveals : Type 0) (v w : Opened) (first files after : Files) (heads : Woven) (datas digests : List (List ℕ))
     → v.lattice.alpha ≡ v.shape.alpha → length v.digests ≡ v.lattice.n * (1 + v.shape.alpha) → w.shape ≡ v.shape → heads.lattice ≡ w.lattice → w.digests ≡ v.digests ++ digests → heads.size ≡ v.shape.block
-    → (has : HasWoven tells v.shape v.lattice v.digests first files heads datas digests)
-    → (tells → KeepsHomes v.shape (IsBlockIn v.shape v.lattice.n) first after)
-    → (tells → AreAtHome v.shape v.lattice.n heads.lattice.n has.payload after)
-    → AreLastHeads tells w after heads
-kept_after lengths tells v w first files after heads datas digests alpha long same grid recorded size has stays cells =
-    let on : HasWoven tells v.shape heads.lattice (v.digests ++ digests) after after heads [] [] = woven_on lengths tells v.shape v.lattice v.digests first files after heads datas digests alpha long has stays cells in
-    let one : HasWoven tells v.shape w.lattice (v.digests ++ digests) after after heads [] [] = subst (λ (l : Lattice). HasWoven tells v.shape l (v.digests ++ digests) after after heads [] []) grid on in
-    let two : HasWoven tells v.shape w.lattice w.digests after after heads [] [] = subst (λ (ds : List (List ℕ)). HasWoven tells v.shape w.lattice ds after after heads [] []) (sym recorded) one in
+    → (has : HasWoven reveals v.shape v.lattice v.digests first files heads datas digests)
+    → (reveals → KeepsHomes v.shape (IsBlockIn v.shape v.lattice.n) first after)
+    → (reveals → AreAtHome v.shape v.lattice.n heads.lattice.n has.payload after)
+    → AreLastHeads reveals w after heads
+kept_after lengths reveals v w first files after heads datas digests alpha long same grid recorded size has stays cells =
+    let on : HasWoven reveals v.shape heads.lattice (v.digests ++ digests) after after heads [] [] = woven_on lengths reveals v.shape v.lattice v.digests first files after heads datas digests alpha long has stays cells in
+    let one : HasWoven reveals v.shape w.lattice (v.digests ++ digests) after after heads [] [] = subst (λ (l : Lattice). HasWoven reveals v.shape l (v.digests ++ digests) after after heads [] []) grid on in
+    let two : HasWoven reveals v.shape w.lattice w.digests after after heads [] [] = subst (λ (ds : List (List ℕ)). HasWoven reveals v.shape w.lattice ds after after heads [] []) (sym recorded) one in
     record {
       lattice = grid;
       size = size ∙ ap (λ (s : Shape). s.block) (sym same);
-      woven = subst (λ (s : Shape). HasWoven tells s w.lattice w.digests after after heads [] []) (sym same) two;
+      woven = subst (λ (s : Shape). HasWoven reveals s w.lattice w.digests after after heads [] []) (sym same) two;
     }
 
 -- what is not kept is no heads, of any ledger
-pub kept_none : (tells : Type 0) (v : Opened) (files : Files) (kept : Option Woven) → kept ≡ None → HasKeptHeads tells v files kept
-kept_none tells v files kept is = subst (HasKeptHeads tells v files) (sym is) tt
+pub kept_none : (reveals : Type 0) (v : Opened) (files : Files) (kept : Option Woven) → kept ≡ None → HasKeptHeads reveals v files kept
+kept_none reveals v files kept is = subst (HasKeptHeads reveals v files) (sym is) tt

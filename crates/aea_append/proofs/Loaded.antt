@@ -19,28 +19,28 @@ use Rattle.aea_append.proofs.Space.{none_damaged}
 use Rattle.aea_append.proofs.Starts.{sums_start}
 
 -- of each data list for which the last parities are honest, the loaded heads are the strand sums
-pub loaded_values : LastsAreValues → LastParitiesAreSums → (tells : Type 0) (v : Opened) (first files : Files) (r : Result Woven HeadFault)
+pub loaded_values : LastsAreValues → LastParitiesAreSums → (reveals : Type 0) (v : Opened) (first files : Files) (r : Result Woven HeadFault)
     → IfOk r (λ heads. heads.lattice ≡ v.lattice) → IfOk r (λ heads. heads.size ≡ v.shape.block)
-    → IfOk r (λ heads. HasWoven tells v.shape v.lattice v.digests first files heads [] [])
-    → IfOk r (λ heads. tells → (datas : List (List ℕ)) → IsDataList v.lattice v.shape.block datas → AreLastsHonest v.shape v.lattice v.digests datas first → IsWovenOf v.shape v.lattice heads datas [] [])
-loaded_values values are tells v first files (Ok heads) lattice size has = λ told datas is honest. sums_start values are tells told v heads first files datas lattice size is honest has
-loaded_values values are tells v first files (Err fault) lattice size has = tt
+    → IfOk r (λ heads. HasWoven reveals v.shape v.lattice v.digests first files heads [] [])
+    → IfOk r (λ heads. reveals → (datas : List (List ℕ)) → IsDataList v.lattice v.shape.block datas → AreLastsHonest v.shape v.lattice v.digests datas first → IsWovenOf v.shape v.lattice heads datas [] [])
+loaded_values values are reveals v first files (Ok heads) lattice size has = λ revealed datas is honest. sums_start values are reveals revealed v heads first files datas lattice size is honest has
+loaded_values values are reveals v first files (Err fault) lattice size has = tt
 
 -- where a last parity is damaged, one is named, but for a fault of the disk and lack of memory
-pub damaged_named : {T : Type 0} (tells : Type 0) (v : Opened) (s : State) (r : Result T HeadFault) → OnOk r (tells → AreLastsIntact v.shape v.lattice v.digests s.files)
-    → tells → (a : BlockId) → IsDamagedLast v.shape v.lattice v.digests s.files a
+pub damaged_named : {T : Type 0} (reveals : Type 0) (v : Opened) (s : State) (r : Result T HeadFault) → OnOk r (reveals → AreLastsIntact v.shape v.lattice v.digests s.files)
+    → reveals → (a : BlockId) → IsDamagedLast v.shape v.lattice v.digests s.files a
     → ((b : BlockId) × (r ≡ Err (HeadDamaged b))) ⊎ ((r ≡ Err DiskFault) ⊎ (r ≡ Err NoMemory))
-damaged_named tells v s (Ok heads) intact told a damaged = absurd (none_damaged v s (intact told) a damaged)
-damaged_named tells v s (Err (HeadDamaged b)) intact told a damaged = inl (b, refl)
-damaged_named tells v s (Err DiskFault) intact told a damaged = inr (inl refl)
-damaged_named tells v s (Err NoMemory) intact told a damaged = inr (inr refl)
+damaged_named reveals v s (Ok heads) intact revealed a damaged = absurd (none_damaged v s (intact revealed) a damaged)
+damaged_named reveals v s (Err (HeadDamaged b)) intact revealed a damaged = inl (b, refl)
+damaged_named reveals v s (Err DiskFault) intact revealed a damaged = inr (inl refl)
+damaged_named reveals v s (Err NoMemory) intact revealed a damaged = inr (inr refl)
 
 -- where all are intact and no count rose, the heads are loaded, but for lack of memory
-pub heads_come : {T : Type 0} (tells : Type 0) (v : Opened) (old new : State) (r : Result T HeadFault)
-    → ((b : BlockId) → r ≡ Err (HeadDamaged b) → IsLastParity v.lattice b × (tells → IsFirstDamagedLast v.shape v.lattice v.digests old.files b))
-    → OnlyReads tells (r ≡ Err DiskFault) old new
-    → tells → AreLastsIntact v.shape v.lattice v.digests old.files → (Rose old.faults new.faults → ⊥) → IsOk r ⊎ (r ≡ Err NoMemory)
-heads_come tells v old new (Ok heads) head reads told intact still = inl refl
-heads_come tells v old new (Err (HeadDamaged b)) head reads told intact still = absurd (none_damaged v old intact b (((head b refl).1 told).damaged))
-heads_come tells v old new (Err DiskFault) head reads told intact still = absurd (still (reads.cause refl))
-heads_come tells v old new (Err NoMemory) head reads told intact still = inr refl
+pub heads_come : {T : Type 0} (reveals : Type 0) (v : Opened) (old new : State) (r : Result T HeadFault)
+    → ((b : BlockId) → r ≡ Err (HeadDamaged b) → IsLastParity v.lattice b × (reveals → IsFirstDamagedLast v.shape v.lattice v.digests old.files b))
+    → OnlyReads reveals (r ≡ Err DiskFault) old new
+    → reveals → AreLastsIntact v.shape v.lattice v.digests old.files → (Rose old.faults new.faults → ⊥) → IsOk r ⊎ (r ≡ Err NoMemory)
+heads_come reveals v old new (Ok heads) head reads revealed intact still = inl refl
+heads_come reveals v old new (Err (HeadDamaged b)) head reads revealed intact still = absurd (none_damaged v old intact b (((head b refl).1 revealed).damaged))
+heads_come reveals v old new (Err DiskFault) head reads revealed intact still = absurd (still (reads.cause refl))
+heads_come reveals v old new (Err NoMemory) head reads revealed intact still = inr refl

@@ -87,8 +87,8 @@ module _ (shape : Shape) (n : ℕ) (v w : Woven) (x : List ℕ) (digests : List 
       let place = place_of (1 + shape.alpha) n b.node (class_number b.class) on.after in
       let inside : (b.node - 1 - n) * (1 + shape.alpha) + class_number b.class < (1 + shape.alpha) * (v.lattice.n - n) =
       mul-add-lt (b.node - 1 - n) (1 + shape.alpha) (class_number b.class) (v.lattice.n - n) (let after = on.after in let most = on.most in omega (arith, after, most)) (let used = on.used in omega (arith, used)) in
-      let turned : (1 + shape.alpha) * (v.lattice.n - n) ≡ (v.lattice.n - n) * (1 + shape.alpha) = mul_comm (1 + shape.alpha) (v.lattice.n - n) in
-      get_or_append_left digests more [] (number_in shape b - n * (1 + shape.alpha)) (omega (arith, place, inside, turned, long))
+      let flipped : (1 + shape.alpha) * (v.lattice.n - n) ≡ (v.lattice.n - n) * (1 + shape.alpha) = mul_comm (1 + shape.alpha) (v.lattice.n - n) in
+      get_or_append_left digests more [] (number_in shape b - n * (1 + shape.alpha)) (omega (arith, place, inside, flipped, long))
 
   -- the digest of a block of the new node
   pub digest-after : (b : BlockId) → b.node ≡ w.lattice.n → class_number b.class ≤ shape.alpha → get_or (digests ++ more) (number_in shape b - n * (1 + shape.alpha)) [] ≡ last_digest w x b.class

@@ -75,13 +75,13 @@ limit_is v limit n from block from2 l shape a b c d e f g =
 
 -- cells that were written within the rows of every count of nodes that holds the old ones and the bytes left were
 -- written within the limit of the ledger, whose shape and lattice these are
-pub all_writes : RecordsAreFew → (tells fault other : Type 0) (v : Opened) (shape : Shape) (l : Lattice) (limit : ℕ) (old new : State) → HasSomeRecords v → shape ≡ v.shape → l ≡ v.lattice → limit ≤ room_left v → (other → fault) → (fault → other)
-    → ((nodes : ℕ) → l.n + nodes_for shape limit ≤ nodes → WritesCells tells shape nodes (IsBlockIn shape l.n) fault old new)
-    → WritesCells tells v.shape (limit_when v.raised) (IsBlockIn v.shape v.lattice.n) other old new
-all_writes law tells fault other v shape l limit old new some same grid is so back writes =
-    let one = subst (λ (s : Shape). (nodes : ℕ) → l.n + nodes_for s limit ≤ nodes → WritesCells tells s nodes (IsBlockIn s l.n) fault old new) same writes in
-    let two = subst (λ (k : Lattice). (nodes : ℕ) → k.n + nodes_for v.shape limit ≤ nodes → WritesCells tells v.shape nodes (IsBlockIn v.shape k.n) fault old new) grid one in
-    cells_as tells fault other v.shape (limit_when v.raised) (IsBlockIn v.shape v.lattice.n) old new so back
+pub all_writes : RecordsAreFew → (reveals fault other : Type 0) (v : Opened) (shape : Shape) (l : Lattice) (limit : ℕ) (old new : State) → HasSomeRecords v → shape ≡ v.shape → l ≡ v.lattice → limit ≤ room_left v → (other → fault) → (fault → other)
+    → ((nodes : ℕ) → l.n + nodes_for shape limit ≤ nodes → WritesCells reveals shape nodes (IsBlockIn shape l.n) fault old new)
+    → WritesCells reveals v.shape (limit_when v.raised) (IsBlockIn v.shape v.lattice.n) other old new
+all_writes law reveals fault other v shape l limit old new some same grid is so back writes =
+    let one = subst (λ (s : Shape). (nodes : ℕ) → l.n + nodes_for s limit ≤ nodes → WritesCells reveals s nodes (IsBlockIn s l.n) fault old new) same writes in
+    let two = subst (λ (k : Lattice). (nodes : ℕ) → k.n + nodes_for v.shape limit ≤ nodes → WritesCells reveals v.shape nodes (IsBlockIn v.shape k.n) fault old new) grid one in
+    cells_as reveals fault other v.shape (limit_when v.raised) (IsBlockIn v.shape v.lattice.n) old new so back
     (two (limit_when v.raised) (room_fits law v limit some (omega (arith, is))))
 
 -- the homes that are kept, with zeros past the ends, by a ledger's shape and lattice as its getters returned them

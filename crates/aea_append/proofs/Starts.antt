@@ -33,66 +33,66 @@ loaded_payload l heads b = head_of heads b.class (strand_of l b.class b.node)
 place_below : (l : Lattice) (b : BlockId) → IsLastParity l b → place_of l b < all_strands l
 place_below l b last = place-within l b.class (strand_of l b.class b.node) last.parity (strand-below l b.class b.node last.parity)
 
-all_loaded : (tells : Type 0) (v : Opened) (files : Files) (heads : Woven) → HasLoaded tells v files heads (all_strands v.lattice) None
-    → (c : Class) (strand : ℕ) → HasParity v.lattice c → strand < strands_of v.lattice c → IsLoaded tells v files c (head_of heads c strand) (last_open v.lattice c strand)
-all_loaded tells v files heads has c strand parity below = has.loaded refl c strand parity below (place-within v.lattice c strand parity below)
+all_loaded : (reveals : Type 0) (v : Opened) (files : Files) (heads : Woven) → HasLoaded reveals v files heads (all_strands v.lattice) None
+    → (c : Class) (strand : ℕ) → HasParity v.lattice c → strand < strands_of v.lattice c → IsLoaded reveals v files c (head_of heads c strand) (last_open v.lattice c strand)
+all_loaded reveals v files heads has c strand parity below = has.loaded refl c strand parity below (place-within v.lattice c strand parity below)
 
 -- what is loaded of a last parity
-of_last : (tells : Type 0) (v : Opened) (files : Files) (heads : Woven) → HasLoaded tells v files heads (all_strands v.lattice) None
-    → (b : BlockId) → IsLastParity v.lattice b → IsLoaded tells v files b.class (loaded_payload v.lattice heads b) (Some b.node)
-of_last tells v files heads has b last =
-    subst (IsLoaded tells v files b.class (loaded_payload v.lattice heads b)) last.last
-    (all_loaded tells v files heads has b.class (strand_of v.lattice b.class b.node) last.parity (strand-below v.lattice b.class b.node last.parity))
+of_last : (reveals : Type 0) (v : Opened) (files : Files) (heads : Woven) → HasLoaded reveals v files heads (all_strands v.lattice) None
+    → (b : BlockId) → IsLastParity v.lattice b → IsLoaded reveals v files b.class (loaded_payload v.lattice heads b) (Some b.node)
+of_last reveals v files heads has b last =
+    subst (IsLoaded reveals v files b.class (loaded_payload v.lattice heads b)) last.last
+    (all_loaded reveals v files heads has b.class (strand_of v.lattice b.class b.node) last.parity (strand-below v.lattice b.class b.node last.parity))
 
-head_start : (tells : Type 0) (v : Opened) (files : Files) (heads : Woven) → heads.size ≡ v.shape.block → (c : Class) (strand : ℕ) (o : Option ℕ) → last_open v.lattice c strand ≡ o
-    → IsLoaded tells v files c (head_of heads c strand) o → head_of heads c strand ≡ head_by heads.size (loaded_payload v.lattice heads) c o
-head_start tells v files heads size c strand None is loaded = loaded ∙ ap (λ (k : ℕ). replicate k 0) (sym size)
-head_start tells v files heads size c strand (Some g) is loaded = ap (head_of heads c) (sym (on_last v.lattice c strand g is))
+head_start : (reveals : Type 0) (v : Opened) (files : Files) (heads : Woven) → heads.size ≡ v.shape.block → (c : Class) (strand : ℕ) (o : Option ℕ) → last_open v.lattice c strand ≡ o
+    → IsLoaded reveals v files c (head_of heads c strand) o → head_of heads c strand ≡ head_by heads.size (loaded_payload v.lattice heads) c o
+head_start reveals v files heads size c strand None is loaded = loaded ∙ ap (λ (k : ℕ). replicate k 0) (sym size)
+head_start reveals v files heads size c strand (Some g) is loaded = ap (head_of heads c) (sym (on_last v.lattice c strand g is))
 
-heads_start : (tells : Type 0) (v : Opened) (files : Files) (heads : Woven) → HasLoaded tells v files heads (all_strands v.lattice) None → AreHeads heads (loaded_payload v.lattice heads)
-heads_start tells v files heads has c strand parity below =
+heads_start : (reveals : Type 0) (v : Opened) (files : Files) (heads : Woven) → HasLoaded reveals v files heads (all_strands v.lattice) None → AreHeads heads (loaded_payload v.lattice heads)
+heads_start reveals v files heads has c strand parity below =
     let p = subst (λ (l : Lattice). HasParity l c) has.lattice parity in
     let u = subst (λ (l : Lattice). strand < strands_of l c) has.lattice below in
-    head_start tells v files heads has.size c strand (last_open v.lattice c strand) refl (all_loaded tells v files heads has c strand p u)
+    head_start reveals v files heads has.size c strand (last_open v.lattice c strand) refl (all_loaded reveals v files heads has c strand p u)
     ∙ ap (λ (l : Lattice). head_by heads.size (loaded_payload v.lattice heads) c (last_open l c strand)) (sym has.lattice)
 
 -- where all heads are loaded and nothing was found damaged, they are those of no data woven after the lattice
-pub woven_start : (tells : Type 0) (v : Opened) (files after : Files) (heads : Woven) → HasLoaded tells v files heads (all_strands v.lattice) None
-    → HasWoven tells v.shape v.lattice v.digests files after heads [] []
-woven_start tells v files after heads has =
+pub woven_start : (reveals : Type 0) (v : Opened) (files after : Files) (heads : Woven) → HasLoaded reveals v files heads (all_strands v.lattice) None
+    → HasWoven reveals v.shape v.lattice v.digests files after heads [] []
+woven_start reveals v files after heads has =
     let n : heads.lattice.n ≡ v.lattice.n = ap (λ (l : Lattice). l.n) has.lattice in
     record {
       payload = loaded_payload v.lattice heads;
-      lasts = λ b last. (of_last tells v files heads has b last).0;
-      homes = λ told b last. (of_last tells v files heads has b last).2 told;
-      lasts_wide = λ b last. (of_last tells v files heads has b last).1;
+      lasts = λ b last. (of_last reveals v files heads has b last).0;
+      homes = λ revealed b last. (of_last reveals v files heads has b last).2 revealed;
+      lasts_wide = λ b last. (of_last reveals v files heads has b last).1;
       grown = record {
         shape = record { alpha = ap (λ (l : Lattice). l.alpha) has.lattice; s = ap (λ (l : Lattice). l.s) has.lattice; p = ap (λ (l : Lattice). l.p) has.lattice };
         nodes = omega (arith, n);
         fences = ap (λ (l : Lattice). l.fences) has.lattice;
       };
-      heads = heads_start tells v files heads has;
+      heads = heads_start reveals v files heads has;
       blocks = λ k lt. absurd (omega (arith, lt));
       woven = λ i c after most parity. absurd (omega (arith, after, most, n));
       digests_are = record {
         long = (let z : heads.lattice.n - v.lattice.n ≡ 0 = omega (arith, n) in let e : 0 ≡ 0 * (1 + v.shape.alpha) = omega arith in e ∙ ap (λ (k : ℕ). k * (1 + v.shape.alpha)) (sym z));
         each = λ b on. absurd (let x = on.after in let y = on.most in omega (arith, x, y, n));
       };
-      cells = λ told b on. absurd (let x = on.after in let y = on.most in omega (arith, x, y, n));
+      cells = λ revealed b on. absurd (let x = on.after in let y = on.most in omega (arith, x, y, n));
       wide = λ b on. absurd (let x = on.after in let y = on.most in omega (arith, x, y, n));
     }
 
 -- where all strands were looked at and nothing was found damaged, all last parities are intact if the disk's contents are known
-pub intact_start : (tells : Type 0) (v : Opened) (files : Files) (heads : Woven) → HasLoaded tells v files heads (all_strands v.lattice) None → tells → AreLastsIntact v.shape v.lattice v.digests files
-intact_start tells v files heads has told b last = has.least told b last (place_below v.lattice b last)
+pub intact_start : (reveals : Type 0) (v : Opened) (files : Files) (heads : Woven) → HasLoaded reveals v files heads (all_strands v.lattice) None → reveals → AreLastsIntact v.shape v.lattice v.digests files
+intact_start reveals v files heads has revealed b last = has.least revealed b last (place_below v.lattice b last)
 
 -- a block that was found when all strands were looked at is a last parity and, if the disk's contents are known, the damaged one
 -- with the least number
-pub first_damaged : (tells : Type 0) (v : Opened) (files : Files) (heads : Woven) (b : BlockId) → HasLoaded tells v files heads (all_strands v.lattice) (Some b)
-    → IsLastParity v.lattice b × (tells → IsFirstDamagedLast v.shape v.lattice v.digests files b)
-first_damaged tells v files heads b has =
-    let f : IsFound tells v files (all_strands v.lattice) (Some b) = has.least in
-    (f.0, λ told. record { damaged = (f.1 told).0; least = λ a damaged. (f.1 told).1 a damaged (place_below v.lattice a damaged.last) })
+pub first_damaged : (reveals : Type 0) (v : Opened) (files : Files) (heads : Woven) (b : BlockId) → HasLoaded reveals v files heads (all_strands v.lattice) (Some b)
+    → IsLastParity v.lattice b × (reveals → IsFirstDamagedLast v.shape v.lattice v.digests files b)
+first_damaged reveals v files heads b has =
+    let f : IsFound reveals v files (all_strands v.lattice) (Some b) = has.least in
+    (f.0, λ revealed. record { damaged = (f.1 revealed).0; least = λ a damaged. (f.1 revealed).1 a damaged (place_below v.lattice a damaged.last) })
 
 -- ---- which block a fault names, and how many nodes
 
@@ -122,11 +122,11 @@ head_value l size shape datas payload c strand same parity lasts (Some g) is =
     ∙ ap (λ (k : ℕ). value_at l k datas g c) (sym same)
 
 -- loaded heads are the strand sums of each data list for which the last parities are honest
-pub sums_start : LastsAreValues → LastParitiesAreSums → (tells : Type 0) → tells → (v : Opened) (heads : Woven) (first files : Files) (datas : List (List ℕ)) → heads.lattice ≡ v.lattice → heads.size ≡ v.shape.block
+pub sums_start : LastsAreValues → LastParitiesAreSums → (reveals : Type 0) → reveals → (v : Opened) (heads : Woven) (first files : Files) (datas : List (List ℕ)) → heads.lattice ≡ v.lattice → heads.size ≡ v.shape.block
     → IsDataList v.lattice v.shape.block datas → AreLastsHonest v.shape v.lattice v.digests datas first
-    → HasWoven tells v.shape v.lattice v.digests first files heads [] [] → IsWovenOf v.shape v.lattice heads datas [] []
-sums_start values are tells told v heads first files datas lattice size is honest has =
-    let lasts : AreLastsOf v.shape v.lattice datas has.payload = values v.shape v.lattice v.digests datas has.payload first honest has.lasts (has.homes told) has.lasts_wide in
+    → HasWoven reveals v.shape v.lattice v.digests first files heads [] [] → IsWovenOf v.shape v.lattice heads datas [] []
+sums_start values are reveals revealed v heads first files datas lattice size is honest has =
+    let lasts : AreLastsOf v.shape v.lattice datas has.payload = values v.shape v.lattice v.digests datas has.payload first honest has.lasts (has.homes revealed) has.lasts_wide in
     let here : AreLastsOf v.shape heads.lattice datas has.payload = subst (λ (l : Lattice). AreLastsOf v.shape l datas has.payload) (sym lattice) lasts in
     let own : IsDataList heads.lattice heads.size datas = subst (λ (l : Lattice). IsDataList l heads.size datas) (sym lattice) (subst (λ (k : ℕ). IsDataList v.lattice k datas) (sym size) is) in
     let n : heads.lattice.n ≡ v.lattice.n = ap (λ (l : Lattice). l.n) lattice in

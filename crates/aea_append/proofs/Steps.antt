@@ -160,13 +160,13 @@ module _ (enter : LastsEnter) (v w : Woven) (x : List ℕ) (weaves : Weaves v w 
         digests-push shape n v w x payload next digests grown_n alpha within (λ b on. next-old b on.most) (λ c used. next-new c) are
 
 -- one more node, with its cells and digests
-pub woven_step : LastsEnter → (tells : Type 0) (shape : Shape) (l : Lattice) (recorded : List (List ℕ)) (first files after : Files) (v w : Woven) (datas digests : List (List ℕ)) (x : List ℕ)
-    → Weaves v w x → length x ≡ v.size → w.lattice.alpha ≡ shape.alpha → HasWoven tells shape l recorded first files v datas digests
-    → (tells → (b : BlockId) (bytes : List ℕ) → IsBlockOn shape l.n v.lattice.n b → length bytes ≡ shape.block → HasAtHome shape b (cell_of b bytes) files → HasAtHome shape b (cell_of b bytes) after)
-    → (tells → AreLastAtHome shape w x after)
+pub woven_step : LastsEnter → (reveals : Type 0) (shape : Shape) (l : Lattice) (recorded : List (List ℕ)) (first files after : Files) (v w : Woven) (datas digests : List (List ℕ)) (x : List ℕ)
+    → Weaves v w x → length x ≡ v.size → w.lattice.alpha ≡ shape.alpha → HasWoven reveals shape l recorded first files v datas digests
+    → (reveals → (b : BlockId) (bytes : List ℕ) → IsBlockOn shape l.n v.lattice.n b → length bytes ≡ shape.block → HasAtHome shape b (cell_of b bytes) files → HasAtHome shape b (cell_of b bytes) after)
+    → (reveals → AreLastAtHome shape w x after)
     → ((c : Class) → class_number c ≤ shape.alpha → length (last_payload w x c) ≡ shape.block)
-    → HasWoven tells shape l recorded first after w (datas ++ x ∷ []) (digests ++ map (last_digest w x) (Datum ∷ classes w.lattice))
-woven_step enter tells shape l recorded first files after v w datas digests x weaves wide alpha has stays cells sizes =
+    → HasWoven reveals shape l recorded first after w (datas ++ x ∷ []) (digests ++ map (last_digest w x) (Datum ∷ classes w.lattice))
+woven_step enter reveals shape l recorded first files after v w datas digests x weaves wide alpha has stays cells sizes =
     let grown = weaves.grown.nodes in
     let nodes = has.grown.nodes in
     let within : l.n ≤ v.lattice.n = omega (arith, nodes) in
@@ -174,7 +174,7 @@ woven_step enter tells shape l recorded first files after v w datas digests x we
     record {
       payload = next enter v w x weaves wide has.payload;
       lasts = λ b last. ap (block_digest b) (inside b (last_inside l b last).last) ∙ has.lasts b last;
-      homes = λ told b last. subst (λ (bytes : List ℕ). HasAtHome shape b (cell_of b bytes) first) (sym (inside b (last_inside l b last).last)) (has.homes told b last);
+      homes = λ revealed b last. subst (λ (bytes : List ℕ). HasAtHome shape b (cell_of b bytes) first) (sym (inside b (last_inside l b last).last)) (has.homes revealed b last);
       lasts_wide = λ b last. ap length (inside b (last_inside l b last).last) ∙ has.lasts_wide b last;
       grown = record {
         shape = record { alpha = weaves.grown.shape.alpha ∙ has.grown.shape.alpha; s = weaves.grown.shape.s ∙ has.grown.shape.s; p = weaves.grown.shape.p ∙ has.grown.shape.p };
@@ -185,15 +185,15 @@ woven_step enter tells shape l recorded first files after v w datas digests x we
       blocks = data-new enter v w x weaves wide has.payload l.n datas nodes has.blocks;
       woven = woven-new enter v w x weaves wide has.payload l.n has.heads has.woven;
       digests_are = digests-new enter v w x weaves wide has.payload shape l.n digests alpha within has.digests_are;
-      cells = λ told b on. ⊎_elim
+      cells = λ revealed b on. ⊎_elim
           (λ gt.
           let node : b.node ≡ w.lattice.n = (let most = on.most in omega (arith, gt, most, grown)) in
-          let here = subst (λ (bytes : List ℕ). HasAtHome shape (block_of w.lattice.n b.class) (cell_of (block_of w.lattice.n b.class) bytes) after) (sym (next-new enter v w x weaves wide has.payload b.class)) (cells told b.class on.used) in
+          let here = subst (λ (bytes : List ℕ). HasAtHome shape (block_of w.lattice.n b.class) (cell_of (block_of w.lattice.n b.class) bytes) after) (sym (next-new enter v w x weaves wide has.payload b.class)) (cells revealed b.class on.used) in
           subst (λ (i : ℕ). HasAtHome shape (block_of i b.class) (cell_of (block_of i b.class) (next enter v w x weaves wide has.payload (block_of i b.class))) after) (sym node) here)
           (λ le.
           let on_old : IsBlockOn shape l.n v.lattice.n b = record { after = on.after; most = le; used = on.used } in
           subst (λ (bytes : List ℕ). HasAtHome shape b (cell_of b bytes) after) (sym (next-old enter v w x weaves wide has.payload b le))
-          (stays told b (has.payload b) on_old (has.wide b on_old) (has.cells told b on_old)))
+          (stays revealed b (has.payload b) on_old (has.wide b on_old) (has.cells revealed b on_old)))
           (cases_lt v.lattice.n b.node);
       wide = λ b on. ⊎_elim
           (λ gt.

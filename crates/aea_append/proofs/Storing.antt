@@ -43,8 +43,8 @@ next-last shape earlier (q ∷ records) r follow =
 
 -- ---- the next record, where the lattice that was woven is the longer one
 
-module _ (tells : Type 0) (v : Opened) (name : List ℕ) (k count : ℕ) (digest : List ℕ) (left rest : Option (List ℕ)) (digests : List (List ℕ)) (first files : Files) (counted : count ≡ nodes_for v.shape k)
-    {heads : Woven} (t : TakesObject tells v.shape v.lattice v.digests k digest left rest digests first files heads) where
+module _ (reveals : Type 0) (v : Opened) (name : List ℕ) (k count : ℕ) (digest : List ℕ) (left rest : Option (List ℕ)) (digests : List (List ℕ)) (first files : Files) (counted : count ≡ nodes_for v.shape k)
+    {heads : Woven} (t : TakesObject reveals v.shape v.lattice v.digests k digest left rest digests first files heads) where
   pub grown_by : IsGrown v.lattice (v.lattice.n + count) heads.lattice
   grown_by = record { shape = t.woven.grown.shape; nodes = (let n = t.nodes in omega (arith, n, counted)); fences = t.woven.grown.fences }
 
@@ -96,20 +96,20 @@ module _ (tells : Type 0) (v : Opened) (name : List ℕ) (k count : ℕ) (digest
   }
 
   -- where it is in the ledger, it records the data before and the object's blocks
-  pub more_where : NextRecordsMore → LastsAreValues → tells → (records : List Record) (datas : List (List ℕ)) → HasRecords v records
+  pub more_where : NextRecordsMore → LastsAreValues → reveals → (records : List Record) (datas : List (List ℕ)) → HasRecords v records
       → AreRecords v.shape (records ++ Object (next_stored v name k digest count digests) ∷ []) → AreRecordsOf v.shape records datas → AreLastsHonest v.shape v.lattice v.digests datas first
       → RecordsMore v.shape records (Object (next_stored v name k digest count digests) ∷ []) datas (object_blocks v.shape t.bytes ++ []) v.lattice heads.lattice t.woven.payload
-  more_where law values told records datas has valid old honest =
+  more_where law values revealed records datas has valid old honest =
       subst (λ (more : List (List ℕ)). RecordsMore v.shape records (Object (next_stored v name k digest count digests) ∷ []) datas more v.lattice heads.lattice t.woven.payload)
       (sym (append-nil (object_blocks v.shape t.bytes)))
       (law v.shape records datas v.lattice heads.lattice t.woven.payload name t.bytes (next_stored v name k digest count digests) old has.lattice
-      (values v.shape v.lattice v.digests datas t.woven.payload first honest t.woven.lasts (t.woven.homes told) t.woven.lasts_wide)
+      (values v.shape v.lattice v.digests datas t.woven.payload first honest t.woven.lasts (t.woven.homes revealed) t.woven.lasts_wide)
       t.are (next-last v.shape [] records (Object (next_stored v name k digest count digests)) valid) next_woven)
 
 -- ---- and the opened ledger has taken it
 
-module _ (tells : Type 0) (v w : Opened) (name : List ℕ) (k count : ℕ) (digest : List ℕ) (left rest : Option (List ℕ)) (digests : List (List ℕ)) (first files : Files) (counted : count ≡ nodes_for v.shape k)
-    {heads : Woven} (t : TakesObject tells v.shape v.lattice v.digests k digest left rest digests first files heads) (same : w.shape ≡ v.shape) (records : List Record) (has : HasRecords v records)
+module _ (reveals : Type 0) (v w : Opened) (name : List ℕ) (k count : ℕ) (digest : List ℕ) (left rest : Option (List ℕ)) (digests : List (List ℕ)) (first files : Files) (counted : count ≡ nodes_for v.shape k)
+    {heads : Woven} (t : TakesObject reveals v.shape v.lattice v.digests k digest left rest digests first files heads) (same : w.shape ≡ v.shape) (records : List Record) (has : HasRecords v records)
     (new : HasRecords w (records ++ Object (next_stored v name k digest count digests) ∷ [])) where
   abbrev stored : Stored
   stored = next_stored v name k digest count digests
@@ -141,17 +141,17 @@ module _ (tells : Type 0) (v w : Opened) (name : List ℕ) (k count : ℕ) (dige
 
   -- the record is the next one
   pub next_of : IsNextStored v.shape v.lattice w.lattice t.woven.payload name t.bytes (next_stored v name k digest count digests)
-  next_of = subst (λ (l : Lattice). IsNextStored v.shape v.lattice l t.woven.payload name t.bytes (next_stored v name k digest count digests)) woven_to (next_woven tells v name k count digest left rest digests first files counted t)
+  next_of = subst (λ (l : Lattice). IsNextStored v.shape v.lattice l t.woven.payload name t.bytes (next_stored v name k digest count digests)) woven_to (next_woven reveals v name k count digest left rest digests first files counted t)
 
   may_follow : IsNext v.shape records (Object stored)
   may_follow = next-last v.shape [] records (Object stored) (subst (λ (s : Shape). MayFollow s [] (records ++ Object stored ∷ [])) same new.valid)
 
   -- it records the data before and the object's blocks
-  pub more_of : NextRecordsMore → LastsAreValues → tells → (datas : List (List ℕ)) → AreRecordsOf v.shape records datas → AreLastsHonest v.shape v.lattice v.digests datas first
+  pub more_of : NextRecordsMore → LastsAreValues → reveals → (datas : List (List ℕ)) → AreRecordsOf v.shape records datas → AreLastsHonest v.shape v.lattice v.digests datas first
       → RecordsMore v.shape records (Object stored ∷ []) datas (object_blocks v.shape t.bytes) v.lattice w.lattice t.woven.payload
-  more_of law values told datas old honest =
+  more_of law values revealed datas old honest =
       law v.shape records datas v.lattice w.lattice t.woven.payload name t.bytes stored old has.lattice
-      (values v.shape v.lattice v.digests datas t.woven.payload first honest t.woven.lasts (t.woven.homes told) t.woven.lasts_wide)
+      (values v.shape v.lattice v.digests datas t.woven.payload first honest t.woven.lasts (t.woven.homes revealed) t.woven.lasts_wide)
       t.are may_follow next_of
 
   -- the digests of the new blocks come after those that it had
@@ -159,13 +159,13 @@ module _ (tells : Type 0) (v w : Opened) (name : List ℕ) (k count : ℕ) (dige
   digests_to = new.digests ∙ digests_of-push records (Object stored) ∙ ap (λ (l : List (List ℕ)). digests_of records ++ l) (append-nil digests) ∙ ap (λ (l : List (List ℕ)). l ++ digests) (sym has.digests)
 
   -- survivors that are honest, in plain damage, are so afterwards
-  pub honest_of : NextRecordsMore → LastsAreValues → SurvivorsStayHonest → DigestsAreCounted → tells → (datas : List (List ℕ)) → AreRecordsOf v.shape records datas → (after : Files)
+  pub honest_of : NextRecordsMore → LastsAreValues → SurvivorsStayHonest → DigestsAreCounted → reveals → (datas : List (List ℕ)) → AreRecordsOf v.shape records datas → (after : Files)
       → AreAtHome v.shape v.lattice.n w.lattice.n t.woven.payload after → KeepsPadded v.shape (IsBlockIn v.shape v.lattice.n) first after → KeepsIntact v.shape (IsBlockIn v.shape v.lattice.n) first after
       → AreSurvivorsHonest v.shape v.lattice v.digests datas first → IsDamagePlain v.shape v.lattice v.digests first
       → AreSurvivorsHonest w.shape w.lattice w.digests (datas ++ object_blocks v.shape t.bytes) after × IsDamagePlain w.shape w.lattice w.digests after
-  honest_of law values stay counts told datas old after cells padded intact honest plain =
+  honest_of law values stay counts revealed datas old after cells padded intact honest plain =
       let lasts : AreLastsHonest v.shape v.lattice v.digests datas first = λ b last is. honest b (last_inside v.lattice b last) is in
-      let more = more_of law values told datas old lasts in
+      let more = more_of law values revealed datas old lasts in
       let grown = grown_to in
       let nodes = grown_to.nodes in
       let long = old.is_data in

@@ -25,14 +25,14 @@ pub grown_same : (l : Lattice) (n : ℕ) → n ≡ l.n → IsGrown l n l
 grown_same l n same = record { shape = record { alpha = refl; s = refl; p = refl }; nodes = sym same; fences = refl }
 
 -- where source, hasher, heads, digests and files stay as they are, no bytes were taken
-pub takes_none : (tells : Type 0) (shape : Shape) (left : Option (List ℕ)) (h : Sha256) (v : Woven) (digests : List (List ℕ)) (files : Files) → Takes tells shape 0 left left h h v v digests digests files files
-takes_none tells shape left h v digests files = record {
+pub takes_none : (reveals : Type 0) (shape : Shape) (left : Option (List ℕ)) (h : Sha256) (v : Woven) (digests : List (List ℕ)) (files : Files) → Takes reveals shape 0 left left h h v v digests digests files files
+takes_none reveals shape left h v digests files = record {
   bytes = [];
   are = λ k d inside. absurd (omega (arith, inside));
   taken = Consumes-nil left;
   long = refl;
   holds = λ m holds. subst (Holds256 h) (sym (append-nil m)) holds;
-  woven = λ l recorded first datas has. subst (λ (d : List (List ℕ)). HasWoven tells shape l recorded first files v d digests) (sym (ap (λ (d : List (List ℕ)). datas ++ d) (no_blocks shape [] refl) ∙ append-nil datas)) has;
+  woven = λ l recorded first datas has. subst (λ (d : List (List ℕ)). HasWoven reveals shape l recorded first files v d digests) (sym (ap (λ (d : List (List ℕ)). datas ++ d) (no_blocks shape [] refl) ∙ append-nil datas)) has;
   grown = grown_same v.lattice (v.lattice.n + nodes_for shape 0) (omega (arith, nodes_none shape 0 refl));
   size = refl;
 }
@@ -65,11 +65,11 @@ nodes_both shape n (suc k) short =
     nodes-push shape.block n (suc k) (omega arith) short ∙ (let z : n + 1 ≡ n + nodes_for shape (suc k) = omega (arith, one) in z)
 
 -- whole blocks, and then a piece
-pub takes_both : (tells : Type 0) (shape : Shape) (n k : ℕ) (left mid rest : Option (List ℕ)) (h i g : Sha256) (v u w : Woven) (digests some more : List (List ℕ)) (old between new : Files)
+pub takes_both : (reveals : Type 0) (shape : Shape) (n k : ℕ) (left mid rest : Option (List ℕ)) (h i g : Sha256) (v u w : Woven) (digests some more : List (List ℕ)) (old between new : Files)
     → k ≤ shape.block
-    → Takes tells shape (n * shape.block) left mid h i v u digests some old between → Takes tells shape k mid rest i g u w some more between new
-    → Takes tells shape (n * shape.block + k) left rest h g v w digests more old new
-takes_both tells shape n k left mid rest h i g v u w digests some more old between new few first second =
+    → Takes reveals shape (n * shape.block) left mid h i v u digests some old between → Takes reveals shape k mid rest i g u w some more between new
+    → Takes reveals shape (n * shape.block + k) left rest h g v w digests more old new
+takes_both reveals shape n k left mid rest h i g v u w digests some more old between new few first second =
     let short : length second.bytes ≤ shape.block = omega (arith, second.long, few) in
     let a = first.grown.nodes in
     let b = second.grown.nodes in
@@ -80,7 +80,7 @@ takes_both tells shape n k left mid rest h i g v u w digests some more old betwe
       long = length-append first.bytes second.bytes ∙ omega (arith, first.long, second.long);
       holds = λ m holds. subst (Holds256 g) (append_assoc m first.bytes second.bytes) (second.holds (m ++ first.bytes) (first.holds m holds));
       woven = λ l recorded start datas has.
-          subst (λ (d : List (List ℕ)). HasWoven tells shape l recorded start new w d more)
+          subst (λ (d : List (List ℕ)). HasWoven reveals shape l recorded start new w d more)
           (append_assoc datas (object_blocks shape first.bytes) (object_blocks shape second.bytes)
           ∙ ap (λ (d : List (List ℕ)). datas ++ d) (sym (blocks_both shape n first.bytes second.bytes first.long short)))
           (second.woven l recorded start (datas ++ object_blocks shape first.bytes) (first.woven l recorded start datas has));
@@ -93,13 +93,13 @@ takes_both tells shape n k left mid rest h i g v u w digests some more old betwe
     }
 
 -- all that a source had, woven after the nodes of an archive
-pub takes_object : (tells : Type 0) (v : Opened) (shape : Shape) → shape ≡ v.shape → (k : ℕ) (left mid rest : Option (List ℕ)) (h g : Sha256) (heads w : Woven) (digests more : List (List ℕ)) (first files after : Files) (digest : List ℕ)
-    → Takes tells shape k left mid h g heads w digests more files after → HasWoven tells v.shape v.lattice v.digests first files heads [] [] → digests ≡ [] → Holds256 h []
+pub takes_object : (reveals : Type 0) (v : Opened) (shape : Shape) → shape ≡ v.shape → (k : ℕ) (left mid rest : Option (List ℕ)) (h g : Sha256) (heads w : Woven) (digests more : List (List ℕ)) (first files after : Files) (digest : List ℕ)
+    → Takes reveals shape k left mid h g heads w digests more files after → HasWoven reveals v.shape v.lattice v.digests first files heads [] [] → digests ≡ [] → Holds256 h []
     → ((m : List ℕ) → Holds256 g m → digest ≡ sha256 m) → heads.lattice ≡ v.lattice → heads.size ≡ v.shape.block → Consumes mid rest []
-    → TakesObject tells v.shape v.lattice v.digests k digest left rest more first after w
-takes_object tells v shape same k left mid rest h g heads w digests more first files after digest took has none holds hashed lattice size stop =
-    let t : Takes tells v.shape k left mid h g heads w digests more files after = subst (λ (s : Shape). Takes tells s k left mid h g heads w digests more files after) same took in
-    let start : HasWoven tells v.shape v.lattice v.digests first files heads [] digests = subst (λ (d : List (List ℕ)). HasWoven tells v.shape v.lattice v.digests first files heads [] d) (sym none) has in
+    → TakesObject reveals v.shape v.lattice v.digests k digest left rest more first after w
+takes_object reveals v shape same k left mid rest h g heads w digests more first files after digest took has none holds hashed lattice size stop =
+    let t : Takes reveals v.shape k left mid h g heads w digests more files after = subst (λ (s : Shape). Takes reveals s k left mid h g heads w digests more files after) same took in
+    let start : HasWoven reveals v.shape v.lattice v.digests first files heads [] digests = subst (λ (d : List (List ℕ)). HasWoven reveals v.shape v.lattice v.digests first files heads [] d) (sym none) has in
     let n : heads.lattice.n ≡ v.lattice.n = ap (λ (l : Lattice). l.n) lattice in
     let nodes = t.grown.nodes in
     record {

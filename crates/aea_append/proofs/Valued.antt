@@ -74,25 +74,25 @@ values_step longer shape l v w datas more digests x weaves wide each alpha is =
     }
 
 -- blocks that are intact by their digests, and those of one node more
-pub intact_step : CellsHaveLengths → CellsHaveParts → (tells : Type 0) (shape : Shape) (before : ℕ) (v w : Woven) (x : List ℕ) (digests : List (List ℕ)) (old new : Files) → w.lattice.n ≡ v.lattice.n + 1 → w.lattice.alpha ≡ shape.alpha → before ≤ v.lattice.n
-    → (tells → (b : BlockId) (digest : List ℕ) → IsBlockOn shape before v.lattice.n b → IsIntact shape b digest old → IsIntact shape b digest new)
-    → (tells → AreLastAtHome shape w x new)
+pub intact_step : CellsHaveLengths → CellsHaveParts → (reveals : Type 0) (shape : Shape) (before : ℕ) (v w : Woven) (x : List ℕ) (digests : List (List ℕ)) (old new : Files) → w.lattice.n ≡ v.lattice.n + 1 → w.lattice.alpha ≡ shape.alpha → before ≤ v.lattice.n
+    → (reveals → (b : BlockId) (digest : List ℕ) → IsBlockOn shape before v.lattice.n b → IsIntact shape b digest old → IsIntact shape b digest new)
+    → (reveals → AreLastAtHome shape w x new)
     → ((c : Class) → class_number c ≤ shape.alpha → length (last_payload w x c) ≡ shape.block)
-    → AreIntactOn tells shape before v.lattice.n digests old → AreIntactOn tells shape before w.lattice.n (digests ++ map (last_digest w x) (Datum ∷ classes w.lattice)) new
-intact_step lengths parts tells shape before v w x digests old new nodes alpha within stays cells wide are =
+    → AreIntactOn reveals shape before v.lattice.n digests old → AreIntactOn reveals shape before w.lattice.n (digests ++ map (last_digest w x) (Datum ∷ classes w.lattice)) new
+intact_step lengths parts reveals shape before v w x digests old new nodes alpha within stays cells wide are =
     let more = map (last_digest w x) (Datum ∷ classes w.lattice) in
     record {
       long = digests-long shape before v w x digests nodes alpha within are.long;
-      each = λ told b on. ⊎_elim
+      each = λ revealed b on. ⊎_elim
           (λ gt.
           let node : b.node ≡ w.lattice.n = (let most = on.most in omega (arith, gt, most, nodes)) in
           let here : IsIntact shape (block_of w.lattice.n b.class) (last_digest w x b.class) new =
-          (stands lengths parts shape (block_of w.lattice.n b.class) (last_digest w x b.class) (last_payload w x b.class) new (wide b.class on.used) refl (cells told b.class on.used)).intact in
+          (stands lengths parts shape (block_of w.lattice.n b.class) (last_digest w x b.class) (last_payload w x b.class) new (wide b.class on.used) refl (cells revealed b.class on.used)).intact in
           subst (λ (d : List ℕ). IsIntact shape b d new) (sym (digest-after shape before v w x digests nodes alpha within are.long b node on.used))
           (subst (λ (i : ℕ). IsIntact shape (block_of i b.class) (last_digest w x b.class) new) (sym node) here))
           (λ le.
           let here : IsBlockOn shape before v.lattice.n b = record { after = on.after; most = le; used = on.used } in
           subst (λ (d : List ℕ). IsIntact shape b d new) (sym (digest-before shape before v w x digests nodes alpha within are.long b here))
-          (stays told b _ here (are.each told b here)))
+          (stays revealed b _ here (are.each revealed b here)))
           (cases_lt v.lattice.n b.node);
     }

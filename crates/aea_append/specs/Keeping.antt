@@ -8,12 +8,12 @@ use Rattle.aea_append.specs.Weaving.{HasWoven}
 -- The heads are those by which the next node of an opened ledger is woven, as if they were loaded now: they are of its lattice and
 -- of its blocks' size, and they go on from its last parities, which have the recorded digests and, where the disk's contents are
 -- known, are at their homes.
-pub record AreLastHeads (tells : Type 0) (v : Opened) (files : Files) (heads : Woven) : Type 0 where
+pub record AreLastHeads (reveals : Type 0) (v : Opened) (files : Files) (heads : Woven) : Type 0 where
   pub lattice : heads.lattice ≡ v.lattice
   pub size : heads.size ≡ v.shape.block
-  pub woven : HasWoven tells v.shape v.lattice v.digests files files heads [] []
+  pub woven : HasWoven reveals v.shape v.lattice v.digests files files heads [] []
 
 -- what is kept: nothing, or these heads
 abbrev pub HasKeptHeads : Type 0 → Opened → Files → Option Woven → Type 0
-HasKeptHeads tells v files None = ⊤
-HasKeptHeads tells v files (Some heads) = AreLastHeads tells v files heads
+HasKeptHeads reveals v files None = ⊤
+HasKeptHeads reveals v files (Some heads) = AreLastHeads reveals v files heads

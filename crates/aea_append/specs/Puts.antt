@@ -31,7 +31,7 @@ abbrev pub AreBlocksWide : Shape → ℕ → ℕ → (BlockId → List ℕ) → 
 AreBlocksWide shape before last payload = (b : BlockId) → IsBlockOn shape before last b → length (payload b) ≡ shape.block
 
 -- The object was stored: with which payloads of its blocks, and by which record.
-pub record HasStored (tells : Type 0) (v w : Opened) (o : NewObject) (old new : State) (stored : Stored) : Type 0 where
+pub record HasStored (reveals : Type 0) (v w : Opened) (o : NewObject) (old new : State) (stored : Stored) : Type 0 where
   -- what is returned to the caller
   pub count : stored.nodes ≡ nodes_for v.shape (length o.bytes)
   pub size : stored.length ≡ length o.bytes
@@ -39,7 +39,7 @@ pub record HasStored (tells : Type 0) (v w : Opened) (o : NewObject) (old new : 
   -- the payloads: of the last parities as they are recorded and are at their homes, of the new blocks as they are woven
   pub payload : BlockId → List ℕ
   pub lasts : AreLastsRecorded v.shape v.lattice v.digests payload
-  pub homes : tells → AreLastsAtHome v.shape v.lattice payload old.files
+  pub homes : reveals → AreLastsAtHome v.shape v.lattice payload old.files
   pub lasts_wide : AreLastsWide v.shape v.lattice payload
   pub wide : AreBlocksWide v.shape v.lattice.n w.lattice.n payload
   pub bytes : AreBytes o.bytes
@@ -49,21 +49,21 @@ pub record HasStored (tells : Type 0) (v w : Opened) (o : NewObject) (old new : 
   pub value : (records : List Record) → HasRecords v records → HasRecords w (records ++ Object r ∷ [])
   pub live : w.live ≡ true
   pub same_shape : w.shape ≡ v.shape
-  pub this_one : tells → IsThisOne w (new.files 0)
+  pub this_one : reveals → IsThisOne w (new.files 0)
   -- the disk: what each image of each moment has, and what is there in the end
-  pub adds : tells → (records : List Record) → AreItsRecords v records (old.files 0) → Adds v.shape records (Object r ∷ []) payload old new
-  pub added : tells → (records : List Record) → AreItsRecords v records (old.files 0) → HasAdded v.shape records (Object r ∷ []) new
+  pub adds : reveals → (records : List Record) → AreItsRecords v records (old.files 0) → Adds v.shape records (Object r ∷ []) payload old new
+  pub added : reveals → (records : List Record) → AreItsRecords v records (old.files 0) → HasAdded v.shape records (Object r ∷ []) new
   -- the ledger's file is the old one, byte for byte, with the body of the record and a closed gate written after its ending
   -- gate, and that gate opened
-  pub exactly : tells → new.files 0 ≡ committed (old.files 0) v.end (body (Object r) ++ 0 ∷ [])
+  pub exactly : reveals → new.files 0 ≡ committed (old.files 0) v.end (body (Object r) ++ 0 ∷ [])
   -- the cells of the new blocks, as the disk reads
-  pub cells : tells → AreAtHome v.shape v.lattice.n w.lattice.n payload new.files
+  pub cells : reveals → AreAtHome v.shape v.lattice.n w.lattice.n payload new.files
   -- each data list that was recorded, and for which the last parities are honest, is recorded with the object's blocks
-  pub records_more : tells → (records : List Record) (datas : List (List ℕ)) → HasRecords v records
+  pub records_more : reveals → (records : List Record) (datas : List (List ℕ)) → HasRecords v records
       → AreRecordsOf v.shape records datas → AreLastsHonest v.shape v.lattice v.digests datas old.files
       → RecordsMore v.shape records (Object r ∷ []) datas (object_blocks v.shape o.bytes) v.lattice w.lattice payload
   -- survivors that are honest, in plain damage, are so afterwards
-  pub honest : tells → (records : List Record) (datas : List (List ℕ)) → HasRecords v records → AreRecordsOf v.shape records datas
+  pub honest : reveals → (records : List Record) (datas : List (List ℕ)) → HasRecords v records → AreRecordsOf v.shape records datas
       → AreSurvivorsHonest v.shape v.lattice v.digests datas old.files → IsDamagePlain v.shape v.lattice v.digests old.files
       → AreSurvivorsHonest w.shape w.lattice w.digests (datas ++ object_blocks v.shape o.bytes) new.files
       × IsDamagePlain w.shape w.lattice w.digests new.files
@@ -87,11 +87,11 @@ IsWanted (Some want) name left rest o = IsCut name want left rest o
 
 -- what was wanted of the source was stored under the name
 abbrev pub HasKept : Type 0 → Opened → Opened → List ℕ → Option ℕ → Option (List ℕ) → Option (List ℕ) → State → State → Stored → Type 0
-HasKept tells v w name want left rest old new stored = (o : NewObject) × IsWanted want name left rest o × HasStored tells v w o old new stored
+HasKept reveals v w name want left rest old new stored = (o : NewObject) × IsWanted want name left rest o × HasStored reveals v w o old new stored
 
 -- all that the source had was stored under the name
 abbrev pub HasPut : Type 0 → Opened → Opened → List ℕ → Option (List ℕ) → Option (List ℕ) → State → State → Stored → Type 0
-HasPut tells v w name left rest old new stored = (o : NewObject) × IsWhole name left rest o × HasStored tells v w o old new stored
+HasPut reveals v w name left rest old new stored = (o : NewObject) × IsWhole name left rest o × HasStored reveals v w o old new stored
 
 -- The disk failed: the archive is the one before, or that with an object of which the fact holds.
 pub record MayHaveStored (v : Opened) (Fits : NewObject → Type 0) (old new : State) : Type 0 where

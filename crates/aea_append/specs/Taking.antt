@@ -17,27 +17,27 @@ use Rattle.aea_append.specs.Weaving.{HasWoven}
 
 -- Bytes of the source were taken, k of them, and woven: the hasher took them too, and whatever had been woven is now woven
 -- with their blocks after it.
-pub record Takes (tells : Type 0) (shape : Shape) (k : ℕ) (left rest : Option (List ℕ)) (h g : Sha256) (v w : Woven) (digests more : List (List ℕ)) (old new : Files) : Type 0 where
+pub record Takes (reveals : Type 0) (shape : Shape) (k : ℕ) (left rest : Option (List ℕ)) (h g : Sha256) (v w : Woven) (digests more : List (List ℕ)) (old new : Files) : Type 0 where
   pub bytes : List ℕ
   pub are : AreBytes bytes
   pub taken : Consumes left rest bytes
   pub long : length bytes ≡ k
   pub holds : (m : List ℕ) → Holds256 h m → Holds256 g (m ++ bytes)
   pub woven : (l : Lattice) (recorded : List (List ℕ)) (first : Files) (datas : List (List ℕ))
-      → HasWoven tells shape l recorded first old v datas digests
-      → HasWoven tells shape l recorded first new w (datas ++ object_blocks shape bytes) more
+      → HasWoven reveals shape l recorded first old v datas digests
+      → HasWoven reveals shape l recorded first new w (datas ++ object_blocks shape bytes) more
   pub grown : IsGrown v.lattice (v.lattice.n + nodes_for shape k) w.lattice
   pub size : w.size ≡ v.size
 
 -- The same of one piece of at most `want` bytes, which has fewer only at the source's end.
-pub record TakesPiece (tells : Type 0) (shape : Shape) (want k : ℕ) (left rest : Option (List ℕ)) (h g : Sha256) (v w : Woven) (digests more : List (List ℕ)) (old new : Files) : Type 0 where
-  pub takes : Takes tells shape k left rest h g v w digests more old new
+pub record TakesPiece (reveals : Type 0) (shape : Shape) (want k : ℕ) (left rest : Option (List ℕ)) (h g : Sha256) (v w : Woven) (digests more : List (List ℕ)) (old new : Files) : Type 0 where
+  pub takes : Takes reveals shape k left rest h g v w digests more old new
   pub most : k ≤ want
   pub end : k < want → IsAtEnd rest
 
 -- Bytes of the source were taken and woven after the nodes of a lattice: so many bytes, with this digest, and these
 -- digests of the new blocks. The heads are those after the last of them.
-pub record TakesObject (tells : Type 0) (shape : Shape) (l : Lattice) (recorded : List (List ℕ)) (k : ℕ) (digest : List ℕ) (left rest : Option (List ℕ)) (digests : List (List ℕ)) (first files : Files) (heads : Woven) : Type 0 where
+pub record TakesObject (reveals : Type 0) (shape : Shape) (l : Lattice) (recorded : List (List ℕ)) (k : ℕ) (digest : List ℕ) (left rest : Option (List ℕ)) (digests : List (List ℕ)) (first files : Files) (heads : Woven) : Type 0 where
   pub bytes : List ℕ
   pub are : AreBytes bytes
   pub taken : Consumes left rest bytes
@@ -45,7 +45,7 @@ pub record TakesObject (tells : Type 0) (shape : Shape) (l : Lattice) (recorded 
   pub digest_is : digest ≡ sha256 bytes
   pub size : heads.size ≡ shape.block
   pub nodes : heads.lattice.n ≡ l.n + nodes_for shape k
-  pub woven : HasWoven tells shape l recorded first files heads (object_blocks shape bytes) digests
+  pub woven : HasWoven reveals shape l recorded first files heads (object_blocks shape bytes) digests
 
 -- how many bytes the nodes that are left can hold
 abbrev pub room_left : Opened → ℕ

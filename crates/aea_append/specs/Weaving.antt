@@ -51,11 +51,11 @@ AreHeads v payload =
     → head_of v c strand ≡ head_by v.size payload c (last_open v.lattice c strand)
 
 -- Nodes were woven after those of a lattice, of these data blocks: with which payloads, and with which digests.
-pub record HasWoven (tells : Type 0) (shape : Shape) (l : Lattice) (recorded : List (List ℕ)) (first files : Files) (v : Woven) (datas digests : List (List ℕ)) : Type 0 where
+pub record HasWoven (reveals : Type 0) (shape : Shape) (l : Lattice) (recorded : List (List ℕ)) (first files : Files) (v : Woven) (datas digests : List (List ℕ)) : Type 0 where
   pub payload : BlockId → List ℕ
   -- the last parities of the lattice have the recorded digests and, where the disk's contents are known, were at their homes
   pub lasts : AreLastsRecorded shape l recorded payload
-  pub homes : tells → AreLastsAtHome shape l payload first
+  pub homes : reveals → AreLastsAtHome shape l payload first
   pub lasts_wide : (b : BlockId) → IsLastParity l b → length (payload b) ≡ shape.block
   pub grown : IsGrown l (l.n + length datas) v.lattice
   pub heads : AreHeads v payload
@@ -63,7 +63,7 @@ pub record HasWoven (tells : Type 0) (shape : Shape) (l : Lattice) (recorded : L
   pub woven : IsWovenAfter v.lattice l.n payload
   pub digests_are : AreDigestsOn shape l.n v.lattice.n payload digests
   -- the cells of the new blocks are at their homes
-  pub cells : tells → AreAtHome shape l.n v.lattice.n payload files
+  pub cells : reveals → AreAtHome shape l.n v.lattice.n payload files
   pub wide : (b : BlockId) → IsBlockOn shape l.n v.lattice.n b → length (payload b) ≡ shape.block
 
 -- Nodes were woven after those of a lattice of these data, of these further blocks: the heads are the strand sums of all data,
@@ -80,9 +80,9 @@ IsIntactAmong shape before digests c b = IsIntact shape b (slice_index_or digest
 
 -- There is a digest for each block of the nodes after `before` up to `last` and, where the disk's contents are known, each of
 -- these blocks is intact by its own.
-pub record AreIntactOn (tells : Type 0) (shape : Shape) (before last : ℕ) (digests : List (List ℕ)) (c : Files) : Type 0 where
+pub record AreIntactOn (reveals : Type 0) (shape : Shape) (before last : ℕ) (digests : List (List ℕ)) (c : Files) : Type 0 where
   pub long : length digests ≡ (last - before) * (1 + shape.alpha)
-  pub each : tells → (b : BlockId) → IsBlockOn shape before last b → IsIntactAmong shape before digests c b
+  pub each : reveals → (b : BlockId) → IsBlockOn shape before last b → IsIntactAmong shape before digests c b
 
 -- the fault is of the disk, or of memory
 abbrev pub IsStopping : PutFault → Type 0

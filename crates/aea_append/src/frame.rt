@@ -63,7 +63,7 @@ pub(crate) fn read_head<S: Source>(
 ) -> Result<Head, ReadFault>
     requires buffer { length buffer.old ≡ 263 }
     requires count { at.old ≤ 2 ^ 63 }
-    ensures told { (stream : List ℕ) → (S.state source.old).left ≡ Some stream → IfOk result (λ head. IsHeadOf stream head buffer.new) }
+    ensures revealed { (stream : List ℕ) → (S.state source.old).left ≡ Some stream → IfOk result (λ head. IsHeadOf stream head buffer.new) }
     ensures end { result ≡ Ok Head.End → IsAtEnd (S.state source.old).left × (at.new ≡ at.old) }
     ensures ended { result ≡ Ok Head.End → IsAtEnd (S.state source.new).left }
     ensures cut { result ≡ Ok Head.Cut → IsAtEnd (S.state source.new).left }

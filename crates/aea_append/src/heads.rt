@@ -40,14 +40,14 @@ pub(crate) fn ready_heads<D: Disk>(
     cell: &mut [u8],
 ) -> Result<Heads, HeadFault>
     requires buffer { length cell.old ≡ cell_size ledger.now.shape }
-    ensures woven { IfOk result (λ heads. HasWoven D.tells ledger.now.shape ledger.now.lattice ledger.now.digests (D.state disk.old).files (D.state disk.new).files heads [] []) }
+    ensures woven { IfOk result (λ heads. HasWoven D.reveals ledger.now.shape ledger.now.lattice ledger.now.digests (D.state disk.old).files (D.state disk.new).files heads [] []) }
     ensures lattice { IfOk result (λ heads. heads.lattice ≡ ledger.now.lattice) }
     ensures size { IfOk result (λ heads. heads.size ≡ ledger.now.shape.block) }
-    ensures intact { OnOk result (D.tells → AreLastsIntact ledger.now.shape ledger.now.lattice ledger.now.digests (D.state disk.old).files) }
-    ensures head { (b : BlockId) → result ≡ Err (HeadFault.HeadDamaged b) → IsLastParity ledger.now.lattice b × (D.tells → IsFirstDamagedLast ledger.now.shape ledger.now.lattice ledger.now.digests (D.state disk.old).files b) }
+    ensures intact { OnOk result (D.reveals → AreLastsIntact ledger.now.shape ledger.now.lattice ledger.now.digests (D.state disk.old).files) }
+    ensures head { (b : BlockId) → result ≡ Err (HeadFault.HeadDamaged b) → IsLastParity ledger.now.lattice b × (D.reveals → IsFirstDamagedLast ledger.now.shape ledger.now.lattice ledger.now.digests (D.state disk.old).files b) }
     ensures memory { result ≡ Err HeadFault.NoMemory → disk.new ≡ disk.old }
     ensures earlier { HasEarlier (D.state disk.old) (D.state disk.new) }
-    ensures reads { OnlyReads D.tells (result ≡ Err HeadFault.DiskFault) (D.state disk.old) (D.state disk.new) }
+    ensures reads { OnlyReads D.reveals (result ≡ Err HeadFault.DiskFault) (D.state disk.old) (D.state disk.new) }
 {
     let size = ledger.shape().block() as usize;
     let mut heads = match Heads::new(alloc, &ledger.lattice(), size) {
@@ -69,16 +69,16 @@ pub(crate) fn next_heads<D: Disk>(
     kept: Option<Heads>,
     cell: &mut [u8],
 ) -> Result<Heads, HeadFault>
-    requires kept { HasKeptHeads D.tells ledger.now (D.state disk.old).files kept }
+    requires kept { HasKeptHeads D.reveals ledger.now (D.state disk.old).files kept }
     requires buffer { length cell.old ≡ cell_size ledger.now.shape }
-    ensures woven { IfOk result (λ heads. HasWoven D.tells ledger.now.shape ledger.now.lattice ledger.now.digests (D.state disk.old).files (D.state disk.new).files heads [] []) }
+    ensures woven { IfOk result (λ heads. HasWoven D.reveals ledger.now.shape ledger.now.lattice ledger.now.digests (D.state disk.old).files (D.state disk.new).files heads [] []) }
     ensures lattice { IfOk result (λ heads. heads.lattice ≡ ledger.now.lattice) }
     ensures size { IfOk result (λ heads. heads.size ≡ ledger.now.shape.block) }
-    ensures intact { OnOk result (D.tells → AreLastsIntact ledger.now.shape ledger.now.lattice ledger.now.digests (D.state disk.old).files) }
-    ensures head { (b : BlockId) → result ≡ Err (HeadFault.HeadDamaged b) → IsLastParity ledger.now.lattice b × (D.tells → IsFirstDamagedLast ledger.now.shape ledger.now.lattice ledger.now.digests (D.state disk.old).files b) }
+    ensures intact { OnOk result (D.reveals → AreLastsIntact ledger.now.shape ledger.now.lattice ledger.now.digests (D.state disk.old).files) }
+    ensures head { (b : BlockId) → result ≡ Err (HeadFault.HeadDamaged b) → IsLastParity ledger.now.lattice b × (D.reveals → IsFirstDamagedLast ledger.now.shape ledger.now.lattice ledger.now.digests (D.state disk.old).files b) }
     ensures memory { result ≡ Err HeadFault.NoMemory → disk.new ≡ disk.old }
     ensures earlier { HasEarlier (D.state disk.old) (D.state disk.new) }
-    ensures reads { OnlyReads D.tells (result ≡ Err HeadFault.DiskFault) (D.state disk.old) (D.state disk.new) }
+    ensures reads { OnlyReads D.reveals (result ≡ Err HeadFault.DiskFault) (D.state disk.old) (D.state disk.new) }
     ensures unread { IsSome kept → IsOk result × (disk.new ≡ disk.old) }
 {
     cells_have_lengths();
@@ -97,23 +97,23 @@ pub fn load_heads<D: Disk>(alloc: Global, ledger: &Ledger, disk: &mut D) -> Resu
     ensures size { IfOk result (λ heads. heads.size ≡ ledger.now.shape.block) }
 
     // They go on from the last parities; of each data list for which these are honest they are the strand sums.
-    ensures woven { IfOk result (λ heads. HasWoven D.tells ledger.now.shape ledger.now.lattice ledger.now.digests (D.state disk.old).files (D.state disk.new).files heads [] []) }
-    ensures values { IfOk result (λ heads. D.tells → (datas : List (List ℕ)) → IsDataList ledger.now.lattice ledger.now.shape.block datas
+    ensures woven { IfOk result (λ heads. HasWoven D.reveals ledger.now.shape ledger.now.lattice ledger.now.digests (D.state disk.old).files (D.state disk.new).files heads [] []) }
+    ensures values { IfOk result (λ heads. D.reveals → (datas : List (List ℕ)) → IsDataList ledger.now.lattice ledger.now.shape.block datas
         → AreLastsHonest ledger.now.shape ledger.now.lattice ledger.now.digests datas (D.state disk.old).files
         → IsWovenOf ledger.now.shape ledger.now.lattice heads datas [] []) }
-    ensures intact { OnOk result (D.tells → AreLastsIntact ledger.now.shape ledger.now.lattice ledger.now.digests (D.state disk.old).files) }
+    ensures intact { OnOk result (D.reveals → AreLastsIntact ledger.now.shape ledger.now.lattice ledger.now.digests (D.state disk.old).files) }
 
     // A last parity that is damaged.
-    ensures head { (b : BlockId) → result ≡ Err (HeadFault.HeadDamaged b) → IsLastParity ledger.now.lattice b × (D.tells → IsFirstDamagedLast ledger.now.shape ledger.now.lattice ledger.now.digests (D.state disk.old).files b) }
-    ensures head_refused { D.tells → (a : BlockId) → IsDamagedLast ledger.now.shape ledger.now.lattice ledger.now.digests (D.state disk.old).files a
+    ensures head { (b : BlockId) → result ≡ Err (HeadFault.HeadDamaged b) → IsLastParity ledger.now.lattice b × (D.reveals → IsFirstDamagedLast ledger.now.shape ledger.now.lattice ledger.now.digests (D.state disk.old).files b) }
+    ensures head_refused { D.reveals → (a : BlockId) → IsDamagedLast ledger.now.shape ledger.now.lattice ledger.now.digests (D.state disk.old).files a
         → ((b : BlockId) × (result ≡ Err (HeadFault.HeadDamaged b))) ⊎ ((result ≡ Err HeadFault.DiskFault) ⊎ (result ≡ Err HeadFault.NoMemory)) }
-    ensures complete { D.tells → AreLastsIntact ledger.now.shape ledger.now.lattice ledger.now.digests (D.state disk.old).files → (Rose (D.state disk.old).faults (D.state disk.new).faults → ⊥)
+    ensures complete { D.reveals → AreLastsIntact ledger.now.shape ledger.now.lattice ledger.now.digests (D.state disk.old).files → (Rose (D.state disk.old).faults (D.state disk.new).faults → ⊥)
         → IsOk result ⊎ (result ≡ Err HeadFault.NoMemory) }
 
     // The disk is only read, and not at all where there is no memory.
     ensures memory { result ≡ Err HeadFault.NoMemory → disk.new ≡ disk.old }
     ensures earlier { HasEarlier (D.state disk.old) (D.state disk.new) }
-    ensures reads { OnlyReads D.tells (result ≡ Err HeadFault.DiskFault) (D.state disk.old) (D.state disk.new) }
+    ensures reads { OnlyReads D.reveals (result ≡ Err HeadFault.DiskFault) (D.state disk.old) (D.state disk.new) }
 {
     lasts_are_values();
     last_parities_are_sums();

@@ -116,18 +116,18 @@ fn store_frame<D: Disk, S: Source>(
     kept: &mut Option<Heads>,
 ) -> Result<Ingest, IngestFault>
     requires live { ledger.old.live ≡ true }
-    requires this { D.tells → IsThisOne ledger.old ((D.state disk.old).files 0) }
-    requires fixed { D.tells → IsFixed (D.state disk.old) 0 }
+    requires this { D.reveals → IsThisOne ledger.old ((D.state disk.old).files 0) }
+    requires fixed { D.reveals → IsFixed (D.state disk.old) 0 }
     requires count { at.old ≤ 2 ^ 63 + 265 }
-    requires kept { HasKeptHeads D.tells ledger.old (D.state disk.old).files kept.old }
+    requires kept { HasKeptHeads D.reveals ledger.old (D.state disk.old).files kept.old }
 
     // Stored.
-    ensures stored { (text : List ℕ) (stored : Stored) → result ≡ Ok (Ingest.Stored text stored) → (text ≡ name.now) × HasKept D.tells ledger.old ledger.new name.now (Some size) (S.state source.old).left (S.state source.new).left (D.state disk.old) (D.state disk.new) stored }
+    ensures stored { (text : List ℕ) (stored : Stored) → result ≡ Ok (Ingest.Stored text stored) → (text ≡ name.now) × HasKept D.reveals ledger.old ledger.new name.now (Some size) (S.state source.old).left (S.state source.new).left (D.state disk.old) (D.state disk.new) stored }
     ensures exact { (text : List ℕ) (stored : Stored) → result ≡ Ok (Ingest.Stored text stored) → at.new ≡ at.old + stored.length }
     ensures kind { result ≢ Ok Ingest.End }
 
     // The heads that are kept go on from the ledger, and where they were kept no last parity is found damaged.
-    ensures kept { HasKeptHeads D.tells ledger.new (D.state disk.new).files kept.new }
+    ensures kept { HasKeptHeads D.reveals ledger.new (D.state disk.new).files kept.new }
     ensures keeps { (text : List ℕ) (stored : Stored) → result ≡ Ok (Ingest.Stored text stored) → IsSome kept.new }
     ensures still { IsEarlyFault result → kept.new ≡ kept.old }
     ensures unread { (b : BlockId) → IsSome kept.old → result ≢ Err (IngestFault.HeadDamaged b) }
@@ -141,23 +141,23 @@ fn store_frame<D: Disk, S: Source>(
     ensures by_head { IsByHead result → (source.new ≡ source.old) × (at.new ≡ at.old) }
 
     // A last parity that is damaged.
-    ensures head { (b : BlockId) → result ≡ Err (IngestFault.HeadDamaged b) → IsLastParity ledger.old.lattice b × (D.tells → IsFirstDamagedLast ledger.old.shape ledger.old.lattice ledger.old.digests (D.state disk.old).files b) }
-    ensures head_leaves { (b : BlockId) → result ≡ Err (IngestFault.HeadDamaged b) → OnlyReads D.tells ⊥ (D.state disk.old) (D.state disk.new) }
+    ensures head { (b : BlockId) → result ≡ Err (IngestFault.HeadDamaged b) → IsLastParity ledger.old.lattice b × (D.reveals → IsFirstDamagedLast ledger.old.shape ledger.old.lattice ledger.old.digests (D.state disk.old).files b) }
+    ensures head_leaves { (b : BlockId) → result ≡ Err (IngestFault.HeadDamaged b) → OnlyReads D.reveals ⊥ (D.state disk.old) (D.state disk.new) }
     ensures head_enters { (b : BlockId) → result ≡ Err (IngestFault.HeadDamaged b) → MayEnter ledger.old name.now }
-    ensures head_refused { D.tells → MayEnter ledger.old name.now → (a : BlockId) → IsDamagedLast ledger.old.shape ledger.old.lattice ledger.old.digests (D.state disk.old).files a → IsHeadFault result }
+    ensures head_refused { D.reveals → MayEnter ledger.old name.now → (a : BlockId) → IsDamagedLast ledger.old.shape ledger.old.lattice ledger.old.digests (D.state disk.old).files a → IsHeadFault result }
 
     // More bytes than there are nodes for.
-    ensures full { (nodes : ℕ) → result ≡ Err (IngestFault.Full nodes) → (nodes ≡ ledger.old.lattice.n) × MayEnter ledger.old name.now × (limit_when ledger.old.raised < ledger.old.lattice.n + nodes_for ledger.old.shape size) × (D.tells → AreLastsIntact ledger.old.shape ledger.old.lattice ledger.old.digests (D.state disk.old).files) }
+    ensures full { (nodes : ℕ) → result ≡ Err (IngestFault.Full nodes) → (nodes ≡ ledger.old.lattice.n) × MayEnter ledger.old name.now × (limit_when ledger.old.raised < ledger.old.lattice.n + nodes_for ledger.old.shape size) × (D.reveals → AreLastsIntact ledger.old.shape ledger.old.lattice ledger.old.digests (D.state disk.old).files) }
     ensures full_refused { MayEnter ledger.old name.now → limit_when ledger.old.raised < ledger.old.lattice.n + nodes_for ledger.old.shape size → (result ≡ Err (IngestFault.Full ledger.old.lattice.n)) ⊎ IsHeadFault result }
 
     // The stream ends inside the object's bytes.
     ensures bad_stream { (n : ℕ) → result ≡ Err (IngestFault.BadStream n) → (n ≡ at.new) × MayEnter ledger.old name.now × (ledger.old.lattice.n + nodes_for ledger.old.shape size ≤ limit_when ledger.old.raised) × HasEnded (Some size) (S.state source.old).left (S.state source.new).left }
-    ensures bad_stream_intact { (n : ℕ) → result ≡ Err (IngestFault.BadStream n) → D.tells → AreLastsIntact ledger.old.shape ledger.old.lattice ledger.old.digests (D.state disk.old).files }
+    ensures bad_stream_intact { (n : ℕ) → result ≡ Err (IngestFault.BadStream n) → D.reveals → AreLastsIntact ledger.old.shape ledger.old.lattice ledger.old.digests (D.state disk.old).files }
     ensures bad_stream_refused { (bytes : List ℕ) → (S.state source.old).left ≡ Some bytes → MayEnter ledger.old name.now → ledger.old.lattice.n + nodes_for ledger.old.shape size ≤ limit_when ledger.old.raised → length bytes < size
         → (result ≡ Err (IngestFault.BadStream at.new)) ⊎ IsReadOrHeadFault result }
 
     // Where no reason for refusal holds and no count of faults rises, it is stored, unless memory runs out.
-    ensures complete { D.tells → (bytes : List ℕ) → (S.state source.old).left ≡ Some bytes → MayEnter ledger.old name.now → size ≤ length bytes
+    ensures complete { D.reveals → (bytes : List ℕ) → (S.state source.old).left ≡ Some bytes → MayEnter ledger.old name.now → size ≤ length bytes
         → AreLastsIntact ledger.old.shape ledger.old.lattice ledger.old.digests (D.state disk.old).files
         → ledger.old.lattice.n + nodes_for ledger.old.shape size ≤ limit_when ledger.old.raised
         → (Rose (D.state disk.old).faults (D.state disk.new).faults → ⊥) → (Rose (S.state source.old).faults (S.state source.new).faults → ⊥)
@@ -165,14 +165,14 @@ fn store_frame<D: Disk, S: Source>(
 
     // What holds after each other result.
     ensures refused { result ≢ Err IngestFault.DiskFault → ((text : List ℕ) (stored : Stored) → result ≢ Ok (Ingest.Stored text stored)) → ledger.new ≡ ledger.old }
-    ensures refused_leaves { result ≢ Err IngestFault.DiskFault → ((text : List ℕ) (stored : Stored) → result ≢ Ok (Ingest.Stored text stored)) → D.tells → LeavesLedger (D.state disk.old) (D.state disk.new) }
+    ensures refused_leaves { result ≢ Err IngestFault.DiskFault → ((text : List ℕ) (stored : Stored) → result ≢ Ok (Ingest.Stored text stored)) → D.reveals → LeavesLedger (D.state disk.old) (D.state disk.new) }
     ensures dead { result ≡ Err IngestFault.DiskFault → ledger.new ≡ record ledger.old { live = false } }
-    ensures stopped { result ≡ Err IngestFault.DiskFault → D.tells → MayHaveStored ledger.old (IsCut name.now size (S.state source.old).left (S.state source.new).left) (D.state disk.old) (D.state disk.new) }
+    ensures stopped { result ≡ Err IngestFault.DiskFault → D.reveals → MayHaveStored ledger.old (IsCut name.now size (S.state source.old).left (S.state source.new).left) (D.state disk.old) (D.state disk.new) }
 
     // The blocks that the archive had and the other files stay, no site grows past the rows that the archive can have, and
     // when the disk is at fault.
-    ensures writes { OnlyWrites D.tells (IsReady (D.state disk.old)) (HasWantedRoom ledger.old name.now (Some size) (S.state source.old).left (S.state source.new).left (D.state disk.old)) (result ≡ Err IngestFault.DiskFault) (ChangesArchive ledger.old.shape (limit_when ledger.old.raised) (IsBlockIn ledger.old.shape ledger.old.lattice.n) (IsBesides ledger.old.shape)) (D.state disk.old) (D.state disk.new) }
-    ensures padded { result ≢ Err IngestFault.DiskFault → D.tells → KeepsPadded ledger.old.shape (IsBlockIn ledger.old.shape ledger.old.lattice.n) (D.state disk.old).files (D.state disk.new).files }
+    ensures writes { OnlyWrites D.reveals (IsReady (D.state disk.old)) (HasWantedRoom ledger.old name.now (Some size) (S.state source.old).left (S.state source.new).left (D.state disk.old)) (result ≡ Err IngestFault.DiskFault) (ChangesArchive ledger.old.shape (limit_when ledger.old.raised) (IsBlockIn ledger.old.shape ledger.old.lattice.n) (IsBesides ledger.old.shape)) (D.state disk.old) (D.state disk.new) }
+    ensures padded { result ≢ Err IngestFault.DiskFault → D.reveals → KeepsPadded ledger.old.shape (IsBlockIn ledger.old.shape ledger.old.lattice.n) (D.state disk.old).files (D.state disk.new).files }
 
     // How many bytes are taken, and when the source is at fault.
     ensures counted { Counts (S.state source.old).left (S.state source.new).left at.old at.new (min size (room_left ledger.old)) }
@@ -182,7 +182,7 @@ fn store_frame<D: Disk, S: Source>(
     ensures source_still { result ≢ Err IngestFault.ReadFault → (S.state source.new).faults ≡ (S.state source.old).faults }
 
     // No write goes past the gate that ends the new ledger.
-    ensures ledger { (text : List ℕ) (stored : Stored) → result ≡ Ok (Ingest.Stored text stored) → D.tells → length ((D.state disk.new).files 0) ≤ max (length ((D.state disk.old).files 0)) (next_end ledger.old.end (length name.now) (stored.nodes * (1 + ledger.old.shape.alpha)) + 1) }
+    ensures ledger { (text : List ℕ) (stored : Stored) → result ≡ Ok (Ingest.Stored text stored) → D.reveals → length ((D.state disk.new).files 0) ≤ max (length ((D.state disk.old).files 0)) (next_end ledger.old.end (length name.now) (stored.nodes * (1 + ledger.old.shape.alpha)) + 1) }
 {
     records_are_few();
     match may_enter(ledger, name) {
@@ -217,10 +217,10 @@ pub fn ingest_next<D: Disk, S: Source>(
     kept: &mut Option<Heads>,
 ) -> Result<Ingest, IngestFault>
     requires live { ledger.old.live ≡ true }
-    requires this { D.tells → IsThisOne ledger.old ((D.state disk.old).files 0) }
-    requires fixed { D.tells → IsFixed (D.state disk.old) 0 }
+    requires this { D.reveals → IsThisOne ledger.old ((D.state disk.old).files 0) }
+    requires fixed { D.reveals → IsFixed (D.state disk.old) 0 }
     requires count { at.old ≤ 2 ^ 63 }
-    requires kept { HasKeptHeads D.tells ledger.old (D.state disk.old).files kept.old }
+    requires kept { HasKeptHeads D.reveals ledger.old (D.state disk.old).files kept.old }
 
     // The bytes that were taken are counted, and none past the frame is taken; a read fails only before all of the frame is.
     ensures taken { Counts (S.state source.old).left (S.state source.new).left at.old at.new (265 + room_left ledger.old) }
@@ -231,10 +231,10 @@ pub fn ingest_next<D: Disk, S: Source>(
     ensures by_name { (stream : List ℕ) → (S.state source.old).left ≡ Some stream → result ≡ Err IngestFault.BadName → (HasNoName stream → at.new ≡ at.old + 2) × (HasHead stream → at.new ≡ at.old + 10 + name_length stream) }
 
     // Stored.
-    ensures stored { (name : List ℕ) (stored : Stored) → result ≡ Ok (Ingest.Stored name stored) → (o : NewObject) × (o.name ≡ name) × IsFramed (S.state source.old).left (S.state source.new).left o × HasStored D.tells ledger.old ledger.new o (D.state disk.old) (D.state disk.new) stored }
+    ensures stored { (name : List ℕ) (stored : Stored) → result ≡ Ok (Ingest.Stored name stored) → (o : NewObject) × (o.name ≡ name) × IsFramed (S.state source.old).left (S.state source.new).left o × HasStored D.reveals ledger.old ledger.new o (D.state disk.old) (D.state disk.new) stored }
 
     // The heads that are kept go on from the ledger, and where they were kept no last parity is found damaged.
-    ensures kept { HasKeptHeads D.tells ledger.new (D.state disk.new).files kept.new }
+    ensures kept { HasKeptHeads D.reveals ledger.new (D.state disk.new).files kept.new }
     ensures keeps { (name : List ℕ) (stored : Stored) → result ≡ Ok (Ingest.Stored name stored) → IsSome kept.new }
     ensures still { IsEarlyFault result ⊎ (result ≡ Ok Ingest.End) → kept.new ≡ kept.old }
     ensures unread { (b : BlockId) → IsSome kept.old → result ≢ Err (IngestFault.HeadDamaged b) }
@@ -254,37 +254,37 @@ pub fn ingest_next<D: Disk, S: Source>(
     ensures early { IsEarlyFault result → disk.new ≡ disk.old }
 
     // A last parity that is damaged.
-    ensures head { (b : BlockId) → result ≡ Err (IngestFault.HeadDamaged b) → IsLastParity ledger.old.lattice b × (D.tells → IsFirstDamagedLast ledger.old.shape ledger.old.lattice ledger.old.digests (D.state disk.old).files b) }
-    ensures head_leaves { (b : BlockId) → result ≡ Err (IngestFault.HeadDamaged b) → OnlyReads D.tells ⊥ (D.state disk.old) (D.state disk.new) }
-    ensures head_told { (b : BlockId) (stream : List ℕ) → (S.state source.old).left ≡ Some stream → result ≡ Err (IngestFault.HeadDamaged b) → HasEntry ledger.old stream }
-    ensures head_refused { D.tells → (stream : List ℕ) → (S.state source.old).left ≡ Some stream → HasEntry ledger.old stream → (a : BlockId) → IsDamagedLast ledger.old.shape ledger.old.lattice ledger.old.digests (D.state disk.old).files a → IsReadOrHeadFault result }
+    ensures head { (b : BlockId) → result ≡ Err (IngestFault.HeadDamaged b) → IsLastParity ledger.old.lattice b × (D.reveals → IsFirstDamagedLast ledger.old.shape ledger.old.lattice ledger.old.digests (D.state disk.old).files b) }
+    ensures head_leaves { (b : BlockId) → result ≡ Err (IngestFault.HeadDamaged b) → OnlyReads D.reveals ⊥ (D.state disk.old) (D.state disk.new) }
+    ensures head_revealed { (b : BlockId) (stream : List ℕ) → (S.state source.old).left ≡ Some stream → result ≡ Err (IngestFault.HeadDamaged b) → HasEntry ledger.old stream }
+    ensures head_refused { D.reveals → (stream : List ℕ) → (S.state source.old).left ≡ Some stream → HasEntry ledger.old stream → (a : BlockId) → IsDamagedLast ledger.old.shape ledger.old.lattice ledger.old.digests (D.state disk.old).files a → IsReadOrHeadFault result }
 
     // An object that takes more nodes than are left, by the length in the head.
-    ensures full { (nodes : ℕ) → result ≡ Err (IngestFault.Full nodes) → (nodes ≡ ledger.old.lattice.n) × (D.tells → AreLastsIntact ledger.old.shape ledger.old.lattice ledger.old.digests (D.state disk.old).files) }
-    ensures full_told { (nodes : ℕ) (stream : List ℕ) → (S.state source.old).left ≡ Some stream → result ≡ Err (IngestFault.Full nodes) → HasEntry ledger.old stream × IsTooLong ledger.old stream }
+    ensures full { (nodes : ℕ) → result ≡ Err (IngestFault.Full nodes) → (nodes ≡ ledger.old.lattice.n) × (D.reveals → AreLastsIntact ledger.old.shape ledger.old.lattice ledger.old.digests (D.state disk.old).files) }
+    ensures full_revealed { (nodes : ℕ) (stream : List ℕ) → (S.state source.old).left ≡ Some stream → result ≡ Err (IngestFault.Full nodes) → HasEntry ledger.old stream × IsTooLong ledger.old stream }
     ensures full_refused { (stream : List ℕ) → (S.state source.old).left ≡ Some stream → HasEntry ledger.old stream → IsTooLong ledger.old stream → (result ≡ Err (IngestFault.Full ledger.old.lattice.n)) ⊎ IsReadOrHeadFault result }
 
     // A stream that ends inside a frame.
     ensures bad_stream { (n : ℕ) → result ≡ Err (IngestFault.BadStream n) → (n ≡ at.new) × IsAtEnd (S.state source.new).left }
-    ensures bad_stream_told { (n : ℕ) (stream : List ℕ) → (S.state source.old).left ≡ Some stream → result ≡ Err (IngestFault.BadStream n) → EndsInside ledger.old stream }
+    ensures bad_stream_revealed { (n : ℕ) (stream : List ℕ) → (S.state source.old).left ≡ Some stream → result ≡ Err (IngestFault.BadStream n) → EndsInside ledger.old stream }
     ensures bad_stream_refused { (stream : List ℕ) → (S.state source.old).left ≡ Some stream → EndsInside ledger.old stream → (result ≡ Err (IngestFault.BadStream at.new)) ⊎ IsReadOrHeadFault result }
 
     // Where no reason for refusal holds and no count of faults rises, it is stored, unless memory runs out.
-    ensures complete { D.tells → (stream : List ℕ) → (S.state source.old).left ≡ Some stream → HasEntry ledger.old stream → FitsFrame ledger.old stream → frame_length stream ≤ length stream
+    ensures complete { D.reveals → (stream : List ℕ) → (S.state source.old).left ≡ Some stream → HasEntry ledger.old stream → FitsFrame ledger.old stream → frame_length stream ≤ length stream
         → AreLastsIntact ledger.old.shape ledger.old.lattice ledger.old.digests (D.state disk.old).files
         → (Rose (D.state disk.old).faults (D.state disk.new).faults → ⊥) → (Rose (S.state source.old).faults (S.state source.new).faults → ⊥)
         → ((name : List ℕ) × (stored : Stored) × (result ≡ Ok (Ingest.Stored name stored))) ⊎ (result ≡ Err IngestFault.NoMemory) }
 
     // What holds after each other result.
     ensures refused { result ≢ Err IngestFault.DiskFault → ((name : List ℕ) (stored : Stored) → result ≢ Ok (Ingest.Stored name stored)) → ledger.new ≡ ledger.old }
-    ensures refused_leaves { result ≢ Err IngestFault.DiskFault → ((name : List ℕ) (stored : Stored) → result ≢ Ok (Ingest.Stored name stored)) → D.tells → LeavesLedger (D.state disk.old) (D.state disk.new) }
+    ensures refused_leaves { result ≢ Err IngestFault.DiskFault → ((name : List ℕ) (stored : Stored) → result ≢ Ok (Ingest.Stored name stored)) → D.reveals → LeavesLedger (D.state disk.old) (D.state disk.new) }
     ensures dead { result ≡ Err IngestFault.DiskFault → ledger.new ≡ record ledger.old { live = false } }
-    ensures stopped { result ≡ Err IngestFault.DiskFault → D.tells → MayHaveStored ledger.old (IsFramed (S.state source.old).left (S.state source.new).left) (D.state disk.old) (D.state disk.new) }
+    ensures stopped { result ≡ Err IngestFault.DiskFault → D.reveals → MayHaveStored ledger.old (IsFramed (S.state source.old).left (S.state source.new).left) (D.state disk.old) (D.state disk.new) }
 
     // The blocks that the archive had and the other files stay, no site grows past the rows that the archive can have, and
     // when the disk is at fault.
-    ensures writes { OnlyWrites D.tells (IsReady (D.state disk.old)) (HasFrameRoom ledger.old (S.state source.old).left (D.state disk.old)) (result ≡ Err IngestFault.DiskFault) (ChangesArchive ledger.old.shape (limit_when ledger.old.raised) (IsBlockIn ledger.old.shape ledger.old.lattice.n) (IsBesides ledger.old.shape)) (D.state disk.old) (D.state disk.new) }
-    ensures padded { result ≢ Err IngestFault.DiskFault → D.tells → KeepsPadded ledger.old.shape (IsBlockIn ledger.old.shape ledger.old.lattice.n) (D.state disk.old).files (D.state disk.new).files }
+    ensures writes { OnlyWrites D.reveals (IsReady (D.state disk.old)) (HasFrameRoom ledger.old (S.state source.old).left (D.state disk.old)) (result ≡ Err IngestFault.DiskFault) (ChangesArchive ledger.old.shape (limit_when ledger.old.raised) (IsBlockIn ledger.old.shape ledger.old.lattice.n) (IsBesides ledger.old.shape)) (D.state disk.old) (D.state disk.new) }
+    ensures padded { result ≢ Err IngestFault.DiskFault → D.reveals → KeepsPadded ledger.old.shape (IsBlockIn ledger.old.shape ledger.old.lattice.n) (D.state disk.old).files (D.state disk.new).files }
 
     // When the source is at fault.
     ensures source_kept { (S.state source.old).faults ≤ (S.state source.new).faults }
@@ -292,7 +292,7 @@ pub fn ingest_next<D: Disk, S: Source>(
     ensures source_still { result ≢ Err IngestFault.ReadFault → (S.state source.new).faults ≡ (S.state source.old).faults }
 
     // No write goes past the gate that ends the new ledger.
-    ensures ledger { (name : List ℕ) (stored : Stored) → result ≡ Ok (Ingest.Stored name stored) → D.tells → length ((D.state disk.new).files 0) ≤ max (length ((D.state disk.old).files 0)) (next_end ledger.old.end (length name) (stored.nodes * (1 + ledger.old.shape.alpha)) + 1) }
+    ensures ledger { (name : List ℕ) (stored : Stored) → result ≡ Ok (Ingest.Stored name stored) → D.reveals → length ((D.state disk.new).files 0) ≤ max (length ((D.state disk.old).files 0)) (next_end ledger.old.end (length name) (stored.nodes * (1 + ledger.old.shape.alpha)) + 1) }
 {
     let mut buffer = [0; 263];
     match read_head(source, &mut buffer, at) {
@@ -319,8 +319,8 @@ pub fn ingest_one<D: Disk, S: Source>(
     at: &mut u64,
 ) -> Result<Ingest, IngestFault>
     requires live { ledger.old.live ≡ true }
-    requires this { D.tells → IsThisOne ledger.old ((D.state disk.old).files 0) }
-    requires fixed { D.tells → IsFixed (D.state disk.old) 0 }
+    requires this { D.reveals → IsThisOne ledger.old ((D.state disk.old).files 0) }
+    requires fixed { D.reveals → IsFixed (D.state disk.old) 0 }
     requires count { at.old ≤ 2 ^ 63 }
 
     // The bytes that were taken are counted, and none past the frame is taken; a read fails only before all of the frame is.
@@ -332,7 +332,7 @@ pub fn ingest_one<D: Disk, S: Source>(
     ensures by_name { (stream : List ℕ) → (S.state source.old).left ≡ Some stream → result ≡ Err IngestFault.BadName → (HasNoName stream → at.new ≡ at.old + 2) × (HasHead stream → at.new ≡ at.old + 10 + name_length stream) }
 
     // Stored.
-    ensures stored { (name : List ℕ) (stored : Stored) → result ≡ Ok (Ingest.Stored name stored) → (o : NewObject) × (o.name ≡ name) × IsFramed (S.state source.old).left (S.state source.new).left o × HasStored D.tells ledger.old ledger.new o (D.state disk.old) (D.state disk.new) stored }
+    ensures stored { (name : List ℕ) (stored : Stored) → result ≡ Ok (Ingest.Stored name stored) → (o : NewObject) × (o.name ≡ name) × IsFramed (S.state source.old).left (S.state source.new).left o × HasStored D.reveals ledger.old ledger.new o (D.state disk.old) (D.state disk.new) stored }
 
     // The end of the stream.
     ensures end { result ≡ Ok Ingest.End → IsAtEnd (S.state source.old).left × (ledger.new ≡ ledger.old) × (disk.new ≡ disk.old) × (at.new ≡ at.old) }
@@ -349,37 +349,37 @@ pub fn ingest_one<D: Disk, S: Source>(
     ensures early { IsEarlyFault result → disk.new ≡ disk.old }
 
     // A last parity that is damaged.
-    ensures head { (b : BlockId) → result ≡ Err (IngestFault.HeadDamaged b) → IsLastParity ledger.old.lattice b × (D.tells → IsFirstDamagedLast ledger.old.shape ledger.old.lattice ledger.old.digests (D.state disk.old).files b) }
-    ensures head_leaves { (b : BlockId) → result ≡ Err (IngestFault.HeadDamaged b) → OnlyReads D.tells ⊥ (D.state disk.old) (D.state disk.new) }
-    ensures head_told { (b : BlockId) (stream : List ℕ) → (S.state source.old).left ≡ Some stream → result ≡ Err (IngestFault.HeadDamaged b) → HasEntry ledger.old stream }
-    ensures head_refused { D.tells → (stream : List ℕ) → (S.state source.old).left ≡ Some stream → HasEntry ledger.old stream → (a : BlockId) → IsDamagedLast ledger.old.shape ledger.old.lattice ledger.old.digests (D.state disk.old).files a → IsReadOrHeadFault result }
+    ensures head { (b : BlockId) → result ≡ Err (IngestFault.HeadDamaged b) → IsLastParity ledger.old.lattice b × (D.reveals → IsFirstDamagedLast ledger.old.shape ledger.old.lattice ledger.old.digests (D.state disk.old).files b) }
+    ensures head_leaves { (b : BlockId) → result ≡ Err (IngestFault.HeadDamaged b) → OnlyReads D.reveals ⊥ (D.state disk.old) (D.state disk.new) }
+    ensures head_revealed { (b : BlockId) (stream : List ℕ) → (S.state source.old).left ≡ Some stream → result ≡ Err (IngestFault.HeadDamaged b) → HasEntry ledger.old stream }
+    ensures head_refused { D.reveals → (stream : List ℕ) → (S.state source.old).left ≡ Some stream → HasEntry ledger.old stream → (a : BlockId) → IsDamagedLast ledger.old.shape ledger.old.lattice ledger.old.digests (D.state disk.old).files a → IsReadOrHeadFault result }
 
     // An object that takes more nodes than are left, by the length in the head.
-    ensures full { (nodes : ℕ) → result ≡ Err (IngestFault.Full nodes) → (nodes ≡ ledger.old.lattice.n) × (D.tells → AreLastsIntact ledger.old.shape ledger.old.lattice ledger.old.digests (D.state disk.old).files) }
-    ensures full_told { (nodes : ℕ) (stream : List ℕ) → (S.state source.old).left ≡ Some stream → result ≡ Err (IngestFault.Full nodes) → HasEntry ledger.old stream × IsTooLong ledger.old stream }
+    ensures full { (nodes : ℕ) → result ≡ Err (IngestFault.Full nodes) → (nodes ≡ ledger.old.lattice.n) × (D.reveals → AreLastsIntact ledger.old.shape ledger.old.lattice ledger.old.digests (D.state disk.old).files) }
+    ensures full_revealed { (nodes : ℕ) (stream : List ℕ) → (S.state source.old).left ≡ Some stream → result ≡ Err (IngestFault.Full nodes) → HasEntry ledger.old stream × IsTooLong ledger.old stream }
     ensures full_refused { (stream : List ℕ) → (S.state source.old).left ≡ Some stream → HasEntry ledger.old stream → IsTooLong ledger.old stream → (result ≡ Err (IngestFault.Full ledger.old.lattice.n)) ⊎ IsReadOrHeadFault result }
 
     // A stream that ends inside a frame.
     ensures bad_stream { (n : ℕ) → result ≡ Err (IngestFault.BadStream n) → (n ≡ at.new) × IsAtEnd (S.state source.new).left }
-    ensures bad_stream_told { (n : ℕ) (stream : List ℕ) → (S.state source.old).left ≡ Some stream → result ≡ Err (IngestFault.BadStream n) → EndsInside ledger.old stream }
+    ensures bad_stream_revealed { (n : ℕ) (stream : List ℕ) → (S.state source.old).left ≡ Some stream → result ≡ Err (IngestFault.BadStream n) → EndsInside ledger.old stream }
     ensures bad_stream_refused { (stream : List ℕ) → (S.state source.old).left ≡ Some stream → EndsInside ledger.old stream → (result ≡ Err (IngestFault.BadStream at.new)) ⊎ IsReadOrHeadFault result }
 
     // Where no reason for refusal holds and no count of faults rises, it is stored, unless memory runs out.
-    ensures complete { D.tells → (stream : List ℕ) → (S.state source.old).left ≡ Some stream → HasEntry ledger.old stream → FitsFrame ledger.old stream → frame_length stream ≤ length stream
+    ensures complete { D.reveals → (stream : List ℕ) → (S.state source.old).left ≡ Some stream → HasEntry ledger.old stream → FitsFrame ledger.old stream → frame_length stream ≤ length stream
         → AreLastsIntact ledger.old.shape ledger.old.lattice ledger.old.digests (D.state disk.old).files
         → (Rose (D.state disk.old).faults (D.state disk.new).faults → ⊥) → (Rose (S.state source.old).faults (S.state source.new).faults → ⊥)
         → ((name : List ℕ) × (stored : Stored) × (result ≡ Ok (Ingest.Stored name stored))) ⊎ (result ≡ Err IngestFault.NoMemory) }
 
     // What holds after each other result.
     ensures refused { result ≢ Err IngestFault.DiskFault → ((name : List ℕ) (stored : Stored) → result ≢ Ok (Ingest.Stored name stored)) → ledger.new ≡ ledger.old }
-    ensures refused_leaves { result ≢ Err IngestFault.DiskFault → ((name : List ℕ) (stored : Stored) → result ≢ Ok (Ingest.Stored name stored)) → D.tells → LeavesLedger (D.state disk.old) (D.state disk.new) }
+    ensures refused_leaves { result ≢ Err IngestFault.DiskFault → ((name : List ℕ) (stored : Stored) → result ≢ Ok (Ingest.Stored name stored)) → D.reveals → LeavesLedger (D.state disk.old) (D.state disk.new) }
     ensures dead { result ≡ Err IngestFault.DiskFault → ledger.new ≡ record ledger.old { live = false } }
-    ensures stopped { result ≡ Err IngestFault.DiskFault → D.tells → MayHaveStored ledger.old (IsFramed (S.state source.old).left (S.state source.new).left) (D.state disk.old) (D.state disk.new) }
+    ensures stopped { result ≡ Err IngestFault.DiskFault → D.reveals → MayHaveStored ledger.old (IsFramed (S.state source.old).left (S.state source.new).left) (D.state disk.old) (D.state disk.new) }
 
     // The blocks that the archive had and the other files stay, no site grows past the rows that the archive can have, and
     // when the disk is at fault.
-    ensures writes { OnlyWrites D.tells (IsReady (D.state disk.old)) (HasFrameRoom ledger.old (S.state source.old).left (D.state disk.old)) (result ≡ Err IngestFault.DiskFault) (ChangesArchive ledger.old.shape (limit_when ledger.old.raised) (IsBlockIn ledger.old.shape ledger.old.lattice.n) (IsBesides ledger.old.shape)) (D.state disk.old) (D.state disk.new) }
-    ensures padded { result ≢ Err IngestFault.DiskFault → D.tells → KeepsPadded ledger.old.shape (IsBlockIn ledger.old.shape ledger.old.lattice.n) (D.state disk.old).files (D.state disk.new).files }
+    ensures writes { OnlyWrites D.reveals (IsReady (D.state disk.old)) (HasFrameRoom ledger.old (S.state source.old).left (D.state disk.old)) (result ≡ Err IngestFault.DiskFault) (ChangesArchive ledger.old.shape (limit_when ledger.old.raised) (IsBlockIn ledger.old.shape ledger.old.lattice.n) (IsBesides ledger.old.shape)) (D.state disk.old) (D.state disk.new) }
+    ensures padded { result ≢ Err IngestFault.DiskFault → D.reveals → KeepsPadded ledger.old.shape (IsBlockIn ledger.old.shape ledger.old.lattice.n) (D.state disk.old).files (D.state disk.new).files }
 
     // When the source is at fault.
     ensures source_kept { (S.state source.old).faults ≤ (S.state source.new).faults }
@@ -387,7 +387,7 @@ pub fn ingest_one<D: Disk, S: Source>(
     ensures source_still { result ≢ Err IngestFault.ReadFault → (S.state source.new).faults ≡ (S.state source.old).faults }
 
     // No write goes past the gate that ends the new ledger.
-    ensures ledger { (name : List ℕ) (stored : Stored) → result ≡ Ok (Ingest.Stored name stored) → D.tells → length ((D.state disk.new).files 0) ≤ max (length ((D.state disk.old).files 0)) (next_end ledger.old.end (length name) (stored.nodes * (1 + ledger.old.shape.alpha)) + 1) }
+    ensures ledger { (name : List ℕ) (stored : Stored) → result ≡ Ok (Ingest.Stored name stored) → D.reveals → length ((D.state disk.new).files 0) ≤ max (length ((D.state disk.old).files 0)) (next_end ledger.old.end (length name) (stored.nodes * (1 + ledger.old.shape.alpha)) + 1) }
 {
     let mut kept = None;
     ingest_next(alloc, ledger, disk, source, at, &mut kept)

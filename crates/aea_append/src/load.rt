@@ -78,13 +78,13 @@ fn load_strand<D: Disk>(
     requires strand { strand < strands_of ledger.now.lattice class }
     requires zeros { head_of heads.old class strand ≡ replicate ledger.now.shape.block 0 }
     requires buffer { length cell.old ≡ cell_size ledger.now.shape }
-    ensures loaded { IfOk result (λ found. found ≡ None → IsLoaded D.tells ledger.now (D.state disk.old).files class (head_of heads.new class strand) (last_open ledger.now.lattice class strand)) }
-    ensures found { IfOk result (IsFoundOn D.tells ledger.now (D.state disk.old).files class strand) }
+    ensures loaded { IfOk result (λ found. found ≡ None → IsLoaded D.reveals ledger.now (D.state disk.old).files class (head_of heads.new class strand) (last_open ledger.now.lattice class strand)) }
+    ensures found { IfOk result (IsFoundOn D.reveals ledger.now (D.state disk.old).files class strand) }
     ensures lattice { heads.new.lattice ≡ heads.old.lattice }
     ensures size { heads.new.size ≡ heads.old.size }
     ensures others { (c : Class) (other : ℕ) → HasParity ledger.now.lattice c → other < strands_of ledger.now.lattice c → ((c ≡ class) × (other ≡ strand) → ⊥) → head_of heads.new c other ≡ head_of heads.old c other }
     ensures earlier { HasEarlier (D.state disk.old) (D.state disk.new) }
-    ensures reads { OnlyReads D.tells (IsErr result) (D.state disk.old) (D.state disk.new) }
+    ensures reads { OnlyReads D.reveals (IsErr result) (D.state disk.old) (D.state disk.new) }
 {
     let Some(node) = ledger.lattice().last_on(class, strand) else {
         return Ok(None);
@@ -113,9 +113,9 @@ pub(crate) fn load_strands<D: Disk>(
     requires size { heads.old.size ≡ ledger.now.shape.block }
     requires zeros { (c : Class) (strand : ℕ) → HasParity ledger.now.lattice c → strand < strands_of ledger.now.lattice c → head_of heads.old c strand ≡ replicate ledger.now.shape.block 0 }
     requires buffer { length cell.old ≡ cell_size ledger.now.shape }
-    ensures loaded { IfOk result (HasLoaded D.tells ledger.now (D.state disk.old).files heads.new (all_strands ledger.now.lattice)) }
+    ensures loaded { IfOk result (HasLoaded D.reveals ledger.now (D.state disk.old).files heads.new (all_strands ledger.now.lattice)) }
     ensures earlier { HasEarlier (D.state disk.old) (D.state disk.new) }
-    ensures reads { OnlyReads D.tells (IsErr result) (D.state disk.old) (D.state disk.new) }
+    ensures reads { OnlyReads D.reveals (IsErr result) (D.state disk.old) (D.state disk.new) }
 {
     let lattice = ledger.lattice();
     let count = strand_count(&lattice);

@@ -122,8 +122,8 @@ fn take_object<D: Disk, S: Source>(
     requires block { length block.old ≡ ledger.now.shape.block }
     requires buffer { length cell.old ≡ cell_size ledger.now.shape }
     requires count { at.old ≤ 2 ^ 63 + 265 }
-    ensures took { IfOk result (λ t. (first : Files) → HasWoven D.tells ledger.now.shape ledger.now.lattice ledger.now.digests first (D.state disk.old).files heads [] []
-        → TakesObject D.tells ledger.now.shape ledger.now.lattice ledger.now.digests t.length t.digest (S.state source.old).left (S.state source.new).left t.digests.items first (D.state disk.new).files t.heads) }
+    ensures took { IfOk result (λ t. (first : Files) → HasWoven D.reveals ledger.now.shape ledger.now.lattice ledger.now.digests first (D.state disk.old).files heads [] []
+        → TakesObject D.reveals ledger.now.shape ledger.now.lattice ledger.now.digests t.length t.digest (S.state source.old).left (S.state source.new).left t.digests.items first (D.state disk.new).files t.heads) }
     ensures end { OnOk result (want ≡ None → IsAtEnd (S.state source.new).left) }
     ensures cut { IfOk result (λ t. (n : ℕ) → want ≡ Some n → (t.length ≤ n) × (t.length < n → IsAtEnd (S.state source.new).left)) }
     ensures exact { IfOk result (λ t. at.new ≡ at.old + t.length) }
@@ -133,8 +133,8 @@ fn take_object<D: Disk, S: Source>(
     ensures full_leaves { (nodes n : ℕ) → result ≡ Err (PutFault.Full nodes) → want ≡ Some n → (source.new ≡ source.old) × (at.new ≡ at.old) }
     ensures over { (n : ℕ) → want ≡ Some n → room_left ledger.now < n → result ≡ Err (PutFault.Full ledger.now.lattice.n) }
     ensures faults { IfErr result (λ f. ((nodes : ℕ) × (f ≡ PutFault.Full nodes)) ⊎ IsBroken f) }
-    ensures writes { WritesCells D.tells ledger.now.shape (limit_when ledger.now.raised) (IsBlockIn ledger.now.shape ledger.now.lattice.n) (result ≡ Err PutFault.DiskFault) (D.state disk.old) (D.state disk.new) }
-    ensures padded { result ≢ Err PutFault.DiskFault → D.tells → KeepsPadded ledger.now.shape (IsBlockIn ledger.now.shape ledger.now.lattice.n) (D.state disk.old).files (D.state disk.new).files }
+    ensures writes { WritesCells D.reveals ledger.now.shape (limit_when ledger.now.raised) (IsBlockIn ledger.now.shape ledger.now.lattice.n) (result ≡ Err PutFault.DiskFault) (D.state disk.old) (D.state disk.new) }
+    ensures padded { result ≢ Err PutFault.DiskFault → D.reveals → KeepsPadded ledger.now.shape (IsBlockIn ledger.now.shape ledger.now.lattice.n) (D.state disk.old).files (D.state disk.new).files }
     ensures counted { Counts (S.state source.old).left (S.state source.new).left at.old at.new (most_of want (room_left ledger.now)) }
     ensures short { (n : ℕ) → want ≡ Some n → result ≡ Err PutFault.ReadFault → at.new < at.old + n }
     ensures source_kept { (S.state source.old).faults ≤ (S.state source.new).faults }
@@ -195,26 +195,26 @@ pub(crate) fn weave_object<D: Disk, S: Source>(
     at: &mut u64,
 ) -> Result<Taken, PutFault>
     requires count { at.old ≤ 2 ^ 63 + 265 }
-    requires kept { HasKeptHeads D.tells ledger.now (D.state disk.old).files kept }
-    ensures took { IfOk result (λ t. TakesObject D.tells ledger.now.shape ledger.now.lattice ledger.now.digests t.length t.digest (S.state source.old).left (S.state source.new).left t.digests.items (D.state disk.old).files (D.state disk.new).files t.heads) }
+    requires kept { HasKeptHeads D.reveals ledger.now (D.state disk.old).files kept }
+    ensures took { IfOk result (λ t. TakesObject D.reveals ledger.now.shape ledger.now.lattice ledger.now.digests t.length t.digest (S.state source.old).left (S.state source.new).left t.digests.items (D.state disk.old).files (D.state disk.new).files t.heads) }
     ensures end { OnOk result (want ≡ None → IsAtEnd (S.state source.new).left) }
     ensures cut { IfOk result (λ t. (n : ℕ) → want ≡ Some n → (t.length ≤ n) × (t.length < n → IsAtEnd (S.state source.new).left)) }
     ensures exact { IfOk result (λ t. at.new ≡ at.old + t.length) }
     ensures nodes { IfOk result (λ t. t.nodes ≡ nodes_for ledger.now.shape t.length) }
     ensures fits { IfOk result (λ t. ledger.now.lattice.n + t.nodes ≤ limit_when ledger.now.raised) }
-    ensures intact { OnOk result (D.tells → AreLastsIntact ledger.now.shape ledger.now.lattice ledger.now.digests (D.state disk.old).files) }
-    ensures read_intact { result ≡ Err PutFault.ReadFault → D.tells → AreLastsIntact ledger.now.shape ledger.now.lattice ledger.now.digests (D.state disk.old).files }
-    ensures head { (b : BlockId) → result ≡ Err (PutFault.HeadDamaged b) → IsLastParity ledger.now.lattice b × (D.tells → IsFirstDamagedLast ledger.now.shape ledger.now.lattice ledger.now.digests (D.state disk.old).files b) }
-    ensures head_leaves { (b : BlockId) → result ≡ Err (PutFault.HeadDamaged b) → (source.new ≡ source.old) × OnlyReads D.tells ⊥ (D.state disk.old) (D.state disk.new) }
-    ensures head_in_room { D.tells → (a : BlockId) → IsDamagedLast ledger.now.shape ledger.now.lattice ledger.now.digests (D.state disk.old).files a → IsReady (D.state disk.old) → NeverFails (IsRoomy (D.state disk.old)) (result ≢ Err PutFault.DiskFault) (D.state disk.old) (D.state disk.new) }
-    ensures full { (nodes : ℕ) → result ≡ Err (PutFault.Full nodes) → (nodes ≡ ledger.now.lattice.n) × (IsOver ledger.now want (S.state source.old).left (S.state source.new).left × (D.tells → AreLastsIntact ledger.now.shape ledger.now.lattice ledger.now.digests (D.state disk.old).files)) }
+    ensures intact { OnOk result (D.reveals → AreLastsIntact ledger.now.shape ledger.now.lattice ledger.now.digests (D.state disk.old).files) }
+    ensures read_intact { result ≡ Err PutFault.ReadFault → D.reveals → AreLastsIntact ledger.now.shape ledger.now.lattice ledger.now.digests (D.state disk.old).files }
+    ensures head { (b : BlockId) → result ≡ Err (PutFault.HeadDamaged b) → IsLastParity ledger.now.lattice b × (D.reveals → IsFirstDamagedLast ledger.now.shape ledger.now.lattice ledger.now.digests (D.state disk.old).files b) }
+    ensures head_leaves { (b : BlockId) → result ≡ Err (PutFault.HeadDamaged b) → (source.new ≡ source.old) × OnlyReads D.reveals ⊥ (D.state disk.old) (D.state disk.new) }
+    ensures head_in_room { D.reveals → (a : BlockId) → IsDamagedLast ledger.now.shape ledger.now.lattice ledger.now.digests (D.state disk.old).files a → IsReady (D.state disk.old) → NeverFails (IsRoomy (D.state disk.old)) (result ≢ Err PutFault.DiskFault) (D.state disk.old) (D.state disk.new) }
+    ensures full { (nodes : ℕ) → result ≡ Err (PutFault.Full nodes) → (nodes ≡ ledger.now.lattice.n) × (IsOver ledger.now want (S.state source.old).left (S.state source.new).left × (D.reveals → AreLastsIntact ledger.now.shape ledger.now.lattice ledger.now.digests (D.state disk.old).files)) }
     ensures full_leaves { (nodes n : ℕ) → result ≡ Err (PutFault.Full nodes) → want ≡ Some n → (source.new ≡ source.old) × (at.new ≡ at.old) }
     ensures over { (n : ℕ) → want ≡ Some n → room_left ledger.now < n → (result ≡ Err (PutFault.Full ledger.now.lattice.n)) ⊎ IsHeadRefused result }
     ensures unread { (b : BlockId) → IsSome kept → result ≢ Err (PutFault.HeadDamaged b) }
     ensures head_counts { (b : BlockId) → result ≡ Err (PutFault.HeadDamaged b) → at.new ≡ at.old }
     ensures faults { IfErr result (λ f. ((b : BlockId) × (f ≡ PutFault.HeadDamaged b)) ⊎ (((nodes : ℕ) × (f ≡ PutFault.Full nodes)) ⊎ IsBroken f)) }
-    ensures writes { WritesCells D.tells ledger.now.shape (limit_when ledger.now.raised) (IsBlockIn ledger.now.shape ledger.now.lattice.n) (result ≡ Err PutFault.DiskFault) (D.state disk.old) (D.state disk.new) }
-    ensures padded { result ≢ Err PutFault.DiskFault → D.tells → KeepsPadded ledger.now.shape (IsBlockIn ledger.now.shape ledger.now.lattice.n) (D.state disk.old).files (D.state disk.new).files }
+    ensures writes { WritesCells D.reveals ledger.now.shape (limit_when ledger.now.raised) (IsBlockIn ledger.now.shape ledger.now.lattice.n) (result ≡ Err PutFault.DiskFault) (D.state disk.old) (D.state disk.new) }
+    ensures padded { result ≢ Err PutFault.DiskFault → D.reveals → KeepsPadded ledger.now.shape (IsBlockIn ledger.now.shape ledger.now.lattice.n) (D.state disk.old).files (D.state disk.new).files }
     ensures counted { Counts (S.state source.old).left (S.state source.new).left at.old at.new (most_of want (room_left ledger.now)) }
     ensures short { (n : ℕ) → want ≡ Some n → result ≡ Err PutFault.ReadFault → at.new < at.old + n }
     ensures source_kept { (S.state source.old).faults ≤ (S.state source.new).faults }

@@ -41,33 +41,33 @@ pub fn commit_parts<D: Disk>(
     requires fits { ledger.old.lattice.n + count ≤ raised_limit }
     requires parts { IsTrue (are_parts ledger.old.shape size (ledger.old.lattice.n + count) parts.now) }
     requires digests { length digests.now ≡ count * (1 + ledger.old.shape.alpha) }
-    requires this { D.tells → IsThisOne ledger.old ((D.state disk.old).files 0) }
-    requires fixed { D.tells → IsFixed (D.state disk.old) 0 }
+    requires this { D.reveals → IsThisOne ledger.old ((D.state disk.old).files 0) }
+    requires fixed { D.reveals → IsFixed (D.state disk.old) 0 }
 
     // One record more, with the cells that are at their homes.
-    ensures adds { D.tells → (records : List Record) (payload : BlockId → List ℕ) → AreItsRecords ledger.old records ((D.state disk.old).files 0)
+    ensures adds { D.reveals → (records : List Record) (payload : BlockId → List ℕ) → AreItsRecords ledger.old records ((D.state disk.old).files 0)
         → AreAtHome ledger.old.shape ledger.old.lattice.n (ledger.old.lattice.n + count) payload (D.state disk.old).files
         → Adds ledger.old.shape records (Joined (next_stored ledger.old name.now size digest count digests.now) parts.now ∷ []) payload (D.state disk.old) (D.state disk.new) }
-    ensures appended { OnOk result (D.tells → (records : List Record) → AreItsRecords ledger.old records ((D.state disk.old).files 0) → HasLedger ledger.old.shape (records ++ Joined (next_stored ledger.old name.now size digest count digests.now) parts.now ∷ []) ((D.state disk.new).files 0)) }
-    ensures exactly { OnOk result (D.tells → (D.state disk.new).files 0 ≡ committed ((D.state disk.old).files 0) ledger.old.end (body (Joined (next_stored ledger.old name.now size digest count digests.now) parts.now) ++ 0 ∷ [])) }
+    ensures appended { OnOk result (D.reveals → (records : List Record) → AreItsRecords ledger.old records ((D.state disk.old).files 0) → HasLedger ledger.old.shape (records ++ Joined (next_stored ledger.old name.now size digest count digests.now) parts.now ∷ []) ((D.state disk.new).files 0)) }
+    ensures exactly { OnOk result (D.reveals → (D.state disk.new).files 0 ≡ committed ((D.state disk.old).files 0) ledger.old.end (body (Joined (next_stored ledger.old name.now size digest count digests.now) parts.now) ++ 0 ∷ [])) }
     ensures value { OnOk result ((records : List Record) → HasRecords ledger.old records → HasRecords ledger.new (records ++ Joined (next_stored ledger.old name.now size digest count digests.now) parts.now ∷ [])) }
     ensures shape { OnOk result (ledger.new.shape ≡ ledger.old.shape) }
     ensures live_on { OnOk result (ledger.new.live ≡ true) }
-    ensures this_one { OnOk result (D.tells → IsThisOne ledger.new ((D.state disk.new).files 0)) }
-    ensures durable { OnOk result (D.tells → IsSynced (D.state disk.new)) }
+    ensures this_one { OnOk result (D.reveals → IsThisOne ledger.new ((D.state disk.new).files 0)) }
+    ensures durable { OnOk result (D.reveals → IsSynced (D.state disk.new)) }
 
     // Refusals, and a fault of the disk.
     ensures full { result ≡ Err AppendFault.CatalogFull → len ledger.old.objects ≡ greatest_objects }
     ensures full_refused { len ledger.old.objects ≡ greatest_objects → (result ≡ Err AppendFault.CatalogFull) ⊎ (result ≡ Err AppendFault.DiskFault) }
-    ensures unchanged { (result ≡ Err AppendFault.CatalogFull) ⊎ (result ≡ Err AppendFault.NoMemory) → (ledger.new ≡ ledger.old) × (KeepsImages (D.state disk.old) (D.state disk.new) × (D.tells → (D.state disk.new).files ≡ (D.state disk.old).files)) }
+    ensures unchanged { (result ≡ Err AppendFault.CatalogFull) ⊎ (result ≡ Err AppendFault.NoMemory) → (ledger.new ≡ ledger.old) × (KeepsImages (D.state disk.old) (D.state disk.new) × (D.reveals → (D.state disk.new).files ≡ (D.state disk.old).files)) }
     ensures dead { result ≡ Err AppendFault.DiskFault → ledger.new ≡ record ledger.old { live = false } }
 
     // How long the record's entry is: a digest has 32 bytes.
     ensures size { length digest ≡ 32 → length (entry (Joined (next_stored ledger.old name.now size digest count digests.now) parts.now)) ≡ 60 + length name.now + 8 * length parts.now + 32 * length digests.now }
 
     // No other file changes, none is written past the gate that ends the new ledger, and when the disk is at fault.
-    ensures long { D.tells → length ((D.state disk.new).files 0) ≤ max (length ((D.state disk.old).files 0)) (ledger.old.end + length (entry (Joined (next_stored ledger.old name.now size digest count digests.now) parts.now)) + 1) }
-    ensures writes { OnlyWrites D.tells (IsReady (D.state disk.old)) (FitsAdding (D.state disk.old) 1 (ledger.old.end + length (entry (Joined (next_stored ledger.old name.now size digest count digests.now) parts.now)))) (result ≡ Err AppendFault.DiskFault) (ChangesOnly 0) (D.state disk.old) (D.state disk.new) }
+    ensures long { D.reveals → length ((D.state disk.new).files 0) ≤ max (length ((D.state disk.old).files 0)) (ledger.old.end + length (entry (Joined (next_stored ledger.old name.now size digest count digests.now) parts.now)) + 1) }
+    ensures writes { OnlyWrites D.reveals (IsReady (D.state disk.old)) (FitsAdding (D.state disk.old) 1 (ledger.old.end + length (entry (Joined (next_stored ledger.old name.now size digest count digests.now) parts.now)))) (result ≡ Err AppendFault.DiskFault) (ChangesOnly 0) (D.state disk.old) (D.state disk.new) }
 {
     ledgers_have_one_reading();
     let Ok(()) = disk.sync() else {

@@ -72,9 +72,9 @@ fn weave_piece<D: Disk, S: Source>(
     requires block { length block.old ≡ shape.now.block }
     requires buffer { length cell.old ≡ cell_size shape.now }
     requires count { at.old + want < 2 ^ 64 }
-    ensures took { IfOk result (λ k. TakesPiece D.tells shape.now want k (S.state source.old).left (S.state source.new).left hasher.old hasher.new heads.old heads.new digests.old.items digests.new.items (D.state disk.old).files (D.state disk.new).files) }
-    ensures writes { (nodes : ℕ) → heads.old.lattice.n + 1 ≤ nodes → WritesCells D.tells shape.now nodes (λ a. a.node ≢ heads.old.lattice.n + 1) (result ≡ Err PutFault.DiskFault) (D.state disk.old) (D.state disk.new) }
-    ensures padded { result ≢ Err PutFault.DiskFault → D.tells → KeepsPadded shape.now (λ a. a.node ≢ heads.old.lattice.n + 1) (D.state disk.old).files (D.state disk.new).files }
+    ensures took { IfOk result (λ k. TakesPiece D.reveals shape.now want k (S.state source.old).left (S.state source.new).left hasher.old hasher.new heads.old heads.new digests.old.items digests.new.items (D.state disk.old).files (D.state disk.new).files) }
+    ensures writes { (nodes : ℕ) → heads.old.lattice.n + 1 ≤ nodes → WritesCells D.reveals shape.now nodes (λ a. a.node ≢ heads.old.lattice.n + 1) (result ≡ Err PutFault.DiskFault) (D.state disk.old) (D.state disk.new) }
+    ensures padded { result ≢ Err PutFault.DiskFault → D.reveals → KeepsPadded shape.now (λ a. a.node ≢ heads.old.lattice.n + 1) (D.state disk.old).files (D.state disk.new).files }
     ensures exact { IfOk result (λ k. at.new ≡ at.old + k) }
     ensures counted { Counts (S.state source.old).left (S.state source.new).left at.old at.new want }
     ensures short { result ≡ Err PutFault.ReadFault → at.new < at.old + want }
@@ -118,11 +118,11 @@ pub(crate) fn weave_all<D: Disk, S: Source>(
     requires block { length block.old ≡ shape.now.block }
     requires buffer { length cell.old ≡ cell_size shape.now }
     requires count { at.old + limit < 2 ^ 64 }
-    ensures took { IfOk result (λ k. Takes D.tells shape.now k (S.state source.old).left (S.state source.new).left hasher.old hasher.new heads.old heads.new digests.old.items digests.new.items (D.state disk.old).files (D.state disk.new).files) }
+    ensures took { IfOk result (λ k. Takes D.reveals shape.now k (S.state source.old).left (S.state source.new).left hasher.old hasher.new heads.old heads.new digests.old.items digests.new.items (D.state disk.old).files (D.state disk.new).files) }
     ensures most { IfOk result (λ k. k ≤ limit) }
     ensures end { IfOk result (λ k. k < limit → IsAtEnd (S.state source.new).left) }
-    ensures writes { (nodes : ℕ) → heads.old.lattice.n + nodes_for shape.now limit ≤ nodes → WritesCells D.tells shape.now nodes (IsBlockIn shape.now heads.old.lattice.n) (result ≡ Err PutFault.DiskFault) (D.state disk.old) (D.state disk.new) }
-    ensures padded { result ≢ Err PutFault.DiskFault → D.tells → KeepsPadded shape.now (IsBlockIn shape.now heads.old.lattice.n) (D.state disk.old).files (D.state disk.new).files }
+    ensures writes { (nodes : ℕ) → heads.old.lattice.n + nodes_for shape.now limit ≤ nodes → WritesCells D.reveals shape.now nodes (IsBlockIn shape.now heads.old.lattice.n) (result ≡ Err PutFault.DiskFault) (D.state disk.old) (D.state disk.new) }
+    ensures padded { result ≢ Err PutFault.DiskFault → D.reveals → KeepsPadded shape.now (IsBlockIn shape.now heads.old.lattice.n) (D.state disk.old).files (D.state disk.new).files }
     ensures exact { IfOk result (λ k. at.new ≡ at.old + k) }
     ensures counted { Counts (S.state source.old).left (S.state source.new).left at.old at.new limit }
     ensures short { result ≡ Err PutFault.ReadFault → at.new < at.old + limit }

@@ -98,26 +98,26 @@ pub(crate) fn put_wanted<D: Disk, S: Source>(
     requires enters { MayEnter ledger.old name.now }
     requires opened { HasSomeRecords ledger.old }
     requires live { ledger.old.live ≡ true }
-    requires this { D.tells → IsThisOne ledger.old ((D.state disk.old).files 0) }
-    requires fixed { D.tells → IsFixed (D.state disk.old) 0 }
+    requires this { D.reveals → IsThisOne ledger.old ((D.state disk.old).files 0) }
+    requires fixed { D.reveals → IsFixed (D.state disk.old) 0 }
     requires count { at.old ≤ 2 ^ 63 + 265 }
-    requires kept { HasKeptHeads D.tells ledger.old (D.state disk.old).files kept.old }
+    requires kept { HasKeptHeads D.reveals ledger.old (D.state disk.old).files kept.old }
 
-    ensures stores { StoresWanted D.tells (source.new ≡ source.old) ledger.old ledger.new name.now want (S.state source.old).left (S.state source.new).left at.old at.new (D.state disk.old) (D.state disk.new) result }
+    ensures stores { StoresWanted D.reveals (source.new ≡ source.old) ledger.old ledger.new name.now want (S.state source.old).left (S.state source.new).left at.old at.new (D.state disk.old) (D.state disk.new) result }
     ensures late { IsEarly result → ⊥ }
     ensures whole { want ≡ None → result ≡ Ok None → ⊥ }
 
     // The heads that are kept go on from the ledger, and where they were kept no last parity is found damaged.
-    ensures kept { HasKeptHeads D.tells ledger.new (D.state disk.new).files kept.new }
+    ensures kept { HasKeptHeads D.reveals ledger.new (D.state disk.new).files kept.new }
     ensures keeps { (stored : Stored) → result ≡ Ok (Some stored) → IsSome kept.new }
     ensures unread { (b : BlockId) → IsSome kept.old → result ≢ Err (PutFault.HeadDamaged b) }
 
     // Where a last parity is damaged, the disk needs space to sync alone.
-    ensures head_in_room { D.tells → (a : BlockId) → IsDamagedLast ledger.old.shape ledger.old.lattice ledger.old.digests (D.state disk.old).files a → IsReady (D.state disk.old) → NeverFails (IsRoomy (D.state disk.old)) (result ≢ Err PutFault.DiskFault) (D.state disk.old) (D.state disk.new) }
+    ensures head_in_room { D.reveals → (a : BlockId) → IsDamagedLast ledger.old.shape ledger.old.lattice ledger.old.digests (D.state disk.old).files a → IsReady (D.state disk.old) → NeverFails (IsRoomy (D.state disk.old)) (result ≢ Err PutFault.DiskFault) (D.state disk.old) (D.state disk.new) }
 
     // The blocks that the archive had and the other files stay, no site grows past the rows that the archive can have, and
     // when the disk is at fault.
-    ensures writes { OnlyWrites D.tells (IsReady (D.state disk.old)) (HasWantedRoom ledger.old name.now want (S.state source.old).left (S.state source.new).left (D.state disk.old)) (result ≡ Err PutFault.DiskFault) (ChangesArchive ledger.old.shape (limit_when ledger.old.raised) (IsBlockIn ledger.old.shape ledger.old.lattice.n) (IsBesides ledger.old.shape)) (D.state disk.old) (D.state disk.new) }
+    ensures writes { OnlyWrites D.reveals (IsReady (D.state disk.old)) (HasWantedRoom ledger.old name.now want (S.state source.old).left (S.state source.new).left (D.state disk.old)) (result ≡ Err PutFault.DiskFault) (ChangesArchive ledger.old.shape (limit_when ledger.old.raised) (IsBlockIn ledger.old.shape ledger.old.lattice.n) (IsBesides ledger.old.shape)) (D.state disk.old) (D.state disk.new) }
 
     // How many bytes are taken, and when the source is at fault.
     ensures counted { Counts (S.state source.old).left (S.state source.new).left at.old at.new (most_of want (room_left ledger.old)) }
@@ -182,11 +182,11 @@ pub fn put<D: Disk, S: Source>(
     source: &mut S,
 ) -> Result<Stored, PutFault>
     requires live { ledger.old.live ≡ true }
-    requires this { D.tells → IsThisOne ledger.old ((D.state disk.old).files 0) }
-    requires fixed { D.tells → IsFixed (D.state disk.old) 0 }
+    requires this { D.reveals → IsThisOne ledger.old ((D.state disk.old).files 0) }
+    requires fixed { D.reveals → IsFixed (D.state disk.old) 0 }
 
     // Stored.
-    ensures stored { IfOk result (HasPut D.tells ledger.old ledger.new name.now (S.state source.old).left (S.state source.new).left (D.state disk.old) (D.state disk.new)) }
+    ensures stored { IfOk result (HasPut D.reveals ledger.old ledger.new name.now (S.state source.old).left (S.state source.new).left (D.state disk.old) (D.state disk.new)) }
 
     // Refusals by the name and the number of objects, before anything is read or written.
     ensures bad_name { (result ≡ Err PutFault.BadName) ↔ (¬ IsName name.now) }
@@ -195,20 +195,20 @@ pub fn put<D: Disk, S: Source>(
     ensures early { IsEarly result → (disk.new ≡ disk.old) × (source.new ≡ source.old) }
 
     // A last parity that is damaged.
-    ensures head { (b : BlockId) → result ≡ Err (PutFault.HeadDamaged b) → IsLastParity ledger.old.lattice b × (D.tells → IsFirstDamagedLast ledger.old.shape ledger.old.lattice ledger.old.digests (D.state disk.old).files b) }
-    ensures head_leaves { (b : BlockId) → result ≡ Err (PutFault.HeadDamaged b) → (source.new ≡ source.old) × OnlyReads D.tells ⊥ (D.state disk.old) (D.state disk.new) }
-    ensures head_refused { D.tells → MayEnter ledger.old name.now → (a : BlockId) → IsDamagedLast ledger.old.shape ledger.old.lattice ledger.old.digests (D.state disk.old).files a → IsHeadRefused result }
+    ensures head { (b : BlockId) → result ≡ Err (PutFault.HeadDamaged b) → IsLastParity ledger.old.lattice b × (D.reveals → IsFirstDamagedLast ledger.old.shape ledger.old.lattice ledger.old.digests (D.state disk.old).files b) }
+    ensures head_leaves { (b : BlockId) → result ≡ Err (PutFault.HeadDamaged b) → (source.new ≡ source.old) × OnlyReads D.reveals ⊥ (D.state disk.old) (D.state disk.new) }
+    ensures head_refused { D.reveals → MayEnter ledger.old name.now → (a : BlockId) → IsDamagedLast ledger.old.shape ledger.old.lattice ledger.old.digests (D.state disk.old).files a → IsHeadRefused result }
 
     // Where a reason holds for a refusal before the source is read, the disk needs space to sync alone.
-    ensures refused_in_room { D.tells → HasEarlyReason ledger.old name.now (D.state disk.old).files → IsReady (D.state disk.old) → NeverFails (IsRoomy (D.state disk.old)) (result ≢ Err PutFault.DiskFault) (D.state disk.old) (D.state disk.new) }
+    ensures refused_in_room { D.reveals → HasEarlyReason ledger.old name.now (D.state disk.old).files → IsReady (D.state disk.old) → NeverFails (IsRoomy (D.state disk.old)) (result ≢ Err PutFault.DiskFault) (D.state disk.old) (D.state disk.new) }
 
     // More bytes than there are nodes for.
-    ensures full { (nodes : ℕ) → result ≡ Err (PutFault.Full nodes) → (nodes ≡ ledger.old.lattice.n) × (HasPassedRoom ledger.old (S.state source.old).left (S.state source.new).left × (D.tells → AreLastsIntact ledger.old.shape ledger.old.lattice ledger.old.digests (D.state disk.old).files)) }
+    ensures full { (nodes : ℕ) → result ≡ Err (PutFault.Full nodes) → (nodes ≡ ledger.old.lattice.n) × (HasPassedRoom ledger.old (S.state source.old).left (S.state source.new).left × (D.reveals → AreLastsIntact ledger.old.shape ledger.old.lattice ledger.old.digests (D.state disk.old).files)) }
     ensures full_refused { (bytes : List ℕ) → (S.state source.old).left ≡ Some bytes → MayEnter ledger.old name.now → limit_when ledger.old.raised < ledger.old.lattice.n + nodes_for ledger.old.shape (length bytes)
         → (result ≡ Err (PutFault.Full ledger.old.lattice.n)) ⊎ ((result ≡ Err PutFault.ReadFault) ⊎ IsHeadRefused result) }
 
     // Where no reason for refusal holds and no count of faults rises, it is stored, unless memory runs out.
-    ensures complete { D.tells → (bytes : List ℕ) → (S.state source.old).left ≡ Some bytes → MayEnter ledger.old name.now
+    ensures complete { D.reveals → (bytes : List ℕ) → (S.state source.old).left ≡ Some bytes → MayEnter ledger.old name.now
         → AreLastsIntact ledger.old.shape ledger.old.lattice ledger.old.digests (D.state disk.old).files
         → ledger.old.lattice.n + nodes_for ledger.old.shape (length bytes) ≤ limit_when ledger.old.raised
         → (Rose (D.state disk.old).faults (D.state disk.new).faults → ⊥) → (Rose (S.state source.old).faults (S.state source.new).faults → ⊥)
@@ -216,14 +216,14 @@ pub fn put<D: Disk, S: Source>(
 
     // What holds after each other result.
     ensures refused { IsErr result → result ≢ Err PutFault.DiskFault → ledger.new ≡ ledger.old }
-    ensures refused_leaves { IsErr result → result ≢ Err PutFault.DiskFault → D.tells → LeavesLedger (D.state disk.old) (D.state disk.new) }
+    ensures refused_leaves { IsErr result → result ≢ Err PutFault.DiskFault → D.reveals → LeavesLedger (D.state disk.old) (D.state disk.new) }
     ensures dead { result ≡ Err PutFault.DiskFault → ledger.new ≡ record ledger.old { live = false } }
-    ensures stopped { result ≡ Err PutFault.DiskFault → D.tells → MayHaveStored ledger.old (IsWhole name.now (S.state source.old).left (S.state source.new).left) (D.state disk.old) (D.state disk.new) }
+    ensures stopped { result ≡ Err PutFault.DiskFault → D.reveals → MayHaveStored ledger.old (IsWhole name.now (S.state source.old).left (S.state source.new).left) (D.state disk.old) (D.state disk.new) }
 
     // The blocks that the archive had and the other files stay, no site grows past the rows that the archive can have, and
     // when the disk is at fault.
-    ensures writes { OnlyWrites D.tells (IsReady (D.state disk.old)) (HasPutRoom ledger.old name.now (S.state source.old).left (S.state source.new).left (D.state disk.old)) (result ≡ Err PutFault.DiskFault) (ChangesArchive ledger.old.shape (limit_when ledger.old.raised) (IsBlockIn ledger.old.shape ledger.old.lattice.n) (IsBesides ledger.old.shape)) (D.state disk.old) (D.state disk.new) }
-    ensures padded { result ≢ Err PutFault.DiskFault → D.tells → KeepsPadded ledger.old.shape (IsBlockIn ledger.old.shape ledger.old.lattice.n) (D.state disk.old).files (D.state disk.new).files }
+    ensures writes { OnlyWrites D.reveals (IsReady (D.state disk.old)) (HasPutRoom ledger.old name.now (S.state source.old).left (S.state source.new).left (D.state disk.old)) (result ≡ Err PutFault.DiskFault) (ChangesArchive ledger.old.shape (limit_when ledger.old.raised) (IsBlockIn ledger.old.shape ledger.old.lattice.n) (IsBesides ledger.old.shape)) (D.state disk.old) (D.state disk.new) }
+    ensures padded { result ≢ Err PutFault.DiskFault → D.reveals → KeepsPadded ledger.old.shape (IsBlockIn ledger.old.shape ledger.old.lattice.n) (D.state disk.old).files (D.state disk.new).files }
 
     // At most one byte past what fits is read, and when the source is at fault.
     ensures reads { TakesAtMost (S.state source.old).left (S.state source.new).left (room_left ledger.old + 1) }
@@ -232,7 +232,7 @@ pub fn put<D: Disk, S: Source>(
     ensures source_still { result ≢ Err PutFault.ReadFault → (S.state source.new).faults ≡ (S.state source.old).faults }
 
     // No write goes past the gate that ends the new ledger.
-    ensures ledger { IfOk result (λ stored. D.tells → length ((D.state disk.new).files 0) ≤ max (length ((D.state disk.old).files 0)) (next_end ledger.old.end (length name.now) (stored.nodes * (1 + ledger.old.shape.alpha)) + 1)) }
+    ensures ledger { IfOk result (λ stored. D.reveals → length ((D.state disk.new).files 0) ≤ max (length ((D.state disk.old).files 0)) (next_end ledger.old.end (length name.now) (stored.nodes * (1 + ledger.old.shape.alpha)) + 1)) }
 {
     match may_enter(ledger, name) {
         Ok(()) => (),

@@ -36,9 +36,9 @@ fn write_block<D: Disk>(
     requires payload { length payload.now ≡ shape.now.block }
     requires buffer { length cell.old ≡ cell_size shape.now }
     ensures digest { OnOk result (digests.new.items ≡ digests.old.items ++ block_digest b payload.now ∷ []) }
-    ensures home { OnOk result (D.tells → HasAtHome shape.now b (cell_of b payload.now) (D.state disk.new).files) }
-    ensures writes { (nodes : ℕ) → b.node ≤ nodes → WritesCells D.tells shape.now nodes (λ a. a ≢ b) (result ≡ Err PutFault.DiskFault) (D.state disk.old) (D.state disk.new) }
-    ensures padded { result ≢ Err PutFault.DiskFault → D.tells → KeepsPadded shape.now (λ a. a ≢ b) (D.state disk.old).files (D.state disk.new).files }
+    ensures home { OnOk result (D.reveals → HasAtHome shape.now b (cell_of b payload.now) (D.state disk.new).files) }
+    ensures writes { (nodes : ℕ) → b.node ≤ nodes → WritesCells D.reveals shape.now nodes (λ a. a ≢ b) (result ≡ Err PutFault.DiskFault) (D.state disk.old) (D.state disk.new) }
+    ensures padded { result ≢ Err PutFault.DiskFault → D.reveals → KeepsPadded shape.now (λ a. a ≢ b) (D.state disk.old).files (D.state disk.new).files }
     ensures faults { IfErr result IsStopping }
 {
     cells_are_apart();
@@ -66,10 +66,10 @@ fn write_parity<D: Disk>(
     requires class { 1 ≤ class_number class }
     requires buffer { length cell.old ≡ cell_size shape.now }
     ensures digest { (datum : List ℕ) → OnOk result (digests.new.items ≡ digests.old.items ++ map (last_digest heads.now datum) (filter (λ c. nat_le (class_number c) heads.now.lattice.alpha) (class ∷ []))) }
-    ensures home { OnOk result (D.tells → class_number class ≤ shape.now.alpha → (datum : List ℕ) → HasAtHome shape.now (block_of heads.now.lattice.n class) (cell_of (block_of heads.now.lattice.n class) (last_payload heads.now datum class)) (D.state disk.new).files) }
+    ensures home { OnOk result (D.reveals → class_number class ≤ shape.now.alpha → (datum : List ℕ) → HasAtHome shape.now (block_of heads.now.lattice.n class) (cell_of (block_of heads.now.lattice.n class) (last_payload heads.now datum class)) (D.state disk.new).files) }
     ensures wide { class_number class ≤ shape.now.alpha → length (head_of heads.now class (strand_of heads.now.lattice class heads.now.lattice.n)) ≡ shape.now.block }
-    ensures writes { (nodes : ℕ) → heads.now.lattice.n ≤ nodes → WritesCells D.tells shape.now nodes (λ a. a ≢ block_of heads.now.lattice.n class) (result ≡ Err PutFault.DiskFault) (D.state disk.old) (D.state disk.new) }
-    ensures padded { result ≢ Err PutFault.DiskFault → D.tells → KeepsPadded shape.now (λ a. a ≢ block_of heads.now.lattice.n class) (D.state disk.old).files (D.state disk.new).files }
+    ensures writes { (nodes : ℕ) → heads.now.lattice.n ≤ nodes → WritesCells D.reveals shape.now nodes (λ a. a ≢ block_of heads.now.lattice.n class) (result ≡ Err PutFault.DiskFault) (D.state disk.old) (D.state disk.new) }
+    ensures padded { result ≢ Err PutFault.DiskFault → D.reveals → KeepsPadded shape.now (λ a. a ≢ block_of heads.now.lattice.n class) (D.state disk.old).files (D.state disk.new).files }
     ensures faults { IfErr result IsStopping }
 {
     if class as u8 > shape.alpha() {
@@ -101,10 +101,10 @@ fn write_node<D: Disk>(
     requires datum { length datum.now ≡ shape.now.block }
     requires buffer { length cell.old ≡ cell_size shape.now }
     ensures digests { OnOk result (digests.new.items ≡ digests.old.items ++ map (last_digest heads.now datum.now) (Class.Datum ∷ classes heads.now.lattice)) }
-    ensures cells { OnOk result (D.tells → AreLastAtHome shape.now heads.now datum.now (D.state disk.new).files) }
+    ensures cells { OnOk result (D.reveals → AreLastAtHome shape.now heads.now datum.now (D.state disk.new).files) }
     ensures wide { OnOk result ((c : Class) → class_number c ≤ shape.now.alpha → length (last_payload heads.now datum.now c) ≡ shape.now.block) }
-    ensures writes { (nodes : ℕ) → heads.now.lattice.n ≤ nodes → WritesCells D.tells shape.now nodes (λ a. a.node ≢ heads.now.lattice.n) (result ≡ Err PutFault.DiskFault) (D.state disk.old) (D.state disk.new) }
-    ensures padded { result ≢ Err PutFault.DiskFault → D.tells → KeepsPadded shape.now (λ a. a.node ≢ heads.now.lattice.n) (D.state disk.old).files (D.state disk.new).files }
+    ensures writes { (nodes : ℕ) → heads.now.lattice.n ≤ nodes → WritesCells D.reveals shape.now nodes (λ a. a.node ≢ heads.now.lattice.n) (result ≡ Err PutFault.DiskFault) (D.state disk.old) (D.state disk.new) }
+    ensures padded { result ≢ Err PutFault.DiskFault → D.reveals → KeepsPadded shape.now (λ a. a.node ≢ heads.now.lattice.n) (D.state disk.old).files (D.state disk.new).files }
     ensures faults { IfErr result IsStopping }
 {
     cells_have_lengths();
@@ -145,19 +145,19 @@ pub fn weave_node<D: Disk>(
     requires datum { length datum.now ≡ shape.now.block }
     requires buffer { length cell.old ≡ cell_size shape.now }
     ensures woven { OnOk result ((l : Lattice) (recorded : List (List ℕ)) (first : Files) (datas : List (List ℕ))
-        → HasWoven D.tells shape.now l recorded first (D.state disk.old).files heads.old datas digests.old.items
-        → HasWoven D.tells shape.now l recorded first (D.state disk.new).files heads.new (datas ++ datum.now ∷ []) digests.new.items) }
+        → HasWoven D.reveals shape.now l recorded first (D.state disk.old).files heads.old datas digests.old.items
+        → HasWoven D.reveals shape.now l recorded first (D.state disk.new).files heads.new (datas ++ datum.now ∷ []) digests.new.items) }
 
     // Of a data list, the heads go on to be its strand sums, and the digests those of its lattice.
     ensures values { OnOk result ((l : Lattice) (datas more : List (List ℕ)) → IsWovenOf shape.now l heads.old datas more digests.old.items → IsWovenOf shape.now l heads.new datas (more ++ datum.now ∷ []) digests.new.items) }
 
     // Blocks that are intact by the digests stay so, and those of the new node are.
-    ensures intact { OnOk result ((before : ℕ) → before ≤ heads.old.lattice.n → AreIntactOn D.tells shape.now before heads.old.lattice.n digests.old.items (D.state disk.old).files
-        → AreIntactOn D.tells shape.now before heads.new.lattice.n digests.new.items (D.state disk.new).files) }
+    ensures intact { OnOk result ((before : ℕ) → before ≤ heads.old.lattice.n → AreIntactOn D.reveals shape.now before heads.old.lattice.n digests.old.items (D.state disk.old).files
+        → AreIntactOn D.reveals shape.now before heads.new.lattice.n digests.new.items (D.state disk.new).files) }
     ensures grown { IsGrown heads.old.lattice (heads.old.lattice.n + 1) heads.new.lattice }
     ensures size { heads.new.size ≡ heads.old.size }
-    ensures writes { (nodes : ℕ) → heads.old.lattice.n + 1 ≤ nodes → WritesCells D.tells shape.now nodes (λ a. a.node ≢ heads.old.lattice.n + 1) (result ≡ Err PutFault.DiskFault) (D.state disk.old) (D.state disk.new) }
-    ensures padded { result ≢ Err PutFault.DiskFault → D.tells → KeepsPadded shape.now (λ a. a.node ≢ heads.old.lattice.n + 1) (D.state disk.old).files (D.state disk.new).files }
+    ensures writes { (nodes : ℕ) → heads.old.lattice.n + 1 ≤ nodes → WritesCells D.reveals shape.now nodes (λ a. a.node ≢ heads.old.lattice.n + 1) (result ≡ Err PutFault.DiskFault) (D.state disk.old) (D.state disk.new) }
+    ensures padded { result ≢ Err PutFault.DiskFault → D.reveals → KeepsPadded shape.now (λ a. a.node ≢ heads.old.lattice.n + 1) (D.state disk.old).files (D.state disk.new).files }
     ensures faults { IfErr result IsStopping }
 {
     cells_have_lengths();

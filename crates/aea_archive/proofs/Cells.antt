@@ -75,29 +75,29 @@ changes_ledger shape nodes blocks c d only = record {
 }
 
 -- what such calls leave of the shelf
-pub changes_shelf : (tells taken fits fault : Type 0) (shape : Shape) (nodes : ℕ) (blocks : BlockId → Type 0) (files : ℕ → Type 0) (old new : State)
-    → OnlyWrites tells taken fits fault (ChangesArchive shape nodes blocks files) old new → KeepsShelf tells shape blocks old new
-changes_shelf tells taken fits fault shape nodes blocks files old new writes = record {
-  homes = λ told. (writes.contents told).homes;
-  intact = λ told. keeps_intact shape blocks old.files new.files (writes.contents told).homes;
+pub changes_shelf : (reveals taken fits fault : Type 0) (shape : Shape) (nodes : ℕ) (blocks : BlockId → Type 0) (files : ℕ → Type 0) (old new : State)
+    → OnlyWrites reveals taken fits fault (ChangesArchive shape nodes blocks files) old new → KeepsShelf reveals shape blocks old new
+changes_shelf reveals taken fits fault shape nodes blocks files old new writes = record {
+  homes = λ revealed. (writes.contents revealed).homes;
+  intact = λ revealed. keeps_intact shape blocks old.files new.files (writes.contents revealed).homes;
   images = λ t c from to here.
       let was = writes.crash t c from to here in
       (was.0, was.1, was.2.homes, keeps_intact shape blocks was.0 c was.2.homes);
 }
 
 -- a file that is to stay, and that every image had as it reads, every image has so at each moment
-pub file_kept : (tells taken fits fault : Type 0) (shape : Shape) (nodes : ℕ) (blocks : BlockId → Type 0) (files : ℕ → Type 0) (old new : State) (f : ℕ) → files f
-    → OnlyWrites tells taken fits fault (ChangesArchive shape nodes blocks files) old new → IsFixed old f → During old new (λ c. c f ≡ old.files f)
-file_kept tells taken fits fault shape nodes blocks files old new f kept writes fixed t c from to here =
+pub file_kept : (reveals taken fits fault : Type 0) (shape : Shape) (nodes : ℕ) (blocks : BlockId → Type 0) (files : ℕ → Type 0) (old new : State) (f : ℕ) → files f
+    → OnlyWrites reveals taken fits fault (ChangesArchive shape nodes blocks files) old new → IsFixed old f → During old new (λ c. c f ≡ old.files f)
+file_kept reveals taken fits fault shape nodes blocks files old new f kept writes fixed t c from to here =
     let was = writes.crash t c from to here in
     was.2.stay f kept ∙ fixed was.0 was.1
 
 -- and nothing is pending on it
-pub fixed_kept : (tells taken fits fault : Type 0) (shape : Shape) (nodes : ℕ) (blocks : BlockId → Type 0) (files : ℕ → Type 0) (old new : State) (f : ℕ) → tells → files f
-    → OnlyWrites tells taken fits fault (ChangesArchive shape nodes blocks files) old new → IsFixed old f → IsFixed new f
-fixed_kept tells taken fits fault shape nodes blocks files old new f told kept writes fixed c here =
-    file_kept tells taken fits fault shape nodes blocks files old new f kept writes fixed new.moment c writes.time.later (omega arith) here
-    ∙ sym ((writes.contents told).stay f kept)
+pub fixed_kept : (reveals taken fits fault : Type 0) (shape : Shape) (nodes : ℕ) (blocks : BlockId → Type 0) (files : ℕ → Type 0) (old new : State) (f : ℕ) → reveals → files f
+    → OnlyWrites reveals taken fits fault (ChangesArchive shape nodes blocks files) old new → IsFixed old f → IsFixed new f
+fixed_kept reveals taken fits fault shape nodes blocks files old new f revealed kept writes fixed c here =
+    file_kept reveals taken fits fault shape nodes blocks files old new f kept writes fixed new.moment c writes.time.later (omega arith) here
+    ∙ sym ((writes.contents revealed).stay f kept)
 
 -- where the sites have space, the disk has some
 pub room_some : HomesAreOnItsSites → (shape : Shape) (nodes : ℕ) (s : State) → HaveSitesRoom shape nodes s → HasRoom s

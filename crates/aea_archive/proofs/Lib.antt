@@ -8,4 +8,4 @@ mod Digests
 pub mod Records
 mod Runs
 pub mod Honest
-mod Told
+mod Revealed

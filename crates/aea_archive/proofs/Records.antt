@@ -90,7 +90,7 @@ pub woven-records-more : LongerDataKeepValues → (shape : Shape) (records : Lis
 woven-records-more longer shape records datas more l m payload name bytes r o object no_fence old is all_data values next n holds =
     let w = shape.block in
     let same : old.lattice ≡ l = one_lattice shape (nodes_of records) (fences_of records) old.lattice l old.is_lattice is in
-    let told : IsDataList l w datas = subst (λ (k : Lattice). IsDataList k w datas) same old.is_data in
+    let revealed : IsDataList l w datas = subst (λ (k : Lattice). IsDataList k w datas) same old.is_data in
     let digests : digests_of records ≡ map (λ b. block_digest b (value_of l w datas b)) (blocks_of l) =
     subst (λ (k : Lattice). digests_of records ≡ map (λ b. block_digest b (value_of k w datas b)) (blocks_of k)) same old.digests in
     let nodes = n.grown.nodes in
@@ -103,9 +103,9 @@ woven-records-more longer shape records datas more l m payload name bytes r o ob
       digests = digests_of-push records r
           ∙ ap (λ (os : List Stored). digests_of records ++ flat_map (λ (q : Stored). q.digests) os) object
           ∙ ap (λ (ds : List (List ℕ)). digests_of records ++ ds) (append-nil o.digests)
-          ∙ digests-joined longer shape l m grown (omega (arith, nodes)) is.alpha w datas more told.long payload values (digests_of records) o.digests digests n.digests;
+          ∙ digests-joined longer shape l m grown (omega (arith, nodes)) is.alpha w datas more revealed.long payload values (digests_of records) o.digests digests n.digests;
       objects = All-append (HoldsRecord (datas ++ more)) records (r ∷ [])
-          (records-more shape [] records datas more old.valid (omega (arith, told.long, is.n)) old.objects)
+          (records-more shape [] records datas more old.valid (omega (arith, revealed.long, is.n)) old.objects)
           (All-cons (HoldsRecord (datas ++ more)) r [] holds (λ k d inside. absurd (omega (arith, inside))));
     }
 

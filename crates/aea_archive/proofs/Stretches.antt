@@ -124,12 +124,12 @@ adds_nothing one shape records added payload old new earlier during reads = reco
 -- ---- a record that is appended
 
 -- every image has the cells of its blocks before it
-pub adds_append : (tells : Type 0) (shape : Shape) (records : List Record) (r : Record) (payload : BlockId → List ℕ) (old new : State)
+pub adds_append : (reveals : Type 0) (shape : Shape) (records : List Record) (r : Record) (payload : BlockId → List ℕ) (old new : State)
     → ((b : BlockId) → IsBlockOn shape (nodes_of records) (nodes_of (records ++ r ∷ [])) b → EveryImage old (HasAtHome shape b (cell_of b (payload b))))
     → During old new (λ c. HasOldOrNew shape records r (c 0)) → HasOldOrNew shape records r (new.files 0)
-    → Stays old new (λ c. HasLedger shape (records ++ r ∷ []) (c 0)) → KeepsOthers tells 0 old new
+    → Stays old new (λ c. HasLedger shape (records ++ r ∷ []) (c 0)) → KeepsOthers reveals 0 old new
     → Adds shape records (r ∷ []) payload old new
-adds_append tells shape records r payload old new stands during reads stays others =
+adds_append reveals shape records r payload old new stands during reads stays others =
     let prefix_of : (bytes : List ℕ) → HasOldOrNew shape records r bytes → HasPrefix shape records (r ∷ []) bytes =
     λ bytes has. ⊎_elim (λ before. at_none shape records (r ∷ []) 0 bytes refl before) (λ after. at_all shape records (r ∷ []) 0 bytes (omega arith) after) has in
     let prefix : During old new (λ c. HasPrefix shape records (r ∷ []) (c 0)) =
@@ -149,7 +149,7 @@ adds_append tells shape records r payload old new stands during reads stays othe
           (cases_lt k 1);
       held = λ k b few on.
           gives_every old new (λ c. HasAtLeast shape records (r ∷ []) k (c 0)) (HasAtHome shape b (cell_of b (payload b)))
-          (held_by_others tells 0 old new (home_file shape b) (home_place shape b) (cell_of b (payload b)) (no_home_in_ledger shape b) others
+          (held_by_others reveals 0 old new (home_file shape b) (home_place shape b) (cell_of b (payload b)) (no_home_in_ledger shape b) others
           (stands b (record { after = on.after; most = (let m = on.most in omega (arith, m, nodes_take records (r ∷ []) k)); used = on.used })));
     }
 
@@ -216,15 +216,15 @@ gives_where : (old new : State) (A P Q B : Files → Type 0) → During old new 
 gives_where old new A P Q B during back gives t from to c d here has there = gives t from to c d here (back c (during t c from to here) has) there
 
 -- The records of both stretches, where all of the first are there between them. Their payloads are given by one function.
-pub adds_both : HasOneReading → (tells : Type 0) (shape : Shape) (records xs ys : List Record) (payload : BlockId → List ℕ) (old mid new : State)
+pub adds_both : HasOneReading → (reveals : Type 0) (shape : Shape) (records xs ys : List Record) (payload : BlockId → List ℕ) (old mid new : State)
     → Passes old mid → Passes mid new → HasEarlier old mid
     → Adds shape records xs payload old mid
     → EveryImage mid (λ c. HasLedger shape (records ++ xs) (c 0))
     → ((b : BlockId) → IsBlockOn shape (nodes_of records) (nodes_of (records ++ xs)) b → IsBlockOf shape b × (length (cell_of b (payload b)) ≤ cell_size shape))
-    → KeepsShelf tells shape (IsBlockIn shape (nodes_of (records ++ xs))) mid new
+    → KeepsShelf reveals shape (IsBlockIn shape (nodes_of (records ++ xs))) mid new
     → Adds shape (records ++ xs) ys payload mid new
     → Adds shape records (xs ++ ys) payload old new
-adds_both one tells shape records xs ys payload old mid new t1 t2 earlier first all blocks shelf second =
+adds_both one reveals shape records xs ys payload old mid new t1 t2 earlier first all blocks shelf second =
     let l1 = t1.later in
     let all_xs : (c : Files) → mid.image mid.moment c → HasAtLeast shape records xs (length xs) (c 0) =
     λ c here. at_all shape records xs (length xs) (c 0) (omega arith) (all c here) in
@@ -232,7 +232,7 @@ adds_both one tells shape records xs ys payload old mid new t1 t2 earlier first 
     λ b on d there. first.held (length xs) b (omega arith) (subst (λ (l : List Record). IsBlockOn shape (nodes_of records) (nodes_of (records ++ l)) b) (sym (take_all xs)) on) mid.moment l1 (omega arith) d d there (all_xs d there) there in
     let kept_on : (b : BlockId) → IsBlockOn shape (nodes_of records) (nodes_of (records ++ xs)) b → (A : Files → Type 0) → SomeGivesEvery mid new A (HasAtHome shape b (cell_of b (payload b))) =
     λ b on A. gives_every mid new A (HasAtHome shape b (cell_of b (payload b)))
-    (during_shelf tells shape (IsBlockIn shape (nodes_of (records ++ xs))) mid new b (cell_of b (payload b)) (blocks b on).0 (record { after = (let a = on.after in omega (arith, a)); most = on.most; used = on.used }) (blocks b on).1 shelf (stands b on)) in
+    (during_shelf reveals shape (IsBlockIn shape (nodes_of (records ++ xs))) mid new b (cell_of b (payload b)) (blocks b on).0 (record { after = (let a = on.after in omega (arith, a)); most = on.most; used = on.used }) (blocks b on).1 shelf (stands b on)) in
     let after : (k : ℕ) → k ≤ length xs → During mid new (λ c. HasAtLeast shape records (xs ++ ys) k (c 0)) =
     λ k few. during_more mid new (λ c. HasPrefix shape (records ++ xs) ys (c 0)) (λ c. HasAtLeast shape records (xs ++ ys) k (c 0)) (λ c has. at_back shape records xs ys 0 k (c 0) (omega (arith, few)) has) second.prefix in
     record {
@@ -296,16 +296,16 @@ adds_both one tells shape records xs ys payload old mid new t1 t2 earlier first 
     }
 
 -- A stretch that adds nothing, and then one that adds: the records of the second.
-pub adds_later : HasOneReading → (tells : Type 0) (shape : Shape) (records ys : List Record) (payload : BlockId → List ℕ) (old mid new : State)
+pub adds_later : HasOneReading → (reveals : Type 0) (shape : Shape) (records ys : List Record) (payload : BlockId → List ℕ) (old mid new : State)
     → Passes old mid → Passes mid new → HasEarlier old mid
     → During old mid (λ c. HasLedger shape records (c 0)) → HasLedger shape records (mid.files 0)
-    → KeepsShelf tells shape (IsBlockIn shape (nodes_of records)) mid new
+    → KeepsShelf reveals shape (IsBlockIn shape (nodes_of records)) mid new
     → Adds shape records ys payload mid new → Adds shape records ys payload old new
-adds_later one tells shape records ys payload old mid new t1 t2 earlier during reads shelf second =
+adds_later one reveals shape records ys payload old mid new t1 t2 earlier during reads shelf second =
     let l1 = t1.later in
     let nil : records ++ [] ≡ records = append-nil records in
-    adds_both one tells shape records [] ys payload old mid new t1 t2 earlier (adds_nothing one shape records [] payload old mid earlier during reads)
+    adds_both one reveals shape records [] ys payload old mid new t1 t2 earlier (adds_nothing one shape records [] payload old mid earlier during reads)
     (λ c here. subst (λ (l : List Record). HasLedger shape l (c 0)) (sym nil) (during mid.moment c l1 (omega arith) here))
     (λ b on. absurd (let a = on.after in let m = on.most in omega (arith, a, m, ap nodes_of nil)))
-    (subst (λ (l : List Record). KeepsShelf tells shape (IsBlockIn shape (nodes_of l)) mid new) (sym nil) shelf)
+    (subst (λ (l : List Record). KeepsShelf reveals shape (IsBlockIn shape (nodes_of l)) mid new) (sym nil) shelf)
     (subst (λ (l : List Record). Adds shape l ys payload mid new) (sym nil) second)

@@ -37,6 +37,6 @@ pub record IsSurvivor (shape : Shape) (nodes : ℕ) (digests : List (List ℕ)) 
   pub intact : IsIntactBy shape digests c b
 
 -- the test distinguishes the survivors among the blocks of the archive
-abbrev pub TellsSurvivors : Shape → ℕ → List (List ℕ) → Files → (BlockId → Bool) → Type 0
-TellsSurvivors shape nodes digests c known =
+abbrev pub RevealsSurvivors : Shape → ℕ → List (List ℕ) → Files → (BlockId → Bool) → Type 0
+RevealsSurvivors shape nodes digests c known =
     (b : BlockId) → IsBlockIn shape nodes b → IsTrue (known b) ↔ IsIntactBy shape digests c b

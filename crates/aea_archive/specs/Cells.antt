@@ -38,8 +38,8 @@ pub record FitsRows (shape : Shape) (nodes : ℕ) (s : State) : Type 0 where
 -- without cells is as it was, and no site's file has grown past these rows; so it is in every image too. Within the space of
 -- these rows it does not fail.
 abbrev pub WritesCells : Type 0 → Shape → ℕ → (BlockId → Type 0) → Type 0 → State → State → Type 0
-WritesCells tells shape nodes keep fault old new =
-    OnlyWrites tells (IsReady old) (FitsRows shape nodes old) fault (ChangesArchive shape nodes keep (IsNoSite shape)) old new
+WritesCells reveals shape nodes keep fault old new =
+    OnlyWrites reveals (IsReady old) (FitsRows shape nodes old) fault (ChangesArchive shape nodes keep (IsNoSite shape)) old new
 
 -- the blocks of these nodes have their cells at their homes
 abbrev pub AreAtHome : Shape → ℕ → ℕ → (BlockId → List ℕ) → Files → Type 0

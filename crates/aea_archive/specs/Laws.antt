@@ -13,7 +13,7 @@ use Rattle.aea_lattice.specs.Data.{IsDataList, value_of}
 use Rattle.aea_lattice.specs.Growth.{IsGrown}
 use Rattle.aea_disk.specs.Files.{Files}
 use Rattle.aea_shelf.specs.Writes.{KeepsPadded, KeepsIntact}
-use Rattle.aea_archive.specs.Blocks.{IsBlockOn, IsBlockIn, TellsSurvivors}
+use Rattle.aea_archive.specs.Blocks.{IsBlockOn, IsBlockIn, RevealsSurvivors}
 use Rattle.aea_archive.specs.Cells.{AreAtHome}
 use Rattle.aea_archive.specs.Lasts.{IsLastParity, AreLastsHonest, AreLastsRecorded, AreLastsAtHome, AreLastsOf}
 use Rattle.aea_archive.specs.Next.{AreDigestsOn, object_blocks, IsNextStored, IsNextInParts, NewObject, AreNextRecords}
@@ -86,7 +86,7 @@ SurvivorsStayHonest =
     → AreSurvivorsHonest shape m (digests ++ ds) (datas ++ more) d × IsDamagePlain shape m (digests ++ ds) d
 
 -- Whatever is in the files, some test distinguishes the survivors: what is said of each such test is said of one.
-abbrev pub SurvivorsAreTold : Type 0
-SurvivorsAreTold =
+abbrev pub SurvivorsAreRevealed : Type 0
+SurvivorsAreRevealed =
     (shape : Shape) (nodes : ℕ) (digests : List (List ℕ)) (c : Files)
-    → (known : BlockId → Bool) × TellsSurvivors shape nodes digests c known
+    → (known : BlockId → Bool) × RevealsSurvivors shape nodes digests c known

@@ -1,6 +1,6 @@
 //! What follows of the definitions.
 
-ghost use Rattle.aea_archive.specs.Laws.{NoneRecordNone, NextRecordsMore, ObjectsRecordMore, PutsRecord, PartsRecordMore, LastsAreValues, SurvivorsStayHonest, SurvivorsAreTold};
+ghost use Rattle.aea_archive.specs.Laws.{NoneRecordNone, NextRecordsMore, ObjectsRecordMore, PutsRecord, PartsRecordMore, LastsAreValues, SurvivorsStayHonest, SurvivorsAreRevealed};
 
 use aea_envelope::{cells_have_lengths, cells_have_parts};
 use aea_shelf::plain_damage_stays;
@@ -59,8 +59,8 @@ pub fn survivors_stay_honest()
 }
 
 /// Whatever is in the files, some test says which blocks are intact.
-pub fn survivors_are_told()
-    ensures { SurvivorsAreTold }
+pub fn survivors_are_revealed()
+    ensures { SurvivorsAreRevealed }
 {
     cells_have_lengths();
     cells_have_parts();

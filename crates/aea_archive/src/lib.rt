@@ -4,7 +4,7 @@
 //! keeps, over a disk whose contents are known; that where the last parities have the payloads of a recorded data list,
 //! the records with the next one record that list and the blocks of its object (`next_records_more`); that with the record
 //! of an object in parts they record the list and all blocks that were woven after it (`parts_record_more`); and that some
-//! test distinguishes the intact blocks, whatever the files are (`survivors_are_told`). Read `Blocks` (`IsIntactBy`) and
+//! test distinguishes the intact blocks, whatever the files are (`survivors_are_revealed`). Read `Blocks` (`IsIntactBy`) and
 //! `Stretches` (`Adds`) first. It rests on `aea_ledger`, `aea_shelf` and `aea_weave`.
 //!
 //! `specs/Blocks.antt` says which digest the ledger keeps of a block and which blocks are intact by it, `specs/Lasts.antt`
@@ -41,6 +41,6 @@ mod read;
 
 pub use laws::{
     lasts_are_values, next_records_more, none_record_none, objects_record_more, parts_record_more,
-    puts_record, survivors_are_told, survivors_stay_honest,
+    puts_record, survivors_are_revealed, survivors_stay_honest,
 };
 pub use read::{cell_buffer, is_block_intact, read_block, recorded};

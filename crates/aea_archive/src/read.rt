@@ -36,23 +36,23 @@ pub fn read_block<D: Disk>(
     requires block { HasBlock ledger.now.lattice b }
     requires buffer { length cell.old ≡ cell_size ledger.now.shape }
 
-    ensures intact { IfOk result (λ r. D.tells → (r ≡ Cell.Intact) ↔ IsIntactBy ledger.now.shape ledger.now.digests (D.state disk.old).files b) }
-    ensures bad { IfOk result (λ r. D.tells → (r ≡ Cell.Bad) ↔ (¬ IsIntactBy ledger.now.shape ledger.now.digests (D.state disk.old).files b)) }
+    ensures intact { IfOk result (λ r. D.reveals → (r ≡ Cell.Intact) ↔ IsIntactBy ledger.now.shape ledger.now.digests (D.state disk.old).files b) }
+    ensures bad { IfOk result (λ r. D.reveals → (r ≡ Cell.Bad) ↔ (¬ IsIntactBy ledger.now.shape ledger.now.digests (D.state disk.old).files b)) }
 
     // Over any disk, the buffer then has this cell.
     ensures cell { IfOk result (λ r. r ≡ Cell.Intact → cell.new ≡ cell_of b (payload_in ledger.now.shape cell.new)) }
     ensures digest { IfOk result (λ r. r ≡ Cell.Intact → block_digest b (payload_in ledger.now.shape cell.new) ≡ recorded_in ledger.now.shape ledger.now.digests b) }
-    ensures bytes { IfOk result (λ r. r ≡ Cell.Intact → D.tells → HasAtHome ledger.now.shape b cell.new (D.state disk.old).files) }
+    ensures bytes { IfOk result (λ r. r ≡ Cell.Intact → D.reveals → HasAtHome ledger.now.shape b cell.new (D.state disk.old).files) }
 
     // Of survivors that are honest for a data list, at least those of a test that picks this block, it is the cell of the
     // block of the list's lattice.
-    ensures honest { IfOk result (λ r. r ≡ Cell.Intact → D.tells → (picks : BlockId → Bool) (datas : List (List ℕ)) → IsTrue (picks b) → AreSomeHonest picks ledger.now.shape ledger.now.lattice ledger.now.digests datas (D.state disk.old).files → payload_in ledger.now.shape cell.new ≡ value_of ledger.now.lattice ledger.now.shape.block datas b) }
+    ensures honest { IfOk result (λ r. r ≡ Cell.Intact → D.reveals → (picks : BlockId → Bool) (datas : List (List ℕ)) → IsTrue (picks b) → AreSomeHonest picks ledger.now.shape ledger.now.lattice ledger.now.digests datas (D.state disk.old).files → payload_in ledger.now.shape cell.new ≡ value_of ledger.now.lattice ledger.now.shape.block datas b) }
 
     // Also of a bad cell the buffer begins with what is at the home, all within the file.
-    ensures home { IfOk result (λ r. D.tells → take (length (home_bytes ledger.now.shape b (D.state disk.old).files)) cell.new ≡ home_bytes ledger.now.shape b (D.state disk.old).files) }
+    ensures home { IfOk result (λ r. D.reveals → take (length (home_bytes ledger.now.shape b (D.state disk.old).files)) cell.new ≡ home_bytes ledger.now.shape b (D.state disk.old).files) }
 
     ensures settled { Settles (D.state disk.old) (D.state disk.new) }
-    ensures reads { OnlyReads D.tells (IsErr result) (D.state disk.old) (D.state disk.new) }
+    ensures reads { OnlyReads D.reveals (IsErr result) (D.state disk.old) (D.state disk.new) }
 {
     let want = recorded(ledger, b);
     read_cell(disk, &ledger.shape(), b, &want, cell)
@@ -68,8 +68,8 @@ pub fn is_block_intact<D: Disk>(
 ) -> Result<bool, DiskFault>
     requires block { HasBlock ledger.now.lattice b }
     requires buffer { length cell.old ≡ cell_size ledger.now.shape }
-    ensures intact { IfOk result (λ intact. D.tells → IsTrue intact ↔ IsIntactBy ledger.now.shape ledger.now.digests (D.state disk.old).files b) }
-    ensures reads { OnlyReads D.tells (IsErr result) (D.state disk.old) (D.state disk.new) }
+    ensures intact { IfOk result (λ intact. D.reveals → IsTrue intact ↔ IsIntactBy ledger.now.shape ledger.now.digests (D.state disk.old).files b) }
+    ensures reads { OnlyReads D.reveals (IsErr result) (D.state disk.old) (D.state disk.new) }
 {
     match read_block(disk, ledger, b, cell) {
         Ok(Cell::Intact) => Ok(true),

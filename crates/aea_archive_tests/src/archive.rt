@@ -66,7 +66,7 @@ fn add_abc<D: Disk>(alloc: Global, disk: &mut D) -> Result<bool, Fail> {
 }
 
 #[test]
-fn tells_what_stands_in_an_archive(rt: HostRuntime) -> Result<(), Fail> {
+fn reveals_what_stands_in_an_archive(rt: HostRuntime) -> Result<(), Fail> {
     let alloc = rt.alloc();
     let mut disk = SureDisk::new(alloc, 0, 256, 0)?;
     let left = run_over(alloc, LINE, &mut disk, 99)?;

@@ -17,7 +17,7 @@ use Rattle.std.proofs.lemmas.List.Elements.{All-push, All-weaker}
 use Rattle.aea_catalog.specs.Catalogs.{Placed}
 use Rattle.aea_catalog.specs.Names.{IsName}
 use Rattle.aea_catalog.specs.Kept.{Pair, name_cmp, no_pair, pair_at, name_at, listed, IsKept, IsAt, IsGapFor}
-use Rattle.aea_catalog.proofs.Places.{turned, find-at, find-absent, put-at, before-lesser, after-greater}
+use Rattle.aea_catalog.proofs.Places.{flipped, find-at, find-absent, put-at, before-lesser, after-greater}
 use Rattle.aea_catalog.proofs.Orders.{picked-insert, All-insert}
 
 -- between the two forms of a test that holds
@@ -61,7 +61,7 @@ module _ (pairs : List Pair) (order : List ℕ) (kept : IsKept pairs order) wher
   missing name i gap =
       get-from_sorted name_cmp (listed pairs order) name rising
       ∙ find-absent name_cmp name (listed pairs order) no_pair (λ k within. elim (cases_lt k i) [
-        | inl lt ↦ ap is_eq (turned nat_list_cmp_total _ name (gap.before k lt))
+        | inl lt ↦ ap is_eq (flipped nat_list_cmp_total _ name (gap.before k lt))
         | inr ge ↦ ap is_eq (gap.after k ge within)
       ])
 

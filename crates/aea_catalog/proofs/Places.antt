@@ -22,8 +22,8 @@ less Equal p = absurd p
 less Greater p = absurd p
 
 -- the other way round
-pub turned : {K : Type 0} {R : K → K → Ordering} → IsTotalOrder R → (x y : K) → R x y ≡ Less → R y x ≡ Greater
-turned o x y h = o.antisymm y x ∙ ap ordering_reverse h
+pub flipped : {K : Type 0} {R : K → K → Ordering} → IsTotalOrder R → (x y : K) → R x y ≡ Less → R y x ≡ Greater
+flipped o x y h = o.antisymm y x ∙ ap ordering_reverse h
 
 module _ {K X : Type 0} (R : K → K → Ordering) where
   -- a key below all of a list is below each
@@ -65,7 +65,7 @@ module _ {K X : Type 0} (R : K → K → Ordering) where
     find-at q [] d i h within is tied = absurd (omega arith)
     find-at q (e ∷ es) d zero h within is tied = ap (λ r. cond (is_eq r) (Some e.1) (find R q es)) (ap (R q) is ∙ tied)
     find-at q (e ∷ es) d (suc i) h within is tied =
-        let later : R q e.0 ≡ Greater = turned o e.0 q (subst (λ x. R e.0 x ≡ Less) is (below-at e.0 es d i (first _ _ h) (omega arith))) in
+        let later : R q e.0 ≡ Greater = flipped o e.0 q (subst (λ x. R e.0 x ≡ Less) is (below-at e.0 es d i (first _ _ h) (omega arith))) in
         ap (λ r. cond (is_eq r) (Some e.1) (find R q es)) later ∙ find-at q es d i (second _ _ h) (omega arith) is tied
 
     -- an entry is put at the place between the lesser and the greater keys
@@ -78,5 +78,5 @@ module _ {K X : Type 0} (R : K → K → Ordering) where
     put-at q v (e ∷ es) d zero within before after =
         ap (λ r. by_order r ((q, v) ∷ e ∷ es) ((e.0, v) ∷ es) (e ∷ put R q v es)) (after zero (omega arith) (omega arith))
     put-at q v (e ∷ es) d (suc i) within before after =
-        ap (λ r. by_order r ((q, v) ∷ e ∷ es) ((e.0, v) ∷ es) (e ∷ put R q v es)) (turned o e.0 q (before zero (omega arith)))
+        ap (λ r. by_order r ((q, v) ∷ e ∷ es) ((e.0, v) ∷ es) (e ∷ put R q v es)) (flipped o e.0 q (before zero (omega arith)))
         ∙ ap (λ r. e ∷ r) (put-at q v es d i (omega arith) (λ k lt. before (suc k) (omega arith)) (λ k le lt. after (suc k) (omega arith) (omega arith)))

@@ -25,9 +25,9 @@ pub fn write_two<D: Disk>(
     requires payload { length payload.now ≡ shape.now.block }
     requires buffer { length cell.old ≡ cell_size shape.now }
 
-    ensures first { OnOk result (D.tells → IsBlockHeld shape.now a (block_digest a payload.now) (D.state disk.new)) }
-    ensures second { OnOk result (D.tells → IsBlockHeld shape.now b (block_digest b payload.now) (D.state disk.new)) }
-    ensures held { D.tells → (e : BlockId) (recorded : List ℕ) → IsBlockOf shape.now e → e ≢ a → e ≢ b → IsBlockHeld shape.now e recorded (D.state disk.old) → IsBlockHeld shape.now e recorded (D.state disk.new) }
+    ensures first { OnOk result (D.reveals → IsBlockHeld shape.now a (block_digest a payload.now) (D.state disk.new)) }
+    ensures second { OnOk result (D.reveals → IsBlockHeld shape.now b (block_digest b payload.now) (D.state disk.new)) }
+    ensures held { D.reveals → (e : BlockId) (recorded : List ℕ) → IsBlockOf shape.now e → e ≢ a → e ≢ b → IsBlockHeld shape.now e recorded (D.state disk.old) → IsBlockHeld shape.now e recorded (D.state disk.new) }
 {
     write_cell(disk, shape, a, payload, cell)?;
     write_cell(disk, shape, b, payload, cell)?;

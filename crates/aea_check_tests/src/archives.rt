@@ -27,7 +27,7 @@ pub fn run_explain<D: Disk>(alloc: Global, disk: &mut D, block: &str) -> Result<
 
 /// What a run said: on its output and after that on its errors, of which one is empty. The status is another than that of what
 /// was said only where the answer is none.
-pub fn told_of(alloc: Global, left: &Left) -> Result<Option<String>, Fail> {
+pub fn revealed_of(alloc: Global, left: &Left) -> Result<Option<String>, Fail> {
     let out = text_of(left.out.bytes())?;
     let err = text_of(left.err.bytes())?;
     let status = if out.is_empty() {
@@ -37,9 +37,9 @@ pub fn told_of(alloc: Global, left: &Left) -> Result<Option<String>, Fail> {
     } else {
         Status::Damage
     };
-    let told = format!(in alloc; "{out}{err}")?;
+    let revealed = format!(in alloc; "{out}{err}")?;
     let is_one = out.is_empty() != err.is_empty();
-    Ok((is_one && left.status == status).then_some(told))
+    Ok((is_one && left.status == status).then_some(revealed))
 }
 
 /// What `verify` says of this report, none where its status does not fit that.
@@ -49,11 +49,11 @@ pub fn verdict_of<D: Disk>(
     report: &str,
 ) -> Result<Option<String>, Fail> {
     let left = run_verify(alloc, disk, report.as_bytes())?;
-    told_of(alloc, &left)
+    revealed_of(alloc, &left)
 }
 
 /// Whether a run said this, on its output or on its errors, and ended with the status that goes with it.
-pub fn tells(left: &Left, want: &str) -> bool {
+pub fn reveals(left: &Left, want: &str) -> bool {
     if want.starts_with("refused: ") {
         left.is(Status::Refused, "", want)
     } else if want == "accepted\n" {
@@ -71,7 +71,7 @@ pub fn judges<D: Disk>(
     want: &str,
 ) -> Result<bool, AllocError> {
     let left = run_verify(alloc, disk, report.as_bytes())?;
-    Ok(tells(&left, want))
+    Ok(reveals(&left, want))
 }
 
 /// Whether a scrub ends with this status and prints this.

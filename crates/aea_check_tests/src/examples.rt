@@ -1,6 +1,6 @@
 //! Worked examples of checks and of explanations.
 
-use crate::archives::{archive_of, judges, report_with, run_explain, run_verify, scrubs, tells};
+use crate::archives::{archive_of, judges, report_with, reveals, run_explain, run_verify, scrubs};
 use aea_cli::Status;
 use aea_disk::{Disk, SureDisk};
 use aea_runs::{run_over, run_put};
@@ -11,7 +11,7 @@ use std::test::Fail;
 // Whether the report is accepted, read to its end, and this is flushed.
 fn is_accepted<D: Disk>(alloc: Global, disk: &mut D, report: &str) -> Result<bool, AllocError> {
     let left = run_verify(alloc, disk, report.as_bytes())?;
-    Ok(tells(&left, "accepted\n") && left.unread == 0 && left.out.flushed == 9)
+    Ok(reveals(&left, "accepted\n") && left.unread == 0 && left.out.flushed == 9)
 }
 
 #[test]
@@ -119,12 +119,12 @@ fn is_said(
     disk: &mut SureDisk,
     report: &str,
     change: (&str, &str),
-    told: &str,
+    revealed: &str,
 ) -> Result<bool, Fail> {
     let (old, new) = change;
     let (before, after) = report.split_once(old).ok_or(old)?;
     let changed = format!(in alloc; "{before}{new}{after}")?;
-    Ok(judges(alloc, disk, changed.as_str(), told)?)
+    Ok(judges(alloc, disk, changed.as_str(), revealed)?)
 }
 
 #[test]
@@ -134,8 +134,8 @@ fn a_report_of_two_codewords_is_judged(rt: HostRuntime) -> Result<(), Fail> {
     let want = report_of(alloc, &mut disk, "2 2 2 11", TWO_CODEWORDS)?;
     let report = report_with(alloc, &mut disk, Status::Damage)?;
     assert!(rt; report.as_str() == want.as_str());
-    for (old, new, told) in changes() {
-        let is_so = is_said(alloc, &mut disk, report.as_str(), (old, new), told)?;
+    for (old, new, revealed) in changes() {
+        let is_so = is_said(alloc, &mut disk, report.as_str(), (old, new), revealed)?;
         assert!(rt; is_so, "{old}: {new}");
     }
     Ok(())
@@ -163,7 +163,7 @@ fn cut_report(alloc: Global, disk: &mut SureDisk) -> Result<String, Fail> {
 }
 
 #[test]
-fn reports_without_a_seal_and_cut_ones_are_told(rt: HostRuntime) -> Result<(), Fail> {
+fn reports_without_a_seal_and_cut_ones_are_named(rt: HostRuntime) -> Result<(), Fail> {
     let alloc = rt.alloc();
     let mut disk = nineteen(alloc)?;
     let _repaired = run_over(alloc, "repair", &mut disk, 4096)?;
@@ -174,8 +174,8 @@ fn reports_without_a_seal_and_cut_ones_are_told(rt: HostRuntime) -> Result<(), F
     assert!(rt; judges(alloc, &mut disk, drilled.as_str(), other)?);
     let cut = cut_report(alloc, &mut disk)?;
     assert!(rt; judges(alloc, &mut disk, cut.as_str(), "refused: bad line 7\n")?);
-    for (text, told) in cuts() {
-        assert!(rt; judges(alloc, &mut disk, text, told)?, "{text}");
+    for (text, revealed) in cuts() {
+        assert!(rt; judges(alloc, &mut disk, text, revealed)?, "{text}");
     }
     Ok(())
 }
@@ -211,12 +211,12 @@ fn of_one_node() -> [(bool, &'static str, &'static str); 8] {
 }
 
 // Whether this is said of a report with these lines.
-fn is_judged(alloc: Global, is_gone: bool, lines: &str, told: &str) -> Result<bool, Fail> {
+fn is_judged(alloc: Global, is_gone: bool, lines: &str, revealed: &str) -> Result<bool, Fail> {
     let mut disk = archive_of(alloc, "create 3 2 5 64 4", b"abc")?;
     if is_gone {
         shorten(&mut disk, 1, 0)?;
     }
-    judges_lines(alloc, &mut disk, "3 2 5 1", lines, told)
+    judges_lines(alloc, &mut disk, "3 2 5 1", lines, revealed)
 }
 
 // Whether this is said of a report of the archive with these numbers and lines.
@@ -225,16 +225,16 @@ fn judges_lines(
     disk: &mut SureDisk,
     numbers: &str,
     lines: &str,
-    told: &str,
+    revealed: &str,
 ) -> Result<bool, Fail> {
     let report = report_of(alloc, disk, numbers, lines)?;
-    Ok(judges(alloc, disk, report.as_str(), told)?)
+    Ok(judges(alloc, disk, report.as_str(), revealed)?)
 }
 
 #[test]
 fn reports_of_one_node_are_judged(rt: HostRuntime) -> Result<(), Fail> {
-    for (is_gone, lines, told) in of_one_node() {
-        assert!(rt; is_judged(rt.alloc(), is_gone, lines, told)?, "{lines}");
+    for (is_gone, lines, revealed) in of_one_node() {
+        assert!(rt; is_judged(rt.alloc(), is_gone, lines, revealed)?, "{lines}");
     }
     Ok(())
 }
@@ -263,8 +263,8 @@ fn a_report_of_what_is_lost_before_a_fence_is_accepted(rt: HostRuntime) -> Resul
     // the report from before the fence is that of another archive, and so is one without the second node
     assert!(rt; judges(alloc, &mut disk, first, "rejected 2 other-archive\n")?);
     let wrong = "counts 1 0 0 1\nlost d1 by 1 2\n";
-    let told = "rejected 5 word-touches d2\n";
-    assert!(rt; judges_lines(alloc, &mut disk, "1 1 0 2", wrong, told)?);
+    let revealed = "rejected 5 word-touches d2\n";
+    assert!(rt; judges_lines(alloc, &mut disk, "1 1 0 2", wrong, revealed)?);
     Ok(())
 }
 
@@ -293,13 +293,13 @@ fn is_explained(
     disk: &mut SureDisk,
     block: &str,
     status: Status,
-    told: &str,
+    revealed: &str,
 ) -> Result<bool, AllocError> {
     let left = run_explain(alloc, disk, block)?;
     let (out, err) = if status == Status::Refused {
-        ("", told)
+        ("", revealed)
     } else {
-        (told, "")
+        (revealed, "")
     };
     Ok(left.is(status, out, err) && left.unread == 6 && left.out.flushed == out.len())
 }
@@ -308,9 +308,9 @@ fn is_explained(
 fn blocks_are_explained(rt: HostRuntime) -> Result<(), Fail> {
     let alloc = rt.alloc();
     let mut disk = nineteen(alloc)?;
-    for (block, status, told) in explanations() {
+    for (block, status, revealed) in explanations() {
         assert!(rt;
-            is_explained(alloc, &mut disk, block, status, told)?,
+            is_explained(alloc, &mut disk, block, status, revealed)?,
             "{block}"
         );
     }
@@ -335,20 +335,20 @@ fn is_printed(
     disk: &mut SureDisk,
     gone: u8,
     block: &str,
-    told: &str,
+    revealed: &str,
 ) -> Result<bool, Fail> {
     shorten(disk, gone, 0)?;
     let left = run_explain(alloc, disk, block)?;
-    Ok(left.out.bytes() == told.as_bytes() && left.err.bytes().is_empty())
+    Ok(left.out.bytes() == revealed.as_bytes() && left.err.bytes().is_empty())
 }
 
 #[test]
 fn the_last_that_stands_for_its_node_is_a_word(rt: HostRuntime) -> Result<(), Fail> {
     let alloc = rt.alloc();
     let mut disk = archive_of(alloc, "create 3 2 5 64 4", b"abc")?;
-    for (gone, block, told) in losses() {
+    for (gone, block, revealed) in losses() {
         assert!(rt;
-            is_printed(alloc, &mut disk, gone, block, told)?,
+            is_printed(alloc, &mut disk, gone, block, revealed)?,
             "{gone} {block}"
         );
     }

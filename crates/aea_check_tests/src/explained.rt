@@ -91,9 +91,9 @@ fn gives(alloc: Global, archive: &Damaged, block: BlockId, text: &str) -> Result
 }
 
 // Whether what is said of the block is so: a sum where the drill brings it back, and the drill's nodes where it is lost.
-fn is_so(alloc: Global, archive: &Damaged, block: BlockId, told: &str) -> Result<bool, Fail> {
+fn is_so(alloc: Global, archive: &Damaged, block: BlockId, revealed: &str) -> Result<bool, Fail> {
     let line = drilled_line(alloc, archive, block)?;
-    let Some((first, second)) = told.split_once('\n') else {
+    let Some((first, second)) = revealed.split_once('\n') else {
         return Ok(false);
     };
     let standing = if archive.damaged.as_slice().contains(&block) {
@@ -135,9 +135,9 @@ fn first_false(alloc: Global, archive: &mut Damaged) -> Result<Option<String>, F
         };
         let text = text_of_block(alloc, block)?;
         let left = run_explain(alloc, &mut archive.disk, text.as_str())?;
-        let told = text_of(left.out.bytes())?;
-        if !is_so(alloc, archive, block, told)? {
-            let found = format!(in alloc; "{text}: {told}")?;
+        let revealed = text_of(left.out.bytes())?;
+        if !is_so(alloc, archive, block, revealed)? {
+            let found = format!(in alloc; "{text}: {revealed}")?;
             return Ok(Some(found));
         }
     }

@@ -15,7 +15,7 @@ pub enum Kind {
 
 /// A line of a report. Only a lost block has nodes.
 #[derive(Drop)]
-pub struct Told {
+pub struct Revealed {
     pub kind: Kind,
     pub block: BlockId,
     pub nodes: Vec<u32>,
@@ -49,7 +49,7 @@ fn numbers_of(alloc: Global, text: &str) -> Result<Option<Vec<u32>>, AllocError>
 
 /// What this line says, none where it is no line of a report. It is not looked at here whether the lattice has its block and its
 /// nodes, and whether these rise.
-pub fn told_of(alloc: Global, line: &str) -> Result<Option<Told>, AllocError> {
+pub fn revealed_of(alloc: Global, line: &str) -> Result<Option<Revealed>, AllocError> {
     let Some((word, rest)) = line.split_once(' ') else {
         return Ok(None);
     };
@@ -63,7 +63,7 @@ pub fn told_of(alloc: Global, line: &str) -> Result<Option<Told>, AllocError> {
         _ => return Ok(None),
     };
     match (parse_block(text.as_bytes()), nodes) {
-        (Some(block), Some(nodes)) => Ok(Some(Told { kind, block, nodes })),
+        (Some(block), Some(nodes)) => Ok(Some(Revealed { kind, block, nodes })),
         _ => Ok(None),
     }
 }
@@ -151,10 +151,10 @@ pub fn other_lines(alloc: Global, line: &str, n: u32) -> Result<Vec<String>, All
     lines.push(format!(in alloc; "lost {block} by 1")?)?;
     lines.push(format!(in alloc; "lost {block} by {n}")?)?;
     lines.push(format!(in alloc; "{line} {n}")?)?;
-    if let Some(told) = told_of(alloc, line)? {
-        for k in 0..told.nodes.len() {
-            lines.push(with_other_node(alloc, block, told.nodes.as_slice(), k, 0)?)?;
-            lines.push(with_other_node(alloc, block, told.nodes.as_slice(), k, 1)?)?;
+    if let Some(revealed) = revealed_of(alloc, line)? {
+        for k in 0..revealed.nodes.len() {
+            lines.push(with_other_node(alloc, block, revealed.nodes.as_slice(), k, 0)?)?;
+            lines.push(with_other_node(alloc, block, revealed.nodes.as_slice(), k, 1)?)?;
         }
     }
     Ok(lines)

@@ -1,6 +1,6 @@
 //! A plain judge of reports, as docs/FORMATS.md has them: the lines as text, and the damaged blocks as a list.
 
-use crate::lines::{Kind, Told, text_of_block, told_of};
+use crate::lines::{Kind, Revealed, revealed_of, text_of_block};
 use aea_lattice::{BlockId, Lattice};
 use aea_plain::codeword;
 use std::alloc::{AllocError, Global};
@@ -36,23 +36,23 @@ fn read_lines(
     alloc: Global,
     lattice: &Lattice,
     lines: &str,
-) -> Result<(Vec<Told>, Option<usize>), AllocError> {
+) -> Result<(Vec<Revealed>, Option<usize>), AllocError> {
     let mut read = Vec::new(alloc);
     let mut least = 0;
     for (k, line) in lines.lines().enumerate() {
         let bad = Some(k.saturating_add(5));
-        let Some(told) = told_of(alloc, line)? else {
+        let Some(revealed) = revealed_of(alloc, line)? else {
             return Ok((read, bad));
         };
-        let Some(number) = number_of(lattice, told.block) else {
+        let Some(number) = number_of(lattice, revealed.block) else {
             return Ok((read, bad));
         };
-        let nodes_rise = told.kind != Kind::Lost || rise(lattice, told.nodes.as_slice());
+        let nodes_rise = revealed.kind != Kind::Lost || rise(lattice, revealed.nodes.as_slice());
         if number < least || !nodes_rise {
             return Ok((read, bad));
         }
         least = number.saturating_add(1);
-        read.push(told)?;
+        read.push(revealed)?;
     }
     Ok((read, None))
 }
@@ -76,10 +76,10 @@ fn missing(facts: Facts, from: u32, to: u32) -> Option<BlockId> {
 }
 
 // What is wrong with the nodes of a lost block.
-fn wrong_word(alloc: Global, facts: Facts, told: &Told) -> Result<Option<String>, Fail> {
-    let word = codeword(alloc, facts.lattice, told.nodes.as_slice())?;
-    if !word.as_slice().contains(&told.block) {
-        return Ok(Some(with_block(alloc, "word-misses", told.block)?));
+fn wrong_word(alloc: Global, facts: Facts, revealed: &Revealed) -> Result<Option<String>, Fail> {
+    let word = codeword(alloc, facts.lattice, revealed.nodes.as_slice())?;
+    if !word.as_slice().contains(&revealed.block) {
+        return Ok(Some(with_block(alloc, "word-misses", revealed.block)?));
     }
     for b in word.as_slice() {
         if !facts.damaged.contains(b) {
@@ -94,17 +94,17 @@ fn wrong_line(
     alloc: Global,
     facts: Facts,
     least: u32,
-    told: &Told,
+    revealed: &Revealed,
 ) -> Result<Option<String>, Fail> {
-    let number = number_of(facts.lattice, told.block).unwrap_or(0);
+    let number = number_of(facts.lattice, revealed.block).unwrap_or(0);
     if let Some(b) = missing(facts, least, number) {
         return Ok(Some(with_block(alloc, "missing", b)?));
     }
-    let is_damaged = facts.damaged.contains(&told.block);
-    match told.kind {
-        Kind::Lost if is_damaged => wrong_word(alloc, facts, told),
-        Kind::Lost => Ok(Some(with_block(alloc, "not-damaged", told.block)?)),
-        _ if is_damaged => Ok(Some(with_block(alloc, "still-bad", told.block)?)),
+    let is_damaged = facts.damaged.contains(&revealed.block);
+    match revealed.kind {
+        Kind::Lost if is_damaged => wrong_word(alloc, facts, revealed),
+        Kind::Lost => Ok(Some(with_block(alloc, "not-damaged", revealed.block)?)),
+        _ if is_damaged => Ok(Some(with_block(alloc, "still-bad", revealed.block)?)),
         _ => Ok(None),
     }
 }
@@ -113,14 +113,14 @@ fn wrong_line(
 fn first_wrong(
     alloc: Global,
     facts: Facts,
-    lines: &[Told],
+    lines: &[Revealed],
 ) -> Result<Option<(usize, String)>, Fail> {
     let mut least = 0;
-    for (k, told) in lines.iter().enumerate() {
-        if let Some(why) = wrong_line(alloc, facts, least, told)? {
+    for (k, revealed) in lines.iter().enumerate() {
+        if let Some(why) = wrong_line(alloc, facts, least, revealed)? {
             return Ok(Some((k.saturating_add(5), why)));
         }
-        let number = number_of(facts.lattice, told.block).unwrap_or(0);
+        let number = number_of(facts.lattice, revealed.block).unwrap_or(0);
         least = number.saturating_add(1);
     }
     if let Some(b) = missing(facts, least, facts.lattice.blocks()) {
@@ -131,8 +131,11 @@ fn first_wrong(
 }
 
 // How many of the lines are of this kind.
-fn count(lines: &[Told], kind: Kind) -> usize {
-    lines.iter().filter(|told| told.kind == kind).count()
+fn count(lines: &[Revealed], kind: Kind) -> usize {
+    lines
+        .iter()
+        .filter(|revealed| revealed.kind == kind)
+        .count()
 }
 
 /// What a check says of the report with the head of this archive, this fourth line, which is a line of counts, and these lines
@@ -143,18 +146,18 @@ pub fn plain_verdict(
     counts: &str,
     lines: &str,
 ) -> Result<String, Fail> {
-    let (told, bad) = read_lines(alloc, facts.lattice, lines)?;
+    let (revealed, bad) = read_lines(alloc, facts.lattice, lines)?;
     if let Some(line) = bad {
         let text = format!(in alloc; "refused: bad line {line}\n")?;
         return Ok(text);
     }
-    let told = told.as_slice();
-    if let Some((line, why)) = first_wrong(alloc, facts, told)? {
+    let revealed = revealed.as_slice();
+    if let Some((line, why)) = first_wrong(alloc, facts, revealed)? {
         let text = format!(in alloc; "rejected {line} {why}\n")?;
         return Ok(text);
     }
-    let (all, peeled) = (told.len(), count(told, Kind::Peeled));
-    let (solved, lost) = (count(told, Kind::Solved), count(told, Kind::Lost));
+    let (all, peeled) = (revealed.len(), count(revealed, Kind::Peeled));
+    let (solved, lost) = (count(revealed, Kind::Solved), count(revealed, Kind::Lost));
     let right = format!(in alloc; "counts {all} {peeled} {solved} {lost}")?;
     let text = if counts == right.as_str() {
         "accepted\n"

@@ -1,6 +1,6 @@
 //! Lines that are too long, and archives that are none.
 
-use crate::archives::{archive_of, run_verify, tells};
+use crate::archives::{archive_of, reveals, run_verify};
 use aea_cli::Status;
 use aea_disk::{Disk, SureDisk};
 use aea_runs::run_over;
@@ -12,7 +12,7 @@ fn is_too_long(alloc: Global, count: usize) -> Result<bool, AllocError> {
     let mut disk = archive_of(alloc, "create 3 2 5 64 4", b"abc")?;
     let input = vec![in alloc; b'x'; count]?;
     let left = run_verify(alloc, &mut disk, input.as_slice())?;
-    Ok(tells(&left, "refused: line too long 1\n"))
+    Ok(reveals(&left, "refused: line too long 1\n"))
 }
 
 #[test]
@@ -26,10 +26,10 @@ fn is_refused(
     alloc: Global,
     disk: &mut SureDisk,
     line: &str,
-    told: &str,
+    revealed: &str,
 ) -> Result<bool, AllocError> {
     let left = run_over(alloc, line, disk, 99)?;
-    Ok(left.is(Status::Refused, "", told) && left.unread == 6)
+    Ok(left.is(Status::Refused, "", revealed) && left.unread == 6)
 }
 
 #[test]

@@ -83,9 +83,9 @@ fn first_not_accepted(alloc: Global, row: Row, seed: u64) -> Result<Option<Strin
         damage(&mut disk, blocks, percent, x)?;
         // and once more after a second repair
         for _ in 0..2 {
-            let told = repaired_and_judged(alloc, &mut disk)?;
-            if said(&told) != "accepted\n" {
-                let text = format!(in alloc; "{line}, {percent} from {x}: {}", said(&told))?;
+            let revealed = repaired_and_judged(alloc, &mut disk)?;
+            if said(&revealed) != "accepted\n" {
+                let text = format!(in alloc; "{line}, {percent} from {x}: {}", said(&revealed))?;
                 return Ok(Some(text));
             }
         }

@@ -19,12 +19,12 @@ use Rattle.aea_cli.specs.Beneath.{met_world, CausesAdopted, CausesBeneath, RunCa
 use Rattle.aea_mirror.specs.States.{outer_all}
 use Rattle.aea_adopt.proofs.Left.{adopted_leaves, adopted_on, left_alike}
 
-module _ (tells : Type 0) (told : tells) (command : Command) (uses : UsesDisk command) (old mid : State) (i : SourceState) (o : SinkState) (a : Adopted) (name : ℕ) (adopts : Adopts tells old mid (Ok a)) where
+module _ (reveals : Type 0) (revealed : reveals) (command : Command) (uses : UsesDisk command) (old mid : State) (i : SourceState) (o : SinkState) (a : Adopted) (name : ℕ) (adopts : Adopts reveals old mid (Ok a)) where
   abbrev before : World
-  before = world tells old i o
+  before = world reveals old i o
 
   abbrev met : World
-  met = world tells (mirror_state tells mid (fresh name a)) i o
+  met = world reveals (mirror_state reveals mid (fresh name a)) i o
 
   -- a cause over the Mirror is one of the run
   pub from_met : (why : Refusal) → Causes command met why → CausesBeneath command before why
@@ -32,9 +32,9 @@ module _ (tells : Type 0) (told : tells) (command : Command) (uses : UsesDisk co
   from_met (CopiesDiffer at) causes = absurd (never_differ command met at causes)
   from_met why causes = record {
     files = mid.files;
-    leaves = adopted_leaves old.files mid.files a (adopts.answers told);
+    leaves = adopted_leaves old.files mid.files a (adopts.answers revealed);
     on = a.on;
-    are = adopted_on old.files mid.files a (adopts.answers told);
+    are = adopted_on old.files mid.files a (adopts.answers revealed);
     causes = causes_alike command met (met_world before mid.files a.on) refl refl refl why causes;
   }
 
@@ -43,14 +43,14 @@ module _ (tells : Type 0) (told : tells) (command : Command) (uses : UsesDisk co
   to_met (CopiesBad first second) causes = absurd (⊎_elim
       (λ (e : (let r : Result Adopted AdoptFault = Ok a in r ≡ Err (adopting.CopiesBad first second))). cc)
       (λ (e : (let r : Result Adopted AdoptFault = Ok a in r ≡ Err adopting.DiskFault)). cc)
-      ((adopts.exactly told).bad first second causes))
+      ((adopts.exactly revealed).bad first second causes))
   to_met (CopiesDiffer at) causes = absurd (⊎_elim
       (λ (e : (let r : Result Adopted AdoptFault = Ok a in r ≡ Err (adopting.CopiesDiffer at))). cc)
       (λ (e : (let r : Result Adopted AdoptFault = Ok a in r ≡ Err adopting.DiskFault)). cc)
-      ((adopts.exactly told).differ at causes))
+      ((adopts.exactly revealed).differ at causes))
   to_met why causes =
       let here : CausesAdopted command before why = causes in
-      let is = adopts.answers told in
+      let is = adopts.answers revealed in
       let files = outer_all here.files mid.files (left_alike old.files mid.files here.files mid.files a is here.leaves (adopted_leaves old.files mid.files a is)) in
       let on = both_on here.on a.on (λ yes. (adopted_on old.files mid.files a is).1 (here.are.0 yes)) (λ yes. here.are.1 ((adopted_on old.files mid.files a is).0 yes)) in
       causes_alike command (met_world before here.files here.on) met files on refl why here.causes

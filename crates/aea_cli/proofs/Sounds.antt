@@ -20,8 +20,8 @@ use Rattle.aea_cli.specs.Beneath.{adopting_failure}
 use Rattle.aea_cli.specs.Ends.{IsSoundRun}
 
 -- nothing was done
-pub sound_unbegun : (tells : Type 0) (s : State) (i : SourceState) (o : SinkState) (f : Failure) → (let a : Answer = Err f in a ≢ Err failure.Disk) → (let a : Answer = Err f in a ≢ Err failure.Input) → (let a : Answer = Err f in a ≢ Err failure.Output) → IsSoundRun tells s s i i o o (Err f)
-sound_unbegun tells s i o f disk input output = record {
+pub sound_unbegun : (reveals : Type 0) (s : State) (i : SourceState) (o : SinkState) (f : Failure) → (let a : Answer = Err f in a ≢ Err failure.Disk) → (let a : Answer = Err f in a ≢ Err failure.Input) → (let a : Answer = Err f in a ≢ Err failure.Output) → IsSoundRun reveals s s i i o o (Err f)
+sound_unbegun reveals s i o f disk input output = record {
   well = tt;
   flushed = tt;
   disk_kept = omega arith;
@@ -59,8 +59,8 @@ fault_is : (fault : AdoptFault) → (let r : Result Adopted AdoptFault = Err fau
 fault_is fault e = cc
 
 -- copies could not be adopted
-pub sound_unadopted : (tells : Type 0) (old new : State) (i : SourceState) (o : SinkState) (fault : AdoptFault) → Adopts tells old new (Err fault) → IsSoundRun tells old new i i o o (Err (adopting_failure fault))
-sound_unadopted tells old new i o fault adopts =
+pub sound_unadopted : (reveals : Type 0) (old new : State) (i : SourceState) (o : SinkState) (fault : AdoptFault) → Adopts reveals old new (Err fault) → IsSoundRun reveals old new i i o o (Err (adopting_failure fault))
+sound_unadopted reveals old new i o fault adopts =
     let writes = adopts.writes in
     record {
       well = tt;
@@ -68,7 +68,7 @@ sound_unadopted tells old new i o fault adopts =
       disk_kept = writes.kept;
       input_kept = omega arith;
       out_kept = omega arith;
-      disk_cause = λ e told. writes.cause (adoption_fault fault (is_fault fault e));
+      disk_cause = λ e revealed. writes.cause (adoption_fault fault (is_fault fault e));
       input_cause = λ e. absurd (not_input fault e);
       out_cause = λ e. absurd (not_output fault e);
       disk_still = λ no. writes.still (λ is. no (ap (λ (f : AdoptFault). Err (adopting_failure f)) (fault_is fault is)));
@@ -78,9 +78,9 @@ sound_unadopted tells old new i o fault adopts =
     }
 
 -- the command ran over a Mirror that was just made
-pub sound_adopted : (tells : Type 0) (old mid new : State) (k l : Kept) (i j : SourceState) (o p : SinkState) (a : Adopted) (answer : Answer) → Adopts tells old mid (Ok a) → k.own ≡ 0 → (tells → IsReady (mirror_state tells mid k))
-    → IsSound (world tells (mirror_state tells mid k) i o) (world tells (mirror_state tells new l) j p) answer → Goes mid new → IsSoundRun tells old new i j o p answer
-sound_adopted tells old mid new k l i j o p a answer adopts none ready sound goes =
+pub sound_adopted : (reveals : Type 0) (old mid new : State) (k l : Kept) (i j : SourceState) (o p : SinkState) (a : Adopted) (answer : Answer) → Adopts reveals old mid (Ok a) → k.own ≡ 0 → (reveals → IsReady (mirror_state reveals mid k))
+    → IsSound (world reveals (mirror_state reveals mid k) i o) (world reveals (mirror_state reveals new l) j p) answer → Goes mid new → IsSoundRun reveals old new i j o p answer
+sound_adopted reveals old mid new k l i j o p a answer adopts none ready sound goes =
     let writes = adopts.writes in
     let same : mid.faults ≡ old.faults = writes.still (adopted_not a) in
     let counts = goes.counts in
@@ -91,18 +91,18 @@ sound_adopted tells old mid new k l i j o p a answer adopts none ready sound goe
       disk_kept = omega (arith, same, counts);
       input_kept = sound.input_kept;
       out_kept = sound.out_kept;
-      disk_cause = λ e told. let rose : Rose mid.faults new.faults = sound.disk_beneath told (ready told) e in omega (arith, rose, same);
+      disk_cause = λ e revealed. let rose : Rose mid.faults new.faults = sound.disk_beneath revealed (ready revealed) e in omega (arith, rose, same);
       input_cause = sound.input_cause;
       out_cause = sound.out_cause;
-      disk_still = λ no. let still : (mirror_state tells new l).faults ≡ (mirror_state tells mid k).faults = sound.disk_still no in omega (arith, still, none, same, counts, stops);
+      disk_still = λ no. let still : (mirror_state reveals new l).faults ≡ (mirror_state reveals mid k).faults = sound.disk_still no in omega (arith, still, none, same, counts, stops);
       input_still = sound.input_still;
       out_still = sound.out_still;
       time = goes_both old mid new (goes_passes old mid writes.kept writes.time) goes;
     }
 
 -- the command used no disk
-pub sound_idle : (tells : Type 0) (old new : State) (i j : SourceState) (o p : SinkState) (answer : Answer) → new ≡ old → answer ≢ Err failure.Disk → IsSound (world tells old i o) (world tells new j p) answer → IsSoundRun tells old new i j o p answer
-sound_idle tells old new i j o p answer same never sound = record {
+pub sound_idle : (reveals : Type 0) (old new : State) (i j : SourceState) (o p : SinkState) (answer : Answer) → new ≡ old → answer ≢ Err failure.Disk → IsSound (world reveals old i o) (world reveals new j p) answer → IsSoundRun reveals old new i j o p answer
+sound_idle reveals old new i j o p answer same never sound = record {
   well = sound.well;
   flushed = sound.flushed;
   disk_kept = sound.disk_kept;

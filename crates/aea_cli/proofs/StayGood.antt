@@ -80,36 +80,36 @@ is_copies (Rehearse number nodes permille) = inr (λ e. let h : Rehearse number 
 is_copies Sites = inr (λ e. let h : Sites ≡ Copies = e in cc)
 is_copies Session = inr (λ e. let h : Session ≡ Copies = e in cc)
 
-module _ (D tells : Type 0) (state : D → State) (told : tells) (command : Command) (old new : D) (i j : SourceState) (o p : SinkState) (answer : Answer) where
-  pub stay_good : (run : RunsAdopted D tells state command old new i j o p answer) → StayGood D tells state command old new i j o p answer run
+module _ (D reveals : Type 0) (state : D → State) (revealed : reveals) (command : Command) (old new : D) (i j : SourceState) (o p : SinkState) (answer : Answer) where
+  pub stay_good : (run : RunsAdopted D reveals state command old new i j o p answer) → StayGood D reveals state command old new i j o p answer run
   stay_good run =
       let mid = state run.mid in
       let a = run.adopted in
-      let first : (c : Files) → mid.image mid.moment c → AreAs a.on c = adopted_as mid a (run.adopts.synced (adopted_not a) told) (run.adopts.told told) in
+      let first : (c : Files) → mid.image mid.moment c → AreAs a.on c = adopted_as mid a (run.adopts.synced (adopted_not a) revealed) (run.adopts.revealed revealed) in
       record {
         on = λ on. ⊎_elim
-            (λ (is : command ≡ Copies). (run.makes is).good told on)
+            (λ (is : command ≡ Copies). (run.makes is).good revealed on)
             (λ (not : command ≡ Copies → ⊥). λ t c from to here.
-            subst (λ (b : Bool). AreAs b c) on ((lasts_lent (mirror_state tells mid (fresh run.name a)) (mirror_state tells (state new) run.kept) (run.time not).lasts).holds (λ d there told_. first d there) t c from to here told))
+            subst (λ (b : Bool). AreAs b c) on ((lasts_lent (mirror_state reveals mid (fresh run.name a)) (mirror_state reveals (state new) run.kept) (run.time not).lasts).holds (λ d there revealed_. first d there) t c from to here revealed))
             (is_copies command);
         begun = λ is begun c here.
-            let made = (run.makes is).made begun told in
-            whole_are_good made.0 (mid.files 0) made.1 c (λ f copy. (run.makes is).synced begun told c here f ∙ made.2 f copy);
+            let made = (run.makes is).made begun revealed in
+            whole_are_good made.0 (mid.files 0) made.1 c (λ f copy. (run.makes is).synced begun revealed c here f ∙ made.2 f copy);
       }
 
-  fault_of_kept : (fault : AdoptFault) → Adopts tells (state old) (state new) (Err fault) → HasKept (state old).files → fault ≡ adopting.DiskFault
+  fault_of_kept : (fault : AdoptFault) → Adopts reveals (state old) (state new) (Err fault) → HasKept (state old).files → fault ≡ adopting.DiskFault
   fault_of_kept (adopting.CopiesBad first second) adopts kept = absurd (∥∥₁_elim kept (λ a b. absurd a) (λ some. ⊎_elim
       (λ ok. false≢true ok)
       (λ (e : (let r : Result Adopted AdoptFault = Err (adopting.CopiesBad first second) in r ≡ Err adopting.DiskFault)). cc)
-      ((adopts.exactly told).kept some.0 some.1)))
+      ((adopts.exactly revealed).kept some.0 some.1)))
   fault_of_kept (adopting.CopiesDiffer at) adopts kept = absurd (∥∥₁_elim kept (λ a b. absurd a) (λ some. ⊎_elim
       (λ ok. false≢true ok)
       (λ (e : (let r : Result Adopted AdoptFault = Err (adopting.CopiesDiffer at) in r ≡ Err adopting.DiskFault)). cc)
-      ((adopts.exactly told).kept some.0 some.1)))
+      ((adopts.exactly revealed).kept some.0 some.1)))
   fault_of_kept adopting.DiskFault adopts kept = refl
 
-  pub kept_adopted : RunsBeneath D tells state command old new i j o p answer → HasKept (state old).files
-      → (answer ≡ Err failure.Memory) ⊎ (((answer ≡ Err failure.Disk) × Rose (state old).faults (state new).faults) ⊎ RunsAdopted D tells state command old new i j o p answer)
+  pub kept_adopted : RunsBeneath D reveals state command old new i j o p answer → HasKept (state old).files
+      → (answer ≡ Err failure.Memory) ⊎ (((answer ≡ Err failure.Disk) × Rose (state old).faults (state new).faults) ⊎ RunsAdopted D reveals state command old new i j o p answer)
   kept_adopted (inl un) kept = inl un.is
   kept_adopted (inr (inl un)) kept =
       let is = fault_of_kept un.fault un.adopts kept in

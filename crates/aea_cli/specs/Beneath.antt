@@ -43,38 +43,38 @@ pub record HasNotBegun {D : Type 0} (old new : D) (i j : SourceState) (o p : Sin
   pub out : p ≡ o
 
 -- Copies could not be adopted, and that is the answer; nothing was read or printed.
-pub record IsUnadopted (D tells : Type 0) (state : D → State) (old new : D) (i j : SourceState) (o p : SinkState) (answer : Answer) : Type 0 where
+pub record IsUnadopted (D reveals : Type 0) (state : D → State) (old new : D) (i j : SourceState) (o p : SinkState) (answer : Answer) : Type 0 where
   pub fault : AdoptFault
-  pub adopts : Adopts tells (state old) (state new) (Err fault)
+  pub adopts : Adopts reveals (state old) (state new) (Err fault)
   pub is : answer ≡ Err (adopting_failure fault)
   pub input : j ≡ i
   pub out : p ≡ o
 
 -- Copies were adopted, which left the disk in the middle; and the command ran over a Mirror of that. The disk in the middle is one
 -- of the same type, as it was then: it is no part of what is seen at the end.
-pub record RunsAdopted (D tells : Type 0) (state : D → State) (command : Command) (old new : D) (i j : SourceState) (o p : SinkState) (answer : Answer) : Type 0 where
+pub record RunsAdopted (D reveals : Type 0) (state : D → State) (command : Command) (old new : D) (i j : SourceState) (o p : SinkState) (answer : Answer) : Type 0 where
   pub mid : D
   pub adopted : Adopted
-  pub adopts : Adopts tells (state old) (state mid) (Ok adopted)
+  pub adopts : Adopts reveals (state old) (state mid) (Ok adopted)
   pub name : ℕ
   pub kept : Kept
-  pub runs : Runs command (world tells (mirror_state tells (state mid) (fresh name adopted)) i o) (world tells (mirror_state tells (state new) kept) j p) answer
-  pub sound : IsSound (world tells (mirror_state tells (state mid) (fresh name adopted)) i o) (world tells (mirror_state tells (state new) kept) j p) answer
+  pub runs : Runs command (world reveals (mirror_state reveals (state mid) (fresh name adopted)) i o) (world reveals (mirror_state reveals (state new) kept) j p) answer
+  pub sound : IsSound (world reveals (mirror_state reveals (state mid) (fresh name adopted)) i o) (world reveals (mirror_state reveals (state new) kept) j p) answer
   -- no command but `copies` changes how the Mirror is set
-  pub time : (command ≡ Copies → ⊥) → Passes (mirror_state tells (state mid) (fresh name adopted)) (mirror_state tells (state new) kept)
+  pub time : (command ≡ Copies → ⊥) → Passes (mirror_state reveals (state mid) (fresh name adopted)) (mirror_state reveals (state new) kept)
   pub goes : Goes (state mid) (state new)
-  pub makes : command ≡ Copies → MakesCopies tells adopted.on (EndsBegun answer) (state mid) (state new)
+  pub makes : command ≡ Copies → MakesCopies reveals adopted.on (EndsBegun answer) (state mid) (state new)
 
 -- Of a run of a command that uses the disk, by the disk's values and what they mean.
-abbrev pub RunsBeneath : (D tells : Type 0) (state : D → State) → Command → (old new : D) (i j : SourceState) (o p : SinkState) → Answer → Type 0
-RunsBeneath D tells state command old new i j o p answer =
-    HasNotBegun old new i j o p answer ⊎ (IsUnadopted D tells state old new i j o p answer ⊎ RunsAdopted D tells state command old new i j o p answer)
+abbrev pub RunsBeneath : (D reveals : Type 0) (state : D → State) → Command → (old new : D) (i j : SourceState) (o p : SinkState) → Answer → Type 0
+RunsBeneath D reveals state command old new i j o p answer =
+    HasNotBegun old new i j o p answer ⊎ (IsUnadopted D reveals state old new i j o p answer ⊎ RunsAdopted D reveals state command old new i j o p answer)
 
 -- what a command meets over a Mirror of a disk that reads so, with copies on or not
 abbrev pub met_world : World → Files → Bool → World
 met_world w files on =
-    world w.tells
-    (mirror_state w.tells (record { files = files; moment = w.disk.moment; image = w.disk.image; faults = w.disk.faults; room = w.disk.room; beneath = w.disk.beneath; takes = w.disk.takes; keeps = w.disk.keeps; free = w.disk.free; lent = w.disk.lent })
+    world w.reveals
+    (mirror_state w.reveals (record { files = files; moment = w.disk.moment; image = w.disk.image; faults = w.disk.faults; room = w.disk.room; beneath = w.disk.beneath; takes = w.disk.takes; keeps = w.disk.keeps; free = w.disk.free; lent = w.disk.lent })
     (record { name = 0; on = on; end = 0; dead = false; own = 0 }))
     w.input w.out
 
@@ -108,8 +108,8 @@ pub record FitsOutputRun (command : Command) (w : World) : Type 0 where
 
 -- The disk has no rule, and space for all that a run of the command writes where it uses the disk: to adopt copies, and for the command
 -- over a Mirror of whatever disk that leaves.
-pub record FitsRun (D tells : Type 0) (state : D → State) (command : Command) (old : D) (i : SourceState) (o : SinkState) : Type 0 where
+pub record FitsRun (D reveals : Type 0) (state : D → State) (command : Command) (old : D) (i : SourceState) (o : SinkState) : Type 0 where
   pub free : UsesDisk command → (state old).free
   pub adopting : UsesDisk command → FitsAdopting (state old)
-  pub over : UsesDisk command → (mid : D) (adopted : Adopted) (name : ℕ) → Adopts tells (state old) (state mid) (Ok adopted)
-      → FitsDisk command (world tells (mirror_state tells (state mid) (fresh name adopted)) i o)
+  pub over : UsesDisk command → (mid : D) (adopted : Adopted) (name : ℕ) → Adopts reveals (state old) (state mid) (Ok adopted)
+      → FitsDisk command (world reveals (mirror_state reveals (state mid) (fresh name adopted)) i o)

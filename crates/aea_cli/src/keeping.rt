@@ -8,6 +8,6 @@ use aea_disk::Disk;
 /// at the end of a run that says that copies were begun; and over files of which pieces are kept a run adopts them. It is a law
 /// alone; nothing is done.
 pub fn copies_stay_good<D: Disk>(_disk: &D)
-    ensures good { CopiesStayGood D.tells D.state }
-    ensures found { KeptIsAdopted D.tells D.state }
+    ensures good { CopiesStayGood D.reveals D.state }
+    ensures found { KeptIsAdopted D.reveals D.state }
 {}

@@ -15,7 +15,7 @@ ghost use Rattle.aea_command.specs.Failures.{IsWell};
 ghost use Rattle.aea_command.specs.Worlds.{world};
 ghost use Rattle.aea_command_copies.specs.Copies.{EndsBegun, MakesCopies};
 ghost use Rattle.aea_dispatch.specs.declared.command.Command.{Command};
-ghost use Rattle.aea_dispatch.specs.Does.{ReadsInput, UsesDisk, IsToldFor, Runs};
+ghost use Rattle.aea_dispatch.specs.Does.{ReadsInput, UsesDisk, IsRevealedFor, Runs};
 ghost use Rattle.aea_dispatch.specs.Sound.{IsSound};
 ghost use Rattle.aea_dispatch.specs.Words.{AreNoCommand, IsSane, Means};
 ghost use Rattle.aea_cli.specs.Beneath.{adopting_answer, RunsBeneath, RunCauses, IsHonestRun};
@@ -32,10 +32,10 @@ use std::alloc::Global;
 
 // Adopts the copies of the disk, if it has some.
 fn adopt_copies<D: Disk>(disk: &mut D) -> Result<Adopted, Failure>
-    ensures adopts { (adoption : Result Adopted AdoptFault) × Adopts D.tells (D.state disk.old) (D.state disk.new) adoption × (result ≡ adopting_answer adoption) }
-    ensures told { IfOk result (λ a. D.tells → IsTrueOf (D.state disk.new).files a) }
+    ensures adopts { (adoption : Result Adopted AdoptFault) × Adopts D.reveals (D.state disk.old) (D.state disk.new) adoption × (result ≡ adopting_answer adoption) }
+    ensures revealed { IfOk result (λ a. D.reveals → IsTrueOf (D.state disk.new).files a) }
     ensures near { IfOk result AreNear }
-    ensures synced { OnOk result (D.tells → IsSynced (D.state disk.new)) }
+    ensures synced { OnOk result (D.reveals → IsSynced (D.state disk.new)) }
 {
     match adopt(disk) {
         Ok(adopted) => Ok(adopted),
@@ -60,18 +60,18 @@ fn carry_out_mirrored<'a, D: Disk, S: Source, O: Sink>(
     requires sane { IsSane command.now }
     requires fresh { mirror.old.own ≡ 0 }
     requires alive { mirror.old.dead ≡ false }
-    requires synced { D.tells → IsSynced (shown D.tells (D.state mirror.old.disk.now) mirror.old.disk.ghost_name mirror.old.on mirror.old.end mirror.old.dead mirror.old.own) }
+    requires synced { D.reveals → IsSynced (shown D.reveals (D.state mirror.old.disk.now) mirror.old.disk.ghost_name mirror.old.on mirror.old.end mirror.old.dead mirror.old.own) }
     ensures runs { Runs command.now
-        (world D.tells (shown D.tells (D.state mirror.old.disk.now) mirror.old.disk.ghost_name mirror.old.on mirror.old.end mirror.old.dead mirror.old.own) (S.state input.old) (O.state out.old))
-        (world D.tells (shown D.tells (D.state mirror.new.disk.now) mirror.new.disk.ghost_name mirror.new.on mirror.new.end mirror.new.dead mirror.new.own) (S.state input.new) (O.state out.new)) result }
+        (world D.reveals (shown D.reveals (D.state mirror.old.disk.now) mirror.old.disk.ghost_name mirror.old.on mirror.old.end mirror.old.dead mirror.old.own) (S.state input.old) (O.state out.old))
+        (world D.reveals (shown D.reveals (D.state mirror.new.disk.now) mirror.new.disk.ghost_name mirror.new.on mirror.new.end mirror.new.dead mirror.new.own) (S.state input.new) (O.state out.new)) result }
     ensures sound { IsSound
-        (world D.tells (shown D.tells (D.state mirror.old.disk.now) mirror.old.disk.ghost_name mirror.old.on mirror.old.end mirror.old.dead mirror.old.own) (S.state input.old) (O.state out.old))
-        (world D.tells (shown D.tells (D.state mirror.new.disk.now) mirror.new.disk.ghost_name mirror.new.on mirror.new.end mirror.new.dead mirror.new.own) (S.state input.new) (O.state out.new)) result }
+        (world D.reveals (shown D.reveals (D.state mirror.old.disk.now) mirror.old.disk.ghost_name mirror.old.on mirror.old.end mirror.old.dead mirror.old.own) (S.state input.old) (O.state out.old))
+        (world D.reveals (shown D.reveals (D.state mirror.new.disk.now) mirror.new.disk.ghost_name mirror.new.on mirror.new.end mirror.new.dead mirror.new.own) (S.state input.new) (O.state out.new)) result }
     ensures time { (command.now ≡ Command.Copies → ⊥) → Passes
-        (shown D.tells (D.state mirror.old.disk.now) mirror.old.disk.ghost_name mirror.old.on mirror.old.end mirror.old.dead mirror.old.own)
-        (shown D.tells (D.state mirror.new.disk.now) mirror.new.disk.ghost_name mirror.new.on mirror.new.end mirror.new.dead mirror.new.own) }
+        (shown D.reveals (D.state mirror.old.disk.now) mirror.old.disk.ghost_name mirror.old.on mirror.old.end mirror.old.dead mirror.old.own)
+        (shown D.reveals (D.state mirror.new.disk.now) mirror.new.disk.ghost_name mirror.new.on mirror.new.end mirror.new.dead mirror.new.own) }
     ensures goes { Goes (D.state mirror.old.disk.now) (D.state mirror.new.disk.now) }
-    ensures makes { command.now ≡ Command.Copies → MakesCopies D.tells mirror.old.on (EndsBegun result) (D.state mirror.old.disk.now) (D.state mirror.new.disk.now) }
+    ensures makes { command.now ≡ Command.Copies → MakesCopies D.reveals mirror.old.on (EndsBegun result) (D.state mirror.old.disk.now) (D.state mirror.new.disk.now) }
     ensures words { result ≢ Err Failure.Words }
     ensures input { (ReadsInput command.now → ⊥) → (input.new ≡ input.old) × (result ≢ Err Failure.Input) }
     ensures lent { mirror.new.disk.ghost_name ≡ mirror.old.disk.ghost_name }
@@ -91,7 +91,7 @@ fn carry_out_over<D: Disk, S: Source, O: Sink>(
     out: &mut O,
 ) -> Result<Status, Failure>
     requires sane { IsSane command.now }
-    ensures beneath { RunsBeneath D D.tells D.state command.now disk.old disk.new (S.state input.old) (S.state input.new) (O.state out.old) (O.state out.new) result }
+    ensures beneath { RunsBeneath D D.reveals D.state command.now disk.old disk.new (S.state input.old) (S.state input.new) (O.state out.old) (O.state out.new) result }
     ensures words { result ≢ Err Failure.Words }
     ensures input { (ReadsInput command.now → ⊥) → (input.new ≡ input.old) × (result ≢ Err Failure.Input) }
 {
@@ -111,11 +111,11 @@ fn execute<D: Disk, S: Source, O: Sink>(
     ensures words { (result ≡ Err Failure.Words) ↔ AreNoCommand (map string_bytes words.now) }
     ensures words_leave { AreNoCommand (map string_bytes words.now) → (disk.new ≡ disk.old) × (input.new ≡ input.old) × (out.new ≡ out.old) }
     ensures runs { (command : Command) → Means (map string_bytes words.now) command → (UsesDisk command → ⊥) → Runs command
-        (world D.tells (D.state disk.old) (S.state input.old) (O.state out.old))
-        (world D.tells (D.state disk.new) (S.state input.new) (O.state out.new)) result }
+        (world D.reveals (D.state disk.old) (S.state input.old) (O.state out.old))
+        (world D.reveals (D.state disk.new) (S.state input.new) (O.state out.new)) result }
     ensures beneath { (command : Command) → Means (map string_bytes words.now) command → UsesDisk command
-        → RunsBeneath D D.tells D.state command disk.old disk.new (S.state input.old) (S.state input.new) (O.state out.old) (O.state out.new) result }
-    ensures sound { IsSoundRun D.tells (D.state disk.old) (D.state disk.new) (S.state input.old) (S.state input.new) (O.state out.old) (O.state out.new) result }
+        → RunsBeneath D D.reveals D.state command disk.old disk.new (S.state input.old) (S.state input.new) (O.state out.old) (O.state out.new) result }
+    ensures sound { IsSoundRun D.reveals (D.state disk.old) (D.state disk.new) (S.state input.old) (S.state input.new) (O.state out.old) (O.state out.new) result }
     ensures input { (command : Command) → Means (map string_bytes words.now) command → (ReadsInput command → ⊥)
         → (input.new ≡ input.old) × (result ≢ Err Failure.Input) }
     ensures disk { (command : Command) → Means (map string_bytes words.now) command → (UsesDisk command → ⊥)
@@ -152,7 +152,7 @@ pub fn run<D: Disk, S: Source, O: Sink, E: Sink>(
     ensures words_leave { AreNoCommand (map string_bytes words.now) → (disk.new ≡ disk.old) × (input.new ≡ input.old) × (out.new ≡ out.old) }
 
     // Any words: what was done, the status, and the line of a failure on `err`.
-    ensures ends { Ends D D.tells D.state (map string_bytes words.now) disk.old disk.new
+    ensures ends { Ends D D.reveals D.state (map string_bytes words.now) disk.old disk.new
         (S.state input.old) (S.state input.new) (O.state out.old) (O.state out.new) (E.state err.old) (E.state err.new) result }
     ensures input { (command : Command) → Means (map string_bytes words.now) command → (ReadsInput command → ⊥)
         → (input.new ≡ input.old) × (result ≢ Status.Input) }
@@ -167,18 +167,18 @@ pub fn run<D: Disk, S: Source, O: Sink, E: Sink>(
     // unless memory runs out, or the run is refused for a reason that is decided by what is not known; of a repair where the intact
     // blocks are honest.
     ensures complete { (command : Command) → Means (map string_bytes words.now) command
-        → ((why : Refusal) → IsToldFor command (world D.tells (D.state disk.old) (S.state input.old) (O.state out.old)) why
-        → IsFirst (RunCauses command (world D.tells (D.state disk.old) (S.state input.old) (O.state out.old))) why → ⊥)
-        → (UsesDisk command → D.tells)
-        → IsHonestRun command (world D.tells (D.state disk.old) (S.state input.old) (O.state out.old))
+        → ((why : Refusal) → IsRevealedFor command (world D.reveals (D.state disk.old) (S.state input.old) (O.state out.old)) why
+        → IsFirst (RunCauses command (world D.reveals (D.state disk.old) (S.state input.old) (O.state out.old))) why → ⊥)
+        → (UsesDisk command → D.reveals)
+        → IsHonestRun command (world D.reveals (D.state disk.old) (S.state input.old) (O.state out.old))
         → (Rose (D.state disk.old).faults (D.state disk.new).faults → ⊥)
         → (Rose (S.state input.old).faults (S.state input.new).faults → ⊥)
         → (Rose (O.state out.old).faults (O.state out.new).faults → ⊥)
-        → IsWell result ⊎ ((result ≡ Status.Memory) ⊎ IsRefusedUnknown command (world D.tells (D.state disk.old) (S.state input.old) (O.state out.old)) result) }
+        → IsWell result ⊎ ((result ≡ Status.Memory) ⊎ IsRefusedUnknown command (world D.reveals (D.state disk.old) (S.state input.old) (O.state out.old)) result) }
 
     // Where something failed: what did not, has the count that it had; so has each where memory ran out. Of a disk whose contents are
     // not known `ends` says whose count rose.
-    ensures disk_cause { result ≡ Status.Disk → D.tells → Rose (D.state disk.old).faults (D.state disk.new).faults }
+    ensures disk_cause { result ≡ Status.Disk → D.reveals → Rose (D.state disk.old).faults (D.state disk.new).faults }
     ensures disk_still { result ≢ Status.Disk → (D.state disk.new).faults ≡ (D.state disk.old).faults }
     ensures input_cause { result ≡ Status.Input → Rose (S.state input.old).faults (S.state input.new).faults }
     ensures input_still { result ≢ Status.Input → (S.state input.new).faults ≡ (S.state input.old).faults }

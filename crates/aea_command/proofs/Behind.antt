@@ -26,10 +26,10 @@ pub some_ledger : (bytes : List ℕ) (shape : Shape) (records : List Record) →
 some_ledger bytes shape records ledger = record { shape = shape; records = records; end = length (spelled shape records); ledger = ledger }
 
 -- an archive that was not opened says why
-pub unopened_refuses : {T : Type 0} (tells : Type 0) (old new : State) (f : Failure) (causes : Refusal → Type 0) → AreBehindOpening (old.files 0) causes → Opens tells old new (Err f) → Refuses {T = T} tells causes (Err f)
-unopened_refuses {T} tells old new f causes behind opens = refuses_as {T = Opened} {U = T} tells causes f (Err f) refl (record {
-  only = λ why is told.
-      let first = opens.refuses.only why is told in
+pub unopened_refuses : {T : Type 0} (reveals : Type 0) (old new : State) (f : Failure) (causes : Refusal → Type 0) → AreBehindOpening (old.files 0) causes → Opens reveals old new (Err f) → Refuses {T = T} reveals causes (Err f)
+unopened_refuses {T} reveals old new f causes behind opens = refuses_as {T = Opened} {U = T} reveals causes f (Err f) refl (record {
+  only = λ why is revealed.
+      let first = opens.refuses.only why is revealed in
       record {
         stands = behind.from why first.stands;
         none = λ other before cause. elim (behind.back other cause) [
@@ -37,15 +37,15 @@ unopened_refuses {T} tells old new f causes behind opens = refuses_as {T = Opene
           | inr late ↦ let e = opening_early (old.files 0) why first.stands in let l = late.1 in omega arith
         ];
       };
-  always = λ why told first. elim (behind.back why first.stands) [
-    | inl early ↦ opens.refuses.always why told (opening_first (old.files 0) why early)
-    | inr late ↦ elim (opens.complete told late.0) [ inl ok ↦ absurd (false≢true ok) | inr stopped ↦ inr stopped ]
+  always = λ why revealed first. elim (behind.back why first.stands) [
+    | inl early ↦ opens.refuses.always why revealed (opening_first (old.files 0) why early)
+    | inr late ↦ elim (opens.complete revealed late.0) [ inl ok ↦ absurd (false≢true ok) | inr stopped ↦ inr stopped ]
   ];
 })
 
 -- one that was opened has no reason of the opening
-pub opened_no_opening : (tells : Type 0) (old new : State) (v : Opened) → Opens tells old new (Ok v) → tells → (why : Refusal) → OpeningCauses (old.files 0) why → ⊥
-opened_no_opening tells old new v opens told why cause = elim (opens.refuses.always why told (opening_first (old.files 0) why cause)) [
+pub opened_no_opening : (reveals : Type 0) (old new : State) (v : Opened) → Opens reveals old new (Ok v) → reveals → (why : Refusal) → OpeningCauses (old.files 0) why → ⊥
+opened_no_opening reveals old new v opens revealed why cause = elim (opens.refuses.always why revealed (opening_first (old.files 0) why cause)) [
   | inl e ↦ let h : Ok v ≡ Err (failure.Refused why) = e in cc
   | inr (inl e) ↦ let h : Ok v ≡ Err failure.Disk = e in cc
   | inr (inr (inl e)) ↦ let h : Ok v ≡ Err failure.Input = e in cc

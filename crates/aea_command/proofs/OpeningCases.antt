@@ -125,16 +125,16 @@ first_reason bytes opening.DiskFault why answers is = let h : failure.Disk ≡ f
 first_reason bytes opening.NoMemory why answers is = let h : failure.Memory ≡ failure.Refused why = is in cc
 
 -- how an opening that failed says why
-pub opening_refuses : {T : Type 0} (tells : Type 0) (bytes : List ℕ) (fault : OpenFault) (r : Result T Failure) → r ≡ Err (opening_failure fault) → (tells → Answers bytes (Err fault)) → (tells → IsAnswered bytes (Err fault))
-    → Refuses tells (OpeningCauses bytes) r
-opening_refuses {T} tells bytes fault r is answers answered = record {
-  only = λ why same told. let h : Err (opening_failure fault) ≡ Err (failure.Refused why) = sym is ∙ same in first_reason bytes fault why (answers told) cc;
-  always = λ why told first. opening_refusal bytes fault r is (answered told) why first.stands;
+pub opening_refuses : {T : Type 0} (reveals : Type 0) (bytes : List ℕ) (fault : OpenFault) (r : Result T Failure) → r ≡ Err (opening_failure fault) → (reveals → Answers bytes (Err fault)) → (reveals → IsAnswered bytes (Err fault))
+    → Refuses reveals (OpeningCauses bytes) r
+opening_refuses {T} reveals bytes fault r is answers answered = record {
+  only = λ why same revealed. let h : Err (opening_failure fault) ≡ Err (failure.Refused why) = sym is ∙ same in first_reason bytes fault why (answers revealed) cc;
+  always = λ why revealed first. opening_refusal bytes fault r is (answered revealed) why first.stands;
 }
 
 -- how one that did not fail does
-pub opened_refuses : (tells : Type 0) (bytes : List ℕ) (v : Opened) → (tells → IsAnswered bytes (Ok v)) → Refuses tells (OpeningCauses bytes) (Ok v)
-opened_refuses tells bytes v answered = refuses_none tells (OpeningCauses bytes) (Ok v) (λ why e. let h : Ok v ≡ Err (failure.Refused why) = e in cc) (λ told why first. opened_refusal bytes v (answered told) why first.stands)
+pub opened_refuses : (reveals : Type 0) (bytes : List ℕ) (v : Opened) → (reveals → IsAnswered bytes (Ok v)) → Refuses reveals (OpeningCauses bytes) (Ok v)
+opened_refuses reveals bytes v answered = refuses_none reveals (OpeningCauses bytes) (Ok v) (λ why e. let h : Ok v ≡ Err (failure.Refused why) = e in cc) (λ revealed why first. opened_refusal bytes v (answered revealed) why first.stands)
 
 -- an opening fails by the disk only where the ledger's opening does
 pub disk_fault : (fault : OpenFault) → opening_failure fault ≡ failure.Disk → fault ≡ opening.DiskFault
@@ -174,8 +174,8 @@ opening_not_output opening.DiskFault e = cc
 opening_not_output opening.NoMemory e = cc
 
 -- but after a fault of the disk an opening leaves every file, with nothing pending, and its first sync has succeeded
-pub untouched : (tells : Type 0) (old new : State) (opening : Result Opened Failure) → Opens tells old new opening → opening ≢ Err failure.Disk → IsUntouched tells old new
-untouched tells old new opening opens differs = record {
+pub untouched : (reveals : Type 0) (old new : State) (opening : Result Opened Failure) → Opens reveals old new opening → opening ≢ Err failure.Disk → IsUntouched reveals old new
+untouched reveals old new opening opens differs = record {
   images = opens.reads.crash;
   files = opens.reads.contents;
   synced = opens.synced differs;

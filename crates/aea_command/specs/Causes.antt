@@ -49,13 +49,13 @@ IsStopped answer = (answer ≡ Err failure.Disk) ⊎ ((answer ≡ Err failure.In
 
 -- How an answer says why it is a refusal, for each refusal where the contents that decide it are known: it is one only for the
 -- first cause that holds, and where there is such a cause it is that refusal, but for faults and lack of memory.
-pub record RefusesBy {T : Type 0} (told : Refusal → Type 0) (causes : Refusal → Type 0) (answer : Result T Failure) : Type 0 where
-  pub only : (why : Refusal) → answer ≡ Err (failure.Refused why) → told why → IsFirst causes why
-  pub always : (why : Refusal) → told why → IsFirst causes why → (answer ≡ Err (failure.Refused why)) ⊎ IsStopped answer
+pub record RefusesBy {T : Type 0} (revealed : Refusal → Type 0) (causes : Refusal → Type 0) (answer : Result T Failure) : Type 0 where
+  pub only : (why : Refusal) → answer ≡ Err (failure.Refused why) → revealed why → IsFirst causes why
+  pub always : (why : Refusal) → revealed why → IsFirst causes why → (answer ≡ Err (failure.Refused why)) ⊎ IsStopped answer
 
 -- the same where one part decides each refusal
 abbrev pub Refuses : {T : Type 0} → Type 0 → (Refusal → Type 0) → Result T Failure → Type 0
-Refuses {T} told causes answer = RefusesBy {T = T} (λ why. told) causes answer
+Refuses {T} revealed causes answer = RefusesBy {T = T} (λ why. revealed) causes answer
 
 -- the contents that decide a refusal are known: those of the disk, and, for a refusal that the input decides too, those of the
 -- input

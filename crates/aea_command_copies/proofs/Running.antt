@@ -10,8 +10,8 @@ use Rattle.aea_command.specs.Printed.{PrintsText}
 use Rattle.aea_command_copies.specs.Copies.{copies_line, EndsBegun, Begins, BeginsOver}
 
 -- an answer that says no more
-pub over_as : (tells : Type 0) (on : Bool) (fault begun then done : Type 0) (old new seen now : State) → (then → fault) → (fault → then) → (done → begun) → BeginsOver tells on fault begun old new seen now → BeginsOver tells on then done old new seen now
-over_as tells on fault begun then done old new seen now back forth has over = record {
+pub over_as : (reveals : Type 0) (on : Bool) (fault begun then done : Type 0) (old new seen now : State) → (then → fault) → (fault → then) → (done → begun) → BeginsOver reveals on fault begun old new seen now → BeginsOver reveals on then done old new seen now
+over_as reveals on fault begun then done old new seen now back forth has over = record {
   makes = record {
     made = λ is. over.makes.made (has is);
     synced = λ is. over.makes.synced (has is);
@@ -28,21 +28,21 @@ over_as tells on fault begun then done old new seen now back forth has over = re
   kept = over.kept;
   cause = λ is. over.cause (back is);
   still = λ no. over.still (λ is. no (forth is));
-  beneath = λ told ready is. over.beneath told ready (back is);
-  in_room = λ told ready fits is. over.in_room told ready fits (back is);
+  beneath = λ revealed ready is. over.beneath revealed ready (back is);
+  in_room = λ revealed ready fits is. over.in_room revealed ready fits (back is);
 }
 
 -- what is printed makes it a run
-pub begins_by : (tells : Type 0) (on : Bool) (fault begun : Type 0) (old new seen now : State) (before after : SinkState) (answer : Answer) → IfOk answer (λ status. status ≡ Done) → PrintsText before after answer copies_line
-    → (answer ≡ Err failure.Disk → fault) → (EndsBegun answer → begun) → BeginsOver tells on fault begun old new seen now → Begins tells seen now before after answer
-begins_by tells on fault begun old new seen now before after answer done prints back has over = record {
+pub begins_by : (reveals : Type 0) (on : Bool) (fault begun : Type 0) (old new seen now : State) (before after : SinkState) (answer : Answer) → IfOk answer (λ status. status ≡ Done) → PrintsText before after answer copies_line
+    → (answer ≡ Err failure.Disk → fault) → (EndsBegun answer → begun) → BeginsOver reveals on fault begun old new seen now → Begins reveals seen now before after answer
+begins_by reveals on fault begun old new seen now before after answer done prints back has over = record {
   done = done;
   prints = prints;
   set = λ is. over.set (has is);
   contents = over.contents;
   images = over.images;
   stops = over.stops;
-  in_room = λ told ready fits is. over.in_room told ready fits (back is);
+  in_room = λ revealed ready fits is. over.in_room revealed ready fits (back is);
 }
 
 -- a failure that is none of the output says that no copies were begun

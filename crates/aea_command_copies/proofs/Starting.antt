@@ -17,26 +17,26 @@ use Rattle.aea_mirror.specs.Starting.{ArePiecesOf, MayBeStarted, FitsStart}
 use Rattle.aea_command_copies.proofs.Beginning.{Starts}
 
 -- what the call says, over the lent disk from mid to new, of a Mirror that keeps j before and l after it
-pub record SaysStart (tells : Type 0) (mid new : State) (j l : Kept) (result : Result (Unit {0}) StartFault) : Type 1 where
+pub record SaysStart (reveals : Type 0) (mid new : State) (j l : Kept) (result : Result (Unit {0}) StartFault) : Type 1 where
   pub off : j.on ≡ false
-  pub others : tells → KeepsFiles (λ f. f ≤ 64) mid.files new.files
+  pub others : reveals → KeepsFiles (λ f. f ≤ 64) mid.files new.files
   pub crash : Follows (KeepsFiles (λ f. f ≤ 64)) mid new
-  pub shown : KeepsImages (mirror_state tells mid j) (mirror_state tells new l)
+  pub shown : KeepsImages (mirror_state reveals mid j) (mirror_state reveals new l)
   pub time : Passes mid new
   pub counts : IsCounted j.own l.own mid new result
   pub dead : j.dead ≡ true → new ≡ mid
-  pub any_moment : tells → j.dead ≡ false → (pieces : List (List ℕ)) → ArePiecesOf (mid.files 0) pieces → During mid new (MayBeStarted pieces)
-  pub handed : tells → j.dead ≡ false → (last : ℕ) → EndsAt (mid.files 0) last → (l.own ≡ j.own) × HasCause mid.faults new.faults result
-  pub sure : tells → j.dead ≡ false → mid.free → FitsStart mid → IsOk result × (new.faults ≡ mid.faults)
+  pub any_moment : reveals → j.dead ≡ false → (pieces : List (List ℕ)) → ArePiecesOf (mid.files 0) pieces → During mid new (MayBeStarted pieces)
+  pub handed : reveals → j.dead ≡ false → (last : ℕ) → EndsAt (mid.files 0) last → (l.own ≡ j.own) × HasCause mid.faults new.faults result
+  pub sure : reveals → j.dead ≡ false → mid.free → FitsStart mid → IsOk result × (new.faults ≡ mid.faults)
   pub set : OnOk result (l.on ≡ true)
-  pub made : OnOk result (tells → (pieces : List (List ℕ)) × ArePiecesOf (mid.files 0) pieces × ((f : ℕ) → IsCopyFile f → new.files f ≡ whole_copy pieces))
-  pub synced : OnOk result (tells → IsSynced new)
+  pub made : OnOk result (reveals → (pieces : List (List ℕ)) × ArePiecesOf (mid.files 0) pieces × ((f : ℕ) → IsCopyFile f → new.files f ≡ whole_copy pieces))
+  pub synced : OnOk result (reveals → IsSynced new)
 
 ok_not : (u : Unit {0}) → (let r : Result (Unit {0}) StartFault = Ok u in r ≡ Err starting.DiskFault) → ⊥
 ok_not u e = cc
 
-pub starts_by : (tells : Type 0) (mid new : State) (j l : Kept) (result : Result (Unit {0}) StartFault) → result ≢ Err starting.AlreadyOn → SaysStart tells mid new j l result → Starts tells (result ≡ Err starting.DiskFault) (IsOk result) mid new j l
-starts_by tells mid new j l (Ok u) differs says = record {
+pub starts_by : (reveals : Type 0) (mid new : State) (j l : Kept) (result : Result (Unit {0}) StartFault) → result ≢ Err starting.AlreadyOn → SaysStart reveals mid new j l result → Starts reveals (result ≡ Err starting.DiskFault) (IsOk result) mid new j l
+starts_by reveals mid new j l (Ok u) differs says = record {
   off = says.off;
   others = says.others;
   crash = says.crash;
@@ -52,13 +52,13 @@ starts_by tells mid new j l (Ok u) differs says = record {
       says.counts;
   dead = says.dead;
   any_moment = says.any_moment;
-  handed = λ told alive last ends is. absurd (ok_not u is);
-  sure = λ told alive free fits is. ok_not u is;
+  handed = λ revealed alive last ends is. absurd (ok_not u is);
+  sure = λ revealed alive free fits is. ok_not u is;
   set = λ is. says.set;
   made = λ is. says.made;
   synced = λ is. says.synced;
 }
-starts_by tells mid new j l (Err starting.DiskFault) differs says = record {
+starts_by reveals mid new j l (Err starting.DiskFault) differs says = record {
   off = says.off;
   others = says.others;
   crash = says.crash;
@@ -74,13 +74,13 @@ starts_by tells mid new j l (Err starting.DiskFault) differs says = record {
       says.counts;
   dead = says.dead;
   any_moment = says.any_moment;
-  handed = λ told alive last ends is. (says.handed told alive last ends).1.rose;
-  sure = λ told alive free fits is. false≢true (says.sure told alive free fits).0;
+  handed = λ revealed alive last ends is. (says.handed revealed alive last ends).1.rose;
+  sure = λ revealed alive free fits is. false≢true (says.sure revealed alive free fits).0;
   set = λ is. absurd (false≢true is);
   made = λ is. absurd (false≢true is);
   synced = λ is. absurd (false≢true is);
 }
-starts_by tells mid new j l (Err starting.AlreadyOn) differs says = absurd (differs refl)
+starts_by reveals mid new j l (Err starting.AlreadyOn) differs says = absurd (differs refl)
 
 -- copies that are not on are off
 pub not_on : (on : Bool) → (on ≡ true → ⊥) → on ≡ false

@@ -46,42 +46,42 @@ pub record FitsBeginning (s : State) : Type 0 where
   pub second : (last : ℕ) (ends : EndsAt (s.files 0) last) → s.lent.room 66 (copied_end (ends.records + 1) last + 1)
 
 -- Of a run that begins copies, with the disk that keeps them up and `out` before and after it, and its answer:
-pub record Begins (tells : Type 0) (old new : State) (before after : SinkState) (answer : Answer) : Type 0 where
+pub record Begins (reveals : Type 0) (old new : State) (before after : SinkState) (answer : Answer) : Type 0 where
   -- no block is lost
   pub done : IfOk answer (λ status. status ≡ Done)
   pub prints : PrintsText before after answer copies_line
   -- copies are on afterwards
   pub set : EndsBegun answer → new.lent.set ≡ true
   -- the files that are shown stay, as they read and in each image; the run begins with a sync
-  pub contents : tells → new.files ≡ old.files
+  pub contents : reveals → new.files ≡ old.files
   pub images : KeepsImages old new
-  pub stops : tells → HasOpening old new (StaysAll old.files)
+  pub stops : reveals → HasOpening old new (StaysAll old.files)
   -- nothing fails where there is space for the copies
-  pub in_room : tells → IsReady old → FitsBeginning old → answer ≢ Err failure.Disk
+  pub in_room : reveals → IsReady old → FitsBeginning old → answer ≢ Err failure.Disk
 
 -- Of the disk that is lent to that, over which copies were on or not, and nothing was pending at the entry: where copies were begun both
 -- are whole with the pieces of the ledger, and nothing is pending; and whatever the answer is,
-pub record MakesCopies (tells : Type 0) (on : Bool) (begun : Type 0) (old new : State) : Type 0 where
-  pub made : begun → tells → (pieces : List (List ℕ)) × ArePiecesOf (old.files 0) pieces × ((f : ℕ) → IsCopyFile f → new.files f ≡ whole_copy pieces)
-  pub synced : begun → tells → IsSynced new
+pub record MakesCopies (reveals : Type 0) (on : Bool) (begun : Type 0) (old new : State) : Type 0 where
+  pub made : begun → reveals → (pieces : List (List ℕ)) × ArePiecesOf (old.files 0) pieces × ((f : ℕ) → IsCopyFile f → new.files f ≡ whole_copy pieces)
+  pub synced : begun → reveals → IsSynced new
   -- the ledger and the sites stay, as they read and in each image of each moment
-  pub others : tells → KeepsFiles (λ f. f ≤ 64) old.files new.files
-  pub stays : tells → During old new (KeepsFiles (λ f. f ≤ 64) old.files)
+  pub others : reveals → KeepsFiles (λ f. f ≤ 64) old.files new.files
+  pub stays : reveals → During old new (KeepsFiles (λ f. f ≤ 64) old.files)
   -- in each image no copy is begun, or the first is whole, and the second not begun, or whole too; where copies are on both stay good
-  pub any_moment : tells → on ≡ false → (pieces : List (List ℕ)) → ArePiecesOf (old.files 0) pieces → During old new (MayBeStarted pieces)
-  pub good : tells → on ≡ true → During old new AreGood
+  pub any_moment : reveals → on ≡ false → (pieces : List (List ℕ)) → ArePiecesOf (old.files 0) pieces → During old new (MayBeStarted pieces)
+  pub good : reveals → on ≡ true → During old new AreGood
 
 -- Of the calls that open an archive and begin copies, by what is lent before and after them (old, new) and what the disk that keeps
 -- copies up shows (seen, now); whether they were at fault, and whether copies were begun:
-pub record BeginsOver (tells : Type 0) (on : Bool) (fault begun : Type 0) (old new seen now : State) : Type 0 where
-  pub makes : MakesCopies tells on begun old new
+pub record BeginsOver (reveals : Type 0) (on : Bool) (fault begun : Type 0) (old new seen now : State) : Type 0 where
+  pub makes : MakesCopies reveals on begun old new
   pub goes : Goes old new
   pub set : begun → now.lent.set ≡ true
-  pub contents : tells → now.files ≡ seen.files
+  pub contents : reveals → now.files ≡ seen.files
   pub images : KeepsImages seen now
-  pub stops : tells → HasOpening seen now (StaysAll seen.files)
+  pub stops : reveals → HasOpening seen now (StaysAll seen.files)
   pub kept : seen.faults ≤ now.faults
   pub cause : fault → Rose seen.faults now.faults
   pub still : (fault → ⊥) → now.faults ≡ seen.faults
-  pub beneath : tells → IsReady seen → fault → Rose seen.beneath now.beneath
-  pub in_room : tells → IsReady seen → FitsBeginning seen → fault → ⊥
+  pub beneath : reveals → IsReady seen → fault → Rose seen.beneath now.beneath
+  pub in_room : reveals → IsReady seen → FitsBeginning seen → fault → ⊥

@@ -19,11 +19,11 @@ use std::alloc::Global;
 fn begin<'a, D: Disk>(alloc: Global, mirror: &mut Mirror<'a, D>) -> Result<(), Failure>
     requires fresh { mirror.old.own ≡ 0 }
     requires alive { mirror.old.dead ≡ false }
-    requires synced { D.tells → IsSynced (shown D.tells (D.state mirror.old.disk.now) mirror.old.disk.ghost_name mirror.old.on mirror.old.end mirror.old.dead mirror.old.own) }
-    ensures begins { BeginsOver D.tells mirror.old.on (result ≡ Err Failure.Disk) (IsOk result) (D.state mirror.old.disk.now) (D.state mirror.new.disk.now)
-        (shown D.tells (D.state mirror.old.disk.now) mirror.old.disk.ghost_name mirror.old.on mirror.old.end mirror.old.dead mirror.old.own)
-        (shown D.tells (D.state mirror.new.disk.now) mirror.new.disk.ghost_name mirror.new.on mirror.new.end mirror.new.dead mirror.new.own) }
-    ensures refuses { Refuses D.tells (CopiesCauses ((D.state mirror.old.disk.now).files 0) mirror.old.on) result }
+    requires synced { D.reveals → IsSynced (shown D.reveals (D.state mirror.old.disk.now) mirror.old.disk.ghost_name mirror.old.on mirror.old.end mirror.old.dead mirror.old.own) }
+    ensures begins { BeginsOver D.reveals mirror.old.on (result ≡ Err Failure.Disk) (IsOk result) (D.state mirror.old.disk.now) (D.state mirror.new.disk.now)
+        (shown D.reveals (D.state mirror.old.disk.now) mirror.old.disk.ghost_name mirror.old.on mirror.old.end mirror.old.dead mirror.old.own)
+        (shown D.reveals (D.state mirror.new.disk.now) mirror.new.disk.ghost_name mirror.new.on mirror.new.end mirror.new.dead mirror.new.own) }
+    ensures refuses { Refuses D.reveals (CopiesCauses ((D.state mirror.old.disk.now).files 0) mirror.old.on) result }
     ensures words { result ≢ Err Failure.Words }
     ensures clash { NeverClashes result }
     ensures input { result ≢ Err Failure.Input }
@@ -49,14 +49,14 @@ pub fn copies<'a, D: Disk, O: Sink>(
 ) -> Result<Status, Failure>
     requires fresh { mirror.old.own ≡ 0 }
     requires alive { mirror.old.dead ≡ false }
-    requires synced { D.tells → IsSynced (shown D.tells (D.state mirror.old.disk.now) mirror.old.disk.ghost_name mirror.old.on mirror.old.end mirror.old.dead mirror.old.own) }
-    ensures begins { Begins D.tells
-        (shown D.tells (D.state mirror.old.disk.now) mirror.old.disk.ghost_name mirror.old.on mirror.old.end mirror.old.dead mirror.old.own)
-        (shown D.tells (D.state mirror.new.disk.now) mirror.new.disk.ghost_name mirror.new.on mirror.new.end mirror.new.dead mirror.new.own) (O.state out.old) (O.state out.new) result }
-    ensures over { BeginsOver D.tells mirror.old.on (result ≡ Err Failure.Disk) (EndsBegun result) (D.state mirror.old.disk.now) (D.state mirror.new.disk.now)
-        (shown D.tells (D.state mirror.old.disk.now) mirror.old.disk.ghost_name mirror.old.on mirror.old.end mirror.old.dead mirror.old.own)
-        (shown D.tells (D.state mirror.new.disk.now) mirror.new.disk.ghost_name mirror.new.on mirror.new.end mirror.new.dead mirror.new.own) }
-    ensures refuses { Refuses D.tells (CopiesCauses ((D.state mirror.old.disk.now).files 0) mirror.old.on) result }
+    requires synced { D.reveals → IsSynced (shown D.reveals (D.state mirror.old.disk.now) mirror.old.disk.ghost_name mirror.old.on mirror.old.end mirror.old.dead mirror.old.own) }
+    ensures begins { Begins D.reveals
+        (shown D.reveals (D.state mirror.old.disk.now) mirror.old.disk.ghost_name mirror.old.on mirror.old.end mirror.old.dead mirror.old.own)
+        (shown D.reveals (D.state mirror.new.disk.now) mirror.new.disk.ghost_name mirror.new.on mirror.new.end mirror.new.dead mirror.new.own) (O.state out.old) (O.state out.new) result }
+    ensures over { BeginsOver D.reveals mirror.old.on (result ≡ Err Failure.Disk) (EndsBegun result) (D.state mirror.old.disk.now) (D.state mirror.new.disk.now)
+        (shown D.reveals (D.state mirror.old.disk.now) mirror.old.disk.ghost_name mirror.old.on mirror.old.end mirror.old.dead mirror.old.own)
+        (shown D.reveals (D.state mirror.new.disk.now) mirror.new.disk.ghost_name mirror.new.on mirror.new.end mirror.new.dead mirror.new.own) }
+    ensures refuses { Refuses D.reveals (CopiesCauses ((D.state mirror.old.disk.now).files 0) mirror.old.on) result }
     ensures words { result ≢ Err Failure.Words }
     ensures clash { NeverClashes result }
     ensures input { result ≢ Err Failure.Input }

@@ -12,7 +12,7 @@ use Rattle.aea_disk.specs.Frames.{OnlyReads}
 use Rattle.aea_disk.specs.State.{State}
 use Rattle.aea_disk.proofs.Frames.{reads_as, reads_both}
 use Rattle.aea_ledger.specs.Values.{Opened}
-use Rattle.aea_archive.specs.Blocks.{TellsSurvivors}
+use Rattle.aea_archive.specs.Blocks.{RevealsSurvivors}
 use Rattle.aea_gauss.specs.declared.fates.Fate.{Fate}
 use Rattle.aea_gauss.specs.declared.fates.Fate.TheVariants.{Sum, Word}
 use Rattle.aea_explain.specs.declared.explaining.Explanation.{Explanation}
@@ -36,11 +36,11 @@ use Rattle.aea_command.proofs.OpeningCases.{opened_never}
 
 -- ---- the archive was not opened
 
-pub explains_unopened : (word : List ℕ) (tells : Type 0) (old new : State) (out : SinkState) (f : Failure) → Opens tells old new (Err f) → ExplainsBlock word tells old new out out (Err f)
-explains_unopened word tells old new out f opens = record {
+pub explains_unopened : (word : List ℕ) (reveals : Type 0) (old new : State) (out : SinkState) (f : Failure) → Opens reveals old new (Err f) → ExplainsBlock word reveals old new out out (Err f)
+explains_unopened word reveals old new out f opens = record {
   opening = Err f;
-  opens = opens_alone tells old new (Err f) opens;
-  reads = reads_as tells _ _ old new (λ e. cc) (λ is. cc) opens.reads;
+  opens = opens_alone reveals old new (Err f) opens;
+  reads = reads_as reveals _ _ old new (λ e. cc) (λ is. cc) opens.reads;
   unopened = (refl, refl);
   explains = tt;
 }
@@ -48,12 +48,12 @@ explains_unopened word tells old new out f opens = record {
 -- ---- it was opened
 
 -- calls after the opening that only read, and what is said of the answer
-behind : (word : List ℕ) (tells fault : Type 0) (v : Opened) (old mid new : State) (before after : SinkState) (answer : Answer) → Opens tells old mid (Ok v) → OnlyReads tells fault mid new
-    → (answer ≡ Err failure.Disk → fault) → (fault → answer ≡ Err failure.Disk) → ExplainsOpened word tells v old.files before after answer → ExplainsBlock word tells old new before after answer
-behind word tells fault v old mid new before after answer opens late of_disk is_disk does = record {
+behind : (word : List ℕ) (reveals fault : Type 0) (v : Opened) (old mid new : State) (before after : SinkState) (answer : Answer) → Opens reveals old mid (Ok v) → OnlyReads reveals fault mid new
+    → (answer ≡ Err failure.Disk → fault) → (fault → answer ≡ Err failure.Disk) → ExplainsOpened word reveals v old.files before after answer → ExplainsBlock word reveals old new before after answer
+behind word reveals fault v old mid new before after answer opens late of_disk is_disk does = record {
   opening = Ok v;
-  opens = opens_reading tells fault old mid new v opens late;
-  reads = reads_as tells fault _ old new of_disk is_disk (reads_both tells _ fault old mid new (λ is. opened_never v failure.Disk is) opens.reads late);
+  opens = opens_reading reveals fault old mid new v opens late;
+  reads = reads_as reveals fault _ old new of_disk is_disk (reads_both reveals _ fault old mid new (λ is. opened_never v failure.Disk is) opens.reads late);
   unopened = tt;
   explains = does;
 }
@@ -64,12 +64,12 @@ never_printed f differs (inl ok) = cc
 never_printed f differs (inr e) = differs cc
 
 -- the word is the text of no block of the archive
-pub explains_unnamed : (word : List ℕ) (tells : Type 0) (v : Opened) (old mid : State) (out : SinkState) → Opens tells old mid (Ok v) → (NamesBlock v.lattice word → ⊥)
-    → ExplainsBlock word tells old mid out out (Err (failure.Refused NoSuchBlock))
-explains_unnamed word tells v old mid out opens none = record {
+pub explains_unnamed : (word : List ℕ) (reveals : Type 0) (v : Opened) (old mid : State) (out : SinkState) → Opens reveals old mid (Ok v) → (NamesBlock v.lattice word → ⊥)
+    → ExplainsBlock word reveals old mid out out (Err (failure.Refused NoSuchBlock))
+explains_unnamed word reveals v old mid out opens none = record {
   opening = Ok v;
-  opens = opens_alone tells old mid (Ok v) opens;
-  reads = reads_as tells _ _ old mid (λ e. let h : (let answer : Answer = Err (failure.Refused NoSuchBlock) in answer ≡ Err failure.Disk) = e in cc) (λ is. absurd (opened_never v failure.Disk is)) opens.reads;
+  opens = opens_alone reveals old mid (Ok v) opens;
+  reads = reads_as reveals _ _ old mid (λ e. let h : (let answer : Answer = Err (failure.Refused NoSuchBlock) in answer ≡ Err failure.Disk) = e in cc) (λ is. absurd (opened_never v failure.Disk is)) opens.reads;
   unopened = tt;
   explains = record {
     kinds = inr (inl refl);
@@ -81,9 +81,9 @@ explains_unnamed word tells v old mid out opens none = record {
 }
 
 -- it is that of one, which was not explained
-pub explains_failed : (word : List ℕ) (tells fault : Type 0) (v : Opened) (old mid new : State) (out : SinkState) (f : Failure) → Opens tells old mid (Ok v) → NamesBlock v.lattice word
-    → OnlyReads tells fault mid new → (f ≡ failure.Disk → fault) → (fault → f ≡ failure.Disk) → (f ≡ failure.Disk) ⊎ (f ≡ failure.Memory) → ExplainsBlock word tells old new out out (Err f)
-explains_failed word tells fault v old mid new out f opens names late of_disk is_disk kinds =
+pub explains_failed : (word : List ℕ) (reveals fault : Type 0) (v : Opened) (old mid new : State) (out : SinkState) (f : Failure) → Opens reveals old mid (Ok v) → NamesBlock v.lattice word
+    → OnlyReads reveals fault mid new → (f ≡ failure.Disk → fault) → (fault → f ≡ failure.Disk) → (f ≡ failure.Disk) ⊎ (f ≡ failure.Memory) → ExplainsBlock word reveals old new out out (Err f)
+explains_failed word reveals fault v old mid new out f opens names late of_disk is_disk kinds =
     let not_output : f ≢ failure.Output = λ e. elim kinds [
       | inl disk ↦ let h : failure.Disk ≡ failure.Output = sym disk ∙ e in cc
       | inr memory ↦ let h : failure.Memory ≡ failure.Output = sym memory ∙ e in cc
@@ -92,7 +92,7 @@ explains_failed word tells fault v old mid new out f opens names late of_disk is
       | inl disk ↦ let h : Err failure.Disk ≡ Err (failure.Refused NoSuchBlock) = sym (ap Err disk) ∙ e in cc
       | inr memory ↦ let h : Err failure.Memory ≡ Err (failure.Refused NoSuchBlock) = sym (ap Err memory) ∙ e in cc
     ] in
-    behind word tells fault v old mid new out out (Err f) opens late (λ e. of_disk cc) (λ is. ap Err (is_disk is)) (record {
+    behind word reveals fault v old mid new out out (Err f) opens late (λ e. of_disk cc) (λ is. ap Err (is_disk is)) (record {
       kinds = elim kinds [ inl disk ↦ inr (inr (inl (ap Err disk))) | inr memory ↦ inr (inr (inr (inr (ap Err memory)))) ];
       unknown = (λ e. absurd (not_refused e), λ never. absurd (never names));
       some = λ printed. absurd (never_printed f not_output printed);
@@ -135,28 +135,28 @@ ends_never (Word b nodes) answer f (inl e) differs is = let h : Ok Damage ≡ Er
 ends_never fate answer f (inr e) differs is = let h : Err failure.Output ≡ Err f = sym e ∙ is in differs cc
 
 -- the explanation that was printed after the opening
-pub record HasExplanation (word : List ℕ) (tells : Type 0) (v : Opened) (old mid new : State) (before after : SinkState) (answer : Answer) : Type 1 where
-  pub opens : Opens tells old mid (Ok v)
-  pub reads : OnlyReads tells ⊥ mid new
+pub record HasExplanation (word : List ℕ) (reveals : Type 0) (v : Opened) (old mid new : State) (before after : SinkState) (answer : Answer) : Type 1 where
+  pub opens : Opens reveals old mid (Ok v)
+  pub reads : OnlyReads reveals ⊥ mid new
   pub block : BlockId
   pub inside : HasBlock v.lattice block
   pub named : word ≡ text_of block
   pub explanation : Explanation
-  pub explains : call.Explains tells v mid.files block explanation
+  pub explains : call.Explains reveals v mid.files block explanation
   pub printed : PrintsExplanation block explanation before after answer
   pub ends : EndsWith explanation.fate answer
 
-module _ (one : ExplanationsAreOne) (word : List ℕ) (tells : Type 0) (v : Opened) (old mid new : State) (before after : SinkState) (answer : Answer) (gave : HasExplanation word tells v old mid new before after answer) where
-  there : tells → (known : BlockId → Bool) → TellsSurvivors v.shape v.lattice.n v.digests old.files known → TellsSurvivors v.shape v.lattice.n v.digests mid.files known
-  there told known tests = subst (λ (c : Files). TellsSurvivors v.shape v.lattice.n v.digests c known) (sym (gave.opens.reads.contents told)) tests
+module _ (one : ExplanationsAreOne) (word : List ℕ) (reveals : Type 0) (v : Opened) (old mid new : State) (before after : SinkState) (answer : Answer) (gave : HasExplanation word reveals v old mid new before after answer) where
+  there : reveals → (known : BlockId → Bool) → RevealsSurvivors v.shape v.lattice.n v.digests old.files known → RevealsSurvivors v.shape v.lattice.n v.digests mid.files known
+  there revealed known tests = subst (λ (c : Files). RevealsSurvivors v.shape v.lattice.n v.digests c known) (sym (gave.opens.reads.contents revealed)) tests
 
   -- whatever test distinguishes the survivors, what is printed is the explanation by it
-  each_one : tells → (known : BlockId → Bool) (block : BlockId) (e : Explanation) → TellsSurvivors v.shape v.lattice.n v.digests old.files known → ExplainsNamed word v.lattice known block e
+  each_one : reveals → (known : BlockId → Bool) (block : BlockId) (e : Explanation) → RevealsSurvivors v.shape v.lattice.n v.digests old.files known → ExplainsNamed word v.lattice known block e
       → PrintsExplanation block e before after answer
-  each_one told known block e tests is =
+  each_one revealed known block e tests is =
       let same_block : gave.block ≡ block = text_of-injective v.lattice gave.block block gave.inside is.inside (sym gave.named ∙ is.named) in
       let ours : IsExplained v.lattice known block gave.explanation =
-      subst (λ (b : BlockId). IsExplained v.lattice known b gave.explanation) same_block (gave.explains.told told known (there told known tests)) in
+      subst (λ (b : BlockId). IsExplained v.lattice known b gave.explanation) same_block (gave.explains.revealed revealed known (there revealed known tests)) in
       let same : gave.explanation ≡ e = one v.lattice known known block gave.explanation e is.inside (λ d has. refl) ours is.explained in
       subst (λ (x : Explanation). PrintsExplanation block x before after answer) same
       (subst (λ (b : BlockId). PrintsExplanation b gave.explanation before after answer) same_block gave.printed)
@@ -164,9 +164,9 @@ module _ (one : ExplanationsAreOne) (word : List ℕ) (tells : Type 0) (v : Open
   not_refused : answer ≡ Err (failure.Refused NoSuchBlock) → ⊥
   not_refused e = ends_never gave.explanation.fate answer (failure.Refused NoSuchBlock) gave.ends (λ d. let h : failure.Refused NoSuchBlock ≡ failure.Output = d in cc) e
 
-  pub explains_printed : ExplainsBlock word tells old new before after answer
+  pub explains_printed : ExplainsBlock word reveals old new before after answer
   explains_printed =
-      behind word tells ⊥ v old mid new before after answer gave.opens gave.reads
+      behind word reveals ⊥ v old mid new before after answer gave.opens gave.reads
       (λ e. ends_never gave.explanation.fate answer failure.Disk gave.ends (λ d. let h : failure.Disk ≡ failure.Output = d in cc) e)
       (λ none. absurd none)
       (record {
@@ -176,12 +176,12 @@ module _ (one : ExplanationsAreOne) (word : List ℕ) (tells : Type 0) (v : Open
             let by = gave.explains.some in
             record {
               known = by.0;
-              survivors = λ told. subst (λ (c : Files). TellsSurvivors v.shape v.lattice.n v.digests c by.0) (gave.opens.reads.contents told) (by.1 told);
+              survivors = λ revealed. subst (λ (c : Files). RevealsSurvivors v.shape v.lattice.n v.digests c by.0) (gave.opens.reads.contents revealed) (by.1 revealed);
               block = gave.block;
               explanation = gave.explanation;
               explains = record { inside = gave.inside; named = gave.named; explained = by.2 };
               printed = gave.printed;
             };
-        each = λ printed told known block e tests is. each_one told known block e tests is;
+        each = λ printed revealed known block e tests is. each_one revealed known block e tests is;
         unused = gave.printed.prints.unused;
       })

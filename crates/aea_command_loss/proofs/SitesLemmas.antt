@@ -29,13 +29,13 @@ use Rattle.aea_command_loss.specs.Sites.{cases_of, loss_line, IsCutLine, PrintsL
 use Rattle.aea_command_loss.proofs.SitesLemmas.Steps.{lines_then, one_line, done_never}
 
 -- the archive was not opened
-pub sums_unopened : (tells : Type 0) (old new : State) (out : SinkState) (f : Failure) → Opens tells old new (Err f) → SumsUpSites tells old new out out (Err f)
-sums_unopened tells old new out f opens = record { opening = Err f; opens = opens; unopened = (refl, refl); kinds = tt; prints = tt }
+pub sums_unopened : (reveals : Type 0) (old new : State) (out : SinkState) (f : Failure) → Opens reveals old new (Err f) → SumsUpSites reveals old new out out (Err f)
+sums_unopened reveals old new out f opens = record { opening = Err f; opens = opens; unopened = (refl, refl); kinds = tt; prints = tt }
 
 -- it was, and the lines of its cases were printed, unless the output failed or memory ran out
-pub sums_opened : (tells : Type 0) (old new : State) (before after : SinkState) (v : Opened) (answer : Answer) (l : Lattice) (sites : ℕ) → l ≡ v.lattice → sites ≡ v.shape.sites → Opens tells old new (Ok v) → IsSummingUp answer
-    → PrintsLosses l sites (cases_of sites) before after answer → SumsUpSites tells old new before after answer
-sums_opened tells old new before after v answer l sites same_lattice same_sites opens kinds prints = record {
+pub sums_opened : (reveals : Type 0) (old new : State) (before after : SinkState) (v : Opened) (answer : Answer) (l : Lattice) (sites : ℕ) → l ≡ v.lattice → sites ≡ v.shape.sites → Opens reveals old new (Ok v) → IsSummingUp answer
+    → PrintsLosses l sites (cases_of sites) before after answer → SumsUpSites reveals old new before after answer
+sums_opened reveals old new before after v answer l sites same_lattice same_sites opens kinds prints = record {
   opening = Ok v;
   opens = opens;
   unopened = tt;
@@ -59,14 +59,14 @@ stop_never f other (inl is) output memory e = let same : f ≡ other = cc in out
 stop_never f other (inr is) output memory e = let same : f ≡ other = cc in memory (sym same ∙ is)
 
 -- no cause of a refusal holds where the archive was opened
-pub stop_refuses : (tells : Type 0) (old new : State) (v : Opened) (f : Failure) → Opens tells old new (Ok v) → IsStop f → Refuses {T = Status} tells (OpeningCauses (old.files 0)) (Err f)
-stop_refuses tells old new v f opens stop =
-    refuses_done tells (OpeningCauses (old.files 0)) v (Err f) (λ why. stop_never f (failure.Refused why) stop (λ e. cc) (λ e. cc)) opens.refuses
+pub stop_refuses : (reveals : Type 0) (old new : State) (v : Opened) (f : Failure) → Opens reveals old new (Ok v) → IsStop f → Refuses {T = Status} reveals (OpeningCauses (old.files 0)) (Err f)
+stop_refuses reveals old new v f opens stop =
+    refuses_done reveals (OpeningCauses (old.files 0)) v (Err f) (λ why. stop_never f (failure.Refused why) stop (λ e. cc) (λ e. cc)) opens.refuses
 
 -- the disk was only read, and did not fail
-pub stop_reads : (tells : Type 0) (old new : State) (v : Opened) (f : Failure) → Opens tells old new (Ok v) → IsStop f → OnlyReads tells (◌≡◌ {A = Answer} (Err f) (Err failure.Disk)) old new
-stop_reads tells old new v f opens stop =
-    reads_as tells (◌≡◌ {A = Result Opened Failure} (Ok v) (Err failure.Disk)) (◌≡◌ {A = Answer} (Err f) (Err failure.Disk)) old new
+pub stop_reads : (reveals : Type 0) (old new : State) (v : Opened) (f : Failure) → Opens reveals old new (Ok v) → IsStop f → OnlyReads reveals (◌≡◌ {A = Answer} (Err f) (Err failure.Disk)) old new
+stop_reads reveals old new v f opens stop =
+    reads_as reveals (◌≡◌ {A = Result Opened Failure} (Ok v) (Err failure.Disk)) (◌≡◌ {A = Answer} (Err f) (Err failure.Disk)) old new
     (λ e. absurd (stop_never f failure.Disk stop (λ d. cc) (λ d. cc) e)) (λ e. absurd (opened_never v failure.Disk e)) opens.reads
 
 -- an archive has a site
@@ -102,16 +102,16 @@ cut_front bytes v before after answer one p c = record {
 }
 
 -- within the space for the first lines of the archive the output does not fail
-pub sites_fit : (tells : Type 0) (bytes : List ℕ) (before after : SinkState) (answer : Answer) (gave : Result Opened Failure) → tells → IfOk gave (λ v. tells → IsThisOne v bytes) → IfErr gave (λ f. (fault : OpenFault) × (f ≡ opening_failure fault))
+pub sites_fit : (reveals : Type 0) (bytes : List ℕ) (before after : SinkState) (answer : Answer) (gave : Result Opened Failure) → reveals → IfOk gave (λ v. reveals → IsThisOne v bytes) → IfErr gave (λ f. (fault : OpenFault) × (f ≡ opening_failure fault))
     → IfErr gave (λ f. (answer ≡ Err f) × (after ≡ before)) → IfOk gave (λ v. PrintsLosses v.lattice v.shape.sites (cases_of v.shape.sites) before after answer)
     → ((text : List ℕ) → AreFirstLines bytes text → FitsText before text) → answer ≢ Err failure.Output
-sites_fit tells bytes before after answer (Ok v) told this_one kinds unopened prints fits e =
+sites_fit reveals bytes before after answer (Ok v) revealed this_one kinds unopened prints fits e =
     let c = prints.cut e in
-    let room = fits (prints.text ++ loss_line c.next c.loss) (cut_front bytes v before after answer (this_one told) prints c) in
-    let short = c.too_long room.room room.told in
+    let room = fits (prints.text ++ loss_line c.next c.loss) (cut_front bytes v before after answer (this_one revealed) prints c) in
+    let short = c.too_long room.room room.revealed in
     let enough = room.enough in
     omega (arith, short, enough)
-sites_fit tells bytes before after answer (Err f) told this_one kinds unopened prints fits e =
+sites_fit reveals bytes before after answer (Err f) revealed this_one kinds unopened prints fits e =
     let h : Err f ≡ Err failure.Output = sym unopened.0 ∙ e in
     let is : f ≡ failure.Output = cc in
     opening_not_output kinds.0 (sym kinds.1 ∙ is)

@@ -16,7 +16,7 @@ use Rattle.aea_records.specs.Format.{Record, nodes_of, fences_of, digests_of}
 use Rattle.aea_ledger.specs.Recorded.{IsLatticeOf}
 use Rattle.aea_ledger.specs.Stops.{HasLedger}
 use Rattle.aea_ledger.specs.Values.{Opened}
-use Rattle.aea_archive.specs.Blocks.{TellsSurvivors}
+use Rattle.aea_archive.specs.Blocks.{RevealsSurvivors}
 use Rattle.aea_report.specs.Format.{numbers_text}
 use Rattle.aea_gauss.specs.declared.fates.Fate.{Fate}
 use Rattle.aea_gauss.specs.declared.fates.Fate.TheVariants.{Sum, Word}
@@ -85,9 +85,9 @@ pub record PrintsExplanation (block : BlockId) (e : Explanation) (before after :
 
 -- What is printed is the explanation of the block with this text, by some test for the intact blocks of the opened archive.
 -- Of a disk whose files are known, the test shows the intact ones.
-pub record HasExplained (word : List ℕ) (tells : Type 0) (v : Opened) (c : Files) (before after : SinkState) (answer : Answer) : Type 0 where
+pub record HasExplained (word : List ℕ) (reveals : Type 0) (v : Opened) (c : Files) (before after : SinkState) (answer : Answer) : Type 0 where
   pub known : BlockId → Bool
-  pub survivors : tells → TellsSurvivors v.shape v.lattice.n v.digests c known
+  pub survivors : reveals → RevealsSurvivors v.shape v.lattice.n v.digests c known
   pub block : BlockId
   pub explanation : Explanation
   pub explains : ExplainsNamed word v.lattice known block explanation
@@ -100,32 +100,32 @@ IsExplaining answer =
     ⊎ ((answer ≡ Err failure.Disk) ⊎ ((answer ≡ Err failure.Output) ⊎ (answer ≡ Err failure.Memory))))
 
 -- Of an answer where the archive was opened, with the files, and `out` before and after it:
-pub record ExplainsOpened (word : List ℕ) (tells : Type 0) (v : Opened) (c : Files) (before after : SinkState) (answer : Answer) : Type 0 where
+pub record ExplainsOpened (word : List ℕ) (reveals : Type 0) (v : Opened) (c : Files) (before after : SinkState) (answer : Answer) : Type 0 where
   pub kinds : IsExplaining answer
   -- it is refused exactly where the word is not the text of a block of the archive
   pub unknown : (answer ≡ Err (failure.Refused NoSuchBlock)) ↔ (NamesBlock v.lattice word → ⊥)
   -- what is printed over any disk; and over one whose files are known: the one explanation of the block
-  pub some : IsOk answer ⊎ (answer ≡ Err failure.Output) → HasExplained word tells v c before after answer
-  pub each : IsOk answer ⊎ (answer ≡ Err failure.Output) → tells → (known : BlockId → Bool) (block : BlockId) (e : Explanation)
-      → TellsSurvivors v.shape v.lattice.n v.digests c known → ExplainsNamed word v.lattice known block e → PrintsExplanation block e before after answer
+  pub some : IsOk answer ⊎ (answer ≡ Err failure.Output) → HasExplained word reveals v c before after answer
+  pub each : IsOk answer ⊎ (answer ≡ Err failure.Output) → reveals → (known : BlockId → Bool) (block : BlockId) (e : Explanation)
+      → RevealsSurvivors v.shape v.lattice.n v.digests c known → ExplainsNamed word v.lattice known block e → PrintsExplanation block e before after answer
   -- where something else than the output failed, nothing is printed
   pub unused : IfErr answer (λ f. f ≢ failure.Output → after ≡ before)
 
 -- Of a run that, once it has its words, explains the block with this text, with the disk and `out` before and after it, and its
 -- answer:
-pub record ExplainsBlock (word : List ℕ) (tells : Type 0) (old new : State) (before after : SinkState) (answer : Answer) : Type 0 where
+pub record ExplainsBlock (word : List ℕ) (reveals : Type 0) (old new : State) (before after : SinkState) (answer : Answer) : Type 0 where
   -- the archive is opened, and from the first call to the last the disk is only read
   pub opening : Result Opened Failure
-  pub opens : HasOpened tells old new opening
-  pub reads : OnlyReads tells (answer ≡ Err failure.Disk) old new
+  pub opens : HasOpened reveals old new opening
+  pub reads : OnlyReads reveals (answer ≡ Err failure.Disk) old new
   -- where it is not opened, that is the answer
   pub unopened : IfErr opening (λ f. (answer ≡ Err f) × (after ≡ before))
   -- where it is, the block is explained, or it is said why not
-  pub explains : IfOk opening (λ v. ExplainsOpened word tells v old.files before after answer)
+  pub explains : IfOk opening (λ v. ExplainsOpened word reveals v old.files before after answer)
 
 -- of a run with its words: it is not begun, or does so
 abbrev pub ExplainsOrNot : List ℕ → Type 0 → State → State → SinkState → SinkState → Answer → Type 0
-ExplainsOrNot word tells old new before after answer = IsUnbegun old new before after answer ⊎ ExplainsBlock word tells old new before after answer
+ExplainsOrNot word reveals old new before after answer = IsUnbegun old new before after answer ⊎ ExplainsBlock word reveals old new before after answer
 
 -- the text is that of the block with this text, where the archive is in these files
 pub record IsExplanationText (files : Files) (word text : List ℕ) : Type 0 where
@@ -135,7 +135,7 @@ pub record IsExplanationText (files : Files) (word text : List ℕ) : Type 0 whe
   pub lattice : Lattice
   pub is_lattice : IsLatticeOf shape (nodes_of records) (fences_of records) lattice
   pub known : BlockId → Bool
-  pub survivors : TellsSurvivors shape (nodes_of records) (digests_of records) files known
+  pub survivors : RevealsSurvivors shape (nodes_of records) (digests_of records) files known
   pub block : BlockId
   pub explanation : Explanation
   pub explains : ExplainsNamed word lattice known block explanation

@@ -115,10 +115,10 @@ abbrev pub IsSummingUp : Answer → Type 0
 IsSummingUp answer = (answer ≡ Ok Done) ⊎ ((answer ≡ Err failure.Output) ⊎ (answer ≡ Err failure.Memory))
 
 -- Of a run that says what the loss of sites would cost, with the disk and `out` before and after it, and its answer:
-pub record SumsUpSites (tells : Type 0) (old new : State) (before after : SinkState) (answer : Answer) : Type 0 where
+pub record SumsUpSites (reveals : Type 0) (old new : State) (before after : SinkState) (answer : Answer) : Type 0 where
   -- the archive is opened, and nothing more is done to the disk
   pub opening : Result Opened Failure
-  pub opens : Opens tells old new opening
+  pub opens : Opens reveals old new opening
   -- where it is not opened, that is the answer
   pub unopened : IfErr opening (λ f. (answer ≡ Err f) × (after ≡ before))
   -- where it is, the lines of its cases are printed, unless the output fails or memory runs out

@@ -19,24 +19,24 @@ use Rattle.aea_command_read.specs.List.{list_text, ListsObjects, IsListOf}
 use Rattle.aea_command.specs.Openings.{OpeningCauses, Opens}
 use Rattle.aea_command.specs.Printed.{FitsText, PrintsText}
 use Rattle.aea_command.proofs.OpeningCases.{opening_more, opening_not_output}
-use Rattle.aea_command_read.proofs.StatLemmas.{IsTelling}
+use Rattle.aea_command_read.proofs.StatLemmas.{IsRevealing}
 
 -- which answers there are where the archive was opened
 abbrev pub IsListing : Answer → Type 0
 IsListing answer = (answer ≡ Ok Done) ⊎ (answer ≡ Err failure.Output)
 
-pub listing_telling : (answer : Answer) → IsListing answer → IsTelling answer
-listing_telling answer (inl e) = inl e
-listing_telling answer (inr e) = inr (inl e)
+pub listing_revealing : (answer : Answer) → IsListing answer → IsRevealing answer
+listing_revealing answer (inl e) = inl e
+listing_revealing answer (inr e) = inr (inl e)
 
 -- the archive was not opened
-pub lists_unopened : (tells : Type 0) (old new : State) (out : SinkState) (f : Failure) → Opens tells old new (Err f) → ListsObjects tells old new out out (Err f)
-lists_unopened tells old new out f opens = record { opening = Err f; opens = opens; unopened = (refl, refl); kinds = tt; prints = tt }
+pub lists_unopened : (reveals : Type 0) (old new : State) (out : SinkState) (f : Failure) → Opens reveals old new (Err f) → ListsObjects reveals old new out out (Err f)
+lists_unopened reveals old new out f opens = record { opening = Err f; opens = opens; unopened = (refl, refl); kinds = tt; prints = tt }
 
 -- it was, and the lines of its objects were printed, unless the output failed
-pub lists_opened : (tells : Type 0) (old new : State) (before after : SinkState) (v : Opened) (answer : Answer) → Opens tells old new (Ok v) → IsListing answer
-    → PrintsText before after answer (list_text v.objects) → ListsObjects tells old new before after answer
-lists_opened tells old new before after v answer opens listing prints = record {
+pub lists_opened : (reveals : Type 0) (old new : State) (before after : SinkState) (v : Opened) (answer : Answer) → Opens reveals old new (Ok v) → IsListing answer
+    → PrintsText before after answer (list_text v.objects) → ListsObjects reveals old new before after answer
+lists_opened reveals old new before after v answer opens listing prints = record {
   opening = Ok v;
   opens = opens;
   unopened = tt;
@@ -44,14 +44,14 @@ lists_opened tells old new before after v answer opens listing prints = record {
   prints = λ records has. subst (λ (m : Objects). PrintsText before after answer (list_text m)) has.objects prints;
 }
 
-pub list_fits : (tells : Type 0) (bytes : List ℕ) (before after : SinkState) (answer : Answer) (gave : Result Opened Failure) → tells → IfOk gave (λ v. tells → IsThisOne v bytes) → IfErr gave (λ f. (fault : OpenFault) × (f ≡ opening_failure fault))
+pub list_fits : (reveals : Type 0) (bytes : List ℕ) (before after : SinkState) (answer : Answer) (gave : Result Opened Failure) → reveals → IfOk gave (λ v. reveals → IsThisOne v bytes) → IfErr gave (λ f. (fault : OpenFault) × (f ≡ opening_failure fault))
     → IfErr gave (λ f. (answer ≡ Err f) × (after ≡ before)) → IfOk gave (λ v. (records : List Record) → HasRecords v records → PrintsText before after answer (list_text (objects_of records)))
     → ((text : List ℕ) → IsListOf bytes text → FitsText before text) → answer ≢ Err failure.Output
-list_fits tells bytes before after answer (Ok v) told this_one kinds unopened prints fits e =
-    let one = this_one told in
+list_fits reveals bytes before after answer (Ok v) revealed this_one kinds unopened prints fits e =
+    let one = this_one revealed in
     let room = fits (list_text (objects_of one.records)) (record { shape = v.shape; records = one.records; end = v.end; ledger = one.ledger; lines = refl }) in
-    ((prints one.records one.has).in_room room.room room.told room.enough).0 e
-list_fits tells bytes before after answer (Err f) told this_one kinds unopened prints fits e =
+    ((prints one.records one.has).in_room room.room room.revealed room.enough).0 e
+list_fits reveals bytes before after answer (Err f) revealed this_one kinds unopened prints fits e =
     let h : Err f ≡ Err failure.Output = sym unopened.0 ∙ e in
     let is : f ≡ failure.Output = cc in
     opening_not_output kinds.0 (sym kinds.1 ∙ is)

@@ -29,7 +29,7 @@ use Rattle.aea_command.specs.Failures.{Answer, opening_failure}
 use Rattle.aea_command.specs.Openings.{Opens}
 use Rattle.aea_command_read.specs.Scrub.{Scrubs, PrintsDamage, IsScanned, scrub_text, scrub_status}
 use Rattle.aea_command.proofs.OpeningCases.{opened_then, opened_never, opening_not_output}
-use Rattle.aea_command_read.proofs.ScrubLemmas.DamagedMarks.{AreDamaged, marks_tell, same_lattice, marks_agree, marks_themselves}
+use Rattle.aea_command_read.proofs.ScrubLemmas.DamagedMarks.{AreDamaged, marks_reveal, same_lattice, marks_agree, marks_themselves}
 use Rattle.aea_command.proofs.Texts.{text_printed, text_broken, text_unused}
 
 -- where something else than the output failed, no text is printed
@@ -42,45 +42,45 @@ never_printed f differs (inl ok) = cc
 never_printed f differs (inr e) = differs cc
 
 -- the archive was not opened
-pub scrubs_unopened : (tells : Type 0) (old new : State) (out : SinkState) (f : Failure) → Opens tells old new (Err f) → Scrubs tells old new out out (Err f)
-scrubs_unopened tells old new out f opens =
+pub scrubs_unopened : (reveals : Type 0) (old new : State) (out : SinkState) (f : Failure) → Opens reveals old new (Err f) → Scrubs reveals old new out out (Err f)
+scrubs_unopened reveals old new out f opens =
     let differs : f ≢ failure.Output = λ e. opening_not_output opens.kinds.0 (sym opens.kinds.1 ∙ e) in
     record {
       opening = Err f;
-      opens = opens_alone tells old new (Err f) opens;
-      reads = reads_as tells _ _ old new (λ e. cc) (λ is. cc) opens.reads;
+      opens = opens_alone reveals old new (Err f) opens;
+      reads = reads_as reveals _ _ old new (λ e. cc) (λ is. cc) opens.reads;
       unopened = (refl, refl);
       kinds = tt;
-      damage = λ told l intact is. unused_damage out f l intact differs;
+      damage = λ revealed l intact is. unused_damage out f l intact differs;
       some = tt;
       unused = λ _. refl;
     }
 
 -- it was opened, and then not scanned
-pub scrubs_unread : (tells : Type 0) (old mid new : State) (out : SinkState) (v : Opened) (f : Failure) → Opens tells old mid (Ok v)
-    → OnlyReads tells (let answer : Answer = Err f in answer ≡ Err failure.Disk) mid new → (f ≡ failure.Disk) ⊎ (f ≡ failure.Memory) → Scrubs tells old new out out (Err f)
-scrubs_unread tells old mid new out v f opens late faults =
+pub scrubs_unread : (reveals : Type 0) (old mid new : State) (out : SinkState) (v : Opened) (f : Failure) → Opens reveals old mid (Ok v)
+    → OnlyReads reveals (let answer : Answer = Err f in answer ≡ Err failure.Disk) mid new → (f ≡ failure.Disk) ⊎ (f ≡ failure.Memory) → Scrubs reveals old new out out (Err f)
+scrubs_unread reveals old mid new out v f opens late faults =
     let differs : f ≢ failure.Output = λ e. elim faults [
       | inl disk ↦ let h : failure.Disk ≡ failure.Output = sym disk ∙ e in cc
       | inr memory ↦ let h : failure.Memory ≡ failure.Output = sym memory ∙ e in cc
     ] in
     record {
       opening = Ok v;
-      opens = opens_reading tells _ old mid new v opens late;
-      reads = reads_both tells _ _ old mid new (λ is. absurd (cc)) opens.reads late;
+      opens = opens_reading reveals _ old mid new v opens late;
+      reads = reads_both reveals _ _ old mid new (λ is. absurd (cc)) opens.reads late;
       unopened = tt;
       kinds = elim faults [ inl disk ↦ inl disk | inr memory ↦ inr (inr memory) ];
-      damage = λ told l intact is. unused_damage out f l intact differs;
+      damage = λ revealed l intact is. unused_damage out f l intact differs;
       some = λ printed. absurd (never_printed f differs printed);
       unused = λ _. refl;
     }
 
 -- it was scanned, and its damaged blocks were marked
-pub record IsMarked (tells : Type 0) (old mid new : State) (v : Opened) (m : Marked) : Type 1 where
-  pub opens : Opens tells old mid (Ok v)
-  pub reads : OnlyReads tells ⊥ mid new
+pub record IsMarked (reveals : Type 0) (old mid new : State) (v : Opened) (m : Marked) : Type 1 where
+  pub opens : Opens reveals old mid (Ok v)
+  pub reads : OnlyReads reveals ⊥ mid new
   pub lattice : m.lattice ≡ v.lattice
-  pub damaged : tells → AreDamaged v mid.files m
+  pub damaged : reveals → AreDamaged v mid.files m
 
 -- and then the lines of a lattice were printed by these marks, unless the output failed
 abbrev pub PrintsMarked : Lattice → Marked → SinkState → SinkState → Answer → Type 0
@@ -100,25 +100,25 @@ pub marked_broken : {T E : Type 0} {before after : SinkState} {fault : E} (l : L
     → PrintsMarked l m before after (Err failure.Output)
 marked_broken l m prints intact are = record { prints = text_broken (prints intact are); status = tt }
 
-pub scrubs_marked : HasOneReading → (tells : Type 0) (old mid new : State) (before after : SinkState) (v : Opened) (m : Marked) (l : Lattice) (answer : Answer) → l ≡ v.lattice → IsMarked tells old mid new v m
-    → IsScanned answer → answer ≢ Err failure.Disk → PrintsMarked l m before after answer → Scrubs tells old new before after answer
-scrubs_marked reading tells old mid new before after v m l answer of_v marked scanned fine by =
+pub scrubs_marked : HasOneReading → (reveals : Type 0) (old mid new : State) (before after : SinkState) (v : Opened) (m : Marked) (l : Lattice) (answer : Answer) → l ≡ v.lattice → IsMarked reveals old mid new v m
+    → IsScanned answer → answer ≢ Err failure.Disk → PrintsMarked l m before after answer → Scrubs reveals old new before after answer
+scrubs_marked reading reveals old mid new before after v m l answer of_v marked scanned fine by =
     let opens = marked.opens in
-    let damaged : tells → AreDamaged v old.files m = λ told. subst (λ (c : Files). AreDamaged v c m) (opens.reads.contents told) (marked.damaged told) in
+    let damaged : reveals → AreDamaged v old.files m = λ revealed. subst (λ (c : Files). AreDamaged v c m) (opens.reads.contents revealed) (marked.damaged revealed) in
     let prints = subst (λ (x : Lattice). PrintsMarked x m before after answer) of_v by in
     record {
       opening = Ok v;
-      opens = opens_reading tells ⊥ old mid new v opens marked.reads;
-      reads = reads_as tells ⊥ _ old new fine (λ none. absurd none) (reads_both tells _ ⊥ old mid new (λ is. absurd (cc)) opens.reads marked.reads);
+      opens = opens_reading reveals ⊥ old mid new v opens marked.reads;
+      reads = reads_as reveals ⊥ _ old new fine (λ none. absurd none) (reads_both reveals _ ⊥ old mid new (λ is. absurd (cc)) opens.reads marked.reads);
       unopened = tt;
       kinds = scanned;
-      damage = λ told l intact is.
-          subst (λ (x : Lattice). PrintsDamage x intact before after answer) (same_lattice reading v old.files l intact (opens.this_one told) is)
-          (prints intact (marks_agree reading v old.files l m intact marked.lattice (opens.this_one told) is (damaged told)));
+      damage = λ revealed l intact is.
+          subst (λ (x : Lattice). PrintsDamage x intact before after answer) (same_lattice reading v old.files l intact (opens.this_one revealed) is)
+          (prints intact (marks_agree reading v old.files l m intact marked.lattice (opens.this_one revealed) is (damaged revealed)));
       some = λ _. (
         λ b. not (is_marked m b),
         (
-          λ told. marks_tell v old.files m (opens.this_one told) (damaged told),
+          λ revealed. marks_reveal v old.files m (opens.this_one revealed) (damaged revealed),
           prints (λ b. not (is_marked m b)) (marks_themselves v.lattice m marked.lattice),
         ),
       );

@@ -37,10 +37,10 @@ pub record IsListOf (bytes text : List ℕ) : Type 0 where
   pub lines : text ≡ list_text (objects_of records)
 
 -- Of a run that prints the objects of the archive, with the disk and `out` before and after it, and its answer:
-pub record ListsObjects (tells : Type 0) (old new : State) (before after : SinkState) (answer : Answer) : Type 0 where
+pub record ListsObjects (reveals : Type 0) (old new : State) (before after : SinkState) (answer : Answer) : Type 0 where
   -- the archive is opened, and nothing more is done to the disk
   pub opening : Result Opened Failure
-  pub opens : Opens tells old new opening
+  pub opens : Opens reveals old new opening
   -- where it is not opened, that is the answer
   pub unopened : IfErr opening (λ f. (answer ≡ Err f) × (after ≡ before))
   -- where it is, the lines of its objects are printed, unless the output fails

@@ -12,11 +12,11 @@ use Rattle.aea_session.specs.declared.work.Work.{Work}
 use Rattle.aea_session.specs.Stands.{KeepsMachine, StandsFor, IsTheSessions}
 
 -- A session began over an opened ledger, with what it works with, and the disk before and after it.
-pub record Began (tells : Type 0) (v : Opened) (w : Work) (old mid : State) : Type 0 where
+pub record Began (reveals : Type 0) (v : Opened) (w : Work) (old mid : State) : Type 0 where
   pub ledger : w.ledger ≡ v
   pub raised : v.raised ≡ true
   pub keeps : (datas : List (List ℕ)) → length datas ≡ v.lattice.n → AreWide v.shape datas → KeepsMachine w (begun datas v.objects)
-  pub stands : tells → (records : List Record) (datas : List (List ℕ)) → HasRecords v records → AreRecordsOf v.shape records datas
+  pub stands : reveals → (records : List Record) (datas : List (List ℕ)) → HasRecords v records → AreRecordsOf v.shape records datas
       → AreLastsHonest v.shape v.lattice v.digests datas old.files → StandsFor w (begun datas v.objects)
-  pub this : tells → IsThisOne v (old.files 0) → IsTheSessions w mid.files
-  pub reads : OnlyReads tells ⊥ old mid
+  pub this : reveals → IsThisOne v (old.files 0) → IsTheSessions w mid.files
+  pub reads : OnlyReads reveals ⊥ old mid

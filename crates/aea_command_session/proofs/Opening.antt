@@ -80,28 +80,28 @@ closed_at v messages tail result old mid new same closed records datas its long 
 
 -- ---- after the opening
 
-module _ (tells : Type 0) (v : Opened) (left rest : Option (List ℕ)) (old mid new : State) (before after : SinkState) (answer : Answer)
-    (opens : Opens tells old mid (Ok v)) (writes : OnlyWrites tells (IsReady mid) (FitsMessages v left mid) (answer ≡ Err failure.Disk) (changes v) mid new) where
+module _ (reveals : Type 0) (v : Opened) (left rest : Option (List ℕ)) (old mid new : State) (before after : SinkState) (answer : Answer)
+    (opens : Opens reveals old mid (Ok v)) (writes : OnlyWrites reveals (IsReady mid) (FitsMessages v left mid) (answer ≡ Err failure.Disk) (changes v) mid new) where
   -- the file has the records of the opened ledger
-  has_ledger : (told : tells) → HasLedger v.shape (opens.this_one told).records (old.files 0)
-  has_ledger told = let one = opens.this_one told in subst (λ (n : ℕ). IsLedger (old.files 0) v.shape one.records n) one.has.end one.ledger
+  has_ledger : (revealed : reveals) → HasLedger v.shape (opens.this_one revealed).records (old.files 0)
+  has_ledger revealed = let one = opens.this_one revealed in subst (λ (n : ℕ). IsLedger (old.files 0) v.shape one.records n) one.has.end one.ledger
 
   -- and its limit was raised where that of the opened ledger was
-  has_limit : tells → v.raised ≡ true → HasLimit v.shape raised_limit (old.files 0)
-  has_limit told raised = let one = opens.this_one told in record { records = one.records; ledger = has_ledger told; is = ap limit_when (sym raised ∙ one.has.raised) }
+  has_limit : reveals → v.raised ≡ true → HasLimit v.shape raised_limit (old.files 0)
+  has_limit revealed raised = let one = opens.this_one revealed in record { records = one.records; ledger = has_ledger revealed; is = ap limit_when (sym raised ∙ one.has.raised) }
 
   -- ---- the space
 
-  would_close : tells → v.raised ≡ true → (datas : List (List ℕ)) → length datas ≡ v.lattice.n → AreWide v.shape datas → (messages : List Message) → BeginsWith left messages → closes_of v datas messages ≢ []
+  would_close : reveals → v.raised ≡ true → (datas : List (List ℕ)) → length datas ≡ v.lattice.n → AreWide v.shape datas → (messages : List Message) → BeginsWith left messages → closes_of v datas messages ≢ []
       → WouldClose left old.files (length (closes_of v datas messages)) (end_with_closes v.shape v.end (closes_of v datas messages))
-  would_close told raised datas long wide messages begins some =
-      let one = opens.this_one told in
+  would_close revealed raised datas long wide messages begins some =
+      let one = opens.this_one revealed in
       let closes : closes_of v datas messages ≡ closings_of v.shape (begun datas (objects_of one.records)) messages = ap (λ (o : Objects). closings_of v.shape (begun datas o) messages) one.has.objects in
       record {
         shape = v.shape;
         records = one.records;
-        ledger = has_ledger told;
-        raised = has_limit told raised;
+        ledger = has_ledger revealed;
+        raised = has_limit revealed raised;
         datas = datas;
         long = long ∙ one.has.lattice.n;
         wide = wide;
@@ -113,39 +113,39 @@ module _ (tells : Type 0) (v : Opened) (left rest : Option (List ℕ)) (old mid 
       }
 
   -- the space of the disk is the space that the messages need: for their closes, where the limit was raised, and else to sync
-  fits_messages : tells → FitsSession tells left old → FitsMessages v left mid
-  fits_messages told fits = record {
-    some = roomy_later old mid (opens.reads.contents told) opens.reads.time fits.some;
+  fits_messages : reveals → FitsSession reveals left old → FitsMessages v left mid
+  fits_messages revealed fits = record {
+    some = roomy_later old mid (opens.reads.contents revealed) opens.reads.time fits.some;
     sites = λ raised f some within.
         opens.reads.time.room f (site_bytes v.shape raised_limit) (fits.sites v.shape (λ known. has_limit known raised) f some within);
     ledger = λ raised datas long wide messages begins some.
         let more = length (closes_of v datas messages) in
         let end = end_with_closes v.shape v.end (closes_of v datas messages) in
-        adding_later old mid more end (ap (λ (c : Files). c 0) (opens.reads.contents told)) opens.reads.time
+        adding_later old mid more end (ap (λ (c : Files). c 0) (opens.reads.contents revealed)) opens.reads.time
         (fits.behind more end (λ known. would_close known raised datas long wide messages begins some));
   }
 
   -- the space of the output is the space that the replies need, over an archive whose limit was raised
-  fits_answers : tells → (input : List ℕ) → left ≡ Some input → FitsReplies old.files input before → v.raised ≡ true → FitsAnswers v left before
-  fits_answers told input is fits raised datas long wide messages begins =
-      let one = opens.this_one told in
+  fits_answers : reveals → (input : List ℕ) → left ≡ Some input → FitsReplies old.files input before → v.raised ≡ true → FitsAnswers v left before
+  fits_answers revealed input is fits raised datas long wide messages begins =
+      let one = opens.this_one revealed in
       subst (λ (o : Objects). FitsSo before (greatest_replies v.shape (begun datas o) messages)) (sym one.has.objects)
-      (fits v.shape one.records datas (has_ledger told) (has_limit told raised) (long ∙ one.has.lattice.n) wide messages
+      (fits v.shape one.records datas (has_ledger revealed) (has_limit revealed raised) (long ∙ one.has.lattice.n) wide messages
       (subst (λ (known : Option (List ℕ)). BeginsWith known messages) is begins))
 
   -- all the calls of the run, as those after its opening
-  frame : OnlyWrites tells (IsReady old) (FitsSession tells left old) (answer ≡ Err failure.Disk) (changes v) old new
+  frame : OnlyWrites reveals (IsReady old) (FitsSession reveals left old) (answer ≡ Err failure.Disk) (changes v) old new
   frame =
-      reads_then_writes tells (IsReady old) (IsReady mid) (FitsSession tells left old) (FitsMessages v left mid) (let r : Result Opened Failure = Ok v in r ≡ Err failure.Disk) (answer ≡ Err failure.Disk) (changes v) old mid new
+      reads_then_writes reveals (IsReady old) (IsReady mid) (FitsSession reveals left old) (FitsMessages v left mid) (let r : Result Opened Failure = Ok v in r ≡ Err failure.Disk) (answer ≡ Err failure.Disk) (changes v) old mid new
       (opened_never v failure.Disk) (λ c. changes_none v.shape (limit_when v.raised) (IsBlockIn v.shape v.lattice.n) (IsBesides v.shape) c)
-      (λ ready. ready) (λ told ready same goes. ready_later old mid same goes ready)
-      (λ fits. fits.some) (λ told fits same time. fits_messages told fits)
+      (λ ready. ready) (λ revealed ready same goes. ready_later old mid same goes ready)
+      (λ fits. fits.some) (λ revealed fits same time. fits_messages revealed fits)
       opens.reads writes
 
   -- ---- what the run leaves
 
   -- where it did not begin all images after the first sync are the files as they read
-  not_run : IsNotBegun tells mid new left rest before after answer → HasNotRun tells old new left rest before after answer
+  not_run : IsNotBegun reveals mid new left rest before after answer → HasNotRun reveals old new left rest before after answer
   not_run none = (
     record {
       failed = none.failed;
@@ -154,15 +154,15 @@ module _ (tells : Type 0) (v : Opened) (left rest : Option (List ℕ)) (old mid 
       unread = none.unread;
       unused = none.unused;
       images = during_then_kept old mid new (old.image old.moment) opens.reads.time writes.time none.images opens.reads.crash;
-      files = λ told. none.files told ∙ opens.reads.contents told;
+      files = λ revealed. none.files revealed ∙ opens.reads.contents revealed;
     },
-    λ differs told.
+    λ differs revealed.
         opened_then old mid new (StaysAll old.files) (StaysAll old.files) opens.reads.time writes.time (λ c stays. stays)
-        (λ t c from to here f. ap (λ (d : Files). d f) (image_is tells v old mid new opens told c (none.images t c from to here)))
-        (opens.opened (λ e. opened_never v failure.Disk e) told),
+        (λ t c from to here f. ap (λ (d : Files). d f) (image_is reveals v old mid new opens revealed c (none.images t c from to here)))
+        (opens.opened (λ e. opened_never v failure.Disk e) revealed),
   )
 
-  has_run : HasBegun tells v mid new left rest before after answer (λ messages tail result. HasClosedAll v messages tail result mid new) → HasRun tells old new left rest before after answer
+  has_run : HasBegun reveals v mid new left rest before after answer (λ messages tail result. HasClosedAll v messages tail result mid new) → HasRun reveals old new left rest before after answer
   has_run began = (
     v,
     opens.records,
@@ -174,25 +174,25 @@ module _ (tells : Type 0) (v : Opened) (left rest : Option (List ℕ)) (old mid 
       result = began.result;
       by = began.by;
       files = began.files;
-      same = λ told. began.same told ∙ opens.reads.contents told;
+      same = λ revealed. began.same revealed ∙ opens.reads.contents revealed;
       serves = began.serves;
-      closes = λ told.
-          opens_then tells v old mid new opens told (HasClosedAll v began.messages began.tail began.result) writes.time
-          (closed_at v began.messages began.tail began.result old mid new (opens.reads.contents told) (began.closes told));
-      padded = λ differs told.
-          subst (λ (c : Files). KeepsPadded v.shape (IsBlockIn v.shape v.lattice.n) c new.files) (opens.reads.contents told) (began.padded differs told);
+      closes = λ revealed.
+          opens_then reveals v old mid new opens revealed (HasClosedAll v began.messages began.tail began.result) writes.time
+          (closed_at v began.messages began.tail began.result old mid new (opens.reads.contents revealed) (began.closes revealed));
+      padded = λ differs revealed.
+          subst (λ (c : Files). KeepsPadded v.shape (IsBlockIn v.shape v.lattice.n) c new.files) (opens.reads.contents revealed) (began.padded differs revealed);
     },
   )
 
   -- of a run whose opening went well: what it leaves
-  pub sessions_behind : ServesOpened tells v mid new left rest before after answer → Sessions tells old new left rest before after answer
+  pub sessions_behind : ServesOpened reveals v mid new left rest before after answer → Sessions reveals old new left rest before after answer
   sessions_behind does = record {
     done = does.done;
     ran = elim does.ran [ inl none ↦ inl (not_run none) | inr began ↦ inr (has_run began) ];
     in_room = frame.sure;
-    replies_in_room = λ told input is fits. elim does.ran [
+    replies_in_room = λ revealed input is fits. elim does.ran [
       | inl none ↦ none.not_output
-      | inr began ↦ does.answers_in_room (fits_answers told input is fits began.raised)
+      | inr began ↦ does.answers_in_room (fits_answers revealed input is fits began.raised)
     ];
   }
 
@@ -201,14 +201,14 @@ module _ (tells : Type 0) (v : Opened) (left rest : Option (List ℕ)) (old mid 
   few_sites f past = elim (cases_lt v.shape.sites f) [ inl besides ↦ besides | inr within ↦ absurd (past (let few = sites_most v.shape in omega (arith, within, few))) ]
 
   -- such files stay
-  pub session_rest : KeepsOtherFiles tells (answer ≡ Err failure.Disk) old new
+  pub session_rest : KeepsOtherFiles reveals (answer ≡ Err failure.Disk) old new
   session_rest = record {
-    others = where_both tells _ old mid new opens.reads.time writes.time
-        (where_kept tells _ old old mid (passes_none old) opens.reads.time opens.reads.crash opens.reads.contents (where_none tells _ old))
-        (writes_where tells _ _ _ (changes v) _ mid new (λ c d step f past. step.stay f (few_sites f past)) writes);
-    opens = λ told.
-        opening_then tells v old mid new opens told (KeepsFiles (λ file. file ≤ greatest_sites → ⊥) old.files) (λ c stays f past. stays f) writes.time
-        (λ t c from to here f past. (changed tells v old mid new opens told _ _ _ writes t c from to here).stay f (few_sites f past));
+    others = where_both reveals _ old mid new opens.reads.time writes.time
+        (where_kept reveals _ old old mid (passes_none old) opens.reads.time opens.reads.crash opens.reads.contents (where_none reveals _ old))
+        (writes_where reveals _ _ _ (changes v) _ mid new (λ c d step f past. step.stay f (few_sites f past)) writes);
+    opens = λ revealed.
+        opening_then reveals v old mid new opens revealed (KeepsFiles (λ file. file ≤ greatest_sites → ⊥) old.files) (λ c stays f past. stays f) writes.time
+        (λ t c from to here f past. (changed reveals v old mid new opens revealed _ _ _ writes t c from to here).stay f (few_sites f past));
     time = frame.time;
     kept = frame.kept;
     cause = frame.cause;
@@ -219,16 +219,16 @@ module _ (tells : Type 0) (v : Opened) (left rest : Option (List ℕ)) (old mid 
   -- ---- why the run is refused
 
   -- for the causes after the opening, since none of the opening's holds
-  pub session_refuses : RefusesBy (IsDecided tells (IsSome left) IsByInput) (OpenedCauses mid.files (unwrap_or left [])) answer → RefusesBy (IsDecided tells (IsSome left) IsByInput) (SessionCauses old.files (unwrap_or left [])) answer
+  pub session_refuses : RefusesBy (IsDecided reveals (IsSome left) IsByInput) (OpenedCauses mid.files (unwrap_or left [])) answer → RefusesBy (IsDecided reveals (IsSome left) IsByInput) (SessionCauses old.files (unwrap_or left [])) answer
   session_refuses refuses = record {
-    only = λ why is told.
-        let first = subst (λ (c : Files). IsFirst (OpenedCauses c (unwrap_or left [])) why) (opens.reads.contents told.0) (refuses.only why is told) in record {
+    only = λ why is revealed.
+        let first = subst (λ (c : Files). IsFirst (OpenedCauses c (unwrap_or left [])) why) (opens.reads.contents revealed.0) (refuses.only why is revealed) in record {
           stands = wider why first.stands;
-          none = λ other earlier cause. first.none other earlier (narrower told.0 other cause);
+          none = λ other earlier cause. first.none other earlier (narrower revealed.0 other cause);
         };
-    always = λ why told first.
-        refuses.always why told (subst (λ (c : Files). IsFirst (OpenedCauses c (unwrap_or left [])) why) (sym (opens.reads.contents told.0))
-        (record { stands = narrower told.0 why first.stands; none = λ other earlier cause. first.none other earlier (wider other cause) }));
+    always = λ why revealed first.
+        refuses.always why revealed (subst (λ (c : Files). IsFirst (OpenedCauses c (unwrap_or left [])) why) (sym (opens.reads.contents revealed.0))
+        (record { stands = narrower revealed.0 why first.stands; none = λ other earlier cause. first.none other earlier (wider other cause) }));
   }
     where
       wider : (why : Refusal) → OpenedCauses old.files (unwrap_or left []) why → SessionCauses old.files (unwrap_or left []) why
@@ -236,10 +236,10 @@ module _ (tells : Type 0) (v : Opened) (left rest : Option (List ℕ)) (old mid 
       wider (LedgerBad at) cause = absurd cause
       wider why cause = cause
 
-      narrower : tells → (why : Refusal) → SessionCauses old.files (unwrap_or left []) why → OpenedCauses old.files (unwrap_or left []) why
-      narrower told NoArchive cause = opened_no_opening tells old mid v opens told NoArchive cause
-      narrower told (LedgerBad at) cause = opened_no_opening tells old mid v opens told (LedgerBad at) cause
-      narrower told why cause = cause
+      narrower : reveals → (why : Refusal) → SessionCauses old.files (unwrap_or left []) why → OpenedCauses old.files (unwrap_or left []) why
+      narrower revealed NoArchive cause = opened_no_opening reveals old mid v opens revealed NoArchive cause
+      narrower revealed (LedgerBad at) cause = opened_no_opening reveals old mid v opens revealed (LedgerBad at) cause
+      narrower revealed why cause = cause
 
 -- ---- the archive was not opened
 
@@ -256,7 +256,7 @@ to_opening files input (CopiesBad first second) cause = absurd cause
 to_opening files input (CopiesDiffer at) cause = absurd cause
 to_opening files input why cause = inr (omega arith)
 
-module _ (tells : Type 0) (old new : State) (left : Option (List ℕ)) (f : Failure) (opens : Opens tells old new (Err f)) where
+module _ (reveals : Type 0) (old new : State) (left : Option (List ℕ)) (f : Failure) (opens : Opens reveals old new (Err f)) where
   same_failure : (g : Failure) → (let one : Answer = Err f in one ≡ Err g) → f ≡ g
   same_failure g e = cc
 
@@ -267,25 +267,25 @@ module _ (tells : Type 0) (old new : State) (left : Option (List ℕ)) (f : Fail
   not_input e = let kind = opens.kinds in opening_not_input kind.0 (sym kind.1 ∙ e)
 
   -- of a run whose opening failed: nothing was taken and nothing was printed
-  pub sessions_unopened : (out : SinkState) → Sessions tells old new left left out out (Err f)
+  pub sessions_unopened : (out : SinkState) → Sessions reveals old new left left out out (Err f)
   sessions_unopened out = record {
     done = tt;
     ran = inl (
       record {
         failed = refl;
-        not_output = λ e. unopened_not_output tells old new f opens (same_failure failure.Output e);
+        not_output = λ e. unopened_not_output reveals old new f opens (same_failure failure.Output e);
         not_input = λ e. not_input (same_failure failure.Input e);
         unread = refl;
         unused = refl;
         images = opens.reads.crash;
         files = opens.reads.contents;
       },
-      λ differs told. opens.opened (λ e. differs (ap Err (fault_is failure.Disk e))) told,
+      λ differs revealed. opens.opened (λ e. differs (ap Err (fault_is failure.Disk e))) revealed,
     );
-    in_room = λ told ready fits.
-        let sure = opens.reads.sure told ready fits.some in
+    in_room = λ revealed ready fits.
+        let sure = opens.reads.sure revealed ready fits.some in
         (λ is. sure.0 (let same = same_failure failure.Disk is in ap Err same), sure.1);
-    replies_in_room = λ told input is fits e. unopened_not_output tells old new f opens (same_failure failure.Output e);
+    replies_in_room = λ revealed input is fits e. unopened_not_output reveals old new f opens (same_failure failure.Output e);
   }
 
   -- the opening gave a cause of its own, or the disk or memory kept it from one
@@ -299,8 +299,8 @@ module _ (tells : Type 0) (old new : State) (left : Option (List ℕ)) (f : Fail
   input = unwrap_or left []
 
   -- a cause of the opening is told as such
-  told_early : tells → (why : Refusal) → OpeningCauses (old.files 0) why → (let a : Answer = Err f in (a ≡ Err (failure.Refused why)) ⊎ IsStopped a)
-  told_early told why cause = elim (opens.refuses.always why told (opening_first (old.files 0) why cause)) [
+  revealed_early : reveals → (why : Refusal) → OpeningCauses (old.files 0) why → (let a : Answer = Err f in (a ≡ Err (failure.Refused why)) ⊎ IsStopped a)
+  revealed_early revealed why cause = elim (opens.refuses.always why revealed (opening_first (old.files 0) why cause)) [
     | inl e ↦ inl (ap Err (fault_is (failure.Refused why) e))
     | inr (inl e) ↦ inr (inl (ap Err (fault_is failure.Disk e)))
     | inr (inr (inl e)) ↦ inr (inr (inl (ap Err (fault_is failure.Input e))))
@@ -308,28 +308,28 @@ module _ (tells : Type 0) (old new : State) (left : Option (List ℕ)) (f : Fail
   ]
 
   -- and where a later one is the first, the opening gave none of its own
-  told_late : tells → (why : Refusal) → place_of Occupied ≤ place_of why → IsFirst (SessionCauses old.files input) why → IsStopped {T = Status} (Err f)
-  told_late told why late first = elim (opening_says opens.kinds.0 opens.kinds.1) [
+  revealed_late : reveals → (why : Refusal) → place_of Occupied ≤ place_of why → IsFirst (SessionCauses old.files input) why → IsStopped {T = Status} (Err f)
+  revealed_late revealed why late first = elim (opening_says opens.kinds.0 opens.kinds.1) [
     | inl refused ↦ (
-        let early = (opens.refuses.only refused.0 (ap Err refused.1) told).stands in
+        let early = (opens.refuses.only refused.0 (ap Err refused.1) revealed).stands in
         let sooner = opening_early (old.files 0) refused.0 early in
         absurd (first.none refused.0 (omega (arith, sooner, late)) (from_opening old.files input refused.0 early)))
     | inr stopped ↦ stopped
   ]
 
   -- and why it is refused: for a cause of the opening, or where a later one is the first, for none
-  pub unopened_session : RefusesBy {T = Status} (IsDecided tells (IsSome left) IsByInput) (SessionCauses old.files (unwrap_or left [])) (Err f)
+  pub unopened_session : RefusesBy {T = Status} (IsDecided reveals (IsSome left) IsByInput) (SessionCauses old.files (unwrap_or left [])) (Err f)
   unopened_session = record {
-    only = λ why is told.
-        let first = opens.refuses.only why (ap Err (same_failure (failure.Refused why) is)) told.0 in record {
+    only = λ why is revealed.
+        let first = opens.refuses.only why (ap Err (same_failure (failure.Refused why) is)) revealed.0 in record {
           stands = from_opening old.files input why first.stands;
           none = λ other earlier cause. elim (to_opening old.files input other cause) [
             | inl early ↦ first.none other earlier early
             | inr late ↦ let e = opening_early (old.files 0) why first.stands in omega (arith, e, late, earlier)
           ];
         };
-    always = λ why told first. elim (to_opening old.files input why first.stands) [
-      | inl early ↦ told_early told.0 why early
-      | inr late ↦ inr (told_late told.0 why late first)
+    always = λ why revealed first. elim (to_opening old.files input why first.stands) [
+      | inl early ↦ revealed_early revealed.0 why early
+      | inr late ↦ inr (revealed_late revealed.0 why late first)
     ];
   }

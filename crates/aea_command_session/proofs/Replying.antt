@@ -34,23 +34,23 @@ use Rattle.aea_command_session.proofs.Writing.Prefixes.{taken_first, are_more, s
 
 -- some first bytes were appended, or none
 abbrev HasPart : Type 0 → Standing → List ℕ → Result (Unit {0}) Stop → SinkState → SinkState → Type 0
-HasPart tells u tail result before then = (part : List ℕ) × EndsWith tells u tail result part × Appends before.written then.written part
+HasPart reveals u tail result before then = (part : List ℕ) × EndsWith reveals u tail result part × Appends before.written then.written part
 
-module _ (tells : Type 0) {D : Type 0} (state : D → State) (here x : Work) (there e : D) (tail : List ℕ) (mid then : SinkState) (m : Machine) (keeps : KeepsMachine here m) where
+module _ (reveals : Type 0) {D : Type 0} (state : D → State) (here x : Work) (there e : D) (tail : List ℕ) (mid then : SinkState) (m : Machine) (keeps : KeepsMachine here m) where
   -- nothing came
   part_none : then ≡ mid → Appends mid.written then.written []
   part_none none = subst (λ (s : SinkState). Appends mid.written s.written []) (sym none) (Appends-nil mid.written)
 
   -- of the reply to the message that was not taken
-  part_taken : (fault : TakeFault) → EndsThere tells state here x there e tail mid then (Err (stop.Taken fault)) → HasPart tells (stands_at m here (state there).files) tail (Err (stop.Taken fault)) mid then
+  part_taken : (fault : TakeFault) → EndsThere reveals state here x there e tail mid then (Err (stop.Taken fault)) → HasPart reveals (stands_at m here (state there).files) tail (Err (stop.Taken fault)) mid then
   part_taken fault last = ⊎_elim
       (λ (none : then ≡ mid). ([], (last.0, last.1, last.2, inl refl), part_none none))
-      (λ (some : RepliesPart (MayBegin tells here.ledger m (state there).files last.0) mid then).
+      (λ (some : RepliesPart (MayBegin reveals here.ledger m (state there).files last.0) mid then).
       (take some.2.0 some.0, (last.0, last.1, last.2, inr (some.0, some.2.0, some.1, some.2.1, refl)), some.2.2))
       (last.3.part m keeps)
 
   -- by the result
-  part_any : (result : Result (Unit {0}) Stop) → EndsThere tells state here x there e tail mid then result → HasPart tells (stands_at m here (state there).files) tail result mid then
+  part_any : (result : Result (Unit {0}) Stop) → EndsThere reveals state here x there e tail mid then result → HasPart reveals (stands_at m here (state there).files) tail result mid then
   part_any (Ok u) last = ([], refl, part_none last.2)
   part_any (Err (stop.BadMessage at)) last = ([], refl, part_none last.2)
   part_any (Err (stop.BadStream at)) last = ([], refl, part_none last.2)
@@ -61,21 +61,21 @@ module _ (tells : Type 0) {D : Type 0} (state : D → State) (here x : Work) (th
 
 -- ---- the run
 
-module _ (tells : Type 0) {D : Type 0} (state : D → State) (v : Opened) (w x : Work) (old : State) (d e : D) (left rest : Option (List ℕ)) (before then : SinkState) (result : Result (Unit {0}) Stop)
-    (began : Began tells v w old (state d)) (run : ServesAll tells state w x d e left rest before then result) where
+module _ (reveals : Type 0) {D : Type 0} (state : D → State) (v : Opened) (w x : Work) (old : State) (d e : D) (left rest : Option (List ℕ)) (before then : SinkState) (result : Result (Unit {0}) Stop)
+    (began : Began reveals v w old (state d)) (run : ServesAll reveals state w x d e left rest before then result) where
   -- the state of the machine at its end, over some data list
   abbrev machine_there : List (List ℕ) → Machine
   machine_there datas = after w.ledger.shape (begun datas v.objects) run.handled
 
   -- the replies over any data list
-  prints_all : (datas : List (List ℕ)) → length datas ≡ v.lattice.n → AreWide v.shape datas → PrintsReplies tells (standing v datas (state d).files) run.handled run.tail before then result
+  prints_all : (datas : List (List ℕ)) → length datas ≡ v.lattice.n → AreWide v.shape datas → PrintsReplies reveals (standing v datas (state d).files) run.handled run.tail before then result
   prints_all datas long wide =
       let m : Machine = begun datas v.objects in
       let keeps = began.keeps datas long wide in
       let served = run.served m keeps in
-      let replied = replied_all tells state m w run.here d run.there run.handled served.0 keeps served.1 in
-      let part = part_any tells state run.here x run.there e run.tail run.mid then (machine_there datas) replied.1 result run.last in
-      subst (λ (o : Opened). PrintsReplies tells (record { machine = m; ledger = o; files = (state d).files }) run.handled run.tail before then result) began.ledger
+      let replied = replied_all reveals state m w run.here d run.there run.handled served.0 keeps served.1 in
+      let part = part_any reveals state run.here x run.there e run.tail run.mid then (machine_there datas) replied.1 result run.last in
+      subst (λ (o : Opened). PrintsReplies reveals (record { machine = m; ledger = o; files = (state d).files }) run.handled run.tail before then result) began.ledger
       (record {
         last = stands_at (machine_there datas) run.here (state run.there).files;
         bytes = served.0;
@@ -107,10 +107,10 @@ module _ (tells : Type 0) {D : Type 0} (state : D → State) (v : Opened) (w x :
 
   -- the space where the next message would be taken, where there was so much for the messages and more
   room_there : (room more : ℕ) → before.room ≡ Some room → greatest_replies w.ledger.shape start run.handled + more ≤ room → (space : ℕ) × (run.mid.room ≡ Some space) × (more ≤ space)
-  room_there room more told enough =
+  room_there room more revealed enough =
       let served = run.served start keeps_start in
-      let most = long_all tells state start w run.here d run.there run.handled served.0 served.1 in
-      (room - length served.0, served.3 room told (omega (arith, most, enough)), omega (arith, most, enough))
+      let most = long_all reveals state start w run.here d run.there run.handled served.0 served.1 in
+      (room - length served.0, served.3 room revealed (omega (arith, most, enough)), omega (arith, most, enough))
 
   -- the source begins with the messages that were taken
   begins_there : BeginsWith left run.handled
@@ -137,53 +137,53 @@ module _ (tells : Type 0) {D : Type 0} (state : D → State) (v : Opened) (w x :
 
   -- the message that was not taken did not fail for want of space
   fits_taken : FitsAnswers v left before → (fault : TakeFault) → TailOf rest (length (spelled_all run.handled)) (length run.handled) run.tail (Err (stop.Taken fault))
-      → EndsThere tells state run.here x run.there e run.tail run.mid then (Err (stop.Taken fault)) → fault ≢ WriteFault
+      → EndsThere reveals state run.here x run.there e run.tail run.mid then (Err (stop.Taken fault)) → fault ≢ WriteFault
   fits_taken fits fault ends last is =
       let other : Message = ends.0 in
       let m : Machine = machine_there zeros in
       let fit = fits_at fits (run.handled ++ other ∷ []) (begins_next other ends.1 ends.2 ends.3) in
       let all = greatest_more w.ledger.shape start run.handled other in
       let enough = fit.enough in
-      let space = room_there fit.room (greatest_for w.ledger.shape m other) fit.told (omega (arith, all, enough)) in
+      let space = room_there fit.room (greatest_for w.ledger.shape m other) fit.revealed (omega (arith, all, enough)) in
       let served = run.served start keeps_start in
-      let replied = replied_all tells state start w run.here d run.there run.handled served.0 keeps_start served.1 in
+      let replied = replied_all reveals state start w run.here d run.there run.handled served.0 keeps_start served.1 in
       let alike = most_alike w.ledger.shape m last.0 other ends.1 (sym last.2 ∙ ends.2) in
       let most = space.2 in
       last.3.in_room space.0 space.1 m replied.1 (subst (λ (s : Shape). greatest_for s m last.0 ≤ space.0) (sym replied.2) (omega (arith, alike, most))) (ap Err is)
 
   -- nor did a run that came to the end of the input hide the space
-  told_at_end : FitsAnswers v left before → EndsThere tells state run.here x run.there e run.tail run.mid then (Ok tt) → (room : ℕ) × (then.room ≡ Some room)
-  told_at_end fits last =
+  revealed_at_end : FitsAnswers v left before → EndsThere reveals state run.here x run.there e run.tail run.mid then (Ok tt) → (room : ℕ) × (then.room ≡ Some room)
+  revealed_at_end fits last =
       let fit = fits_at fits run.handled begins_there in
       let enough = fit.enough in
-      let space = room_there fit.room 0 fit.told (omega (arith, enough)) in
+      let space = room_there fit.room 0 fit.revealed (omega (arith, enough)) in
       (space.0, subst (λ (s : SinkState). s.room ≡ Some space.0) (sym last.2) space.1)
 
 -- What was printed are the replies of the messages, each over the files as they stand at its step.
-pub serves_all : (tells : Type 0) {D : Type 0} (state : D → State) (v : Opened) (w x : Work) (old : State) (d e : D) (left rest : Option (List ℕ)) (before then : SinkState) (result : Result (Unit {0}) Stop)
-    → HasSomeRecords v → (tells → IsThisOne v (old.files 0)) → (tells → IsSynced old) → Began tells v w old (state d)
-    → (run : ServesAll tells state w x d e left rest before then result) → Serves tells v (state d).files left rest before then run.handled run.tail result
-serves_all tells state v w x old d e left rest before then result some this synced began run = record {
+pub serves_all : (reveals : Type 0) {D : Type 0} (state : D → State) (v : Opened) (w x : Work) (old : State) (d e : D) (left rest : Option (List ℕ)) (before then : SinkState) (result : Result (Unit {0}) Stop)
+    → HasSomeRecords v → (reveals → IsThisOne v (old.files 0)) → (reveals → IsSynced old) → Began reveals v w old (state d)
+    → (run : ServesAll reveals state w x d e left rest before then result) → Serves reveals v (state d).files left rest before then run.handled run.tail result
+serves_all reveals state v w x old d e left rest before then result some this synced began run = record {
   are = run.are;
   few = run.most;
   taken = run.taken;
   ends = run.ends;
-  prints = prints_all tells state v w x old d e left rest before then result began run;
+  prints = prints_all reveals state v w x old d e left rest before then result began run;
 }
 
 -- Where the output has space for the replies to each first messages of the source, it does not fail.
-pub answers_fit : (tells : Type 0) {D : Type 0} (state : D → State) (v : Opened) (w x : Work) (old : State) (d e : D) (left rest : Option (List ℕ)) (before then : SinkState) (result : Result (Unit {0}) Stop)
-    → HasSomeRecords v → (tells → IsThisOne v (old.files 0)) → (tells → IsSynced old) → Began tells v w old (state d)
-    → (run : ServesAll tells state w x d e left rest before then result) → FitsAnswers v left before → result ≢ Err (stop.Taken WriteFault)
-answers_fit tells {D} state v w x old d e left rest before then result some this synced began run fits is =
-    fits_taken tells state v w x old d e left rest before then result began run fits WriteFault
+pub answers_fit : (reveals : Type 0) {D : Type 0} (state : D → State) (v : Opened) (w x : Work) (old : State) (d e : D) (left rest : Option (List ℕ)) (before then : SinkState) (result : Result (Unit {0}) Stop)
+    → HasSomeRecords v → (reveals → IsThisOne v (old.files 0)) → (reveals → IsSynced old) → Began reveals v w old (state d)
+    → (run : ServesAll reveals state w x d e left rest before then result) → FitsAnswers v left before → result ≢ Err (stop.Taken WriteFault)
+answers_fit reveals {D} state v w x old d e left rest before then result some this synced began run fits is =
+    fits_taken reveals state v w x old d e left rest before then result began run fits WriteFault
     (subst (λ (r : Result (Unit {0}) Stop). TailOf rest (length (spelled_all run.handled)) (length run.handled) run.tail r) is run.ends)
-    (subst (λ (r : Result (Unit {0}) Stop). EndsThere tells state run.here x run.there e run.tail run.mid then r) is run.last) refl
+    (subst (λ (r : Result (Unit {0}) Stop). EndsThere reveals state run.here x run.there e run.tail run.mid then r) is run.last) refl
 
 -- And after a run that came to the end of the input its space is known.
-pub answers_told : (tells : Type 0) {D : Type 0} (state : D → State) (v : Opened) (w x : Work) (old : State) (d e : D) (left rest : Option (List ℕ)) (before then : SinkState) (result : Result (Unit {0}) Stop)
-    → HasSomeRecords v → (tells → IsThisOne v (old.files 0)) → (tells → IsSynced old) → Began tells v w old (state d)
-    → (run : ServesAll tells state w x d e left rest before then result) → FitsAnswers v left before → result ≡ Ok tt → (room : ℕ) × (then.room ≡ Some room)
-answers_told tells {D} state v w x old d e left rest before then result some this synced began run fits well =
-    told_at_end tells state v w x old d e left rest before then result began run fits
-    (subst (λ (r : Result (Unit {0}) Stop). EndsThere tells state run.here x run.there e run.tail run.mid then r) well run.last)
+pub answers_revealed : (reveals : Type 0) {D : Type 0} (state : D → State) (v : Opened) (w x : Work) (old : State) (d e : D) (left rest : Option (List ℕ)) (before then : SinkState) (result : Result (Unit {0}) Stop)
+    → HasSomeRecords v → (reveals → IsThisOne v (old.files 0)) → (reveals → IsSynced old) → Began reveals v w old (state d)
+    → (run : ServesAll reveals state w x d e left rest before then result) → FitsAnswers v left before → result ≡ Ok tt → (room : ℕ) × (then.room ≡ Some room)
+answers_revealed reveals {D} state v w x old d e left rest before then result some this synced began run fits well =
+    revealed_at_end reveals state v w x old d e left rest before then result began run fits
+    (subst (λ (r : Result (Unit {0}) Stop). EndsThere reveals state run.here x run.there e run.tail run.mid then r) well run.last)

@@ -50,35 +50,35 @@ zeros_wide v = All-replicate (λ (d : List ℕ). length d ≡ v.shape.block) v.l
 
 -- ---- the messages that were taken
 
-module _ (tells : Type 0) {D : Type 0} (state : D → State) (v : Opened) (some : HasSomeRecords v) (old : State) (this : tells → IsThisOne v (old.files 0)) (raised : v.raised ≡ true) (left : Option (List ℕ))
+module _ (reveals : Type 0) {D : Type 0} (state : D → State) (v : Opened) (some : HasSomeRecords v) (old : State) (this : reveals → IsThisOne v (old.files 0)) (raised : v.raised ≡ true) (left : Option (List ℕ))
     (ended : (y : D) (b c : List ℕ) (m n : ℕ) → EndsAt c n → (state y).takes 0 b m → (state y).takes 0 c n)
     (alike : (y : D) (b c : List ℕ) (n : ℕ) → (one : EndsAt b n) (two : EndsAt c n) → one.records ≡ two.records → (state y).keeps b → (state y).keeps c) where
   -- what all of them wrote
-  written_all : (messages : List Message) (u w : Work) (f e : D) (early : List Message) (m : Machine) (bytes : List ℕ) → BeginsWith left (early ++ messages) → HasWritten tells v (zeros v) left old (state f) u early m
-      → HasServed tells state m u f messages bytes w e → (k : Machine) × HasWritten tells v (zeros v) left old (state e) w (early ++ messages) k
+  written_all : (messages : List Message) (u w : Work) (f e : D) (early : List Message) (m : Machine) (bytes : List ℕ) → BeginsWith left (early ++ messages) → HasWritten reveals v (zeros v) left old (state f) u early m
+      → HasServed reveals state m u f messages bytes w e → (k : Machine) × HasWritten reveals v (zeros v) left old (state e) w (early ++ messages) k
   written_all [] u w f e early m bytes begins gone served = (
     m,
-    subst (λ (l : List Message). HasWritten tells v (zeros v) left old (state e) w l m) (sym (append-nil early))
-        (subst (λ (y : D). HasWritten tells v (zeros v) left old (state y) w early m) (sym served.1)
-        (subst (λ (y : Work). HasWritten tells v (zeros v) left old (state f) y early m) (sym served.0) gone)),
+    subst (λ (l : List Message). HasWritten reveals v (zeros v) left old (state e) w l m) (sym (append-nil early))
+        (subst (λ (y : D). HasWritten reveals v (zeros v) left old (state y) w early m) (sym served.1)
+        (subst (λ (y : Work). HasWritten reveals v (zeros v) left old (state f) y early m) (sym served.0) gone)),
   )
   written_all (message ∷ messages) u w f e early m bytes begins gone served =
       let all = subst (BeginsWith left) (sym (append_assoc early (message ∷ []) messages)) begins in
       let beyond = begins_first left (early ++ message ∷ []) messages all in
-      let next = written_more tells v (zeros v) (zeros_long v) (zeros_wide v) left old (state f) raised this u early m gone message (ended f) (alike f) beyond (begins_first left early (message ∷ []) beyond)
+      let next = written_more reveals v (zeros v) (zeros_long v) (zeros_wide v) left old (state f) raised this u early m gone message (ended f) (alike f) beyond (begins_first left early (message ∷ []) beyond)
       served.0 (state served.1) served.2 served.3 served.5 in
       let rest = written_all messages served.0 w served.1 e (early ++ message ∷ []) (step u.ledger.shape m message).state served.4 all next served.7 in
-      (rest.0, subst (λ (l : List Message). HasWritten tells v (zeros v) left old (state e) w l rest.0) (append_assoc early (message ∷ []) messages) rest.1)
+      (rest.0, subst (λ (l : List Message). HasWritten reveals v (zeros v) left old (state e) w l rest.0) (append_assoc early (message ∷ []) messages) rest.1)
 
   -- ---- how it ends
 
   module _ (here x : Work) (there e : D) (rest : Option (List ℕ)) (handled : List Message) (tail : List ℕ) (mid after : SinkState) (m : Machine)
-      (begins : BeginsWith left handled) (gone : HasWritten tells v (zeros v) left old (state there) here handled m) where
+      (begins : BeginsWith left handled) (gone : HasWritten reveals v (zeros v) left old (state there) here handled m) where
     -- nothing came after them
-    quiet : (fault : Type 0) → (fault → ⊥) → e ≡ there → OnlyWrites tells (IsReady old) (FitsMessages v left old) fault (changes v) old (state e)
+    quiet : (fault : Type 0) → (fault → ⊥) → e ≡ there → OnlyWrites reveals (IsReady old) (FitsMessages v left old) fault (changes v) old (state e)
     quiet fault none same =
-        subst (λ (y : D). OnlyWrites tells (IsReady old) (FitsMessages v left old) fault (changes v) old (state y)) (sym same)
-        (writes_as tells (IsReady old) (FitsMessages v left old) ⊥ fault (changes v) old (state there) none (λ bad. absurd bad) gone.writes)
+        subst (λ (y : D). OnlyWrites reveals (IsReady old) (FitsMessages v left old) fault (changes v) old (state y)) (sym same)
+        (writes_as reveals (IsReady old) (FitsMessages v left old) ⊥ fault (changes v) old (state there) none (λ bad. absurd bad) gone.writes)
 
     -- the source begins with them and with a close whose bytes were taken after them
     with_close : (message : Message) → tail ≡ spelled message → Consumes left rest (spelled_all handled ++ tail) → (fault : TakeFault) → TailOf rest (length (spelled_all handled)) (length handled) tail (Err (stop.Taken fault))
@@ -96,8 +96,8 @@ module _ (tells : Type 0) {D : Type 0} (state : D → State) (v : Opened) (some 
     with_close (Patrol first count) is taken fault ends c closes = absurd (let e : [] ≡ c ∷ [] = closes in cc)
 
     -- by the result
-    ends : (result : Result (Unit {0}) Stop) → Consumes left rest (spelled_all handled ++ tail) → TailOf rest (length (spelled_all handled)) (length handled) tail result → EndsThere tells state here x there e tail mid after result
-        → OnlyWrites tells (IsReady old) (FitsMessages v left old) (result ≡ Err (stop.Taken DiskFault)) (changes v) old (state e)
+    ends : (result : Result (Unit {0}) Stop) → Consumes left rest (spelled_all handled ++ tail) → TailOf rest (length (spelled_all handled)) (length handled) tail result → EndsThere reveals state here x there e tail mid after result
+        → OnlyWrites reveals (IsReady old) (FitsMessages v left old) (result ≡ Err (stop.Taken DiskFault)) (changes v) old (state e)
     ends (Ok u) taken tail_is last = quiet (Ok u ≡ Err (stop.Taken DiskFault)) (λ bad. absurd (cc)) last.1
     ends (Err (stop.BadMessage at)) taken tail_is last = quiet (Err (stop.BadMessage at) ≡ Err (stop.Taken DiskFault)) (λ bad. absurd (cc)) last.1
     ends (Err (stop.BadStream at)) taken tail_is last = quiet (Err (stop.BadStream at) ≡ Err (stop.Taken DiskFault)) (λ bad. absurd (cc)) last.1
@@ -107,25 +107,25 @@ module _ (tells : Type 0) {D : Type 0} (state : D → State) (v : Opened) (some 
     ends (Err (stop.Taken fault)) taken tail_is last =
         let failed : Result ℕ TakeFault = Err fault in
         let over : Result (Unit {0}) Stop = Err (stop.Taken fault) in
-        writes_as tells (IsReady old) (FitsMessages v left old) (failed ≡ Err DiskFault) (over ≡ Err (stop.Taken DiskFault)) (changes v) old (state e)
+        writes_as reveals (IsReady old) (FitsMessages v left old) (failed ≡ Err DiskFault) (over ≡ Err (stop.Taken DiskFault)) (changes v) old (state e)
         (λ is. (let same : fault ≡ DiskFault = cc in ap Err same)) (λ is. (let same : fault ≡ DiskFault = cc in ap (λ (f : TakeFault). Err (stop.Taken f)) same))
-        (writes_next tells v (zeros v) (zeros_long v) (zeros_wide v) left old (state there) raised this here handled m gone last.0 (ended there) (alike there) begins (with_close last.0 last.2 taken fault tail_is)
+        (writes_next reveals v (zeros v) (zeros_long v) (zeros_wide v) left old (state there) raised this here handled m gone last.0 (ended there) (alike there) begins (with_close last.0 last.2 taken fault tail_is)
         (failed ≡ Err DiskFault) (state e) last.3.leaves.writes)
 
 -- What a run writes, and when it fails for the disk: where the contents are known and the disk takes the calls, not within the space
 -- for all messages of the source. The disk's two laws say that it takes writes past the end of a ledger, and that what a sync needs
 -- is decided by where the ledger ends.
-pub writes_all : (tells : Type 0) {D : Type 0} (state : D → State) (v : Opened) (w x : Work) (old : State) (d e : D) (left rest : Option (List ℕ)) (before after : SinkState) (result : Result (Unit {0}) Stop)
-    → HasSomeRecords v → (tells → IsThisOne v (old.files 0)) → Began tells v w old (state d) → (run : ServesAll tells state w x d e left rest before after result)
+pub writes_all : (reveals : Type 0) {D : Type 0} (state : D → State) (v : Opened) (w x : Work) (old : State) (d e : D) (left rest : Option (List ℕ)) (before after : SinkState) (result : Result (Unit {0}) Stop)
+    → HasSomeRecords v → (reveals → IsThisOne v (old.files 0)) → Began reveals v w old (state d) → (run : ServesAll reveals state w x d e left rest before after result)
     → ((y : D) (b c : List ℕ) (m n : ℕ) → EndsAt c n → (state y).takes 0 b m → (state y).takes 0 c n)
     → ((y : D) (b c : List ℕ) (n : ℕ) → (one : EndsAt b n) (two : EndsAt c n) → one.records ≡ two.records → (state y).keeps b → (state y).keeps c)
-    → OnlyWrites tells (IsReady old) (FitsMessages v left old) (result ≡ Err (stop.Taken DiskFault))
+    → OnlyWrites reveals (IsReady old) (FitsMessages v left old) (result ≡ Err (stop.Taken DiskFault))
     (ChangesArchive v.shape (limit_when v.raised) (IsBlockIn v.shape v.lattice.n) (IsBesides v.shape)) old (state e)
-writes_all tells state v w x old d e left rest before after result some this began run ended alike =
+writes_all reveals state v w x old d e left rest before after result some this began run ended alike =
     let part = taken_first left rest (spelled_all run.handled) run.tail run.taken in
     let begins : BeginsWith left run.handled = record { are = run.are; few = run.most; rest = part.0; taken = part.1 } in
     let m : Machine = begun (zeros v) v.objects in
-    let start = written_none tells v (zeros v) left old (state d) w (zeros_long v) (zeros_wide v) some began in
+    let start = written_none reveals v (zeros v) left old (state d) w (zeros_long v) (zeros_wide v) some began in
     let served = run.served m (began.keeps (zeros v) (zeros_long v) (zeros_wide v)) in
-    let all = written_all tells state v some old this began.raised left ended alike run.handled w run.here d run.there [] m served.0 begins start served.1 in
-    ends tells state v some old this began.raised left ended alike run.here x run.there e rest run.handled run.tail run.mid after all.0 begins all.1 result run.taken run.ends run.last
+    let all = written_all reveals state v some old this began.raised left ended alike run.handled w run.here d run.there [] m served.0 begins start served.1 in
+    ends reveals state v some old this began.raised left ended alike run.here x run.there e rest run.handled run.tail run.mid after all.0 begins all.1 result run.taken run.ends run.last

@@ -24,14 +24,14 @@ use Rattle.aea_command_session.specs.Standing.{standing, PrintsReplies}
 
 -- The session did not begin: it was refused, or the disk failed, or memory ran out. Nothing of the input was taken, nothing was
 -- printed, and the disk was only read.
-pub record IsNotBegun (tells : Type 0) (old new : State) (left rest : Option (List ℕ)) (before after : SinkState) (answer : Answer) : Type 0 where
+pub record IsNotBegun (reveals : Type 0) (old new : State) (left rest : Option (List ℕ)) (before after : SinkState) (answer : Answer) : Type 0 where
   pub failed : IsErr answer
   pub not_output : answer ≢ Err failure.Output
   pub not_input : answer ≢ Err failure.Input
   pub unread : rest ≡ left
   pub unused : after ≡ before
   pub images : KeepsImages old new
-  pub files : tells → new.files ≡ old.files
+  pub files : reveals → new.files ≡ old.files
 
 -- how a run ends whose messages ended so: at the end of the input all is done, unless the last flush fails
 abbrev pub AnswersBy : Result (Unit {0}) Stop → Answer → Type 0
@@ -40,52 +40,52 @@ AnswersBy (Err stop) answer = answer ≡ Err (stop_failure stop)
 
 -- Messages of the input were taken over an opened archive, from these files on: which ones, what was taken of the input after them,
 -- how this ended, and what was printed, whichever X of as many blocks as the archive has nodes it records.
-pub record Serves (tells : Type 0) (v : Opened) (c : Files) (left rest : Option (List ℕ)) (before after : SinkState) (messages : List Message) (tail : List ℕ) (result : Result (Unit {0}) Stop) : Type 0 where
+pub record Serves (reveals : Type 0) (v : Opened) (c : Files) (left rest : Option (List ℕ)) (before after : SinkState) (messages : List Message) (tail : List ℕ) (result : Result (Unit {0}) Stop) : Type 0 where
   pub are : AreMessages messages
   pub few : length messages ≤ greatest_messages
   pub taken : Consumes left rest (spelled_all messages ++ tail)
   pub ends : TailOf rest (length (spelled_all messages)) (length messages) tail result
-  pub prints : (datas : List (List ℕ)) → length datas ≡ v.lattice.n → AreWide v.shape datas → PrintsReplies tells (standing v datas c) messages tail before after result
+  pub prints : (datas : List (List ℕ)) → length datas ≡ v.lattice.n → AreWide v.shape datas → PrintsReplies reveals (standing v datas c) messages tail before after result
 
 -- The session began over an opened archive: what it printed, and what it left of the archive, which `Grown` says of the closes.
-pub record HasBegun (tells : Type 0) (v : Opened) (old new : State) (left rest : Option (List ℕ)) (before after : SinkState) (answer : Answer) (Grown : List Message → List ℕ → Result (Unit {0}) Stop → Type 0) : Type 0 where
+pub record HasBegun (reveals : Type 0) (v : Opened) (old new : State) (left rest : Option (List ℕ)) (before after : SinkState) (answer : Answer) (Grown : List Message → List ℕ → Result (Unit {0}) Stop → Type 0) : Type 0 where
   pub raised : v.raised ≡ true
   pub messages : List Message
   pub tail : List ℕ
   pub result : Result (Unit {0}) Stop
   pub by : AnswersBy result answer
   pub files : Files
-  pub same : tells → files ≡ old.files
-  pub serves : Serves tells v files left rest before after messages tail result
-  pub closes : tells → Grown messages tail result
+  pub same : reveals → files ≡ old.files
+  pub serves : Serves reveals v files left rest before after messages tail result
+  pub closes : reveals → Grown messages tail result
   -- but after a fault of the disk the homes of the blocks that there were read as they did, with zeros past the ends of files
-  pub padded : answer ≢ Err failure.Disk → tells → KeepsPadded v.shape (IsBlockIn v.shape v.lattice.n) old.files new.files
+  pub padded : answer ≢ Err failure.Disk → reveals → KeepsPadded v.shape (IsBlockIn v.shape v.lattice.n) old.files new.files
 
 -- Of a run over an opened archive, with the disk, the input and the output before and after it, and its answer:
-pub record ServesOpened (tells : Type 0) (v : Opened) (old new : State) (left rest : Option (List ℕ)) (before after : SinkState) (answer : Answer) : Type 0 where
+pub record ServesOpened (reveals : Type 0) (v : Opened) (old new : State) (left rest : Option (List ℕ)) (before after : SinkState) (answer : Answer) : Type 0 where
   pub done : IfOk answer (λ status. status ≡ Done)
-  pub ran : IsNotBegun tells old new left rest before after answer
-      ⊎ HasBegun tells v old new left rest before after answer (λ messages tail result. HasClosedAll v messages tail result old new)
+  pub ran : IsNotBegun reveals old new left rest before after answer
+      ⊎ HasBegun reveals v old new left rest before after answer (λ messages tail result. HasClosedAll v messages tail result old new)
   pub answers_in_room : FitsAnswers v left before → answer ≢ Err failure.Output
 
 -- the run began over the archive, once its first sync had succeeded
 abbrev pub HasRun : Type 0 → State → State → Option (List ℕ) → Option (List ℕ) → SinkState → SinkState → Answer → Type 0
-HasRun tells old new left rest before after answer =
-    (v : Opened) × HasSomeRecords v × (tells → IsThisOne v (old.files 0))
-    × HasBegun tells v old new left rest before after answer (λ messages tail result. OpensThen old new (HasClosedAll v messages tail result))
+HasRun reveals old new left rest before after answer =
+    (v : Opened) × HasSomeRecords v × (reveals → IsThisOne v (old.files 0))
+    × HasBegun reveals v old new left rest before after answer (λ messages tail result. OpensThen old new (HasClosedAll v messages tail result))
 
 -- it did not begin; and but after a fault of the disk the first sync has succeeded
 abbrev pub HasNotRun : Type 0 → State → State → Option (List ℕ) → Option (List ℕ) → SinkState → SinkState → Answer → Type 0
-HasNotRun tells old new left rest before after answer =
-    IsNotBegun tells old new left rest before after answer × (answer ≢ Err failure.Disk → tells → IsOpened old new (StaysAll old.files))
+HasNotRun reveals old new left rest before after answer =
+    IsNotBegun reveals old new left rest before after answer × (answer ≢ Err failure.Disk → reveals → IsOpened old new (StaysAll old.files))
 
 -- Of a run of `session`, with the disk, the input and the output before and after it, and its answer:
-pub record Sessions (tells : Type 0) (old new : State) (left rest : Option (List ℕ)) (before after : SinkState) (answer : Answer) : Type 0 where
+pub record Sessions (reveals : Type 0) (old new : State) (left rest : Option (List ℕ)) (before after : SinkState) (answer : Answer) : Type 0 where
   -- no block is lost
   pub done : IfOk answer (λ status. status ≡ Done)
   -- what was taken and printed, and what is left of the archive
-  pub ran : HasNotRun tells old new left rest before after answer ⊎ HasRun tells old new left rest before after answer
+  pub ran : HasNotRun reveals old new left rest before after answer ⊎ HasRun reveals old new left rest before after answer
   -- where the disk is ready and has the space nothing fails
-  pub in_room : tells → IsReady old → NeverFails (FitsSession tells left old) (answer ≢ Err failure.Disk) old new
+  pub in_room : reveals → IsReady old → NeverFails (FitsSession reveals left old) (answer ≢ Err failure.Disk) old new
   -- and where the output has space for the replies it does not fail
-  pub replies_in_room : tells → (input : List ℕ) → left ≡ Some input → FitsReplies old.files input before → answer ≢ Err failure.Output
+  pub replies_in_room : reveals → (input : List ℕ) → left ≡ Some input → FitsReplies old.files input before → answer ≢ Err failure.Output

@@ -55,10 +55,10 @@ pub record WouldClose (left : Option (List ℕ)) (files : Files) (more end : ℕ
 -- The disk has some space, and to sync; and where it has an archive that sessions may have, space for all rows that its sites may
 -- have, and for the records up to each place at which its ledger may end in a session over this source, of a disk on which the file
 -- is not known wherever that is.
-pub record FitsSession (tells : Type 0) (left : Option (List ℕ)) (s : State) : Type 0 where
+pub record FitsSession (reveals : Type 0) (left : Option (List ℕ)) (s : State) : Type 0 where
   pub some : IsRoomy s
-  pub sites : (shape : Shape) → (tells → HasLimit shape raised_limit (s.files 0)) → HaveSitesRoom shape raised_limit s
-  pub behind : (more end : ℕ) → (tells → WouldClose left s.files more end) → FitsAdding s more end
+  pub sites : (shape : Shape) → (reveals → HasLimit shape raised_limit (s.files 0)) → HaveSitesRoom shape raised_limit s
+  pub behind : (more end : ℕ) → (reveals → WouldClose left s.files more end) → FitsAdding s more end
 
 -- The disk has some space, and to sync; and where sessions may have the opened archive, space for all that a run may write that
 -- takes the messages of the source.
@@ -78,7 +78,7 @@ greatest_replies shape m (message ∷ messages) = greatest_reply (step shape m m
 -- the sink is known to have space for so many bytes
 pub record FitsSo (out : SinkState) (size : ℕ) : Type 0 where
   pub room : ℕ
-  pub told : out.room ≡ Some room
+  pub revealed : out.room ≡ Some room
   pub enough : size ≤ room
 
 -- the output has space for the replies to each first messages of the source, over an opened archive and any X with as many blocks

@@ -28,33 +28,33 @@ standing v datas c = record { machine = begun datas v.objects; ledger = v; files
 
 -- What a message leaves: the machine made its step, the ledger has the record of a close that was made and none besides, and the
 -- blocks of X and the files that are not the archive's are as they were.
-pub record MovesTo (tells : Type 0) (w u : Standing) (message : Message) : Type 0 where
+pub record MovesTo (reveals : Type 0) (w u : Standing) (message : Message) : Type 0 where
   pub machine : u.machine ≡ (step w.ledger.shape w.machine message).state
   pub shape : u.ledger.shape ≡ w.ledger.shape
   pub ledger : (records : List Record) → HasRecords w.ledger records → GoesOn w.ledger u.ledger (closing_in w.ledger.shape w.machine message) records
-  pub files : tells → ChangesArchive w.ledger.shape raised_limit (IsBlockIn w.ledger.shape (length w.machine.datas)) (IsBesides w.ledger.shape) w.files u.files
+  pub files : reveals → ChangesArchive w.ledger.shape raised_limit (IsBlockIn w.ledger.shape (length w.machine.datas)) (IsBesides w.ledger.shape) w.files u.files
 
 -- The bytes are the replies to these messages, one after the other, each over the files as they stand at its step.
 abbrev pub HasReplied : Type 0 → Standing → List Message → List ℕ → Standing → Type 0
-HasReplied tells w [] bytes u = (u ≡ w) × (bytes ≡ [])
-HasReplied tells w (message ∷ messages) bytes u =
+HasReplied reveals w [] bytes u = (u ≡ w) × (bytes ≡ [])
+HasReplied reveals w (message ∷ messages) bytes u =
     (next : Standing) × (code : ℕ) × (reply : List ℕ) × (rest : List ℕ)
-    × IsReplyTo tells w.ledger w.machine w.files message code reply × MovesTo tells w next message
-    × (bytes ≡ reply ++ rest) × HasReplied tells next messages rest u
+    × IsReplyTo reveals w.ledger w.machine w.files message code reply × MovesTo reveals w next message
+    × (bytes ≡ reply ++ rest) × HasReplied reveals next messages rest u
 
 -- What stands behind the replies: where a message was not taken, nothing or a first part of bytes that are or begin its reply; and
 -- else nothing.
 abbrev pub EndsWith : Type 0 → Standing → List ℕ → Result (Unit {0}) Stop → List ℕ → Type 0
-EndsWith tells u tail (Err (stop.Taken fault)) part =
+EndsWith reveals u tail (Err (stop.Taken fault)) part =
     (message : Message) × IsMessage message × (tail ≡ spelled message)
-    × ((part ≡ []) ⊎ ((bytes : List ℕ) × (k : ℕ) × MayBegin tells u.ledger u.machine u.files message bytes × (k ≤ length bytes) × (part ≡ take k bytes)))
-EndsWith tells u tail result part = part ≡ []
+    × ((part ≡ []) ⊎ ((bytes : List ℕ) × (k : ℕ) × MayBegin reveals u.ledger u.machine u.files message bytes × (k ≤ length bytes) × (part ≡ take k bytes)))
+EndsWith reveals u tail result part = part ≡ []
 
 -- These messages were taken from there on, and their replies are on the output; then it ended so.
-pub record PrintsReplies (tells : Type 0) (w : Standing) (messages : List Message) (tail : List ℕ) (before after : SinkState) (result : Result (Unit {0}) Stop) : Type 0 where
+pub record PrintsReplies (reveals : Type 0) (w : Standing) (messages : List Message) (tail : List ℕ) (before after : SinkState) (result : Result (Unit {0}) Stop) : Type 0 where
   pub last : Standing
   pub bytes : List ℕ
   pub part : List ℕ
-  pub replied : HasReplied tells w messages bytes last
-  pub ends : EndsWith tells last tail result part
+  pub replied : HasReplied reveals w messages bytes last
+  pub ends : EndsWith reveals last tail result part
   pub appended : Appends before.written after.written (bytes ++ part)

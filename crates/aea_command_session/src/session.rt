@@ -23,7 +23,7 @@ use aea_command::{Failure, Status, open};
 use aea_disk::Disk;
 use aea_envelope::cells_have_lengths;
 use aea_io::{Sink, Source};
-use aea_lattice::numbers_tell_blocks;
+use aea_lattice::numbers_reveal_blocks;
 use aea_ledger::Ledger;
 use aea_machine::closed_records_join;
 use aea_messages::{
@@ -44,17 +44,17 @@ fn serve_opened<D: Disk, S: Source, O: Sink>(
 ) -> Result<Status, Failure>
     requires opened { HasSomeRecords ledger }
     requires live { ledger.live ≡ true }
-    requires this { D.tells → IsThisOne ledger ((D.state disk.old).files 0) }
-    requires synced { D.tells → IsSynced (D.state disk.old) }
-    ensures serves { ServesOpened D.tells ledger (D.state disk.old) (D.state disk.new) (S.state input.old).left (S.state input.new).left (O.state out.old) (O.state out.new) result }
-    ensures refuses { result ≢ Err Failure.Output → RefusesBy (IsDecided D.tells (IsSome (S.state input.old).left) IsByInput) (OpenedCauses (D.state disk.old).files (unwrap_or (S.state input.old).left [])) result }
+    requires this { D.reveals → IsThisOne ledger ((D.state disk.old).files 0) }
+    requires synced { D.reveals → IsSynced (D.state disk.old) }
+    ensures serves { ServesOpened D.reveals ledger (D.state disk.old) (D.state disk.new) (S.state input.old).left (S.state input.new).left (O.state out.old) (O.state out.new) result }
+    ensures refuses { result ≢ Err Failure.Output → RefusesBy (IsDecided D.reveals (IsSome (S.state input.old).left) IsByInput) (OpenedCauses (D.state disk.old).files (unwrap_or (S.state input.old).left [])) result }
     ensures after { (why : Refusal) → result ≡ Err (Failure.Refused why) → IsAfterOpening why }
     ensures words { result ≢ Err Failure.Words }
     ensures clash { NeverClashes result }
     ensures flushed { OnOk result (IsFlushed (O.state out.new)) }
 
     // The disk and the streams in any case.
-    ensures writes { OnlyWrites D.tells (IsReady (D.state disk.old)) (FitsMessages ledger (S.state input.old).left (D.state disk.old)) (result ≡ Err Failure.Disk) (ChangesArchive ledger.shape (limit_when ledger.raised) (IsBlockIn ledger.shape ledger.lattice.n) (IsBesides ledger.shape)) (D.state disk.old) (D.state disk.new) }
+    ensures writes { OnlyWrites D.reveals (IsReady (D.state disk.old)) (FitsMessages ledger (S.state input.old).left (D.state disk.old)) (result ≡ Err Failure.Disk) (ChangesArchive ledger.shape (limit_when ledger.raised) (IsBlockIn ledger.shape ledger.lattice.n) (IsBesides ledger.shape)) (D.state disk.old) (D.state disk.new) }
     ensures input_kept { (S.state input.old).faults ≤ (S.state input.new).faults }
     ensures input_cause { result ≡ Err Failure.Input → Rose (S.state input.old).faults (S.state input.new).faults }
     ensures input_still { result ≢ Err Failure.Input → (S.state input.new).faults ≡ (S.state input.old).faults }
@@ -65,7 +65,7 @@ fn serve_opened<D: Disk, S: Source, O: Sink>(
     ledgers_have_one_reading();
     cells_have_lengths();
     closed_records_join();
-    numbers_tell_blocks();
+    numbers_reveal_blocks();
     messages_have_one_reading();
     messages_are_not_bad();
     messages_are_not_cut();
@@ -96,14 +96,14 @@ pub fn session<D: Disk, S: Source, O: Sink>(
     input: &mut S,
     out: &mut O,
 ) -> Result<Status, Failure>
-    ensures sessions { Sessions D.tells (D.state disk.old) (D.state disk.new) (S.state input.old).left (S.state input.new).left (O.state out.old) (O.state out.new) result }
-    ensures refuses { result ≢ Err Failure.Output → RefusesBy (IsDecided D.tells (IsSome (S.state input.old).left) IsByInput) (SessionCauses (D.state disk.old).files (unwrap_or (S.state input.old).left [])) result }
+    ensures sessions { Sessions D.reveals (D.state disk.old) (D.state disk.new) (S.state input.old).left (S.state input.new).left (O.state out.old) (O.state out.new) result }
+    ensures refuses { result ≢ Err Failure.Output → RefusesBy (IsDecided D.reveals (IsSome (S.state input.old).left) IsByInput) (SessionCauses (D.state disk.old).files (unwrap_or (S.state input.old).left [])) result }
     ensures words { result ≢ Err Failure.Words }
     ensures clash { NeverClashes result }
     ensures flushed { OnOk result (IsFlushed (O.state out.new)) }
 
     // The disk and the streams in any case.
-    ensures rest { KeepsOtherFiles D.tells (result ≡ Err Failure.Disk) (D.state disk.old) (D.state disk.new) }
+    ensures rest { KeepsOtherFiles D.reveals (result ≡ Err Failure.Disk) (D.state disk.old) (D.state disk.new) }
     ensures input_kept { (S.state input.old).faults ≤ (S.state input.new).faults }
     ensures input_cause { result ≡ Err Failure.Input → Rose (S.state input.old).faults (S.state input.new).faults }
     ensures input_still { result ≢ Err Failure.Input → (S.state input.new).faults ≡ (S.state input.old).faults }

@@ -61,64 +61,64 @@ agrees_failed {T} {U} f = record {
 }
 
 -- a run that adds a record by what was given does so by each answer that agrees with it
-pub adds_as : {T U : Type 0} (adds : List Record → Record) (tells : Type 0) (old new : State) (gave : Result T Failure) (answer : Result U Failure) → Agrees gave answer → AddsRecord adds tells old new gave → AddsRecord adds tells old new answer
-adds_as {T} {U} adds tells old new gave answer agrees does = record {
+pub adds_as : {T U : Type 0} (adds : List Record → Record) (reveals : Type 0) (old new : State) (gave : Result T Failure) (answer : Result U Failure) → Agrees gave answer → AddsRecord adds reveals old new gave → AddsRecord adds reveals old new answer
+adds_as {T} {U} adds reveals old new gave answer agrees does = record {
   stands = λ e. does.stands (agrees.well e);
   refused = λ why is. does.refused why (agrees.there (failure.Refused why) (λ d. cc) is);
-  wanting = λ is. does.wanting (agrees.there failure.Memory (λ d. cc) is);
+  out_of_memory = λ is. does.out_of_memory (agrees.there failure.Memory (λ d. cc) is);
   stops = does.stops;
   opened = λ differs. does.opened (λ is. differs (agrees.back failure.Disk (λ d. cc) is));
   reads = does.reads;
   long = does.long;
-  in_room = λ told ready fits. (λ is. (does.in_room told ready fits).0 (agrees.there failure.Disk (λ d. cc) is), (does.in_room told ready fits).1);
+  in_room = λ revealed ready fits. (λ is. (does.in_room revealed ready fits).0 (agrees.there failure.Disk (λ d. cc) is), (does.in_room revealed ready fits).1);
 }
 
 -- the archive was opened, or not, and then nothing was written
-pub adds_read : {T : Type 0} (adds : List Record → Record) → KeepsRecorded adds → (tells : Type 0) (old new : State) (opening : Result Opened Failure) (f : Failure) → Opens tells old new opening → f ≢ failure.Output
-    → (f ≡ failure.Disk → opening ≡ Err failure.Disk) → (opening ≡ Err failure.Disk → f ≡ failure.Disk) → AddsRecord {T = T} adds tells old new (Err f)
-adds_read {T} adds keeps tells old new opening f opens output there back = record {
+pub adds_read : {T : Type 0} (adds : List Record → Record) → KeepsRecorded adds → (reveals : Type 0) (old new : State) (opening : Result Opened Failure) (f : Failure) → Opens reveals old new opening → f ≢ failure.Output
+    → (f ≡ failure.Disk → opening ≡ Err failure.Disk) → (opening ≡ Err failure.Disk → f ≡ failure.Disk) → AddsRecord {T = T} adds reveals old new (Err f)
+adds_read {T} adds keeps reveals old new opening f opens output there back = record {
   stands = λ e. elim e [ inl ok ↦ absurd (false≢true ok) | inr is ↦ absurd (output (err_same {T = T} f failure.Output is)) ];
-  refused = λ why is. untouched tells old new opening opens (λ d. let a = back d in let b = err_same {T = T} f (failure.Refused why) is in let c : failure.Disk ≡ failure.Refused why = sym a ∙ b in cc);
-  wanting = λ is. untouched tells old new opening opens (λ d. let a = back d in let b = err_same {T = T} f failure.Memory is in let c : failure.Disk ≡ failure.Memory = sym a ∙ b in cc);
-  stops = λ told. opening_more old new _ _ (λ c same. may_stay adds keeps old.files c same) (opens.stops told);
-  opened = λ differs told. opened_more old new _ _ (λ c same. may_stay adds keeps old.files c same) (opens.opened (λ d. differs (ap Err (back d))) told);
-  reads = λ told. may_stay adds keeps old.files new.files (λ k. ap (λ (c : Files). c k) (opens.reads.contents told));
-  long = λ told shape records has. let same = ap (λ (c : Files). length (c 0)) (opens.reads.contents told) in omega arith;
-  in_room = λ told ready fits. let sure = opens.reads.sure told ready fits.some in (λ is. sure.0 (there (err_same {T = T} f failure.Disk is)), sure.1);
+  refused = λ why is. untouched reveals old new opening opens (λ d. let a = back d in let b = err_same {T = T} f (failure.Refused why) is in let c : failure.Disk ≡ failure.Refused why = sym a ∙ b in cc);
+  out_of_memory = λ is. untouched reveals old new opening opens (λ d. let a = back d in let b = err_same {T = T} f failure.Memory is in let c : failure.Disk ≡ failure.Memory = sym a ∙ b in cc);
+  stops = λ revealed. opening_more old new _ _ (λ c same. may_stay adds keeps old.files c same) (opens.stops revealed);
+  opened = λ differs revealed. opened_more old new _ _ (λ c same. may_stay adds keeps old.files c same) (opens.opened (λ d. differs (ap Err (back d))) revealed);
+  reads = λ revealed. may_stay adds keeps old.files new.files (λ k. ap (λ (c : Files). c k) (opens.reads.contents revealed));
+  long = λ revealed shape records has. let same = ap (λ (c : Files). length (c 0)) (opens.reads.contents revealed) in omega arith;
+  in_room = λ revealed ready fits. let sure = opens.reads.sure revealed ready fits.some in (λ is. sure.0 (there (err_same {T = T} f failure.Disk is)), sure.1);
 }
 
-pub rest_read : {T : Type 0} (tells : Type 0) (old new : State) (opening : Result Opened Failure) (answer : Result T Failure) → Opens tells old new opening → (answer ≡ Err failure.Disk → opening ≡ Err failure.Disk) → (opening ≡ Err failure.Disk → answer ≡ Err failure.Disk)
-    → KeepsTheRest tells (answer ≡ Err failure.Disk) old new
-rest_read tells old new opening answer opens there back = record {
-  others = others_kept tells 0 old new opens.reads.crash opens.reads.contents;
+pub rest_read : {T : Type 0} (reveals : Type 0) (old new : State) (opening : Result Opened Failure) (answer : Result T Failure) → Opens reveals old new opening → (answer ≡ Err failure.Disk → opening ≡ Err failure.Disk) → (opening ≡ Err failure.Disk → answer ≡ Err failure.Disk)
+    → KeepsTheRest reveals (answer ≡ Err failure.Disk) old new
+rest_read reveals old new opening answer opens there back = record {
+  others = others_kept reveals 0 old new opens.reads.crash opens.reads.contents;
   time = opens.reads.time;
   kept = opens.reads.kept;
   cause = λ is. opens.reads.cause (there is);
   still = λ fine. opens.reads.still (λ is. fine (back is));
-  beneath = λ told ready is. opens.reads.beneath told ready (there is);
+  beneath = λ revealed ready is. opens.reads.beneath revealed ready (there is);
 }
 
 -- the archive was not opened
-pub adds_opening : {T : Type 0} (adds : List Record → Record) → KeepsRecorded adds → (tells : Type 0) (old new : State) (f : Failure) → Opens tells old new (Err f) → AddsRecord {T = T} adds tells old new (Err f)
-adds_opening adds keeps tells old new f opens =
-    adds_read adds keeps tells old new (Err f) f opens (λ e. let kind = opens.kinds in opening_not_output kind.0 (sym kind.1 ∙ e)) (λ e. ap Err e) (λ e. err_same {T = Opened} f failure.Disk e)
+pub adds_opening : {T : Type 0} (adds : List Record → Record) → KeepsRecorded adds → (reveals : Type 0) (old new : State) (f : Failure) → Opens reveals old new (Err f) → AddsRecord {T = T} adds reveals old new (Err f)
+adds_opening adds keeps reveals old new f opens =
+    adds_read adds keeps reveals old new (Err f) f opens (λ e. let kind = opens.kinds in opening_not_output kind.0 (sym kind.1 ∙ e)) (λ e. ap Err e) (λ e. err_same {T = Opened} f failure.Disk e)
 
 -- the record r, which is the one to be added, was committed to the opened archive v, or the disk failed at that
-pub record IsCommitting (adds : List Record → Record) (tells : Type 0) (v : Opened) (r : Record) (fault : Type 0) (old mid new : State) : Type 0 where
-  pub opens : Opens tells old mid (Ok v)
+pub record IsCommitting (adds : List Record → Record) (reveals : Type 0) (v : Opened) (r : Record) (fault : Type 0) (old mid new : State) : Type 0 where
+  pub opens : Opens reveals old mid (Ok v)
   pub is : (records : List Record) → HasRecords v records → adds records ≡ r
   pub next : (records : List Record) → HasRecords v records → IsNext v.shape records r
-  pub leaves : LeavesOldOrNew tells v r mid new
-  pub writes : OnlyWrites tells (IsReady mid) (FitsAdding mid 1 (v.end + length (entry r))) fault (ChangesOnly 0) mid new
+  pub leaves : LeavesOldOrNew reveals v r mid new
+  pub writes : OnlyWrites reveals (IsReady mid) (FitsAdding mid 1 (v.end + length (entry r))) fault (ChangesOnly 0) mid new
 
 opened_not : (v : Opened) (f : Failure) → Ok v ≡ Err f → ⊥
 opened_not v f e = cc
 
 -- the records of what was opened are those of the bytes, before the commit too
-pub its_records : (tells : Type 0) (old mid : State) (v : Opened) → Opens tells old mid (Ok v) → tells → (one : IsThisOne v (old.files 0)) → AreItsRecords v one.records (mid.files 0)
-its_records tells old mid v opens told one = record {
+pub its_records : (reveals : Type 0) (old mid : State) (v : Opened) → Opens reveals old mid (Ok v) → reveals → (one : IsThisOne v (old.files 0)) → AreItsRecords v one.records (mid.files 0)
+its_records reveals old mid v opens revealed one = record {
   has = one.has;
-  ledger = subst (λ (c : Files). IsLedger (c 0) v.shape one.records v.end) (sym (opens.reads.contents told)) one.ledger;
+  ledger = subst (λ (c : Files). IsLedger (c 0) v.shape one.records v.end) (sym (opens.reads.contents revealed)) one.ledger;
 }
 
 -- what is left of files in which the old ledger was, or the new one
@@ -136,41 +136,41 @@ may_add reading adds keeps v r old c one is either others = record {
 }
 
 -- each image of the commit
-adds_during : HasOneReading → (adds : List Record → Record) → KeepsRecorded adds → (tells : Type 0) (v : Opened) (r : Record) (fault : Type 0) (old mid new : State) → IsCommitting adds tells v r fault old mid new → tells → During mid new (MayHaveAdded adds old.files)
-adds_during reading adds keeps tells v r fault old mid new does told t c from to here =
+adds_during : HasOneReading → (adds : List Record → Record) → KeepsRecorded adds → (reveals : Type 0) (v : Opened) (r : Record) (fault : Type 0) (old mid new : State) → IsCommitting adds reveals v r fault old mid new → reveals → During mid new (MayHaveAdded adds old.files)
+adds_during reading adds keeps reveals v r fault old mid new does revealed t c from to here =
     let opens = does.opens in
-    let one = opens.this_one told in
+    let one = opens.this_one revealed in
     let was = does.writes.crash t c from to here in
     may_add reading adds keeps v r old.files c one (does.is one.records one.has)
-    (does.leaves.any_moment told one.records (its_records tells old mid v opens told one) t c from to here)
-    (λ k apart. was.2 k apart ∙ opens.synced (opened_not v failure.Disk) told was.0 was.1 k ∙ ap (λ (d : Files). d k) (opens.reads.contents told))
+    (does.leaves.any_moment revealed one.records (its_records reveals old mid v opens revealed one) t c from to here)
+    (λ k apart. was.2 k apart ∙ opens.synced (opened_not v failure.Disk) revealed was.0 was.1 k ∙ ap (λ (d : Files). d k) (opens.reads.contents revealed))
 
-adds_reads : HasOneReading → (adds : List Record → Record) → KeepsRecorded adds → (tells : Type 0) (v : Opened) (r : Record) (fault : Type 0) (old mid new : State) → IsCommitting adds tells v r fault old mid new → tells → MayHaveAdded adds old.files new.files
-adds_reads reading adds keeps tells v r fault old mid new does told =
+adds_reads : HasOneReading → (adds : List Record → Record) → KeepsRecorded adds → (reveals : Type 0) (v : Opened) (r : Record) (fault : Type 0) (old mid new : State) → IsCommitting adds reveals v r fault old mid new → reveals → MayHaveAdded adds old.files new.files
+adds_reads reading adds keeps reveals v r fault old mid new does revealed =
     let opens = does.opens in
-    let one = opens.this_one told in
+    let one = opens.this_one revealed in
     may_add reading adds keeps v r old.files new.files one (does.is one.records one.has)
-    (does.leaves.reads told one.records (its_records tells old mid v opens told one))
-    (λ k apart. does.writes.contents told k apart ∙ ap (λ (d : Files). d k) (opens.reads.contents told))
+    (does.leaves.reads revealed one.records (its_records reveals old mid v opens revealed one))
+    (λ k apart. does.writes.contents revealed k apart ∙ ap (λ (d : Files). d k) (opens.reads.contents revealed))
 
-adds_long : HasOneReading → (adds : List Record → Record) (tells : Type 0) (v : Opened) (r : Record) (fault : Type 0) (old mid new : State) → IsCommitting adds tells v r fault old mid new → tells
+adds_long : HasOneReading → (adds : List Record → Record) (reveals : Type 0) (v : Opened) (r : Record) (fault : Type 0) (old mid new : State) → IsCommitting adds reveals v r fault old mid new → reveals
     → (shape : Shape) (records : List Record) → HasLedger shape records (old.files 0) → length (new.files 0) ≤ max (length (old.files 0)) (length (spelled shape records) + length (entry (adds records)) + 1)
-adds_long reading adds tells v r fault old mid new does told shape records has =
+adds_long reading adds reveals v r fault old mid new does revealed shape records has =
     let opens = does.opens in
-    let one = opens.this_one told in
+    let one = opens.this_one revealed in
     let same = reading (old.files 0) v.shape shape one.records records v.end (length (spelled shape records)) one.ledger has in
-    let long = does.leaves.long told in
-    let before : length (mid.files 0) ≡ length (old.files 0) = ap (λ (c : Files). length (c 0)) (opens.reads.contents told) in
+    let long = does.leaves.long revealed in
+    let before : length (mid.files 0) ≡ length (old.files 0) = ap (λ (c : Files). length (c 0)) (opens.reads.contents revealed) in
     let e : length (entry (adds records)) ≡ length (entry r) = ap (λ (q : Record). length (entry q)) (ap adds (sym same.1.0) ∙ does.is one.records one.has) in
     let end : v.end ≡ length (spelled shape records) = same.1.1 in
     rw (← before, e, ← end) long
 
 -- the record fits the disk after the opening
-fits_commit : (adds : List Record → Record) (tells : Type 0) (v : Opened) (r : Record) (fault : Type 0) (old mid new : State) → IsCommitting adds tells v r fault old mid new → FitsRecord adds tells old → FitsAdding old 1 (v.end + length (entry r))
-fits_commit adds tells v r fault old mid new does fits =
+fits_commit : (adds : List Record → Record) (reveals : Type 0) (v : Opened) (r : Record) (fault : Type 0) (old mid new : State) → IsCommitting adds reveals v r fault old mid new → FitsRecord adds reveals old → FitsAdding old 1 (v.end + length (entry r))
+fits_commit adds reveals v r fault old mid new does fits =
     let opens = does.opens in
-    fits.behind (v.end + length (entry r)) (λ told.
-    let one = opens.this_one told in
+    fits.behind (v.end + length (entry r)) (λ revealed.
+    let one = opens.this_one revealed in
     let is = does.is one.records one.has in
     record {
       shape = v.shape;
@@ -181,79 +181,79 @@ fits_commit adds tells v r fault old mid new does fits =
     })
 
 -- calls after the opening that change the ledger file alone, as a part of the whole run
-frame_behind : (tells fits late_fits fault : Type 0) (v : Opened) (old mid new : State) → Opens tells old mid (Ok v) → (fits → IsRoomy old) → (tells → fits → mid.files ≡ old.files → Passes old mid → late_fits)
-    → OnlyWrites tells (IsReady mid) late_fits fault (ChangesOnly 0) mid new → OnlyWrites tells (IsReady old) fits fault (ChangesOnly 0) old new
-frame_behind tells fits late_fits fault v old mid new opens room late writes =
-    reads_then_writes tells (IsReady old) (IsReady mid) fits late_fits (let opening : Result Opened Failure = Ok v in opening ≡ Err failure.Disk) fault (ChangesOnly 0) old mid new
-    (opened_not v failure.Disk) (λ c f apart. refl) (λ ready. ready) (λ told ready same goes. ready_later old mid same goes ready) room late opens.reads writes
+frame_behind : (reveals fits late_fits fault : Type 0) (v : Opened) (old mid new : State) → Opens reveals old mid (Ok v) → (fits → IsRoomy old) → (reveals → fits → mid.files ≡ old.files → Passes old mid → late_fits)
+    → OnlyWrites reveals (IsReady mid) late_fits fault (ChangesOnly 0) mid new → OnlyWrites reveals (IsReady old) fits fault (ChangesOnly 0) old new
+frame_behind reveals fits late_fits fault v old mid new opens room late writes =
+    reads_then_writes reveals (IsReady old) (IsReady mid) fits late_fits (let opening : Result Opened Failure = Ok v in opening ≡ Err failure.Disk) fault (ChangesOnly 0) old mid new
+    (opened_not v failure.Disk) (λ c f apart. refl) (λ ready. ready) (λ revealed ready same goes. ready_later old mid same goes ready) room late opens.reads writes
 
 -- the opening and the commit: with enough space neither fails
-commit_frame : (adds : List Record → Record) (tells : Type 0) (v : Opened) (r : Record) (fault : Type 0) (old mid new : State) → IsCommitting adds tells v r fault old mid new → OnlyWrites tells (IsReady old) (FitsRecord adds tells old) fault (ChangesOnly 0) old new
-commit_frame adds tells v r fault old mid new does =
-    frame_behind tells (FitsRecord adds tells old) (FitsAdding mid 1 (v.end + length (entry r))) fault v old mid new does.opens (λ fits. fits.some)
-    (λ told fits same time. adding_later old mid 1 (v.end + length (entry r)) (ap (λ (c : Files). c 0) same) time (fits_commit adds tells v r fault old mid new does fits))
+commit_frame : (adds : List Record → Record) (reveals : Type 0) (v : Opened) (r : Record) (fault : Type 0) (old mid new : State) → IsCommitting adds reveals v r fault old mid new → OnlyWrites reveals (IsReady old) (FitsRecord adds reveals old) fault (ChangesOnly 0) old new
+commit_frame adds reveals v r fault old mid new does =
+    frame_behind reveals (FitsRecord adds reveals old) (FitsAdding mid 1 (v.end + length (entry r))) fault v old mid new does.opens (λ fits. fits.some)
+    (λ revealed fits same time. adding_later old mid 1 (v.end + length (entry r)) (ap (λ (c : Files). c 0) same) time (fits_commit adds reveals v r fault old mid new does fits))
     does.writes
 
 -- the disk failed at the commit
-pub adds_failed : {T : Type 0} → HasOneReading → (adds : List Record → Record) → KeepsRecorded adds → (tells : Type 0) (v : Opened) (r : Record) (fault : Type 0) (old mid new : State) → IsCommitting adds tells v r fault old mid new → fault → AddsRecord {T = T} adds tells old new (Err failure.Disk)
-adds_failed {T} reading adds keeps tells v r fault old mid new does failed = record {
+pub adds_failed : {T : Type 0} → HasOneReading → (adds : List Record → Record) → KeepsRecorded adds → (reveals : Type 0) (v : Opened) (r : Record) (fault : Type 0) (old mid new : State) → IsCommitting adds reveals v r fault old mid new → fault → AddsRecord {T = T} adds reveals old new (Err failure.Disk)
+adds_failed {T} reading adds keeps reveals v r fault old mid new does failed = record {
   stands = λ e. elim e [ inl ok ↦ absurd (false≢true ok) | inr is ↦ let h = err_same {T = T} failure.Disk failure.Output is in cc ];
   refused = λ why is. let h = err_same {T = T} failure.Disk (failure.Refused why) is in cc;
-  wanting = λ is. let h = err_same {T = T} failure.Disk failure.Memory is in cc;
-  stops = λ told. inr (opened_then old mid new _ _ does.opens.reads.time does.writes.time (λ c same. may_stay adds keeps old.files c same) (adds_during reading adds keeps tells v r fault old mid new does told) (does.opens.opened (opened_not v failure.Disk) told));
+  out_of_memory = λ is. let h = err_same {T = T} failure.Disk failure.Memory is in cc;
+  stops = λ revealed. inr (opened_then old mid new _ _ does.opens.reads.time does.writes.time (λ c same. may_stay adds keeps old.files c same) (adds_during reading adds keeps reveals v r fault old mid new does revealed) (does.opens.opened (opened_not v failure.Disk) revealed));
   opened = λ differs. absurd (differs refl);
-  reads = adds_reads reading adds keeps tells v r fault old mid new does;
-  long = adds_long reading adds tells v r fault old mid new does;
-  in_room = λ told ready fits. absurd (((commit_frame adds tells v r fault old mid new does).sure told ready fits).0 failed);
+  reads = adds_reads reading adds keeps reveals v r fault old mid new does;
+  long = adds_long reading adds reveals v r fault old mid new does;
+  in_room = λ revealed ready fits. absurd (((commit_frame adds reveals v r fault old mid new does).sure revealed ready fits).0 failed);
 }
 
 -- the record was committed
-pub adds_done : {T : Type 0} → HasOneReading → (adds : List Record → Record) → KeepsRecorded adds → (tells : Type 0) (v w : Opened) (r : Record) (fault : Type 0) (old mid new : State) (value : T) → IsCommitting adds tells v r fault old mid new → HasCommitted tells v w r mid new
-    → AddsRecord adds tells old new (Ok value)
-adds_done {T} reading adds keeps tells v w r fault old mid new value does done = record {
-  stands = λ e told.
-      let one = does.opens.this_one told in
+pub adds_done : {T : Type 0} → HasOneReading → (adds : List Record → Record) → KeepsRecorded adds → (reveals : Type 0) (v w : Opened) (r : Record) (fault : Type 0) (old mid new : State) (value : T) → IsCommitting adds reveals v r fault old mid new → HasCommitted reveals v w r mid new
+    → AddsRecord adds reveals old new (Ok value)
+adds_done {T} reading adds keeps reveals v w r fault old mid new value does done = record {
+  stands = λ e revealed.
+      let one = does.opens.this_one revealed in
       let is = does.is one.records one.has in
-      let same = does.opens.reads.contents told in
-      let its = its_records tells old mid v does.opens told one in
-      let after = subst (λ (q : Record). HasLedger v.shape (one.records ++ q ∷ []) (new.files 0)) (sym is) (done.appended told one.records its) in (
+      let same = does.opens.reads.contents revealed in
+      let its = its_records reveals old mid v does.opens revealed one in
+      let after = subst (λ (q : Record). HasLedger v.shape (one.records ++ q ∷ []) (new.files 0)) (sym is) (done.appended revealed one.records its) in (
         record {
           shape = v.shape;
           records = one.records;
           before = subst (λ (n : ℕ). IsLedger (old.files 0) v.shape one.records n) one.has.end one.ledger;
           after = after;
-          exactly = done.exactly told ∙ ap (λ (c : Files). committed (c 0) v.end (body r ++ 0 ∷ [])) same ∙ ap (λ (n : ℕ). committed (old.files 0) n (body r ++ 0 ∷ [])) one.has.end
+          exactly = done.exactly revealed ∙ ap (λ (c : Files). committed (c 0) v.end (body r ++ 0 ∷ [])) same ∙ ap (λ (n : ℕ). committed (old.files 0) n (body r ++ 0 ∷ [])) one.has.end
               ∙ ap (λ (q : Record). committed (old.files 0) (length (spelled v.shape one.records)) (body q ++ 0 ∷ [])) (sym is);
           recorded = λ datas. keeps v.shape one.records datas after.valid;
         },
-        done.durable told,
+        done.durable revealed,
       );
   refused = λ why is. let h : Ok value ≡ Err (failure.Refused why) = is in cc;
-  wanting = λ is. let h : Ok value ≡ Err failure.Memory = is in cc;
-  stops = λ told. inr (opened_then old mid new _ _ does.opens.reads.time does.writes.time (λ c same. may_stay adds keeps old.files c same) (adds_during reading adds keeps tells v r fault old mid new does told) (does.opens.opened (opened_not v failure.Disk) told));
-  opened = λ differs told. opened_then old mid new _ _ does.opens.reads.time does.writes.time (λ c same. may_stay adds keeps old.files c same) (adds_during reading adds keeps tells v r fault old mid new does told) (does.opens.opened (opened_not v failure.Disk) told);
-  reads = adds_reads reading adds keeps tells v r fault old mid new does;
-  long = adds_long reading adds tells v r fault old mid new does;
-  in_room = λ told ready fits. (λ is. let h : Ok value ≡ Err failure.Disk = is in cc, ((commit_frame adds tells v r fault old mid new does).sure told ready fits).1);
+  out_of_memory = λ is. let h : Ok value ≡ Err failure.Memory = is in cc;
+  stops = λ revealed. inr (opened_then old mid new _ _ does.opens.reads.time does.writes.time (λ c same. may_stay adds keeps old.files c same) (adds_during reading adds keeps reveals v r fault old mid new does revealed) (does.opens.opened (opened_not v failure.Disk) revealed));
+  opened = λ differs revealed. opened_then old mid new _ _ does.opens.reads.time does.writes.time (λ c same. may_stay adds keeps old.files c same) (adds_during reading adds keeps reveals v r fault old mid new does revealed) (does.opens.opened (opened_not v failure.Disk) revealed);
+  reads = adds_reads reading adds keeps reveals v r fault old mid new does;
+  long = adds_long reading adds reveals v r fault old mid new does;
+  in_room = λ revealed ready fits. (λ is. let h : Ok value ≡ Err failure.Disk = is in cc, ((commit_frame adds reveals v r fault old mid new does).sure revealed ready fits).1);
 }
 
 -- where calls after the opening changed the ledger file alone, each other file stays, and a fault of the answer, which
 -- is one where these failed, has its cause
-pub rest_behind : (tells late_fits fault other : Type 0) (v : Opened) (old mid new : State) → Opens tells old mid (Ok v) → OnlyWrites tells (IsReady mid) late_fits fault (ChangesOnly 0) mid new
-    → (other → fault) → (fault → other) → KeepsTheRest tells other old new
-rest_behind tells late_fits fault other v old mid new opens writes so back =
-    let frame = frame_behind tells ⊥ late_fits fault v old mid new opens (λ none. absurd none) (λ told none. absurd none) writes in
+pub rest_behind : (reveals late_fits fault other : Type 0) (v : Opened) (old mid new : State) → Opens reveals old mid (Ok v) → OnlyWrites reveals (IsReady mid) late_fits fault (ChangesOnly 0) mid new
+    → (other → fault) → (fault → other) → KeepsTheRest reveals other old new
+rest_behind reveals late_fits fault other v old mid new opens writes so back =
+    let frame = frame_behind reveals ⊥ late_fits fault v old mid new opens (λ none. absurd none) (λ revealed none. absurd none) writes in
     record {
-      others = writes_others tells _ _ fault (ChangesOnly 0) 0 old new (λ c d keeps. keeps) frame;
+      others = writes_others reveals _ _ fault (ChangesOnly 0) 0 old new (λ c d keeps. keeps) frame;
       time = frame.time;
       kept = frame.kept;
       cause = λ is. frame.cause (so is);
       still = λ fine. frame.still (λ is. fine (back is));
-      beneath = λ told ready is. frame.beneath told ready (so is);
+      beneath = λ revealed ready is. frame.beneath revealed ready (so is);
     }
 
 -- where a record was committed, or the disk failed at that, each other file stays, and a fault of the answer has
 -- its cause if it is one of the commit
-pub rest_committed : (adds : List Record → Record) (tells : Type 0) (v : Opened) (r : Record) (fault other : Type 0) (old mid new : State) → IsCommitting adds tells v r fault old mid new → (other → fault) → (fault → other) → KeepsTheRest tells other old new
-rest_committed adds tells v r fault other old mid new does so back =
-    rest_behind tells (FitsAdding mid 1 (v.end + length (entry r))) fault other v old mid new does.opens does.writes so back
+pub rest_committed : (adds : List Record → Record) (reveals : Type 0) (v : Opened) (r : Record) (fault other : Type 0) (old mid new : State) → IsCommitting adds reveals v r fault old mid new → (other → fault) → (fault → other) → KeepsTheRest reveals other old new
+rest_committed adds reveals v r fault other old mid new does so back =
+    rest_behind reveals (FitsAdding mid 1 (v.end + length (entry r))) fault other v old mid new does.opens does.writes so back

@@ -24,11 +24,11 @@ use Rattle.aea_command_store.proofs.IngestLemmas.One.{grows_no_more}
 use Rattle.aea_command_store.proofs.PutLemmas.Opening.{changes}
 
 module _ (reading : HasOneReading) (counts : DigestsAreCounted) (survivors : SurvivorsStayHonest)
-    (tells : Type 0) (told : tells) (w : Opened) (rs : List Record) (now next : State) (its : AreItsRecords w rs (now.files 0)) (synced : IsSynced now)
-    (taken fits fault : Type 0) (writes : OnlyWrites tells taken fits fault (changes w) now next) (leaves : LeavesLedger now next)
+    (reveals : Type 0) (revealed : reveals) (w : Opened) (rs : List Record) (now next : State) (its : AreItsRecords w rs (now.files 0)) (synced : IsSynced now)
+    (taken fits fault : Type 0) (writes : OnlyWrites reveals taken fits fault (changes w) now next) (leaves : LeavesLedger now next)
     (keeps : KeepsPadded w.shape (IsBlockIn w.shape w.lattice.n) now.files next.files) where
   intact : KeepsIntact w.shape (IsBlockIn w.shape w.lattice.n) now.files next.files
-  intact = (changes_shelf tells taken fits fault w.shape (limit_when w.raised) (IsBlockIn w.shape w.lattice.n) (IsBesides w.shape) now next writes).intact told
+  intact = (changes_shelf reveals taken fits fault w.shape (limit_when w.raised) (IsBlockIn w.shape w.lattice.n) (IsBesides w.shape) now next writes).intact revealed
 
   -- no nodes are new, and no digests
   long_none : 0 ≡ (w.lattice.n - w.lattice.n) * (1 + w.shape.alpha)
@@ -61,7 +61,7 @@ module _ (reading : HasOneReading) (counts : DigestsAreCounted) (survivors : Sur
       let ledger : HasLedger w.shape rs (now.files 0) = has_ledger w rs (now.files 0) its in
       let nil : rs ≡ rs ++ [] = sym (append-nil rs) in
       record {
-        grows = grows_no_more tells told w rs now next its synced taken fits fault writes reading leaves;
+        grows = grows_no_more reveals revealed w rs now next its synced taken fits fault writes reading leaves;
         images = λ c here.
             let later = writes.time.later in
             subst (λ (l : List Record). HasLedger w.shape l (c 0)) nil (subst (HasLedger w.shape rs) (sym (leaves.images next.moment c later (omega arith) here)) ledger);

@@ -45,35 +45,35 @@ pub record WouldEndAt (adds : List Record → Record) (bytes : List ℕ) (end : 
 
 -- The disk has some space, and to sync; and where the record may follow those of the file, it has space for it up to the place
 -- at which the new ledger is to end, of a disk on which the file is not known wherever that is.
-pub record FitsRecord (adds : List Record → Record) (tells : Type 0) (s : State) : Type 0 where
+pub record FitsRecord (adds : List Record → Record) (reveals : Type 0) (s : State) : Type 0 where
   pub some : IsRoomy s
-  pub behind : (end : ℕ) → (tells → WouldEndAt adds (s.files 0) end) → FitsAdding s 1 end
+  pub behind : (end : ℕ) → (reveals → WouldEndAt adds (s.files 0) end) → FitsAdding s 1 end
 
 -- Of a run that adds the record, with the disk before and after it, and what it returns:
-pub record AddsRecord {T : Type 0} (adds : List Record → Record) (tells : Type 0) (old new : State) (answer : Result T Failure) : Type 0 where
+pub record AddsRecord {T : Type 0} (adds : List Record → Record) (reveals : Type 0) (old new : State) (answer : Result T Failure) : Type 0 where
   -- the record is there where it is done, and where the output failed, and nothing is pending
-  pub stands : IsOk answer ⊎ (answer ≡ Err failure.Output) → tells → HasAddedRecord adds (old.files 0) (new.files 0) × IsSynced new
+  pub stands : IsOk answer ⊎ (answer ≡ Err failure.Output) → reveals → HasAddedRecord adds (old.files 0) (new.files 0) × IsSynced new
   -- a refusal, and lack of memory, leave the disk as it was
-  pub refused : (why : Refusal) → answer ≡ Err (failure.Refused why) → IsUntouched tells old new
-  pub wanting : answer ≡ Err failure.Memory → IsUntouched tells old new
+  pub refused : (why : Refusal) → answer ≡ Err (failure.Refused why) → IsUntouched reveals old new
+  pub out_of_memory : answer ≡ Err failure.Memory → IsUntouched reveals old new
   -- it begins with a sync: what a stop at any moment leaves, and what is there after any answer; but after a fault of the disk
   -- that sync has succeeded
-  pub stops : tells → HasOpening old new (MayHaveAdded adds old.files)
-  pub opened : answer ≢ Err failure.Disk → tells → IsOpened old new (MayHaveAdded adds old.files)
-  pub reads : tells → MayHaveAdded adds old.files new.files
+  pub stops : reveals → HasOpening old new (MayHaveAdded adds old.files)
+  pub opened : answer ≢ Err failure.Disk → reveals → IsOpened old new (MayHaveAdded adds old.files)
+  pub reads : reveals → MayHaveAdded adds old.files new.files
   -- no write ends past the gate that ends the new ledger
-  pub long : tells → (shape : Shape) (records : List Record) → HasLedger shape records (old.files 0)
+  pub long : reveals → (shape : Shape) (records : List Record) → HasLedger shape records (old.files 0)
       → length (new.files 0) ≤ max (length (old.files 0)) (length (spelled shape records) + length (entry (adds records)) + 1)
   -- where the disk is ready and has the space nothing fails
-  pub in_room : tells → IsReady old → NeverFails (FitsRecord adds tells old) (answer ≢ Err failure.Disk) old new
+  pub in_room : reveals → IsReady old → NeverFails (FitsRecord adds reveals old) (answer ≢ Err failure.Disk) old new
 
 -- Of calls that change the ledger file alone, whatever they return: each other file stays, time goes on, and a fault of the
 -- disk is returned only where the count rose, which never falls, and is what it was where none is; a ready disk whose
 -- contents are known is at fault only where the count beneath rose.
-pub record KeepsTheRest (tells fault : Type 0) (old new : State) : Type 0 where
-  pub others : KeepsOthers tells 0 old new
+pub record KeepsTheRest (reveals fault : Type 0) (old new : State) : Type 0 where
+  pub others : KeepsOthers reveals 0 old new
   pub time : Passes old new
   pub kept : old.faults ≤ new.faults
   pub cause : fault → Rose old.faults new.faults
   pub still : (fault → ⊥) → new.faults ≡ old.faults
-  pub beneath : tells → IsReady old → fault → Rose old.beneath new.beneath
+  pub beneath : reveals → IsReady old → fault → Rose old.beneath new.beneath

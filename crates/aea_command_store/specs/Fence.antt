@@ -47,12 +47,12 @@ FenceCauses bytes TooManyFences = HasAllFences bytes
 FenceCauses bytes why = ⊥
 
 -- Of a run that adds a fence, with the disk and `out` before and after it, and its answer:
-pub record Fences (tells : Type 0) (old new : State) (before after : SinkState) (answer : Answer) : Type 0 where
+pub record Fences (reveals : Type 0) (old new : State) (before after : SinkState) (answer : Answer) : Type 0 where
   -- no block is lost
   pub done : IfOk answer (λ status. status ≡ Done)
   -- what is added to the ledger
-  pub adds : AddsRecord next_fence tells old new answer
+  pub adds : AddsRecord next_fence reveals old new answer
   -- what is printed: the number of the ledger's nodes; over a disk on which the file is not known, some number of nodes
-  pub prints : tells → (shape : Shape) (records : List Record) → HasLedger shape records (old.files 0)
+  pub prints : reveals → (shape : Shape) (records : List Record) → HasLedger shape records (old.files 0)
       → PrintsText before after answer (fence_line (nodes_of records))
   pub some : (nodes : ℕ) × ((nodes ≤ raised_limit) × PrintsText before after answer (fence_line nodes))

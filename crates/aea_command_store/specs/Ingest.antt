@@ -163,8 +163,8 @@ pub record IsReadInPart (input : List ℕ) (rest : Option (List ℕ)) (objects :
 
 -- Of a run whose lines are those of these objects: where it is refused, the frame after theirs is the one that is not
 -- stored, and where a read failed, the one that was not read whole. So no object before that frame is left out.
-pub record EndsEarly {T : Type 0} (tells : Type 0) (files : Files) (left rest : Option (List ℕ)) (objects : List NewObject) (answer : Result T Failure) : Type 0 where
-  pub refused : tells → (input : List ℕ) → left ≡ Some input → (why : Refusal) → answer ≡ Err (failure.Refused why) → EndCauses files input objects why
+pub record EndsEarly {T : Type 0} (reveals : Type 0) (files : Files) (left rest : Option (List ℕ)) (objects : List NewObject) (answer : Result T Failure) : Type 0 where
+  pub refused : reveals → (input : List ℕ) → left ≡ Some input → (why : Refusal) → answer ≡ Err (failure.Refused why) → EndCauses files input objects why
   pub unread : (input : List ℕ) → left ≡ Some input → answer ≡ Err failure.Input → IsReadInPart input rest objects
   -- and where it is refused at its opening, nothing of the input was taken
   pub closed : (why : Refusal) → place_of why < place_of Occupied → answer ≡ Err (failure.Refused why) → rest ≡ left
@@ -204,10 +204,10 @@ pub record WouldReach (left : Option (List ℕ)) (files : Files) (more end : ℕ
 
 -- The disk has some space, and to sync; and where it has an archive, space for the rows that its sites may have, and for the
 -- records up to each place at which its ledger may end in such a run, of a disk on which the file is not known wherever that is.
-pub record FitsIngest (tells : Type 0) (left : Option (List ℕ)) (s : State) : Type 0 where
+pub record FitsIngest (reveals : Type 0) (left : Option (List ℕ)) (s : State) : Type 0 where
   pub some : IsRoomy s
-  pub sites : (shape : Shape) (limit : ℕ) → (tells → HasLimit shape limit (s.files 0)) → HaveSitesRoom shape limit s
-  pub behind : (more end : ℕ) → (tells → WouldReach left s.files more end) → FitsAdding s more end
+  pub sites : (shape : Shape) (limit : ℕ) → (reveals → HasLimit shape limit (s.files 0)) → HaveSitesRoom shape limit s
+  pub behind : (more end : ℕ) → (reveals → WouldReach left s.files more end) → FitsAdding s more end
 
 -- the disk has space for all that a run may write that stores the frames of the source into an opened archive
 pub record FitsFrames (v : Opened) (left : Option (List ℕ)) (s : State) : Type 0 where
@@ -260,44 +260,44 @@ pub record IsNotOpened {T : Type 0} (old new : State) (objects : List NewObject)
 
 -- Of a run that stores the frames of the input, with the disk and the rest of the input before and after it, and what it
 -- returns: the objects whose lines were printed, and the one whose line was begun.
-pub record StoresFrames {T : Type 0} (tells : Type 0) (old new : State) (left rest : Option (List ℕ)) (printed more : List NewObject) (answer : Result T Failure) : Type 0 where
+pub record StoresFrames {T : Type 0} (reveals : Type 0) (old new : State) (left rest : Option (List ℕ)) (printed more : List NewObject) (answer : Result T Failure) : Type 0 where
   -- they are those of the first frames, in order; and where it is done, those of all that the input had
   pub framed : (taken : Option (List ℕ)) × Consumes left taken (frames_of (printed ++ more))
   pub most : MayBeMore answer more
   pub whole : IsOk answer → Consumes left rest (frames_of printed) × IsAtEnd rest
   -- where it is done, and where the output failed, there was an archive, and all of them are in every image, and their
   -- blocks are held
-  pub archive : EndsStored answer → tells → IsSomeLedger (old.files 0)
-  pub stands : EndsStored answer → tells → (shape : Shape) (records : List Record) → HasLedger shape records (old.files 0)
+  pub archive : EndsStored answer → reveals → IsSomeLedger (old.files 0)
+  pub stands : EndsStored answer → reveals → (shape : Shape) (records : List Record) → HasLedger shape records (old.files 0)
       → OpensThen old new (HasGrown shape records (printed ++ more))
   -- what a stop at any moment leaves: from the first sync on the archive with the first of them, and of one more where the
   -- disk failed; and at the end, after any answer, those whose lines were printed are in every image
-  pub stops : tells → (shape : Shape) (records : List Record) → HasLedger shape records (old.files 0)
+  pub stops : reveals → (shape : Shape) (records : List Record) → HasLedger shape records (old.files 0)
       → (last : List NewObject) × MayBeLast left printed answer last
       × (IsNotOpened old new (printed ++ more) answer ⊎ OpensThen old new (GrowsSurely shape records ((printed ++ more) ++ last) (length (printed ++ more))))
   -- but after a fault of the disk, all of them are in every image and as the disk reads, and no other is; their blocks are
   -- held, and survivors that were honest, in plain damage, are so
-  pub stays : answer ≢ Err failure.Disk → tells → (shape : Shape) (records : List Record) → HasLedger shape records (old.files 0)
+  pub stays : answer ≢ Err failure.Disk → reveals → (shape : Shape) (records : List Record) → HasLedger shape records (old.files 0)
       → IsNotOpened old new (printed ++ more) answer ⊎ OpensThen old new (StaysGrown shape records (printed ++ more))
   -- where there is no ledger, nothing is stored, and but after a fault of the disk the first sync has succeeded
-  pub none : tells → (IsSomeLedger (old.files 0) → ⊥) → KeepsImages old new × (new.files ≡ old.files)
-  pub unopened : answer ≢ Err failure.Disk → tells → (IsSomeLedger (old.files 0) → ⊥) → IsOpened old new (StaysAll old.files)
+  pub none : reveals → (IsSomeLedger (old.files 0) → ⊥) → KeepsImages old new × (new.files ≡ old.files)
+  pub unopened : answer ≢ Err failure.Disk → reveals → (IsSomeLedger (old.files 0) → ⊥) → IsOpened old new (StaysAll old.files)
   -- but after a fault of the disk the homes of the blocks that there were read as they did, with zeros past the ends of files
-  pub padded : answer ≢ Err failure.Disk → tells → (shape : Shape) (records : List Record) → HasLedger shape records (old.files 0)
+  pub padded : answer ≢ Err failure.Disk → reveals → (shape : Shape) (records : List Record) → HasLedger shape records (old.files 0)
       → KeepsPadded shape (IsBlockIn shape (nodes_of records)) old.files new.files
   -- where the disk is ready and has the space nothing fails
-  pub in_room : tells → IsReady old → NeverFails (FitsIngest tells left old) (answer ≢ Err failure.Disk) old new
+  pub in_room : reveals → IsReady old → NeverFails (FitsIngest reveals left old) (answer ≢ Err failure.Disk) old new
 
 -- The same of a run after its opening, from where the files have the opened ledger.
-pub record StoresOpened {T : Type 0} (tells : Type 0) (v : Opened) (old new : State) (left rest : Option (List ℕ)) (printed more : List NewObject) (answer : Result T Failure) : Type 0 where
+pub record StoresOpened {T : Type 0} (reveals : Type 0) (v : Opened) (old new : State) (left rest : Option (List ℕ)) (printed more : List NewObject) (answer : Result T Failure) : Type 0 where
   pub framed : (taken : Option (List ℕ)) × Consumes left taken (frames_of (printed ++ more))
   pub most : MayBeMore answer more
   pub whole : IsOk answer → Consumes left rest (frames_of printed) × IsAtEnd rest
-  pub stands : EndsStored answer → tells → (records : List Record) → AreItsRecords v records (old.files 0) → HasGrown v.shape records (printed ++ more) old new
-  pub stops : tells → (records : List Record) → AreItsRecords v records (old.files 0)
+  pub stands : EndsStored answer → reveals → (records : List Record) → AreItsRecords v records (old.files 0) → HasGrown v.shape records (printed ++ more) old new
+  pub stops : reveals → (records : List Record) → AreItsRecords v records (old.files 0)
       → (last : List NewObject) × MayBeLast left printed answer last × GrowsSurely v.shape records ((printed ++ more) ++ last) (length (printed ++ more)) old new
-  pub stays : answer ≢ Err failure.Disk → tells → (records : List Record) → AreItsRecords v records (old.files 0) → StaysGrown v.shape records (printed ++ more) old new
-  pub padded : answer ≢ Err failure.Disk → tells → KeepsPadded v.shape (IsBlockIn v.shape v.lattice.n) old.files new.files
+  pub stays : answer ≢ Err failure.Disk → reveals → (records : List Record) → AreItsRecords v records (old.files 0) → StaysGrown v.shape records (printed ++ more) old new
+  pub padded : answer ≢ Err failure.Disk → reveals → KeepsPadded v.shape (IsBlockIn v.shape v.lattice.n) old.files new.files
 
 -- What is on `out`: the lines of the objects that were printed; after them the last line where all was done, a first
 -- part of the line that follows where the output failed, and nothing else where something else did. Where the sink has space for
@@ -312,14 +312,14 @@ pub record PrintsLines (shape : Shape) (printed more : List NewObject) (before a
       → (answer ≢ Err failure.Output) × (after.faults ≡ before.faults)
 
 -- Of a run that stores the frames of the input into an opened archive, and its answer:
-pub record IngestsOpened (tells : Type 0) (v : Opened) (old new : State) (left rest : Option (List ℕ)) (before after : SinkState) (answer : Answer) : Type 0 where
+pub record IngestsOpened (reveals : Type 0) (v : Opened) (old new : State) (left rest : Option (List ℕ)) (before after : SinkState) (answer : Answer) : Type 0 where
   pub done : IfOk answer (λ status. status ≡ Done)
   pub printed : List NewObject
   pub more : List NewObject
-  pub stores : StoresOpened tells v old new left rest printed more answer
-  pub early : EndsEarly tells old.files left rest printed answer
+  pub stores : StoresOpened reveals v old new left rest printed more answer
+  pub early : EndsEarly reveals old.files left rest printed answer
   pub prints : PrintsLines v.shape printed more before after answer
-  pub lines_in_room : tells → (input : List ℕ) → left ≡ Some input → FitsLines old.files input before → answer ≢ Err failure.Output
+  pub lines_in_room : reveals → (input : List ℕ) → left ≡ Some input → FitsLines old.files input before → answer ≢ Err failure.Output
 
 -- Nothing was stored and nothing printed, since there was no archive to begin from.
 pub record PrintsNothing (printed more : List NewObject) (before after : SinkState) (answer : Answer) : Type 0 where
@@ -331,23 +331,23 @@ pub record PrintsNothing (printed more : List NewObject) (before after : SinkSta
 
 -- it printed lines, in an archive of some shape, which is that of the ledger where the disk's contents are known
 abbrev pub PrintsSome : Type 0 → List ℕ → List NewObject → List NewObject → SinkState → SinkState → Answer → Type 0
-PrintsSome tells bytes printed more before after answer =
-    (shape : Shape) × (tells → (other : Shape) (records : List Record) → HasLedger other records bytes → shape ≡ other)
+PrintsSome reveals bytes printed more before after answer =
+    (shape : Shape) × (reveals → (other : Shape) (records : List Record) → HasLedger other records bytes → shape ≡ other)
     × PrintsLines shape printed more before after answer
 
 -- Of a run that stores a stream of frames, with the disk, the rest of the input, and `out` before and after it, and its
 -- answer:
-pub record Ingests (tells : Type 0) (old new : State) (left rest : Option (List ℕ)) (before after : SinkState) (answer : Answer) : Type 0 where
+pub record Ingests (reveals : Type 0) (old new : State) (left rest : Option (List ℕ)) (before after : SinkState) (answer : Answer) : Type 0 where
   -- no block is lost
   pub done : IfOk answer (λ status. status ≡ Done)
   -- the objects whose lines were printed, and one more that may have been stored
   pub printed : List NewObject
   pub more : List NewObject
   -- the effect on the archive
-  pub stores : StoresFrames tells old new left rest printed more answer
+  pub stores : StoresFrames reveals old new left rest printed more answer
   -- which frame was not stored, where it is refused, and where a read failed
-  pub early : EndsEarly tells old.files left rest printed answer
+  pub early : EndsEarly reveals old.files left rest printed answer
   -- what is printed
-  pub prints : PrintsNothing printed more before after answer ⊎ PrintsSome tells (old.files 0) printed more before after answer
+  pub prints : PrintsNothing printed more before after answer ⊎ PrintsSome reveals (old.files 0) printed more before after answer
   -- and where the output has space for the lines of the objects that a run would store, it does not fail
-  pub lines_in_room : tells → (input : List ℕ) → left ≡ Some input → FitsLines old.files input before → answer ≢ Err failure.Output
+  pub lines_in_room : reveals → (input : List ℕ) → left ≡ Some input → FitsLines old.files input before → answer ≢ Err failure.Output

@@ -119,10 +119,10 @@ pub record WouldEndAt (name : List ℕ) (left : Option (List ℕ)) (bytes : List
 -- The disk has some space, and to sync; and where it has an archive, space for the rows that its sites may have, and for the
 -- record up to the place at which the new ledger is to end, of a disk on which the file is not known whatever and wherever that
 -- is.
-pub record FitsPut (name : List ℕ) (tells : Type 0) (left : Option (List ℕ)) (s : State) : Type 0 where
+pub record FitsPut (name : List ℕ) (reveals : Type 0) (left : Option (List ℕ)) (s : State) : Type 0 where
   pub some : IsRoomy s
-  pub sites : (shape : Shape) (limit : ℕ) → (tells → HasLimit shape limit (s.files 0)) → HaveSitesRoom shape limit s
-  pub behind : (end : ℕ) → (tells → WouldEndAt name left (s.files 0) end) → FitsAdding s 1 end
+  pub sites : (shape : Shape) (limit : ℕ) → (reveals → HasLimit shape limit (s.files 0)) → HaveSitesRoom shape limit s
+  pub behind : (end : ℕ) → (reveals → WouldEndAt name left (s.files 0) end) → FitsAdding s 1 end
 
 -- a refusal that comes before the input is read
 abbrev pub IsEarly : Refusal → Type 0
@@ -130,9 +130,9 @@ IsEarly why = place_of why < place_of (Full 0)
 
 -- The disk has some space, and to sync; and unless there is a cause for a refusal before the input is read, space for all that a
 -- put writes, of a disk on which the files are not known in any case.
-pub record FitsPutUnlessRefused (name : List ℕ) (tells : Type 0) (left : Option (List ℕ)) (s : State) : Type 0 where
+pub record FitsPutUnlessRefused (name : List ℕ) (reveals : Type 0) (left : Option (List ℕ)) (s : State) : Type 0 where
   pub some : IsRoomy s
-  pub all : (tells → (why : Refusal) → IsEarly why → PutCauses name s.files [] why → ⊥) → FitsPut name tells left s
+  pub all : (reveals → (why : Refusal) → IsEarly why → PutCauses name s.files [] why → ⊥) → FitsPut name reveals left s
 
 -- an answer after which the object is stored
 abbrev pub EndsStored : {T : Type 0} → Result T Failure → Type 0
@@ -145,70 +145,70 @@ MayHavePut name left rest answer objects =
     (objects ≡ []) ⊎ ((EndsStored answer ⊎ (answer ≡ Err failure.Disk)) × ((o : NewObject) × IsWhole name left rest o × (objects ≡ o ∷ [])))
 
 -- Memory ran out before the archive was opened: every image and every file is as it was.
-pub record IsWanting {T : Type 0} (old new : State) (answer : Result T Failure) : Type 0 where
+pub record IsOutOfMemory {T : Type 0} (old new : State) (answer : Result T Failure) : Type 0 where
   pub by : answer ≡ Err failure.Memory
   pub images : KeepsImages old new
   pub reads : new.files ≡ old.files
 
 -- Of a run that stores what the input has under a name, with the disk and the rest of the input before and after it, and
 -- what it returns:
-pub record Stores {T : Type 0} (name : List ℕ) (tells : Type 0) (old new : State) (left rest : Option (List ℕ)) (answer : Result T Failure) : Type 0 where
+pub record Stores {T : Type 0} (name : List ℕ) (reveals : Type 0) (old new : State) (left rest : Option (List ℕ)) (answer : Result T Failure) : Type 0 where
   -- where it is done, and where the output failed, there was an archive, and the object with all that the input had is
   -- in every image, and its blocks are held
-  pub archive : EndsStored answer → tells → IsSomeLedger (old.files 0)
-  pub stands : EndsStored answer → tells → (shape : Shape) (records : List Record) → HasLedger shape records (old.files 0)
+  pub archive : EndsStored answer → reveals → IsSomeLedger (old.files 0)
+  pub stands : EndsStored answer → reveals → (shape : Shape) (records : List Record) → HasLedger shape records (old.files 0)
       → (o : NewObject) × IsWhole name left rest o × OpensThen old new (HasGrown shape records (o ∷ []))
   -- what a stop at any moment leaves: from the first sync on the archive before, or the one with the object
-  pub stops : tells → (shape : Shape) (records : List Record) → HasLedger shape records (old.files 0)
+  pub stops : reveals → (shape : Shape) (records : List Record) → HasLedger shape records (old.files 0)
       → (objects : List NewObject) × MayHavePut name left rest answer objects × OpensOr old new (Grows shape records objects)
   -- but after a fault of the disk what was stored is in every image and as the disk reads, with its blocks held, and nothing
   -- else is; and survivors that were honest, in plain damage, are so
-  pub stays : answer ≢ Err failure.Disk → tells → (shape : Shape) (records : List Record) → HasLedger shape records (old.files 0)
+  pub stays : answer ≢ Err failure.Disk → reveals → (shape : Shape) (records : List Record) → HasLedger shape records (old.files 0)
       → (objects : List NewObject) × MayHavePut name left rest answer objects
-      × (IsWanting old new answer ⊎ OpensThen old new (StaysGrown shape records objects))
+      × (IsOutOfMemory old new answer ⊎ OpensThen old new (StaysGrown shape records objects))
   -- a refusal before the input is read leaves the disk and the input as they were
-  pub untouched : (why : Refusal) → IsEarly why → answer ≡ Err (failure.Refused why) → IsUntouched tells old new × (rest ≡ left)
+  pub untouched : (why : Refusal) → IsEarly why → answer ≡ Err (failure.Refused why) → IsUntouched reveals old new × (rest ≡ left)
   -- any other, a fault of the input and lack of memory leave the ledger as it was, and so does any answer where there is
   -- no ledger
-  pub leaves : (f : Failure) → f ≢ failure.Disk → f ≢ failure.Output → answer ≡ Err f → tells
+  pub leaves : (f : Failure) → f ≢ failure.Disk → f ≢ failure.Output → answer ≡ Err f → reveals
       → HasOpening old new (λ c. c 0 ≡ old.files 0) × (new.files 0 ≡ old.files 0)
-  pub none : tells → (IsSomeLedger (old.files 0) → ⊥) → KeepsImages old new × (new.files ≡ old.files)
+  pub none : reveals → (IsSomeLedger (old.files 0) → ⊥) → KeepsImages old new × (new.files ≡ old.files)
   -- and but after lack of memory, which may come before the first call, the first sync has succeeded
-  pub sure : (f : Failure) → f ≢ failure.Disk → f ≢ failure.Output → f ≢ failure.Memory → answer ≡ Err f → tells
+  pub sure : (f : Failure) → f ≢ failure.Disk → f ≢ failure.Output → f ≢ failure.Memory → answer ≡ Err f → reveals
       → IsOpened old new (λ c. c 0 ≡ old.files 0)
   -- but after a fault of the disk the homes of the blocks that there were read as they did, with zeros past the ends of files
-  pub padded : answer ≢ Err failure.Disk → tells → (shape : Shape) (records : List Record) → HasLedger shape records (old.files 0)
+  pub padded : answer ≢ Err failure.Disk → reveals → (shape : Shape) (records : List Record) → HasLedger shape records (old.files 0)
       → KeepsPadded shape (IsBlockIn shape (nodes_of records)) old.files new.files
   -- no more of the input is taken than the nodes that are left hold, and one byte
-  pub takes : tells → (shape : Shape) (records : List Record) → HasLedger shape records (old.files 0)
+  pub takes : reveals → (shape : Shape) (records : List Record) → HasLedger shape records (old.files 0)
       → TakesAtMost left rest ((limit_of records - nodes_of records) * shape.block + 1)
   -- where the disk is ready and has the space nothing fails
-  pub in_room : tells → IsReady old → NeverFails (FitsPut name tells left old) (answer ≢ Err failure.Disk) old new
+  pub in_room : reveals → IsReady old → NeverFails (FitsPut name reveals left old) (answer ≢ Err failure.Disk) old new
   -- and where there is a cause for a refusal before the input is read, it needs no space but to sync
-  pub refused_in_room : tells → (why : Refusal) → IsEarly why → PutCauses name old.files [] why
+  pub refused_in_room : reveals → (why : Refusal) → IsEarly why → PutCauses name old.files [] why
       → IsReady old → NeverFails (IsRoomy old) (answer ≢ Err failure.Disk) old new
 
 -- The text is the line of the object with all that the input had, under the name, in an archive of some shape, which is
 -- that of the ledger where the disk's contents are known.
-pub record IsStoredLine (name : List ℕ) (tells : Type 0) (bytes : List ℕ) (left rest : Option (List ℕ)) (text : List ℕ) : Type 0 where
+pub record IsStoredLine (name : List ℕ) (reveals : Type 0) (bytes : List ℕ) (left rest : Option (List ℕ)) (text : List ℕ) : Type 0 where
   pub shape : Shape
   pub o : NewObject
   pub whole : IsWhole name left rest o
   pub line : text ≡ stored_line shape o
-  pub is_shape : tells → (other : Shape) (records : List Record) → HasLedger other records bytes → shape ≡ other
+  pub is_shape : reveals → (other : Shape) (records : List Record) → HasLedger other records bytes → shape ≡ other
 
 -- of calls that change the files of an archive alone
 abbrev pub KeepsOtherFiles : Type 0 → Type 0 → State → State → Type 0
-KeepsOtherFiles tells fault old new = KeepsAllBut (λ file. file ≤ greatest_sites) tells fault old new
+KeepsOtherFiles reveals fault old new = KeepsAllBut (λ file. file ≤ greatest_sites) reveals fault old new
 
 -- Of a run that stores what the input has under a name, with the disk, the rest of the input, and `out` before and after
 -- it, and its answer:
-pub record Puts (name : List ℕ) (tells : Type 0) (old new : State) (left rest : Option (List ℕ)) (before after : SinkState) (answer : Answer) : Type 0 where
+pub record Puts (name : List ℕ) (reveals : Type 0) (old new : State) (left rest : Option (List ℕ)) (before after : SinkState) (answer : Answer) : Type 0 where
   -- no block is lost
   pub done : IfOk answer (λ status. status ≡ Done)
   -- the effect on the archive
-  pub stores : Stores name tells old new left rest answer
+  pub stores : Stores name reveals old new left rest answer
   -- what is printed: the line of the object
   pub text : List ℕ
-  pub line : EndsStored answer → IsStoredLine name tells (old.files 0) left rest text
+  pub line : EndsStored answer → IsStoredLine name reveals (old.files 0) left rest text
   pub prints : PrintsText before after answer text

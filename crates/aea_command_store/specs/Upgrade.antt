@@ -38,10 +38,10 @@ UpgradeCauses bytes AlreadyUpgraded = IsRaised bytes
 UpgradeCauses bytes why = ⊥
 
 -- Of a run that raises the limit, with the disk and `out` before and after it, and its answer:
-pub record Upgrades (tells : Type 0) (old new : State) (before after : SinkState) (answer : Answer) : Type 0 where
+pub record Upgrades (reveals : Type 0) (old new : State) (before after : SinkState) (answer : Answer) : Type 0 where
   -- no block is lost
   pub done : IfOk answer (λ status. status ≡ Done)
   -- what is added to the ledger
-  pub adds : AddsRecord next_raise tells old new answer
+  pub adds : AddsRecord next_raise reveals old new answer
   -- what is printed
   pub prints : PrintsText before after answer upgraded_line

@@ -119,8 +119,8 @@ fn are_begun_silently(alloc: Global, faults: Faults) -> Result<bool, Fail> {
     let mut disk = bare(alloc)?;
     let ended = run_failing(alloc, "copies", &mut disk, b"", faults)?;
     let is_fault = ended.status == Status::Output;
-    let is_told = ended.err.bytes() == b"fault: output\n".as_slice();
-    Ok(is_fault && is_told && are_begun(alloc, &mut disk)?)
+    let is_revealed = ended.err.bytes() == b"fault: output\n".as_slice();
+    Ok(is_fault && is_revealed && are_begun(alloc, &mut disk)?)
 }
 
 #[test]

@@ -38,8 +38,8 @@ fn fate_of(alloc: Global, commit: &Commit, call: u64, removed: Option<u8>) -> Re
     if let Some(file) = removed {
         inflict(&mut disk, Harm::Cut(file, 0))?;
     }
-    let is_told = left.is(Status::Disk, "", "fault: disk\n");
-    Ok(if is_told && stands(alloc, &mut disk, commit, false)? {
+    let is_revealed = left.is(Status::Disk, "", "fault: disk\n");
+    Ok(if is_revealed && stands(alloc, &mut disk, commit, false)? {
         Fate::Borne
     } else {
         Fate::Wrong

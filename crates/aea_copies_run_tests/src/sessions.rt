@@ -66,7 +66,7 @@ fn has_uploads<D: Disk>(alloc: Global, disk: &mut D, least: usize) -> Result<boo
 }
 
 // Whether a session whose disk failed says so, and gave a first part of the replies.
-fn is_told(left: &Left, replies: &[u8]) -> bool {
+fn is_revealed(left: &Left, replies: &[u8]) -> bool {
     left.status == Status::Disk
         && left.err.bytes() == b"fault: disk\n".as_slice()
         && replies.starts_with(left.out.bytes())
@@ -105,7 +105,7 @@ fn first_wrong_call(alloc: Global, replies: &[u8]) -> Result<Option<u64>, Fail> 
             return Ok(if call < FEW { Some(call) } else { None });
         }
         let closed = left.out.bytes().len() / REPLIES;
-        if !is_told(&left, replies) || !has_uploads(alloc, &mut disk, closed)? {
+        if !is_revealed(&left, replies) || !has_uploads(alloc, &mut disk, closed)? {
             return Ok(Some(call));
         }
     }

@@ -170,13 +170,13 @@ fn differ_at(alloc: Global, place: usize) -> Result<bool, AllocError> {
         first: one.as_slice(),
         second: other.as_slice(),
     };
-    let turned = Three {
+    let flipped = Three {
         first: other.as_slice(),
         second: one.as_slice(),
         ..files
     };
     let want = Answer::Differ { at: place as u64 };
-    Ok(leaves(alloc, &files, want, &files)? && leaves(alloc, &turned, want, &turned)?)
+    Ok(leaves(alloc, &files, want, &files)? && leaves(alloc, &flipped, want, &flipped)?)
 }
 
 // Every byte of a text may be another one but the gates and the lengths of its records.

@@ -46,9 +46,9 @@ fn first_of(was: u64, file: u8, call: u64) -> u64 {
 impl<D: Disk> Disk for Watched<D> {
     ghost state = { λ d. D.state d.inner };
 
-    ghost tells = { D.tells };
+    ghost reveals = { D.reveals };
 
-    ghost as_it_reads = { λ d t c told here. D.as_it_reads d.inner t c told here };
+    ghost as_it_reads = { λ d t c revealed here. D.as_it_reads d.inner t c revealed here };
 
     ghost later_taken = { λ d f b m n le has. D.later_taken d.inner f b m n le has };
 

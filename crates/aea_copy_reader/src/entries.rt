@@ -34,14 +34,14 @@ fn entry_at<D: Disk>(
     requires place { stands.now.place ≤ greatest_place }
     requires small { stands.now.text ≤ stands.now.place }
     requires some { (1 ≤ len) × (len < 2 ^ 32) }
-    requires head { D.tells → IsHead stands.now.first (take 11 (drop stands.now.place ((D.state disk.old).files pair.file))) len }
-    requires bytes { D.tells → AreBytes (take 11 (drop stands.now.place ((D.state disk.old).files pair.file))) }
-    requires seen { D.tells → AreSeen (D.state disk.old).files pair.file pair.other own.old twin.old ledger.old }
-    ensures turn { IfOk result (λ turn. D.tells → (pieces : List (List ℕ)) → HasRead ((D.state disk.old).files 0) ((D.state disk.old).files pair.file) pieces stands.now → IsTurn ((D.state disk.old).files 0) ((D.state disk.old).files pair.file) pieces stands.now turn) }
+    requires head { D.reveals → IsHead stands.now.first (take 11 (drop stands.now.place ((D.state disk.old).files pair.file))) len }
+    requires bytes { D.reveals → AreBytes (take 11 (drop stands.now.place ((D.state disk.old).files pair.file))) }
+    requires seen { D.reveals → AreSeen (D.state disk.old).files pair.file pair.other own.old twin.old ledger.old }
+    ensures turn { IfOk result (λ turn. D.reveals → (pieces : List (List ℕ)) → HasRead ((D.state disk.old).files 0) ((D.state disk.old).files pair.file) pieces stands.now → IsTurn ((D.state disk.old).files 0) ((D.state disk.old).files pair.file) pieces stands.now turn) }
     ensures on { IfOk result (λ turn. IsOn stands.now turn) }
-    ensures same { IfOk result (λ turn. D.tells → IsSame ((D.state disk.old).files pair.file) ((D.state disk.old).files pair.other) (stands.now.place + 5) had turn) }
-    ensures seen { OnOk result (D.tells → AreSeen (D.state disk.old).files pair.file pair.other own.new twin.new ledger.new) }
-    ensures reads { OnlyReads D.tells (IsErr result) (D.state disk.old) (D.state disk.new) }
+    ensures same { IfOk result (λ turn. D.reveals → IsSame ((D.state disk.old).files pair.file) ((D.state disk.old).files pair.other) (stands.now.place + 5) had turn) }
+    ensures seen { OnOk result (D.reveals → AreSeen (D.state disk.old).files pair.file pair.other own.new twin.new ledger.new) }
+    ensures reads { OnlyReads D.reveals (IsErr result) (D.state disk.old) (D.state disk.new) }
 {
     let end = stands.place + 37 + len;
     let far = end > 288_230_376_151_711_744;
@@ -91,12 +91,12 @@ pub fn turn_at<D: Disk>(
     requires file { (pair.file ≤ 66) × (pair.other ≤ 66) }
     requires place { stands.now.place ≤ greatest_place }
     requires small { stands.now.text ≤ stands.now.place }
-    requires seen { D.tells → AreSeen (D.state disk.old).files pair.file pair.other own.old twin.old ledger.old }
-    ensures turn { IfOk result (λ turn. D.tells → (pieces : List (List ℕ)) → HasRead ((D.state disk.old).files 0) ((D.state disk.old).files pair.file) pieces stands.now → IsTurn ((D.state disk.old).files 0) ((D.state disk.old).files pair.file) pieces stands.now turn) }
+    requires seen { D.reveals → AreSeen (D.state disk.old).files pair.file pair.other own.old twin.old ledger.old }
+    ensures turn { IfOk result (λ turn. D.reveals → (pieces : List (List ℕ)) → HasRead ((D.state disk.old).files 0) ((D.state disk.old).files pair.file) pieces stands.now → IsTurn ((D.state disk.old).files 0) ((D.state disk.old).files pair.file) pieces stands.now turn) }
     ensures on { IfOk result (λ turn. IsOn stands.now turn) }
-    ensures same { IfOk result (λ turn. D.tells → IsSame ((D.state disk.old).files pair.file) ((D.state disk.old).files pair.other) stands.now.place had turn) }
-    ensures seen { OnOk result (D.tells → AreSeen (D.state disk.old).files pair.file pair.other own.new twin.new ledger.new) }
-    ensures reads { OnlyReads D.tells (IsErr result) (D.state disk.old) (D.state disk.new) }
+    ensures same { IfOk result (λ turn. D.reveals → IsSame ((D.state disk.old).files pair.file) ((D.state disk.old).files pair.other) stands.now.place had turn) }
+    ensures seen { OnOk result (D.reveals → AreSeen (D.state disk.old).files pair.file pair.other own.new twin.new ledger.new) }
+    ensures reads { OnlyReads D.reveals (IsErr result) (D.state disk.old) (D.state disk.new) }
 {
     own.reach(disk, pair.file, stands.place, 11)?;
     let head = own.look(stands.place, 11);
@@ -129,12 +129,12 @@ pub fn turn_at<D: Disk>(
 /// Reads the beginning of a copy: what is bad of it, if anything is.
 pub fn begin<D: Disk>(disk: &mut D, file: u8, window: &mut Window) -> Result<Option<u64>, DiskFault>
     requires file { file ≤ 66 }
-    requires seen { D.tells → IsSeen ((D.state disk.old).files file) window.old }
-    ensures bad { IfOk result (λ fault. IfSome fault (λ at. D.tells → IsBadCopyAt ((D.state disk.old).files file) at)) }
+    requires seen { D.reveals → IsSeen ((D.state disk.old).files file) window.old }
+    ensures bad { IfOk result (λ fault. IfSome fault (λ at. D.reveals → IsBadCopyAt ((D.state disk.old).files file) at)) }
     ensures near { IfOk result (λ fault. IfSome fault (λ at. at ≤ 1)) }
-    ensures good { IfOk result (λ fault. IfNone fault (D.tells → IsBegun ((D.state disk.old).files file) × HasMark ((D.state disk.old).files file))) }
-    ensures seen { OnOk result (D.tells → IsSeen ((D.state disk.old).files file) window.new) }
-    ensures reads { OnlyReads D.tells (IsErr result) (D.state disk.old) (D.state disk.new) }
+    ensures good { IfOk result (λ fault. IfNone fault (D.reveals → IsBegun ((D.state disk.old).files file) × HasMark ((D.state disk.old).files file))) }
+    ensures seen { OnOk result (D.reveals → IsSeen ((D.state disk.old).files file) window.new) }
+    ensures reads { OnlyReads D.reveals (IsErr result) (D.state disk.old) (D.state disk.new) }
 {
     window.reach(disk, file, 0, 10)?;
     Ok(front_fault(window.look(0, 10)))

@@ -25,13 +25,13 @@ fn hash_next<D: Disk>(
     requires file { (range.file ≤ 66) × (range.other ≤ 66) }
     requires near { (range.at + range.count ≤ 2 ^ 61) × (range.from + range.count ≤ 2 ^ 61) }
     requires some { 1 ≤ range.count }
-    requires seen { D.tells → AreSeen (D.state disk.old).files range.file range.other own.old twin.old ledger.old }
+    requires seen { D.reveals → AreSeen (D.state disk.old).files range.file range.other own.old twin.old ledger.old }
     ensures bound { IfOk result (λ n. n ≤ range.count) }
-    ensures taken { IfOk result (λ n. D.tells → HasTaken ((D.state disk.old).files range.file) range.at n hasher.old hasher.new) }
-    ensures short { IfOk result (λ n. n ≡ 0 → D.tells → length ((D.state disk.old).files range.file) ≤ range.at) }
-    ensures along { IfOk result (λ n. D.tells → GoAlong ((D.state disk.old).files range.file) ((D.state disk.old).files range.other) ((D.state disk.old).files 0) range.at range.from n along.old along.new) }
-    ensures seen { OnOk result (D.tells → AreSeen (D.state disk.old).files range.file range.other own.new twin.new ledger.new) }
-    ensures reads { OnlyReads D.tells (IsErr result) (D.state disk.old) (D.state disk.new) }
+    ensures taken { IfOk result (λ n. D.reveals → HasTaken ((D.state disk.old).files range.file) range.at n hasher.old hasher.new) }
+    ensures short { IfOk result (λ n. n ≡ 0 → D.reveals → length ((D.state disk.old).files range.file) ≤ range.at) }
+    ensures along { IfOk result (λ n. D.reveals → GoAlong ((D.state disk.old).files range.file) ((D.state disk.old).files range.other) ((D.state disk.old).files 0) range.at range.from n along.old along.new) }
+    ensures seen { OnOk result (D.reveals → AreSeen (D.state disk.old).files range.file range.other own.new twin.new ledger.new) }
+    ensures reads { OnlyReads D.reveals (IsErr result) (D.state disk.old) (D.state disk.new) }
 {
     own.reach(disk, range.file, range.at, 1)?;
     let part = own.look(range.at, range.count.min(4144) as usize);
@@ -55,12 +55,12 @@ fn hash_range<D: Disk>(
 ) -> Result<bool, DiskFault>
     requires file { (range.file ≤ 66) × (range.other ≤ 66) }
     requires near { (range.at + range.count ≤ 2 ^ 61) × (range.from + range.count ≤ 2 ^ 61) }
-    requires seen { D.tells → AreSeen (D.state disk.old).files range.file range.other own.old twin.old ledger.old }
-    ensures whole { IfOk result (λ whole. IsTrue whole → D.tells → HasTaken ((D.state disk.old).files range.file) range.at range.count hasher.old hasher.new) }
-    ensures short { IfOk result (λ whole. whole ≡ false → D.tells → length ((D.state disk.old).files range.file) < range.at + range.count) }
-    ensures along { IfOk result (λ whole. IsTrue whole → D.tells → GoAlong ((D.state disk.old).files range.file) ((D.state disk.old).files range.other) ((D.state disk.old).files 0) range.at range.from range.count along.old along.new) }
-    ensures seen { OnOk result (D.tells → AreSeen (D.state disk.old).files range.file range.other own.new twin.new ledger.new) }
-    ensures reads { OnlyReads D.tells (IsErr result) (D.state disk.old) (D.state disk.new) }
+    requires seen { D.reveals → AreSeen (D.state disk.old).files range.file range.other own.old twin.old ledger.old }
+    ensures whole { IfOk result (λ whole. IsTrue whole → D.reveals → HasTaken ((D.state disk.old).files range.file) range.at range.count hasher.old hasher.new) }
+    ensures short { IfOk result (λ whole. whole ≡ false → D.reveals → length ((D.state disk.old).files range.file) < range.at + range.count) }
+    ensures along { IfOk result (λ whole. IsTrue whole → D.reveals → GoAlong ((D.state disk.old).files range.file) ((D.state disk.old).files range.other) ((D.state disk.old).files 0) range.at range.from range.count along.old along.new) }
+    ensures seen { OnOk result (D.reveals → AreSeen (D.state disk.old).files range.file range.other own.new twin.new ledger.new) }
+    ensures reads { OnlyReads D.reveals (IsErr result) (D.state disk.old) (D.state disk.new) }
 {
     let mut done = 0;
     'parts: loop {
@@ -95,12 +95,12 @@ pub fn link_at<D: Disk>(
     requires file { (range.file ≤ 66) × (range.other ≤ 66) }
     requires near { (range.at + range.count ≤ 2 ^ 61) × (range.from + range.count ≤ 2 ^ 61) }
     requires some { (1 ≤ range.count) × (range.count < 2 ^ 32) }
-    requires seen { D.tells → AreSeen (D.state disk.old).files range.file range.other own.old twin.old ledger.old }
-    ensures link { IfOk result (λ found. IfSome found (λ next. D.tells → HasPieceAt ((D.state disk.old).files range.file) range.at range.count link.now next)) }
-    ensures along { IfOk result (λ found. IfSome found (λ next. D.tells → GoAlong ((D.state disk.old).files range.file) ((D.state disk.old).files range.other) ((D.state disk.old).files 0) range.at range.from range.count along.old along.new)) }
-    ensures none { IfOk result (λ found. IfNone found (D.tells → length ((D.state disk.old).files range.file) < range.at + range.count)) }
-    ensures seen { OnOk result (D.tells → AreSeen (D.state disk.old).files range.file range.other own.new twin.new ledger.new) }
-    ensures reads { OnlyReads D.tells (IsErr result) (D.state disk.old) (D.state disk.new) }
+    requires seen { D.reveals → AreSeen (D.state disk.old).files range.file range.other own.old twin.old ledger.old }
+    ensures link { IfOk result (λ found. IfSome found (λ next. D.reveals → HasPieceAt ((D.state disk.old).files range.file) range.at range.count link.now next)) }
+    ensures along { IfOk result (λ found. IfSome found (λ next. D.reveals → GoAlong ((D.state disk.old).files range.file) ((D.state disk.old).files range.other) ((D.state disk.old).files 0) range.at range.from range.count along.old along.new)) }
+    ensures none { IfOk result (λ found. IfNone found (D.reveals → length ((D.state disk.old).files range.file) < range.at + range.count)) }
+    ensures seen { OnOk result (D.reveals → AreSeen (D.state disk.old).files range.file range.other own.new twin.new ledger.new) }
+    ensures reads { OnlyReads D.reveals (IsErr result) (D.state disk.old) (D.state disk.new) }
 {
     let mut hasher = Sha256::new();
     hasher.update(link);

@@ -43,9 +43,9 @@ fn difference_after<D: Disk>(
 ) -> Result<Option<u64>, DiskFault>
     requires place { stands.now.place ≤ greatest_place }
     requires small { stands.now.text ≤ stands.now.place }
-    requires seen { D.tells → AreSeen (D.state disk.old).files 65 66 first.old second.old ledger.old }
-    ensures differ { IfOk result (λ differ. D.tells → (pieces : List (List ℕ)) → Apart ((D.state disk.old).files 0) ((D.state disk.old).files 65) ((D.state disk.old).files 66) pieces stands.now → IsComparison ((D.state disk.old).files 65) ((D.state disk.old).files 66) differ) }
-    ensures reads { OnlyReads D.tells (IsErr result) (D.state disk.old) (D.state disk.new) }
+    requires seen { D.reveals → AreSeen (D.state disk.old).files 65 66 first.old second.old ledger.old }
+    ensures differ { IfOk result (λ differ. D.reveals → (pieces : List (List ℕ)) → Apart ((D.state disk.old).files 0) ((D.state disk.old).files 65) ((D.state disk.old).files 66) pieces stands.now → IsComparison ((D.state disk.old).files 65) ((D.state disk.old).files 66) differ) }
+    ensures reads { OnlyReads D.reveals (IsErr result) (D.state disk.old) (D.state disk.new) }
 {
     let one = Pair {
         file: 65,
@@ -80,10 +80,10 @@ fn compare<D: Disk>(
     ledger: &mut Window,
 ) -> Result<Option<u64>, DiskFault>
     requires small { (walked.now.common.place ≤ greatest_place) × (walked.now.common.text ≤ walked.now.common.place) }
-    requires common { D.tells → HaveCommon ((D.state disk.old).files 0) ((D.state disk.old).files 65) ((D.state disk.old).files 66) walked.now }
-    requires seen { D.tells → AreSeen (D.state disk.old).files 65 66 first.old second.old ledger.old }
-    ensures differ { IfOk result (λ differ. D.tells → IsComparedAs (D.state disk.old).files walked.now.judged judged.now differ) }
-    ensures reads { OnlyReads D.tells (IsErr result) (D.state disk.old) (D.state disk.new) }
+    requires common { D.reveals → HaveCommon ((D.state disk.old).files 0) ((D.state disk.old).files 65) ((D.state disk.old).files 66) walked.now }
+    requires seen { D.reveals → AreSeen (D.state disk.old).files 65 66 first.old second.old ledger.old }
+    ensures differ { IfOk result (λ differ. D.reveals → IsComparedAs (D.state disk.old).files walked.now.judged judged.now differ) }
+    ensures reads { OnlyReads D.reveals (IsErr result) (D.state disk.old) (D.state disk.new) }
 {
     match (&walked.judged, judged) {
         (Judged::Good(_), Judged::Good(_)) => {
@@ -103,13 +103,13 @@ fn judge_both<D: Disk>(
     second: &mut Window,
     ledger: &mut Window,
 ) -> Result<Judgement, DiskFault>
-    requires begun { D.tells → (IsBegun ((D.state disk.old).files 65) × HasMark ((D.state disk.old).files 65)) × (IsBegun ((D.state disk.old).files 66) × HasMark ((D.state disk.old).files 66)) }
-    requires seen { D.tells → AreSeen (D.state disk.old).files 65 66 first.old second.old ledger.old }
-    ensures first { IfOk result (λ j. D.tells → IsJudged (D.state disk.old).files 65 j.first) }
-    ensures second { IfOk result (λ j. D.tells → IsJudged (D.state disk.old).files 66 j.second) }
-    ensures differ { IfOk result (λ j. D.tells → IsCompared (D.state disk.old).files j) }
+    requires begun { D.reveals → (IsBegun ((D.state disk.old).files 65) × HasMark ((D.state disk.old).files 65)) × (IsBegun ((D.state disk.old).files 66) × HasMark ((D.state disk.old).files 66)) }
+    requires seen { D.reveals → AreSeen (D.state disk.old).files 65 66 first.old second.old ledger.old }
+    ensures first { IfOk result (λ j. D.reveals → IsJudged (D.state disk.old).files 65 j.first) }
+    ensures second { IfOk result (λ j. D.reveals → IsJudged (D.state disk.old).files 66 j.second) }
+    ensures differ { IfOk result (λ j. D.reveals → IsCompared (D.state disk.old).files j) }
     ensures near { IfOk result (λ j. IsNear j.first × IsNear j.second) }
-    ensures reads { OnlyReads D.tells (IsErr result) (D.state disk.old) (D.state disk.new) }
+    ensures reads { OnlyReads D.reveals (IsErr result) (D.state disk.old) (D.state disk.new) }
 {
     let one = Pair {
         file: 65,
@@ -139,11 +139,11 @@ fn judge_one<D: Disk>(
     ledger: &mut Window,
 ) -> Result<Judged, DiskFault>
     requires file { (file ≤ 66) × (other ≤ 66) }
-    requires begun { D.tells → IsBegun ((D.state disk.old).files file) × HasMark ((D.state disk.old).files file) }
-    requires seen { D.tells → AreSeen (D.state disk.old).files file other own.old twin.old ledger.old }
-    ensures judged { IfOk result (λ judged. D.tells → IsJudged (D.state disk.old).files file judged) }
+    requires begun { D.reveals → IsBegun ((D.state disk.old).files file) × HasMark ((D.state disk.old).files file) }
+    requires seen { D.reveals → AreSeen (D.state disk.old).files file other own.old twin.old ledger.old }
+    ensures judged { IfOk result (λ judged. D.reveals → IsJudged (D.state disk.old).files file judged) }
     ensures near { IfOk result (λ judged. IsNear judged) }
-    ensures reads { OnlyReads D.tells (IsErr result) (D.state disk.old) (D.state disk.new) }
+    ensures reads { OnlyReads D.reveals (IsErr result) (D.state disk.old) (D.state disk.new) }
 {
     let pair = Pair { file, other };
     let walked = walk(disk, pair, &beginning(), own, twin, ledger, false)?;
@@ -159,15 +159,15 @@ fn judge_begun<D: Disk>(
     second: &mut Window,
     ledger: &mut Window,
 ) -> Result<Judgement, DiskFault>
-    requires bad { IfSome one (λ at. D.tells → IsBadCopyAt ((D.state disk.old).files 65) at) × IfSome two (λ at. D.tells → IsBadCopyAt ((D.state disk.old).files 66) at) }
+    requires bad { IfSome one (λ at. D.reveals → IsBadCopyAt ((D.state disk.old).files 65) at) × IfSome two (λ at. D.reveals → IsBadCopyAt ((D.state disk.old).files 66) at) }
     requires near { IfSome one (λ at. at ≤ 1) × IfSome two (λ at. at ≤ 1) }
-    requires good { IfNone one (D.tells → IsBegun ((D.state disk.old).files 65) × HasMark ((D.state disk.old).files 65)) × IfNone two (D.tells → IsBegun ((D.state disk.old).files 66) × HasMark ((D.state disk.old).files 66)) }
-    requires seen { D.tells → AreSeen (D.state disk.old).files 65 66 first.old second.old ledger.old }
-    ensures first { IfOk result (λ j. D.tells → IsJudged (D.state disk.old).files 65 j.first) }
-    ensures second { IfOk result (λ j. D.tells → IsJudged (D.state disk.old).files 66 j.second) }
-    ensures differ { IfOk result (λ j. D.tells → IsCompared (D.state disk.old).files j) }
+    requires good { IfNone one (D.reveals → IsBegun ((D.state disk.old).files 65) × HasMark ((D.state disk.old).files 65)) × IfNone two (D.reveals → IsBegun ((D.state disk.old).files 66) × HasMark ((D.state disk.old).files 66)) }
+    requires seen { D.reveals → AreSeen (D.state disk.old).files 65 66 first.old second.old ledger.old }
+    ensures first { IfOk result (λ j. D.reveals → IsJudged (D.state disk.old).files 65 j.first) }
+    ensures second { IfOk result (λ j. D.reveals → IsJudged (D.state disk.old).files 66 j.second) }
+    ensures differ { IfOk result (λ j. D.reveals → IsCompared (D.state disk.old).files j) }
     ensures near { IfOk result (λ j. IsNear j.first × IsNear j.second) }
-    ensures reads { OnlyReads D.tells (IsErr result) (D.state disk.old) (D.state disk.new) }
+    ensures reads { OnlyReads D.reveals (IsErr result) (D.state disk.old) (D.state disk.new) }
 {
     match (one, two) {
         (None, None) => judge_both(disk, first, second, ledger),
@@ -197,11 +197,11 @@ fn judge_begun<D: Disk>(
 
 /// Reads files 65 and 66, and the ledger beside them, and judges the copies. It takes no memory.
 pub fn judge_copies<D: Disk>(disk: &mut D) -> Result<Judgement, DiskFault>
-    ensures first { IfOk result (λ j. D.tells → IsJudged (D.state disk.old).files 65 j.first) }
-    ensures second { IfOk result (λ j. D.tells → IsJudged (D.state disk.old).files 66 j.second) }
-    ensures differ { IfOk result (λ j. D.tells → IsCompared (D.state disk.old).files j) }
+    ensures first { IfOk result (λ j. D.reveals → IsJudged (D.state disk.old).files 65 j.first) }
+    ensures second { IfOk result (λ j. D.reveals → IsJudged (D.state disk.old).files 66 j.second) }
+    ensures differ { IfOk result (λ j. D.reveals → IsCompared (D.state disk.old).files j) }
     ensures near { IfOk result (λ j. IsNear j.first × IsNear j.second) }
-    ensures reads { OnlyReads D.tells (IsErr result) (D.state disk.old) (D.state disk.new) }
+    ensures reads { OnlyReads D.reveals (IsErr result) (D.state disk.old) (D.state disk.new) }
 {
     let mut first = Window::new();
     let mut second = Window::new();

@@ -18,12 +18,12 @@ fn next_kept<D: Disk>(
     requires file { file ≤ 66 }
     requires range { at ≤ 2 ^ 61 }
     requires some { 1 ≤ length part.now }
-    requires seen { D.tells → IsSeen ((D.state disk.old).files file) window.old }
+    requires seen { D.reveals → IsSeen ((D.state disk.old).files file) window.old }
     ensures bound { IfOk result (λ n. n ≤ length part.now) }
-    ensures kept { IfOk result (λ n. D.tells → take n (drop at ((D.state disk.old).files file)) ≡ take n part.now) }
-    ensures none { IfOk result (λ n. n ≡ 0 → D.tells → take (length part.now) (drop at ((D.state disk.old).files file)) ≡ part.now → ⊥) }
-    ensures seen { OnOk result (D.tells → IsSeen ((D.state disk.old).files file) window.new) }
-    ensures reads { OnlyReads D.tells (IsErr result) (D.state disk.old) (D.state disk.new) }
+    ensures kept { IfOk result (λ n. D.reveals → take n (drop at ((D.state disk.old).files file)) ≡ take n part.now) }
+    ensures none { IfOk result (λ n. n ≡ 0 → D.reveals → take (length part.now) (drop at ((D.state disk.old).files file)) ≡ part.now → ⊥) }
+    ensures seen { OnOk result (D.reveals → IsSeen ((D.state disk.old).files file) window.new) }
+    ensures reads { OnlyReads D.reveals (IsErr result) (D.state disk.old) (D.state disk.new) }
 {
     window.reach(disk, file, at, 1)?;
     let there = window.look(at, part.len());
@@ -46,10 +46,10 @@ pub fn keeps<D: Disk>(
 ) -> Result<bool, DiskFault>
     requires file { file ≤ 66 }
     requires range { at + length part.now ≤ 2 ^ 61 }
-    requires seen { D.tells → IsSeen ((D.state disk.old).files file) window.old }
-    ensures is { IfOk result (λ is. D.tells → is ≡ true ↔ ((had ≡ true) × (take (length part.now) (drop at ((D.state disk.old).files file)) ≡ part.now))) }
-    ensures seen { OnOk result (D.tells → IsSeen ((D.state disk.old).files file) window.new) }
-    ensures reads { OnlyReads D.tells (IsErr result) (D.state disk.old) (D.state disk.new) }
+    requires seen { D.reveals → IsSeen ((D.state disk.old).files file) window.old }
+    ensures is { IfOk result (λ is. D.reveals → is ≡ true ↔ ((had ≡ true) × (take (length part.now) (drop at ((D.state disk.old).files file)) ≡ part.now))) }
+    ensures seen { OnOk result (D.reveals → IsSeen ((D.state disk.old).files file) window.new) }
+    ensures reads { OnlyReads D.reveals (IsErr result) (D.state disk.old) (D.state disk.new) }
 {
     if !had {
         return Ok(false);
@@ -77,10 +77,10 @@ pub fn is_linked<D: Disk>(
 ) -> Result<bool, DiskFault>
     requires file { file ≤ 66 }
     requires range { at ≤ 2 ^ 60 }
-    requires seen { D.tells → IsSeen ((D.state disk.old).files file) window.old }
-    ensures linked { IfOk result (λ is. D.tells → IsTrue is ↔ (take 32 (drop at ((D.state disk.old).files file)) ≡ link.now)) }
-    ensures seen { OnOk result (D.tells → IsSeen ((D.state disk.old).files file) window.new) }
-    ensures reads { OnlyReads D.tells (IsErr result) (D.state disk.old) (D.state disk.new) }
+    requires seen { D.reveals → IsSeen ((D.state disk.old).files file) window.old }
+    ensures linked { IfOk result (λ is. D.reveals → IsTrue is ↔ (take 32 (drop at ((D.state disk.old).files file)) ≡ link.now)) }
+    ensures seen { OnOk result (D.reveals → IsSeen ((D.state disk.old).files file) window.new) }
+    ensures reads { OnlyReads D.reveals (IsErr result) (D.state disk.old) (D.state disk.new) }
 {
     keeps(disk, file, window, at, link, true)
 }

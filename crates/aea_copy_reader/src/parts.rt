@@ -43,11 +43,11 @@ fn next_parting<D: Disk>(
     requires file { (file ≤ 66) × (other ≤ 66) }
     requires range { (at + length first.old ≤ 2 ^ 62) × (from + length first.old ≤ 2 ^ 62) }
     requires buffers { length second.old ≡ length first.old }
-    ensures parts { IfOk result (λ d. IfSome d (λ k. D.tells → PartsAt k (take (length first.old) (drop at ((D.state disk.old).files file))) (take (length first.old) (drop from ((D.state disk.old).files other))))) }
+    ensures parts { IfOk result (λ d. IfSome d (λ k. D.reveals → PartsAt k (take (length first.old) (drop at ((D.state disk.old).files file))) (take (length first.old) (drop from ((D.state disk.old).files other))))) }
     ensures within { IfOk result (λ d. IfSome d (λ k. k ≤ length first.old)) }
-    ensures same { IfOk result (λ d. IfNone d (D.tells → take (length first.old) (drop at ((D.state disk.old).files file)) ≡ take (length first.old) (drop from ((D.state disk.old).files other)))) }
+    ensures same { IfOk result (λ d. IfNone d (D.reveals → take (length first.old) (drop at ((D.state disk.old).files file)) ≡ take (length first.old) (drop from ((D.state disk.old).files other)))) }
     ensures buffers { (length first.new ≡ length first.old) × (length second.new ≡ length first.old) }
-    ensures reads { OnlyReads D.tells (IsErr result) (D.state disk.old) (D.state disk.new) }
+    ensures reads { OnlyReads D.reveals (IsErr result) (D.state disk.old) (D.state disk.new) }
 {
     let one = disk.read(file, at, first)?;
     let two = disk.read(other, from, second)?;
@@ -65,10 +65,10 @@ pub fn range_parting<D: Disk>(
 ) -> Result<Option<u64>, DiskFault>
     requires file { (file ≤ 66) × (other ≤ 66) }
     requires range { (at + count ≤ 2 ^ 62) × (from + count ≤ 2 ^ 62) }
-    ensures parts { IfOk result (λ d. IfSome d (λ k. D.tells → PartsAt k (take count (drop at ((D.state disk.old).files file))) (take count (drop from ((D.state disk.old).files other))))) }
+    ensures parts { IfOk result (λ d. IfSome d (λ k. D.reveals → PartsAt k (take count (drop at ((D.state disk.old).files file))) (take count (drop from ((D.state disk.old).files other))))) }
     ensures within { IfOk result (λ d. IfSome d (λ k. k ≤ count)) }
-    ensures same { IfOk result (λ d. IfNone d (D.tells → take count (drop at ((D.state disk.old).files file)) ≡ take count (drop from ((D.state disk.old).files other)))) }
-    ensures reads { OnlyReads D.tells (IsErr result) (D.state disk.old) (D.state disk.new) }
+    ensures same { IfOk result (λ d. IfNone d (D.reveals → take count (drop at ((D.state disk.old).files file)) ≡ take count (drop from ((D.state disk.old).files other)))) }
+    ensures reads { OnlyReads D.reveals (IsErr result) (D.state disk.old) (D.state disk.new) }
 {
     let mut first = [0; 2048];
     let mut second = [0; 2048];

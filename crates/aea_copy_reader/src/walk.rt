@@ -36,15 +36,15 @@ pub fn walk<D: Disk>(
     requires file { (pair.file ≤ 66) × (pair.other ≤ 66) }
     requires place { from.now.place ≤ greatest_place }
     requires small { from.now.text ≤ from.now.place }
-    requires read { D.tells → (pieces : List (List ℕ)) × HasRead ((D.state disk.old).files 0) ((D.state disk.old).files pair.file) pieces from.now }
-    requires seen { D.tells → AreSeen (D.state disk.old).files pair.file pair.other own.old twin.old ledger.old }
-    ensures judged { IfOk result (λ w. D.tells → IsJudged (D.state disk.old).files pair.file w.judged) }
+    requires read { D.reveals → (pieces : List (List ℕ)) × HasRead ((D.state disk.old).files 0) ((D.state disk.old).files pair.file) pieces from.now }
+    requires seen { D.reveals → AreSeen (D.state disk.old).files pair.file pair.other own.old twin.old ledger.old }
+    ensures judged { IfOk result (λ w. D.reveals → IsJudged (D.state disk.old).files pair.file w.judged) }
     ensures near { IfOk result (λ w. IsNear w.judged) }
-    ensures common { IfOk result (λ w. D.tells → had ≡ true → (pieces : List (List ℕ)) → HasRead ((D.state disk.old).files 0) ((D.state disk.old).files pair.file) pieces from.now → HasRead ((D.state disk.old).files 0) ((D.state disk.old).files pair.other) pieces from.now
+    ensures common { IfOk result (λ w. D.reveals → had ≡ true → (pieces : List (List ℕ)) → HasRead ((D.state disk.old).files 0) ((D.state disk.old).files pair.file) pieces from.now → HasRead ((D.state disk.old).files 0) ((D.state disk.old).files pair.other) pieces from.now
         → HaveCommon ((D.state disk.old).files 0) ((D.state disk.old).files pair.file) ((D.state disk.old).files pair.other) w) }
     ensures small { IfOk result (λ w. (w.common.place ≤ greatest_place) × (w.common.text ≤ w.common.place)) }
-    ensures seen { OnOk result (D.tells → AreSeen (D.state disk.old).files pair.file pair.other own.new twin.new ledger.new) }
-    ensures reads { OnlyReads D.tells (IsErr result) (D.state disk.old) (D.state disk.new) }
+    ensures seen { OnOk result (D.reveals → AreSeen (D.state disk.old).files pair.file pair.other own.new twin.new ledger.new) }
+    ensures reads { OnlyReads D.reveals (IsErr result) (D.state disk.old) (D.state disk.new) }
 {
     let mut stands = *from;
     let mut common = *from;

@@ -39,10 +39,10 @@ fn read_after<D: Disk>(
     requires kept { kept ≤ length buffer.old }
     requires range { at + length buffer.old ≤ 2 ^ 62 }
     ensures bound { IfOk result (λ k. kept + k ≤ length buffer.new) }
-    ensures bytes { IfOk result (λ k. D.tells → take (kept + k) buffer.new ≡ take kept buffer.old ++ take (length buffer.old - kept) (drop at ((D.state disk.old).files file))) }
-    ensures count { IfOk result (λ k. D.tells → k ≡ min (length buffer.old - kept) (length ((D.state disk.old).files file) - at)) }
+    ensures bytes { IfOk result (λ k. D.reveals → take (kept + k) buffer.new ≡ take kept buffer.old ++ take (length buffer.old - kept) (drop at ((D.state disk.old).files file))) }
+    ensures count { IfOk result (λ k. D.reveals → k ≡ min (length buffer.old - kept) (length ((D.state disk.old).files file) - at)) }
     ensures len { length buffer.new ≡ length buffer.old }
-    ensures reads { OnlyReads D.tells (IsErr result) (D.state disk.old) (D.state disk.new) }
+    ensures reads { OnlyReads D.reveals (IsErr result) (D.state disk.old) (D.state disk.new) }
 {
     let (_, after) = buffer.split_at_mut(kept);
     disk.read(file, at, after)
@@ -116,11 +116,11 @@ impl Window {
         requires file { file ≤ 66 }
         requires few { length self.old.bytes ≤ 48 }
         requires range { self.old.place ≤ 2 ^ 61 }
-        requires seen { D.tells → self.old.bytes ≡ take (length self.old.bytes) (drop self.old.place ((D.state disk.old).files file)) }
+        requires seen { D.reveals → self.old.bytes ≡ take (length self.old.bytes) (drop self.old.place ((D.state disk.old).files file)) }
         ensures place { OnOk result (self.new.place ≡ self.old.place) }
         ensures more { OnOk result ((48 ≤ length self.new.bytes) ⊎ (self.new.ended ≡ true)) }
-        ensures seen { OnOk result (D.tells → IsSeen ((D.state disk.old).files file) self.new) }
-        ensures reads { OnlyReads D.tells (IsErr result) (D.state disk.old) (D.state disk.new) }
+        ensures seen { OnOk result (D.reveals → IsSeen ((D.state disk.old).files file) self.new) }
+        ensures reads { OnlyReads D.reveals (IsErr result) (D.state disk.old) (D.state disk.new) }
     {
         let kept = self.size;
         let more = read_after(disk, file, self.start + kept as u64, &mut self.buffer, kept)?;
@@ -140,10 +140,10 @@ impl Window {
         requires file { file ≤ 66 }
         requires few { n ≤ 48 }
         requires range { at ≤ 2 ^ 61 }
-        requires seen { D.tells → IsSeen ((D.state disk.old).files file) self.old }
+        requires seen { D.reveals → IsSeen ((D.state disk.old).files file) self.old }
         ensures covers { OnOk result (Covers self.new at n) }
-        ensures seen { OnOk result (D.tells → IsSeen ((D.state disk.old).files file) self.new) }
-        ensures reads { OnlyReads D.tells (IsErr result) (D.state disk.old) (D.state disk.new) }
+        ensures seen { OnOk result (D.reveals → IsSeen ((D.state disk.old).files file) self.new) }
+        ensures reads { OnlyReads D.reveals (IsErr result) (D.state disk.old) (D.state disk.new) }
     {
         let has = self.has(at, n);
         if has {

@@ -41,6 +41,6 @@ pub record FitsCopy (s : State) (file until : ℕ) : Type 0 where
   pub change : FitsChange s file (length (whole_copy pieces))
 
 -- what is said of a copy of these pieces: where the gate that ends it is, and its last link
-pub record TellsCopy (pieces : List (List ℕ)) (w : Written) : Type 0 where
+pub record RevealsCopy (pieces : List (List ℕ)) (w : Written) : Type 0 where
   pub gate : w.gate ≡ length (copied pieces)
   pub link : w.link ≡ last_link first_link pieces

@@ -12,12 +12,12 @@ use aea_disk::{Disk, DiskFault};
 // Makes a file one closed gate. At each moment it is as it was, or not begun.
 pub(crate) fn clear<D: Disk>(disk: &mut D, file: u8) -> Result<(), DiskFault>
     requires file { file ≤ 66 }
-    requires fixed { D.tells → IsFixed (D.state disk.old) file }
-    ensures any_moment { D.tells → During (D.state disk.old) (D.state disk.new) (λ c. IsOldOrNone ((D.state disk.old).files file) (c file)) }
-    ensures reads { D.tells → IsOldOrNone ((D.state disk.old).files file) ((D.state disk.new).files file) }
-    ensures cleared { OnOk result (D.tells → (D.state disk.new).files file ≡ 0 ∷ []) }
-    ensures durable { OnOk result (D.tells → IsSynced (D.state disk.new)) }
-    ensures writes { OnlyWrites D.tells (D.state disk.old).free (FitsChange (D.state disk.old) file 1) (IsErr result) (ChangesOnly file) (D.state disk.old) (D.state disk.new) }
+    requires fixed { D.reveals → IsFixed (D.state disk.old) file }
+    ensures any_moment { D.reveals → During (D.state disk.old) (D.state disk.new) (λ c. IsOldOrNone ((D.state disk.old).files file) (c file)) }
+    ensures reads { D.reveals → IsOldOrNone ((D.state disk.old).files file) ((D.state disk.new).files file) }
+    ensures cleared { OnOk result (D.reveals → (D.state disk.new).files file ≡ 0 ∷ []) }
+    ensures durable { OnOk result (D.reveals → IsSynced (D.state disk.new)) }
+    ensures writes { OnlyWrites D.reveals (D.state disk.old).free (FitsChange (D.state disk.old) file 1) (IsErr result) (ChangesOnly file) (D.state disk.old) (D.state disk.new) }
 {
     empty(disk, file)?;
     write_through(disk, file, 0, &[0])

@@ -47,9 +47,9 @@ pub(crate) fn number_in(bytes: &[u8]) -> u32
 // record, which says how many. None where no piece is there that ends in time.
 fn next_piece<D: Disk>(disk: &mut D, at: u64, until: u64) -> Result<Option<u32>, DiskFault>
     requires places { (at < until) × (until ≤ 2 ^ 58) }
-    ensures found { IfOk result (λ found. D.tells → (piece : List ℕ) (others : List (List ℕ)) → HasPieces (at == 0) (piece ∷ others) at until ((D.state disk.old).files 0) → found ≡ Some (length piece)) }
+    ensures found { IfOk result (λ found. D.reveals → (piece : List ℕ) (others : List (List ℕ)) → HasPieces (at == 0) (piece ∷ others) at until ((D.state disk.old).files 0) → found ≡ Some (length piece)) }
     ensures within { IfOk result (λ found. IfSome found (λ len. (1 ≤ len) × (at + len ≤ until))) }
-    ensures reads { OnlyReads D.tells (IsErr result) (D.state disk.old) (D.state disk.new) }
+    ensures reads { OnlyReads D.reveals (IsErr result) (D.state disk.old) (D.state disk.new) }
 {
     let mut front = [0; 6];
     if !read_part(disk, 0, at, &mut front)? || front[0] != 1 {
@@ -79,11 +79,11 @@ fn write_next<D: Disk>(
     requires places { (at < until) × (until ≤ 2 ^ 58) }
     requires gate { last.now.gate ≤ 2 ^ 58 }
     requires buffer { length buffer.old ≡ 4133 }
-    ensures next { IfOk result (λ found. D.tells → (piece : List ℕ) (others : List (List ℕ)) → HasPieces (at == 0) (piece ∷ others) at until ((D.state disk.old).files 0) → MatchOption found (last.now.gate + (37 + length piece) ≤ greatest_place → ⊥) (λ next. HasNext file at until last.now piece next (D.state disk.old).files (D.state disk.new).files)) }
-    ensures there { IfOk result (λ found. IfSome found (λ next. D.tells → IsThere ((D.state disk.old).files 0) at (next.at - at))) }
+    ensures next { IfOk result (λ found. D.reveals → (piece : List ℕ) (others : List (List ℕ)) → HasPieces (at == 0) (piece ∷ others) at until ((D.state disk.old).files 0) → MatchOption found (last.now.gate + (37 + length piece) ≤ greatest_place → ⊥) (λ next. HasNext file at until last.now piece next (D.state disk.old).files (D.state disk.new).files)) }
+    ensures there { IfOk result (λ found. IfSome found (λ next. D.reveals → IsThere ((D.state disk.old).files 0) at (next.at - at))) }
     ensures buffer { IfOk result (λ found. IfSome found (λ next. length buffer.new ≡ 4133)) }
     ensures on { IfOk result (λ found. IfSome found (λ next. (at < next.at) × (next.at ≤ until) × (last.now.gate ≤ next.last.gate) × (next.last.gate ≤ 2 ^ 58))) }
-    ensures writes { OnlyWrites D.tells (D.state disk.old).free (FitsNext (D.state disk.old) file at until last.now.gate) (IsErr result) (ChangesFile file (KeepsFront (last.now.gate + 1))) (D.state disk.old) (D.state disk.new) }
+    ensures writes { OnlyWrites D.reveals (D.state disk.old).free (FitsNext (D.state disk.old) file at until last.now.gate) (IsErr result) (ChangesFile file (KeepsFront (last.now.gate + 1))) (D.state disk.old) (D.state disk.new) }
 {
     let Some(len) = next_piece(disk, at, until)? else {
         return Ok(None);
@@ -126,11 +126,11 @@ pub fn write_entries<D: Disk>(
     requires file { IsCopyFile file }
     requires places { (from ≤ until) × (until ≤ 2 ^ 58) }
     requires gate { gate ≤ 2 ^ 58 }
-    requires there { D.tells → gate < length ((D.state disk.old).files file) }
-    ensures written { IfOk result (λ found. D.tells → (pieces : List (List ℕ)) → HasPieces (from == 0) pieces from until ((D.state disk.old).files 0) → gate + length (chain link.now pieces) ≤ greatest_place → MatchOption found ⊥ (λ w. HasWritten file gate link.now pieces w (D.state disk.old).files (D.state disk.new).files)) }
-    ensures bytes { IfOk result (λ found. IfSome found (λ w. D.tells → AreBytes (part_of ((D.state disk.old).files 0) from (until - from)))) }
+    requires there { D.reveals → gate < length ((D.state disk.old).files file) }
+    ensures written { IfOk result (λ found. D.reveals → (pieces : List (List ℕ)) → HasPieces (from == 0) pieces from until ((D.state disk.old).files 0) → gate + length (chain link.now pieces) ≤ greatest_place → MatchOption found ⊥ (λ w. HasWritten file gate link.now pieces w (D.state disk.old).files (D.state disk.new).files)) }
+    ensures bytes { IfOk result (λ found. IfSome found (λ w. D.reveals → AreBytes (part_of ((D.state disk.old).files 0) from (until - from)))) }
     ensures near { IfOk result (λ found. IfSome found (λ w. (gate ≤ w.gate) × (w.gate ≤ 2 ^ 58))) }
-    ensures writes { OnlyWrites D.tells (D.state disk.old).free (FitsEntries (D.state disk.old) file gate link.now from until) (IsErr result) (ChangesFile file (KeepsFront (gate + 1))) (D.state disk.old) (D.state disk.new) }
+    ensures writes { OnlyWrites D.reveals (D.state disk.old).free (FitsEntries (D.state disk.old) file gate link.now from until) (IsErr result) (ChangesFile file (KeepsFront (gate + 1))) (D.state disk.old) (D.state disk.new) }
 {
     let mut buffer = [0; 4133];
     let mut at = from;

@@ -49,11 +49,11 @@ fn put_last<D: Disk>(
     requires head { head + 33 ≤ length buffer.old }
     requires from { from + length buffer.old ≤ 2 ^ 62 }
     requires to { to + length buffer.old ≤ 2 ^ 62 }
-    ensures there { IfOk result (λ found. IfSome found (λ link. D.tells → IsThere ((D.state disk.old).files 0) from (length buffer.old - head - 33))) }
-    ensures put { IfOk result (λ found. IfSome found (λ link. D.tells → ChangesFile file (Holds to ((take head buffer.old ++ part_of ((D.state disk.old).files 0) from (length buffer.old - head - 33)) ++ (link ++ gate_byte more ∷ []))) (D.state disk.old).files (D.state disk.new).files)) }
-    ensures link { IfOk result (λ found. IfSome found (λ link. D.tells → IsLinkOf hasher (part_of ((D.state disk.old).files 0) from (length buffer.old - head - 33)) link)) }
-    ensures short { IfOk result (λ found. IfNone found (D.tells → length ((D.state disk.old).files 0) < from + (length buffer.old - head - 33))) }
-    ensures writes { OnlyWrites D.tells (D.state disk.old).free (FitsChange (D.state disk.old) file (to + length buffer.old)) (IsErr result) (ChangesFile file (Torn to (length buffer.old))) (D.state disk.old) (D.state disk.new) }
+    ensures there { IfOk result (λ found. IfSome found (λ link. D.reveals → IsThere ((D.state disk.old).files 0) from (length buffer.old - head - 33))) }
+    ensures put { IfOk result (λ found. IfSome found (λ link. D.reveals → ChangesFile file (Holds to ((take head buffer.old ++ part_of ((D.state disk.old).files 0) from (length buffer.old - head - 33)) ++ (link ++ gate_byte more ∷ []))) (D.state disk.old).files (D.state disk.new).files)) }
+    ensures link { IfOk result (λ found. IfSome found (λ link. D.reveals → IsLinkOf hasher (part_of ((D.state disk.old).files 0) from (length buffer.old - head - 33)) link)) }
+    ensures short { IfOk result (λ found. IfNone found (D.reveals → length ((D.state disk.old).files 0) < from + (length buffer.old - head - 33))) }
+    ensures writes { OnlyWrites D.reveals (D.state disk.old).free (FitsChange (D.state disk.old) file (to + length buffer.old)) (IsErr result) (ChangesFile file (Torn to (length buffer.old))) (D.state disk.old) (D.state disk.new) }
 {
     let size = buffer.len() - 33;
     if !read_part(disk, 0, from, &mut buffer[head..size])? {
@@ -81,13 +81,13 @@ fn put_range<D: Disk>(
     requires from { from + count ≤ 2 ^ 61 }
     requires to { to + count ≤ 2 ^ 61 }
     requires buffer { length buffer.old ≡ 4133 }
-    requires there { D.tells → to ≤ length ((D.state disk.old).files file) }
-    ensures there { IfOk result (λ whole. IsTrue whole → D.tells → IsThere ((D.state disk.old).files 0) from count) }
-    ensures put { IfOk result (λ whole. IsTrue whole → D.tells → ChangesFile file (Holds to (part_of ((D.state disk.old).files 0) from count)) (D.state disk.old).files (D.state disk.new).files) }
-    ensures taken { IfOk result (λ whole. IsTrue whole → D.tells → Takes hasher.old (part_of ((D.state disk.old).files 0) from count) hasher.new) }
-    ensures short { IfOk result (λ whole. whole ≡ false → D.tells → length ((D.state disk.old).files 0) < from + count) }
+    requires there { D.reveals → to ≤ length ((D.state disk.old).files file) }
+    ensures there { IfOk result (λ whole. IsTrue whole → D.reveals → IsThere ((D.state disk.old).files 0) from count) }
+    ensures put { IfOk result (λ whole. IsTrue whole → D.reveals → ChangesFile file (Holds to (part_of ((D.state disk.old).files 0) from count)) (D.state disk.old).files (D.state disk.new).files) }
+    ensures taken { IfOk result (λ whole. IsTrue whole → D.reveals → Takes hasher.old (part_of ((D.state disk.old).files 0) from count) hasher.new) }
+    ensures short { IfOk result (λ whole. whole ≡ false → D.reveals → length ((D.state disk.old).files 0) < from + count) }
     ensures buffer { length buffer.new ≡ 4133 }
-    ensures writes { OnlyWrites D.tells (D.state disk.old).free (FitsChange (D.state disk.old) file (to + count)) (IsErr result) (ChangesFile file (KeepsFront to)) (D.state disk.old) (D.state disk.new) }
+    ensures writes { OnlyWrites D.reveals (D.state disk.old).free (FitsChange (D.state disk.old) file (to + count)) (IsErr result) (ChangesFile file (KeepsFront to)) (D.state disk.old) (D.state disk.new) }
 {
     let mut done = 0;
     'parts: while done < count {
@@ -124,12 +124,12 @@ fn write_front<D: Disk>(
     requires places { (gate ≤ 2 ^ 59) × (at ≤ 2 ^ 59) × (middle ≤ 2 ^ 59) }
     requires part { part + 4 ≤ 4133 }
     requires buffer { length buffer.old ≡ 4133 }
-    ensures there { IfOk result (λ whole. IsTrue whole → D.tells → IsThere ((D.state disk.old).files 0) at (part + middle)) }
-    ensures put { IfOk result (λ whole. IsTrue whole → D.tells → ChangesFile file (Holds (gate + 1) (take 4 buffer.old ++ part_of ((D.state disk.old).files 0) at (part + middle))) (D.state disk.old).files (D.state disk.new).files) }
-    ensures taken { IfOk result (λ whole. IsTrue whole → D.tells → Takes hasher.old (part_of ((D.state disk.old).files 0) at (part + middle)) hasher.new) }
-    ensures short { IfOk result (λ whole. whole ≡ false → D.tells → length ((D.state disk.old).files 0) < at + (part + middle)) }
+    ensures there { IfOk result (λ whole. IsTrue whole → D.reveals → IsThere ((D.state disk.old).files 0) at (part + middle)) }
+    ensures put { IfOk result (λ whole. IsTrue whole → D.reveals → ChangesFile file (Holds (gate + 1) (take 4 buffer.old ++ part_of ((D.state disk.old).files 0) at (part + middle))) (D.state disk.old).files (D.state disk.new).files) }
+    ensures taken { IfOk result (λ whole. IsTrue whole → D.reveals → Takes hasher.old (part_of ((D.state disk.old).files 0) at (part + middle)) hasher.new) }
+    ensures short { IfOk result (λ whole. whole ≡ false → D.reveals → length ((D.state disk.old).files 0) < at + (part + middle)) }
     ensures buffer { IfOk result (λ whole. length buffer.new ≡ 4133) }
-    ensures writes { OnlyWrites D.tells (D.state disk.old).free (FitsChange (D.state disk.old) file (gate + 5 + (part + middle))) (IsErr result) (ChangesFile file (KeepsFront (gate + 1))) (D.state disk.old) (D.state disk.new) }
+    ensures writes { OnlyWrites D.reveals (D.state disk.old).free (FitsChange (D.state disk.old) file (gate + 5 + (part + middle))) (IsErr result) (ChangesFile file (KeepsFront (gate + 1))) (D.state disk.old) (D.state disk.new) }
 {
     let to = gate + 1;
     if !put_part(disk, at, file, to, &mut buffer[..part + 4], 4, hasher)? {
@@ -153,9 +153,9 @@ fn write_long<D: Disk>(
     requires places { (gate ≤ 2 ^ 59) × (piece.now.at ≤ 2 ^ 59) }
     requires part { (part + 4 ≤ 4133) × (part < piece.now.len) }
     requires buffer { length buffer.old ≡ 4133 }
-    ensures entry { IfOk result (λ found. IfSome found (λ link. D.tells → HasEntry file gate (take 4 buffer.old) piece.now hasher link (D.state disk.old).files (D.state disk.new).files)) }
-    ensures short { IfOk result (λ found. IfNone found (D.tells → length ((D.state disk.old).files 0) < piece.now.at + piece.now.len)) }
-    ensures writes { OnlyWrites D.tells (D.state disk.old).free (FitsChange (D.state disk.old) file (gate + (37 + piece.now.len) + 1)) (IsErr result) (ChangesFile file (KeepsFront (gate + 1))) (D.state disk.old) (D.state disk.new) }
+    ensures entry { IfOk result (λ found. IfSome found (λ link. D.reveals → HasEntry file gate (take 4 buffer.old) piece.now hasher link (D.state disk.old).files (D.state disk.new).files)) }
+    ensures short { IfOk result (λ found. IfNone found (D.reveals → length ((D.state disk.old).files 0) < piece.now.at + piece.now.len)) }
+    ensures writes { OnlyWrites D.reveals (D.state disk.old).free (FitsChange (D.state disk.old) file (gate + (37 + piece.now.len) + 1)) (IsErr result) (ChangesFile file (KeepsFront (gate + 1))) (D.state disk.old) (D.state disk.new) }
 {
     let rest = piece.len as usize - part;
     let last = rest.min(4096);
@@ -198,9 +198,9 @@ fn write_short<D: Disk>(
     requires places { (gate ≤ 2 ^ 59) × (piece.now.at ≤ 2 ^ 59) }
     requires short { piece.now.len ≤ 4096 }
     requires buffer { length buffer.old ≡ 4133 }
-    ensures entry { IfOk result (λ found. IfSome found (λ link. D.tells → HasEntry file gate (take 4 buffer.old) piece.now hasher link (D.state disk.old).files (D.state disk.new).files)) }
-    ensures short { IfOk result (λ found. IfNone found (D.tells → length ((D.state disk.old).files 0) < piece.now.at + piece.now.len)) }
-    ensures writes { OnlyWrites D.tells (D.state disk.old).free (FitsChange (D.state disk.old) file (gate + (37 + piece.now.len) + 1)) (IsErr result) (ChangesFile file (KeepsFront (gate + 1))) (D.state disk.old) (D.state disk.new) }
+    ensures entry { IfOk result (λ found. IfSome found (λ link. D.reveals → HasEntry file gate (take 4 buffer.old) piece.now hasher link (D.state disk.old).files (D.state disk.new).files)) }
+    ensures short { IfOk result (λ found. IfNone found (D.reveals → length ((D.state disk.old).files 0) < piece.now.at + piece.now.len)) }
+    ensures writes { OnlyWrites D.reveals (D.state disk.old).free (FitsChange (D.state disk.old) file (gate + (37 + piece.now.len) + 1)) (IsErr result) (ChangesFile file (KeepsFront (gate + 1))) (D.state disk.old) (D.state disk.new) }
 {
     let size = piece.len as usize;
     put_last(
@@ -241,9 +241,9 @@ pub(crate) fn write_entry<D: Disk>(
     requires file { (1 ≤ file) × (file ≤ 66) }
     requires places { (last.now.gate ≤ 2 ^ 59) × (piece.now.at ≤ 2 ^ 59) }
     requires buffer { length buffer.old ≡ 4133 }
-    ensures entry { IfOk result (λ found. IfSome found (λ link. D.tells → HasWhole file last.now piece.now link (D.state disk.old).files (D.state disk.new).files)) }
-    ensures short { IfOk result (λ found. IfNone found (D.tells → length ((D.state disk.old).files 0) < piece.now.at + piece.now.len)) }
-    ensures writes { OnlyWrites D.tells (D.state disk.old).free (FitsChange (D.state disk.old) file (last.now.gate + (37 + piece.now.len) + 1)) (IsErr result) (ChangesFile file (KeepsFront (last.now.gate + 1))) (D.state disk.old) (D.state disk.new) }
+    ensures entry { IfOk result (λ found. IfSome found (λ link. D.reveals → HasWhole file last.now piece.now link (D.state disk.old).files (D.state disk.new).files)) }
+    ensures short { IfOk result (λ found. IfNone found (D.reveals → length ((D.state disk.old).files 0) < piece.now.at + piece.now.len)) }
+    ensures writes { OnlyWrites D.reveals (D.state disk.old).free (FitsChange (D.state disk.old) file (last.now.gate + (37 + piece.now.len) + 1)) (IsErr result) (ChangesFile file (KeepsFront (last.now.gate + 1))) (D.state disk.old) (D.state disk.new) }
 {
     let hasher = begin(&last.link, piece.len, buffer);
     if piece.len > 4096 {

@@ -28,10 +28,10 @@ fn move_part<D: Disk>(
     requires source { (1 ≤ source) × (source ≤ 66) }
     requires from { from + length part.old ≤ 2 ^ 62 }
     requires to { to + length part.old ≤ 2 ^ 62 }
-    ensures there { IfOk result (λ whole. IsTrue whole → D.tells → IsThere ((D.state disk.old).files source) from (length part.old)) }
-    ensures moved { IfOk result (λ whole. IsTrue whole → D.tells → ChangesFile 0 (Holds to (part_of ((D.state disk.old).files source) from (length part.old))) (D.state disk.old).files (D.state disk.new).files) }
-    ensures short { IfOk result (λ whole. whole ≡ false → D.tells → length ((D.state disk.old).files source) < from + length part.old) }
-    ensures writes { OnlyWrites D.tells (D.state disk.old).free (FitsChange (D.state disk.old) 0 (to + length part.old)) (IsErr result) (ChangesFile 0 (Torn to (length part.old))) (D.state disk.old) (D.state disk.new) }
+    ensures there { IfOk result (λ whole. IsTrue whole → D.reveals → IsThere ((D.state disk.old).files source) from (length part.old)) }
+    ensures moved { IfOk result (λ whole. IsTrue whole → D.reveals → ChangesFile 0 (Holds to (part_of ((D.state disk.old).files source) from (length part.old))) (D.state disk.old).files (D.state disk.new).files) }
+    ensures short { IfOk result (λ whole. whole ≡ false → D.reveals → length ((D.state disk.old).files source) < from + length part.old) }
+    ensures writes { OnlyWrites D.reveals (D.state disk.old).free (FitsChange (D.state disk.old) 0 (to + length part.old)) (IsErr result) (ChangesFile 0 (Torn to (length part.old))) (D.state disk.old) (D.state disk.new) }
 {
     if !read_part(disk, source, from, part)? {
         return Ok(false);
@@ -53,12 +53,12 @@ fn move_range<D: Disk>(
     requires from { from + count ≤ 2 ^ 61 }
     requires to { to + count ≤ 2 ^ 61 }
     requires buffer { length buffer.old ≡ 4096 }
-    requires there { D.tells → to ≤ length ((D.state disk.old).files 0) }
-    ensures moved { IfOk result (λ whole. IsTrue whole → D.tells → ChangesFile 0 (Holds to (part_of ((D.state disk.old).files source) from count)) (D.state disk.old).files (D.state disk.new).files) }
-    ensures there { IfOk result (λ whole. IsTrue whole → D.tells → to + count ≤ length ((D.state disk.new).files 0)) }
-    ensures short { IfOk result (λ whole. whole ≡ false → D.tells → length ((D.state disk.old).files source) < from + count) }
+    requires there { D.reveals → to ≤ length ((D.state disk.old).files 0) }
+    ensures moved { IfOk result (λ whole. IsTrue whole → D.reveals → ChangesFile 0 (Holds to (part_of ((D.state disk.old).files source) from count)) (D.state disk.old).files (D.state disk.new).files) }
+    ensures there { IfOk result (λ whole. IsTrue whole → D.reveals → to + count ≤ length ((D.state disk.new).files 0)) }
+    ensures short { IfOk result (λ whole. whole ≡ false → D.reveals → length ((D.state disk.old).files source) < from + count) }
     ensures buffer { length buffer.new ≡ 4096 }
-    ensures writes { OnlyWrites D.tells (D.state disk.old).free (FitsChange (D.state disk.old) 0 (to + count)) (IsErr result) (ChangesFile 0 (KeepsFront to)) (D.state disk.old) (D.state disk.new) }
+    ensures writes { OnlyWrites D.reveals (D.state disk.old).free (FitsChange (D.state disk.old) 0 (to + count)) (IsErr result) (ChangesFile 0 (KeepsFront to)) (D.state disk.old) (D.state disk.new) }
 {
     let mut done = 0;
     'parts: while done < count {
@@ -90,12 +90,12 @@ fn move_piece<D: Disk>(
     requires source { IsCopyFile source }
     requires places { (at.place ≤ 2 ^ 58) × (at.text < until) × (until ≤ 2 ^ 58) }
     requires buffer { length buffer.old ≡ 4096 }
-    requires there { D.tells → (1 ≤ length ((D.state disk.old).files 0)) × (at.text ≤ length ((D.state disk.old).files 0)) }
-    ensures moved { IfOk result (λ found. D.tells → (piece rest : List ℕ) → IsTextAt ((D.state disk.old).files source) at piece rest → at.text + length piece ≤ until → at.place + (37 + length piece) ≤ greatest_place → MatchOption found ⊥ (λ next. HasMoved at piece next (D.state disk.old).files (D.state disk.new).files)) }
+    requires there { D.reveals → (1 ≤ length ((D.state disk.old).files 0)) × (at.text ≤ length ((D.state disk.old).files 0)) }
+    ensures moved { IfOk result (λ found. D.reveals → (piece rest : List ℕ) → IsTextAt ((D.state disk.old).files source) at piece rest → at.text + length piece ≤ until → at.place + (37 + length piece) ≤ greatest_place → MatchOption found ⊥ (λ next. HasMoved at piece next (D.state disk.old).files (D.state disk.new).files)) }
     ensures on { IfOk result (λ found. IfSome found (λ next. (at.text < next.text) × (next.text ≤ until) × (next.place ≤ 2 ^ 58))) }
-    ensures there { IfOk result (λ found. IfSome found (λ next. D.tells → (1 ≤ length ((D.state disk.new).files 0)) × (next.text ≤ length ((D.state disk.new).files 0)))) }
+    ensures there { IfOk result (λ found. IfSome found (λ next. D.reveals → (1 ≤ length ((D.state disk.new).files 0)) × (next.text ≤ length ((D.state disk.new).files 0)))) }
     ensures buffer { length buffer.new ≡ 4096 }
-    ensures writes { OnlyWrites D.tells (D.state disk.old).free (FitsChange (D.state disk.old) 0 (until + 1)) (IsErr result) (ChangesFile 0 (KeepsFront 1)) (D.state disk.old) (D.state disk.new) }
+    ensures writes { OnlyWrites D.reveals (D.state disk.old).free (FitsChange (D.state disk.old) 0 (until + 1)) (IsErr result) (ChangesFile 0 (KeepsFront 1)) (D.state disk.old) (D.state disk.new) }
 {
     let mut head = [0; 5];
     if !read_part(disk, source, at.place, &mut head)? {
@@ -121,10 +121,10 @@ fn move_piece<D: Disk>(
 fn fill_ledger<D: Disk>(disk: &mut D, source: u8, until: u64) -> Result<bool, DiskFault>
     requires source { IsCopyFile source }
     requires place { until ≤ 2 ^ 58 }
-    requires begun { D.tells → (D.state disk.old).files 0 ≡ 0 ∷ [] }
-    ensures filled { IfOk result (λ whole. D.tells → (pieces : List (List ℕ)) → IsGood pieces ((D.state disk.old).files source) → until ≡ length (text_of pieces) → (whole ≡ true) × IsClosed (whole_text pieces) ((D.state disk.new).files 0)) }
-    ensures durable { IfOk result (λ whole. IsTrue whole → D.tells → IsSynced (D.state disk.new)) }
-    ensures writes { OnlyWrites D.tells (D.state disk.old).free (FitsChange (D.state disk.old) 0 (until + 1)) (IsErr result) (ChangesFile 0 (KeepsFront 1)) (D.state disk.old) (D.state disk.new) }
+    requires begun { D.reveals → (D.state disk.old).files 0 ≡ 0 ∷ [] }
+    ensures filled { IfOk result (λ whole. D.reveals → (pieces : List (List ℕ)) → IsGood pieces ((D.state disk.old).files source) → until ≡ length (text_of pieces) → (whole ≡ true) × IsClosed (whole_text pieces) ((D.state disk.new).files 0)) }
+    ensures durable { IfOk result (λ whole. IsTrue whole → D.reveals → IsSynced (D.state disk.new)) }
+    ensures writes { OnlyWrites D.reveals (D.state disk.old).free (FitsChange (D.state disk.old) 0 (until + 1)) (IsErr result) (ChangesFile 0 (KeepsFront 1)) (D.state disk.old) (D.state disk.new) }
 {
     let mut buffer = [0; 4096];
     let mut at = At { place: 9, text: 0 };
@@ -147,12 +147,12 @@ fn fill_ledger<D: Disk>(disk: &mut D, source: u8, until: u64) -> Result<bool, Di
 pub fn make_ledger<D: Disk>(disk: &mut D, source: u8, until: u64) -> Result<bool, DiskFault>
     requires source { IsCopyFile source }
     requires place { until ≤ 2 ^ 58 }
-    requires fixed { D.tells → IsFixed (D.state disk.old) 0 }
-    ensures any_moment { D.tells → (pieces : List (List ℕ)) → IsGood pieces ((D.state disk.old).files source) → until ≡ length (text_of pieces) → During (D.state disk.old) (D.state disk.new) (λ c. IsOldNoneOrMade (whole_text pieces) ((D.state disk.old).files 0) (c 0)) }
-    ensures reads { D.tells → (pieces : List (List ℕ)) → IsGood pieces ((D.state disk.old).files source) → until ≡ length (text_of pieces) → IsOldNoneOrMade (whole_text pieces) ((D.state disk.old).files 0) ((D.state disk.new).files 0) }
-    ensures made { IfOk result (λ whole. D.tells → (pieces : List (List ℕ)) → IsGood pieces ((D.state disk.old).files source) → until ≡ length (text_of pieces) → (whole ≡ true) × ((D.state disk.new).files 0 ≡ whole_text pieces)) }
-    ensures durable { IfOk result (λ whole. IsTrue whole → D.tells → IsSynced (D.state disk.new)) }
-    ensures writes { OnlyWrites D.tells (D.state disk.old).free (FitsChange (D.state disk.old) 0 (until + 1)) (IsErr result) (ChangesOnly 0) (D.state disk.old) (D.state disk.new) }
+    requires fixed { D.reveals → IsFixed (D.state disk.old) 0 }
+    ensures any_moment { D.reveals → (pieces : List (List ℕ)) → IsGood pieces ((D.state disk.old).files source) → until ≡ length (text_of pieces) → During (D.state disk.old) (D.state disk.new) (λ c. IsOldNoneOrMade (whole_text pieces) ((D.state disk.old).files 0) (c 0)) }
+    ensures reads { D.reveals → (pieces : List (List ℕ)) → IsGood pieces ((D.state disk.old).files source) → until ≡ length (text_of pieces) → IsOldNoneOrMade (whole_text pieces) ((D.state disk.old).files 0) ((D.state disk.new).files 0) }
+    ensures made { IfOk result (λ whole. D.reveals → (pieces : List (List ℕ)) → IsGood pieces ((D.state disk.old).files source) → until ≡ length (text_of pieces) → (whole ≡ true) × ((D.state disk.new).files 0 ≡ whole_text pieces)) }
+    ensures durable { IfOk result (λ whole. IsTrue whole → D.reveals → IsSynced (D.state disk.new)) }
+    ensures writes { OnlyWrites D.reveals (D.state disk.old).free (FitsChange (D.state disk.old) 0 (until + 1)) (IsErr result) (ChangesOnly 0) (D.state disk.old) (D.state disk.new) }
 {
     clear(disk, 0)?;
     if !fill_ledger(disk, source, until)? {

@@ -25,10 +25,10 @@ pub(crate) fn read_part<D: Disk>(
 ) -> Result<bool, DiskFault>
     requires file { file ≤ 66 }
     requires range { from + length part.old ≤ 2 ^ 62 }
-    ensures whole { IfOk result (λ whole. IsTrue whole → D.tells → part.new ≡ part_of ((D.state disk.old).files file) from (length part.old)) }
-    ensures there { IfOk result (λ whole. IsTrue whole → D.tells → IsThere ((D.state disk.old).files file) from (length part.old)) }
-    ensures short { IfOk result (λ whole. whole ≡ false → D.tells → length ((D.state disk.old).files file) < from + length part.old) }
-    ensures reads { OnlyReads D.tells (IsErr result) (D.state disk.old) (D.state disk.new) }
+    ensures whole { IfOk result (λ whole. IsTrue whole → D.reveals → part.new ≡ part_of ((D.state disk.old).files file) from (length part.old)) }
+    ensures there { IfOk result (λ whole. IsTrue whole → D.reveals → IsThere ((D.state disk.old).files file) from (length part.old)) }
+    ensures short { IfOk result (λ whole. whole ≡ false → D.reveals → length ((D.state disk.old).files file) < from + length part.old) }
+    ensures reads { OnlyReads D.reveals (IsErr result) (D.state disk.old) (D.state disk.new) }
 {
     let count = disk.read(file, from, part)?;
     are_bytes(part);
@@ -50,11 +50,11 @@ pub(crate) fn put_part<D: Disk>(
     requires head { head ≤ length buffer.old }
     requires from { from + length buffer.old ≤ 2 ^ 62 }
     requires to { to + length buffer.old ≤ 2 ^ 62 }
-    ensures there { IfOk result (λ whole. IsTrue whole → D.tells → IsThere ((D.state disk.old).files 0) from (length buffer.old - head)) }
-    ensures put { IfOk result (λ whole. IsTrue whole → D.tells → ChangesFile file (Holds to (take head buffer.old ++ part_of ((D.state disk.old).files 0) from (length buffer.old - head))) (D.state disk.old).files (D.state disk.new).files) }
-    ensures taken { IfOk result (λ whole. IsTrue whole → D.tells → Takes hasher.old (part_of ((D.state disk.old).files 0) from (length buffer.old - head)) hasher.new) }
-    ensures short { IfOk result (λ whole. whole ≡ false → D.tells → length ((D.state disk.old).files 0) < from + (length buffer.old - head)) }
-    ensures writes { OnlyWrites D.tells (D.state disk.old).free (FitsChange (D.state disk.old) file (to + length buffer.old)) (IsErr result) (ChangesFile file (Torn to (length buffer.old))) (D.state disk.old) (D.state disk.new) }
+    ensures there { IfOk result (λ whole. IsTrue whole → D.reveals → IsThere ((D.state disk.old).files 0) from (length buffer.old - head)) }
+    ensures put { IfOk result (λ whole. IsTrue whole → D.reveals → ChangesFile file (Holds to (take head buffer.old ++ part_of ((D.state disk.old).files 0) from (length buffer.old - head))) (D.state disk.old).files (D.state disk.new).files) }
+    ensures taken { IfOk result (λ whole. IsTrue whole → D.reveals → Takes hasher.old (part_of ((D.state disk.old).files 0) from (length buffer.old - head)) hasher.new) }
+    ensures short { IfOk result (λ whole. whole ≡ false → D.reveals → length ((D.state disk.old).files 0) < from + (length buffer.old - head)) }
+    ensures writes { OnlyWrites D.reveals (D.state disk.old).free (FitsChange (D.state disk.old) file (to + length buffer.old)) (IsErr result) (ChangesFile file (Torn to (length buffer.old))) (D.state disk.old) (D.state disk.new) }
 {
     if !read_part(disk, 0, from, &mut buffer[head..])? {
         return Ok(false);

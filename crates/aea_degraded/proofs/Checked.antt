@@ -16,7 +16,7 @@ use Rattle.aea_gauss.specs.declared.fates.Fate.{Fate}
 use Rattle.aea_gauss.specs.declared.fates.Fate.TheVariants.{Sum, Word}
 use Rattle.aea_gauss.specs.Fates.{block_of_fate, IsFate}
 use Rattle.aea_ledger.specs.Values.{Opened}
-use Rattle.aea_archive.specs.Blocks.{recorded_in, TellsSurvivors}
+use Rattle.aea_archive.specs.Blocks.{recorded_in, RevealsSurvivors}
 use Rattle.aea_archive.specs.Objects.{IsOneOf}
 use Rattle.aea_fetch.proofs.Firsts.{all_at}
 use Rattle.aea_restore.proofs.Items.{item_has}
@@ -81,19 +81,19 @@ pub found_at : (v : Opened) (c d : Files) (damaged : Marked) (fates : List Fate)
 found_at v c d damaged fates b known same found = subst (λ (f : Files). IsFoundBy v f damaged fates b known) same found
 
 -- what may be asked for may be so where the files read the same
-pub planned_at : (tells : Type 0) (v : Opened) (c d : Files) (damaged : Marked) (fates : List Fate) (b : BlockId) → (tells → d ≡ c) → IsPlanned tells v c damaged fates b → IsPlanned tells v d damaged fates b
-planned_at tells v c d damaged fates b same is = record {
+pub planned_at : (reveals : Type 0) (v : Opened) (c d : Files) (damaged : Marked) (fates : List Fate) (b : BlockId) → (reveals → d ≡ c) → IsPlanned reveals v c damaged fates b → IsPlanned reveals v d damaged fates b
+planned_at reveals v c d damaged fates b same is = record {
   lattice = is.lattice;
   are = is.are;
   given = is.given;
-  right = λ told known survivors.
-      found_at v c d damaged fates b known (sym (same told)) (is.right told known (subst (λ (f : Files). TellsSurvivors v.shape v.lattice.n v.digests f known) (same told) survivors));
-  checked = λ told. checked_at v c d damaged fates b (sym (same told)) (is.checked told);
+  right = λ revealed known survivors.
+      found_at v c d damaged fates b known (sym (same revealed)) (is.right revealed known (subst (λ (f : Files). RevealsSurvivors v.shape v.lattice.n v.digests f known) (same revealed) survivors));
+  checked = λ revealed. checked_at v c d damaged fates b (sym (same revealed)) (is.checked revealed);
 }
 
 -- and so of all of some blocks, by marks that are the same
-pub planned_again : (tells : Type 0) (v : Opened) (c d : Files) (m n : Marked) (fates : List Fate) (bs : List BlockId) → n ≡ m → (tells → d ≡ c) → All (IsPlanned tells v c m fates) bs → All (IsPlanned tells v d n fates) bs
-planned_again tells v c d m n fates bs marks same all = subst (λ (k : Marked). All (IsPlanned tells v d k fates) bs) (sym marks) (λ k b below. planned_at tells v c d m fates _ same (all k b below))
+pub planned_again : (reveals : Type 0) (v : Opened) (c d : Files) (m n : Marked) (fates : List Fate) (bs : List BlockId) → n ≡ m → (reveals → d ≡ c) → All (IsPlanned reveals v c m fates) bs → All (IsPlanned reveals v d n fates) bs
+planned_again reveals v c d m n fates bs marks same all = subst (λ (k : Marked). All (IsPlanned reveals v d k fates) bs) (sym marks) (λ k b below. planned_at reveals v c d m fates _ same (all k b below))
 
 -- what is the case for a right plan of all blocks
 abbrev pub UnderPlan : Opened → Files → Marked → List Fate → List BlockId → BlockId → Type 0

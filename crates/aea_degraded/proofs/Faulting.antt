@@ -7,6 +7,6 @@ use Rattle.aea_degraded.specs.declared.fault.PayloadFault.TheVariants.{Clash}
 use Rattle.aea_degraded.specs.Faults.{payload_fault}
 
 -- a clash is of a clash
-pub clash_of : (f : RestoreFault) (d : BlockId) (told computed : List ℕ) → payload_fault f ≡ Clash d told computed → f ≡ restore.Clash d told computed
-clash_of (restore.Clash b recorded other) d told computed is = cc
-clash_of restore.DiskFault d told computed is = absurd (cc)
+pub clash_of : (f : RestoreFault) (d : BlockId) (revealed computed : List ℕ) → payload_fault f ≡ Clash d revealed computed → f ≡ restore.Clash d revealed computed
+clash_of (restore.Clash b recorded other) d revealed computed is = cc
+clash_of restore.DiskFault d revealed computed is = absurd (cc)

@@ -17,7 +17,7 @@ use Rattle.aea_fates.specs.Sums.{IsSum}
 use Rattle.aea_view.specs.Marked.{Marked, is_marked}
 use Rattle.aea_disk.specs.Files.{Files}
 use Rattle.aea_ledger.specs.Values.{Opened}
-use Rattle.aea_archive.specs.Blocks.{TellsSurvivors}
+use Rattle.aea_archive.specs.Blocks.{RevealsSurvivors}
 use Rattle.aea_archive.specs.Objects.{IsOneOf, IsFirstWithout}
 use Rattle.aea_gauss.specs.declared.fates.Fate.{Fate}
 use Rattle.aea_gauss.specs.declared.fates.Fate.TheVariants.{Sum, Word}
@@ -111,18 +111,18 @@ first_among good blocks b first = record { before = first.before; after = first.
 -- What a refusal says: the block is one of these, the nodes are listed for it for some known blocks, and where the files are known
 -- it is the first that is not determined.
 abbrev pub IsUndetermined : Type 0 → Opened → Files → List BlockId → BlockId → List ℕ → Type 0
-IsUndetermined tells v c blocks b nodes =
+IsUndetermined reveals v c blocks b nodes =
     IsOneOf blocks b × ((test : BlockId → Bool) × IsWord v.lattice test b nodes)
-    × (tells → (known : BlockId → Bool) → TellsSurvivors v.shape v.lattice.n v.digests c known → IsFirstOpen v.lattice known blocks b nodes)
+    × (reveals → (known : BlockId → Bool) → RevealsSurvivors v.shape v.lattice.n v.digests c known → IsFirstOpen v.lattice known blocks b nodes)
 
-pub undetermined_at : SumsAreDetermined → WordsAreOpen → PassingAreAmong → (tells : Type 0) (v : Opened) (c : Files) (damaged : Marked) (fates : List Fate) (blocks : List BlockId) → AreFatesOf v.lattice damaged fates → All (HasBlock v.lattice) blocks
-    → (tells → (known : BlockId → Bool) → TellsSurvivors v.shape v.lattice.n v.digests c known → IsRightPlan v c damaged fates blocks known)
-    → (at : ℕ) (b : BlockId) (nodes : List ℕ) → slice_get fates at ≡ Some (Word b nodes) → IsFirstWithout (IsGiven fates) blocks b → IsUndetermined tells v c blocks b nodes
-undetermined_at sums open' passing tells v c damaged fates blocks are inside right at b nodes here first = (
+pub undetermined_at : SumsAreDetermined → WordsAreOpen → PassingAreAmong → (reveals : Type 0) (v : Opened) (c : Files) (damaged : Marked) (fates : List Fate) (blocks : List BlockId) → AreFatesOf v.lattice damaged fates → All (HasBlock v.lattice) blocks
+    → (reveals → (known : BlockId → Bool) → RevealsSurvivors v.shape v.lattice.n v.digests c known → IsRightPlan v c damaged fates blocks known)
+    → (at : ℕ) (b : BlockId) (nodes : List ℕ) → slice_get fates at ≡ Some (Word b nodes) → IsFirstWithout (IsGiven fates) blocks b → IsUndetermined reveals v c blocks b nodes
+undetermined_at sums open' passing reveals v c damaged fates blocks are inside right at b nodes here first = (
   first_among (IsGiven fates) blocks b first,
   ((λ d. not (is_marked damaged d)), All-contains (IsFate v.lattice (λ d. not (is_marked damaged d))) fates (Word b nodes) are.each (contains_at fates at (Word b nodes) here)),
-  λ told known survivors.
-      let plan = right told known survivors in
+  λ revealed known survivors.
+      let plan = right revealed known survivors in
       first_open sums open' passing v.lattice known damaged fates are plan.right blocks (marked_in v.lattice known damaged blocks inside plan.marked) at b nodes here first,
 )
 
@@ -134,9 +134,9 @@ determined_by sums passing v c damaged fates blocks known are inside plan given 
 
 -- a fault of a payload is no refusal, and is one of the first pass
 pub never_open : (f : PayloadFault) (b : BlockId) (nodes : List ℕ) → fetch_fault f ≡ Undetermined b nodes → ⊥
-never_open (payload.Clash d told computed) b nodes is = let h : Clash d told computed ≡ Undetermined b nodes = is in cc
+never_open (payload.Clash d revealed computed) b nodes is = let h : Clash d revealed computed ≡ Undetermined b nodes = is in cc
 never_open payload.DiskFault b nodes is = let h : DiskFault ≡ Undetermined b nodes = is in cc
 
 pub first_fault : (f : PayloadFault) → IsFirstFault (fetch_fault f)
-first_fault (payload.Clash d told computed) = inr (inl (d, told, computed, refl))
+first_fault (payload.Clash d revealed computed) = inr (inl (d, revealed, computed, refl))
 first_fault payload.DiskFault = inr (inr (inl refl))

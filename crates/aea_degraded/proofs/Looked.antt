@@ -19,11 +19,11 @@ all_both P Q R both [] p q = All-nil R
 all_both P Q R both (x ∷ xs) p q = All-cons R x xs (both x (All-head P x xs p) (All-head Q x xs q)) (all_both P Q R both xs (All-tail P x xs p) (All-tail Q x xs q))
 
 -- what was seen of the blocks before is seen of them later
-pub seen_later : (tells : Type 0) (has good later : BlockId → Type 0) → ((b : BlockId) → has b → good b → later b) → (all left : List BlockId) → All has all → HasSeen tells good all left → HasSeen tells later all left
-seen_later tells has good later both all left inside seen = record {
+pub seen_later : (reveals : Type 0) (has good later : BlockId → Type 0) → ((b : BlockId) → has b → good b → later b) → (all left : List BlockId) → All has all → HasSeen reveals good all left → HasSeen reveals later all left
+seen_later reveals has good later both all left inside seen = record {
   front = seen.front;
   are = seen.are;
-  seen = λ told. all_both has good later both seen.front (front_all has seen.front left (subst (All has) seen.are inside)) (seen.seen told);
+  seen = λ revealed. all_both has good later both seen.front (front_all has seen.front left (subst (All has) seen.are inside)) (seen.seen revealed);
 }
 
 -- of blocks that were read a right test says which are unknown

@@ -8,7 +8,7 @@ use Rattle.aea_disk.specs.Files.{Files}
 use Rattle.aea_envelope.specs.Cells.{block_digest}
 use Rattle.aea_gauss.specs.declared.fates.Fate.{Fate}
 use Rattle.aea_ledger.specs.Values.{Opened}
-use Rattle.aea_archive.specs.Blocks.{recorded_in, TellsSurvivors}
+use Rattle.aea_archive.specs.Blocks.{recorded_in, RevealsSurvivors}
 use Rattle.aea_fetch.specs.Copies.{HasCut}
 use Rattle.aea_fetch.proofs.Copies.{cut_as}
 use Rattle.aea_restore.specs.Drawn.{IsDrawn, IsOtherDigest}
@@ -25,9 +25,9 @@ use Rattle.aea_degraded.proofs.Checked.{contained}
 -- ---- faults
 
 -- a clash is of a clash
-pub clash_from : (f : PayloadFault) (d : BlockId) (told computed : List ℕ) → fetch_fault f ≡ Clash d told computed → f ≡ payload.Clash d told computed
-clash_from (payload.Clash b recorded other) d told computed is = cc
-clash_from payload.DiskFault d told computed is = absurd (cc)
+pub clash_from : (f : PayloadFault) (d : BlockId) (revealed computed : List ℕ) → fetch_fault f ≡ Clash d revealed computed → f ≡ payload.Clash d revealed computed
+clash_from (payload.Clash b recorded other) d revealed computed is = cc
+clash_from payload.DiskFault d revealed computed is = absurd (cc)
 
 -- a fault of the disk is of one
 pub disk_from : (f : PayloadFault) → fetch_fault f ≡ DiskFault → f ≡ payload.DiskFault
@@ -49,11 +49,11 @@ disk_failed (Ok v) is = absurd is
 disk_failed (Err f) is = ap Err is
 
 -- what a fault says, by what a clash does
-pub plan_fault : (tells : Type 0) (v : Opened) (c : Files) (r : Result (Unit {0}) PayloadFault)
-    → ((d : BlockId) (told computed : List ℕ) → r ≡ Err (payload.Clash d told computed) → IsOtherDigest v d told computed × (tells → ⊥)) → IfErr r (λ fault. (f : Files) → (tells → c ≡ f) → IsPlanFault tells v fault)
-plan_fault tells v c (Ok u) says = tt
-plan_fault tells v c (Err (payload.Clash b recorded other)) says = λ f same. says b recorded other refl
-plan_fault tells v c (Err payload.DiskFault) says = λ f same. tt
+pub plan_fault : (reveals : Type 0) (v : Opened) (c : Files) (r : Result (Unit {0}) PayloadFault)
+    → ((d : BlockId) (revealed computed : List ℕ) → r ≡ Err (payload.Clash d revealed computed) → IsOtherDigest v d revealed computed × (reveals → ⊥)) → IfErr r (λ fault. (f : Files) → (reveals → c ≡ f) → IsPlanFault reveals v fault)
+plan_fault reveals v c (Ok u) says = tt
+plan_fault reveals v c (Err (payload.Clash b recorded other)) says = λ f same. says b recorded other refl
+plan_fault reveals v c (Err payload.DiskFault) says = λ f same. tt
 
 -- the block is marked, where it is not known
 pub none_marked : (known marked : Bool) → known ≡ not marked → known ≡ false → marked ≡ true
@@ -61,33 +61,33 @@ none_marked known true is unknown = refl
 none_marked known false is unknown = absurd (cc)
 
 -- where a block is checked, the sum that its fate is has no other digest
-pub no_other : (v : Opened) (c : Files) (damaged : Marked) (fates : List Fate) (b d : BlockId) (at : ℕ) (told computed : List ℕ) → is_marked damaged b ≡ true → IsSumAt fates b at → IsChecked v c damaged fates b
-    → d ≡ b → ((fate : Fate) → slice_get fates at ≡ Some fate → computed ≡ block_digest b (sum_at v.lattice v.shape c fate)) → IsOtherDigest v d told computed → ⊥
-no_other v c damaged fates b d at told computed set here checked same is other =
+pub no_other : (v : Opened) (c : Files) (damaged : Marked) (fates : List Fate) (b d : BlockId) (at : ℕ) (revealed computed : List ℕ) → is_marked damaged b ≡ true → IsSumAt fates b at → IsChecked v c damaged fates b
+    → d ≡ b → ((fate : Fate) → slice_get fates at ≡ Some fate → computed ≡ block_digest b (sum_at v.lattice v.shape c fate)) → IsOtherDigest v d revealed computed → ⊥
+no_other v c damaged fates b d at revealed computed set here checked same is other =
     other.differ
     (is here.fate here.here
     ∙ checked set here.fate (contained fates at here.fate here.here) here.block
     ∙ ap (recorded_in v.shape v.digests) (sym same)
-    ∙ sym other.told_is)
+    ∙ sym other.revealed_is)
 
 -- ---- payloads
 
-module _ (tells : Type 0) (v : Opened) (c : Files) where
+module _ (reveals : Type 0) (v : Opened) (c : Files) where
   -- a payload has the bytes of a block
-  pub fetched_wide : (b : BlockId) (p : List ℕ) → IsFetched tells v c b p → length p ≡ v.shape.block
+  pub fetched_wide : (b : BlockId) (p : List ℕ) → IsFetched reveals v c b p → length p ≡ v.shape.block
   fetched_wide b p is = is.wide
 
 -- where the contents are known, the files read the same
-module _ (tells : Type 0) (v : Opened) (c d : Files) (same : tells → c ≡ d) where
+module _ (reveals : Type 0) (v : Opened) (c d : Files) (same : reveals → c ≡ d) where
   -- a payload by the one is a payload by the other
-  pub fetched_also : (b : BlockId) (p : List ℕ) → IsFetched tells v c b p → IsFetched tells v d b p
+  pub fetched_also : (b : BlockId) (p : List ℕ) → IsFetched reveals v c b p → IsFetched reveals v d b p
   fetched_also b p is = record {
     wide = is.wide;
     digest = is.digest;
-    drawn = λ told known survivors.
-        subst (λ (f : Files). IsDrawn v known f b p) (same told)
-        (is.drawn told known (subst (λ (f : Files). TellsSurvivors v.shape v.lattice.n v.digests f known) (sym (same told)) survivors));
+    drawn = λ revealed known survivors.
+        subst (λ (f : Files). IsDrawn v known f b p) (same revealed)
+        (is.drawn revealed known (subst (λ (f : Files). RevealsSurvivors v.shape v.lattice.n v.digests f known) (sym (same revealed)) survivors));
   }
 
-  pub fetched_cut : (bs : List BlockId) (most : ℕ) (a b : SinkState) (p : List ℕ) (output : Type 0) → HasCut (IsFetched tells v c) bs most a p b output → HasCut (IsFetched tells v d) bs most a p b output
-  fetched_cut bs most a b p output one = cut_as (IsFetched tells v c) (IsFetched tells v d) fetched_also bs most a b p output output (λ is. is) one
+  pub fetched_cut : (bs : List BlockId) (most : ℕ) (a b : SinkState) (p : List ℕ) (output : Type 0) → HasCut (IsFetched reveals v c) bs most a p b output → HasCut (IsFetched reveals v d) bs most a p b output
+  fetched_cut bs most a b p output one = cut_as (IsFetched reveals v c) (IsFetched reveals v d) fetched_also bs most a b p output output (λ is. is) one

@@ -68,21 +68,21 @@ summands_intact : (v : Opened) (c : Files) (fate : Fate) → IsSumIn v.lattice f
 summands_intact v c fate sum sound k d lt = let one = (of_summands v.lattice fate sum).1 k d lt in sound _ one.0 one.1
 
 -- what is computed is the sum of what is at their homes
-pub summed_at : (tells : Type 0) (v : Opened) (c : Files) (fate : Fate) (payload : List ℕ) → tells → IsSumIn v.lattice fate → AreAllIntact v (is_summand v.lattice fate) c → IsSummed tells v c fate payload
+pub summed_at : (reveals : Type 0) (v : Opened) (c : Files) (fate : Fate) (payload : List ℕ) → reveals → IsSumIn v.lattice fate → AreAllIntact v (is_summand v.lattice fate) c → IsSummed reveals v c fate payload
     → payload ≡ sum_at v.lattice v.shape c fate
-summed_at tells v c fate payload told sum sound is = judged_homes tells v c (replicate v.shape.block 0) payload (summands v.lattice fate) told (summands_intact v c fate sum sound) is
+summed_at reveals v c fate payload revealed sum sound is = judged_homes reveals v c (replicate v.shape.block 0) payload (summands v.lattice fate) revealed (summands_intact v c fate sum sound) is
 
 -- and a clash is one of that
-pub clash_at : (tells : Type 0) (v : Opened) (c : Files) (fate : Fate) (d : BlockId) (told computed : List ℕ) → tells → IsSumIn v.lattice fate → AreAllIntact v (is_summand v.lattice fate) c → IsPayloadClash tells v c fate d told computed
+pub clash_at : (reveals : Type 0) (v : Opened) (c : Files) (fate : Fate) (d : BlockId) (revealed computed : List ℕ) → reveals → IsSumIn v.lattice fate → AreAllIntact v (is_summand v.lattice fate) c → IsPayloadClash reveals v c fate d revealed computed
     → (d ≡ block_of_fate fate) × (computed ≡ block_digest (block_of_fate fate) (sum_at v.lattice v.shape c fate))
-clash_at tells v c fate d told computed tell sum sound found = elim found [
-  | inl read ↦ absurd (homes_never tells v c (summands v.lattice fate) d told computed tell (summands_intact v c fate sum sound) read)
-  | inr own ↦ (own.0, own.1.computed_is ∙ ap (block_digest (block_of_fate fate)) (summed_at tells v c fate own.1.payload tell sum sound own.1.summed))
+clash_at reveals v c fate d revealed computed reveal sum sound found = elim found [
+  | inl read ↦ absurd (homes_never reveals v c (summands v.lattice fate) d revealed computed reveal (summands_intact v c fate sum sound) read)
+  | inr own ↦ (own.0, own.1.computed_is ∙ ap (block_digest (block_of_fate fate)) (summed_at reveals v c fate own.1.payload reveal sum sound own.1.summed))
 ]
 
 -- over any disk it is one of two digests that differ
-pub clash_other : (tells : Type 0) (v : Opened) (c : Files) (fate : Fate) (d : BlockId) (told computed : List ℕ) → IsPayloadClash tells v c fate d told computed → IsOtherDigest v d told computed
-clash_other tells v c fate d told computed found = elim found [
+pub clash_other : (reveals : Type 0) (v : Opened) (c : Files) (fate : Fate) (d : BlockId) (revealed computed : List ℕ) → IsPayloadClash reveals v c fate d revealed computed → IsOtherDigest v d revealed computed
+clash_other reveals v c fate d revealed computed found = elim found [
   | inl read ↦ read.1.other
-  | inr own ↦ subst (λ (a : BlockId). IsOtherDigest v a told computed) (sym own.0) own.1.other
+  | inr own ↦ subst (λ (a : BlockId). IsOtherDigest v a revealed computed) (sym own.0) own.1.other
 ]

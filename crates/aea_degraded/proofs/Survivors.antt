@@ -10,7 +10,7 @@ use Rattle.aea_gauss.specs.declared.fates.Fate.{Fate}
 use Rattle.aea_gauss.specs.Fates.{block_of_fate, IsFate}
 use Rattle.aea_ledger.specs.Values.{Opened}
 use Rattle.aea_ledger.specs.Recorded.{IsLatticeOf}
-use Rattle.aea_archive.specs.Blocks.{TellsSurvivors}
+use Rattle.aea_archive.specs.Blocks.{RevealsSurvivors}
 use Rattle.aea_restore.specs.Drawn.{ArePicked, IsDrawn, AreAllIntact, IsOtherDigest, IsClash}
 use Rattle.aea_restore.proofs.Drawing.{block_in_archive}
 use Rattle.aea_restore.proofs.Items.{item_has}
@@ -49,7 +49,7 @@ listed_there l known fates b at fate is all here = (item_has (IsFate l known) fa
 -- ---- drawn from the survivors
 
 -- what is known is intact
-pub known_intact : (v : Opened) (l : Lattice) (c : Files) (known test : BlockId → Bool) → l ≡ v.lattice → IsLatticeOf v.shape l.n l.fences l → TellsSurvivors v.shape v.lattice.n v.digests c known
+pub known_intact : (v : Opened) (l : Lattice) (c : Files) (known test : BlockId → Bool) → l ≡ v.lattice → IsLatticeOf v.shape l.n l.fences l → RevealsSurvivors v.shape v.lattice.n v.digests c known
     → ((d : BlockId) → HasBlock v.lattice d → IsTrue (test d) → IsTrue (known d)) → AreAllIntact v test c
 known_intact v l c known test same of_shape survivors so d has is = (survivors d (block_in_archive v l d same of_shape has)).0 (so d has is)
 
@@ -71,9 +71,9 @@ sum_drawn v known c fate has listed =
     }
 
 -- another digest of the sum is a clash
-pub sum_clash : (v : Opened) (known : BlockId → Bool) (c : Files) (fate : Fate) (d : BlockId) (told computed : List ℕ) → HasBlock v.lattice (block_of_fate fate) → IsListedSum v.lattice known fate
-    → d ≡ block_of_fate fate → computed ≡ block_digest (block_of_fate fate) (sum_at v.lattice v.shape c fate) → IsOtherDigest v d told computed → IsClash v known c d told computed
-sum_clash v known c fate d told computed has listed same is other = record {
+pub sum_clash : (v : Opened) (known : BlockId → Bool) (c : Files) (fate : Fate) (d : BlockId) (revealed computed : List ℕ) → HasBlock v.lattice (block_of_fate fate) → IsListedSum v.lattice known fate
+    → d ≡ block_of_fate fate → computed ≡ block_digest (block_of_fate fate) (sum_at v.lattice v.shape c fate) → IsOtherDigest v d revealed computed → IsClash v known c d revealed computed
+sum_clash v known c fate d revealed computed has listed same is other = record {
   other = other;
   payload = sum_at v.lattice v.shape c fate;
   drawn = subst (λ b. IsDrawn v known c b (sum_at v.lattice v.shape c fate)) (sym same) (sum_drawn v known c fate has listed);

@@ -17,7 +17,7 @@ use Rattle.aea_records.specs.Format.{nodes_for}
 use Rattle.aea_fates.specs.Laws.{ListsAreOne}
 use Rattle.aea_ledger.specs.Values.{Opened}
 use Rattle.aea_ledger.specs.Recorded.{IsLatticeOf}
-use Rattle.aea_archive.specs.Blocks.{TellsSurvivors}
+use Rattle.aea_archive.specs.Blocks.{RevealsSurvivors}
 use Rattle.aea_archive.specs.Data.{AreSurvivorsHonest}
 use Rattle.aea_archive.specs.Objects.{data_of, data_under, joined, object_in, IsOneOf}
 use Rattle.aea_fetch.specs.Copies.{HasSent, HasCut}
@@ -37,40 +37,40 @@ use Rattle.aea_degraded.proofs.Checked.{has_one}
 use Rattle.aea_degraded.proofs.Printed.{fetched_wide, fetched_also, fetched_cut}
 
 -- the blocks that a test of the survivors picks are intact
-pub known_of : (v : Opened) (l : Lattice) (c : Files) (known : BlockId → Bool) → l ≡ v.lattice → IsLatticeOf v.shape l.n l.fences l → TellsSurvivors v.shape v.lattice.n v.digests c known → AreAllIntact v known c
+pub known_of : (v : Opened) (l : Lattice) (c : Files) (known : BlockId → Bool) → l ≡ v.lattice → IsLatticeOf v.shape l.n l.fences l → RevealsSurvivors v.shape v.lattice.n v.digests c known → AreAllIntact v known c
 known_of v l c known same of_shape survivors = all_intact v c known (λ b has. block_in_archive v l b same of_shape has) survivors
 
 -- ---- what was appended, where the second pass read what the first one did
 
-module _ (tells : Type 0) (v : Opened) (c d : Files) (same : tells → c ≡ d) where
+module _ (reveals : Type 0) (v : Opened) (c d : Files) (same : reveals → c ≡ d) where
   -- the object
   pub fetched_sent : (o : Option Placed) (p : Placed) (most : ℕ) (a b : SinkState) → o ≡ Some p → most ≡ p.object.length → p.object.count ≡ sum_by (λ e. e.count) p.parts → p.object.count ≡ nodes_for v.shape p.object.length
-      → HasSent (IsFetched tells v c) (data_under o) most a b → HasFetched tells v d p a b
+      → HasSent (IsFetched reveals v c) (data_under o) most a b → HasFetched reveals v d p a b
   fetched_sent o p most a b is long sum count sent =
-      let mine = subst (λ (n : ℕ). HasSent (IsFetched tells v d) (data_of p.parts) n a b) long
-      (sent_as (IsFetched tells v c) (IsFetched tells v d) (fetched_also tells v c d same) (data_of p.parts) most a b (sent_under (IsFetched tells v c) o p most a b is sent)) in
+      let mine = subst (λ (n : ℕ). HasSent (IsFetched reveals v d) (data_of p.parts) n a b) long
+      (sent_as (IsFetched reveals v c) (IsFetched reveals v d) (fetched_also reveals v c d same) (data_of p.parts) most a b (sent_under (IsFetched reveals v c) o p most a b is sent)) in
       record {
         payloads = mine.payloads;
         are = mine.are;
-        long = long_enough (IsFetched tells v d) v.shape.block (fetched_wide tells v d) v.shape p mine.payloads refl mine.are sum count;
+        long = long_enough (IsFetched reveals v d) v.shape.block (fetched_wide reveals v d) v.shape p mine.payloads refl mine.are sum count;
         appended = mine.appended;
       }
 
   -- a first part of it
   pub fetched_part : (o : Option Placed) (p : Placed) (most : ℕ) (a b : SinkState) (output : Type 0) → o ≡ Some p → most ≡ p.object.length
-      → HasCut (IsFetched tells v c) (data_under o) most a [] b output → HasFetchedPart tells v d p a b
+      → HasCut (IsFetched reveals v c) (data_under o) most a [] b output → HasFetchedPart reveals v d p a b
   fetched_part o p most a b output is long cut =
-      let mine = subst (λ (n : ℕ). HasCut (IsFetched tells v d) (data_of p.parts) n a [] b output) long
-      (fetched_cut tells v c d same (data_of p.parts) most a b [] output (subst (λ (bs : List BlockId). HasCut (IsFetched tells v c) bs most a [] b output) (ap data_under is) cut)) in
+      let mine = subst (λ (n : ℕ). HasCut (IsFetched reveals v d) (data_of p.parts) n a [] b output) long
+      (fetched_cut reveals v c d same (data_of p.parts) most a b [] output (subst (λ (bs : List BlockId). HasCut (IsFetched reveals v c) bs most a [] b output) (ap data_under is) cut)) in
       record { front = mine.front; is_front = mine.is_front; payloads = mine.payloads; are = mine.are; part = mine.part }
 
 -- of survivors that are honest for a data list it is the object in that list
-pub own_fetched : (tells : Type 0) (v : Opened) (c : Files) (p : Placed) (a b : SinkState) (datas : List (List ℕ)) (known : BlockId → Bool) → tells → IsDataList v.lattice v.shape.block datas → AreSurvivorsHonest v.shape v.lattice v.digests datas c
-    → TellsSurvivors v.shape v.lattice.n v.digests c known → AreAllIntact v known c → IsTrue (are_apart 0 v.lattice.n p.parts) → HasFetched tells v c p a b → Appends a.written b.written (object_in p datas)
-own_fetched tells v c p a b datas known told is_data honest survivors sound apart got =
-    let value : (i : ℕ) (payload : List ℕ) → 1 ≤ i → i ≤ v.lattice.n → IsFetched tells v c (block_of i Datum) payload → payload ≡ datum_at v.shape.block datas i =
-    λ i payload first last fetched. honest_drawn v known c datas (block_of i Datum) payload is_data (λ e has is. honest e has (sound e has is)) (fetched.drawn told known survivors) in
-    let are = own_parts_are v.shape v.lattice datas is_data (IsFetched tells v c) value 0 p.parts got.payloads apart got.are in
+pub own_fetched : (reveals : Type 0) (v : Opened) (c : Files) (p : Placed) (a b : SinkState) (datas : List (List ℕ)) (known : BlockId → Bool) → reveals → IsDataList v.lattice v.shape.block datas → AreSurvivorsHonest v.shape v.lattice v.digests datas c
+    → RevealsSurvivors v.shape v.lattice.n v.digests c known → AreAllIntact v known c → IsTrue (are_apart 0 v.lattice.n p.parts) → HasFetched reveals v c p a b → Appends a.written b.written (object_in p datas)
+own_fetched reveals v c p a b datas known revealed is_data honest survivors sound apart got =
+    let value : (i : ℕ) (payload : List ℕ) → 1 ≤ i → i ≤ v.lattice.n → IsFetched reveals v c (block_of i Datum) payload → payload ≡ datum_at v.shape.block datas i =
+    λ i payload first last fetched. honest_drawn v known c datas (block_of i Datum) payload is_data (λ e has is. honest e has (sound e has is)) (fetched.drawn revealed known survivors) in
+    let are = own_parts_are v.shape v.lattice datas is_data (IsFetched reveals v c) value 0 p.parts got.payloads apart got.are in
     subst (λ (ps : List (List ℕ)). Appends a.written b.written (take p.object.length (joined ps))) are got.appended
 
 -- ---- the first block that is not determined

@@ -11,7 +11,7 @@ use Rattle.aea_disk.specs.Files.{Files}
 use Rattle.aea_envelope.specs.Cells.{block_digest}
 use Rattle.aea_catalog.specs.Catalogs.{Placed}
 use Rattle.aea_ledger.specs.Values.{Opened}
-use Rattle.aea_archive.specs.Blocks.{recorded_in, TellsSurvivors}
+use Rattle.aea_archive.specs.Blocks.{recorded_in, RevealsSurvivors}
 use Rattle.aea_archive.specs.Objects.{data_of, joined, ArePayloads, IsFirstWithout, IsFront}
 use Rattle.aea_restore.specs.Drawn.{IsDrawn}
 use Rattle.aea_degraded.specs.declared.fault.FetchFault.{FetchFault}
@@ -19,24 +19,24 @@ use Rattle.aea_degraded.specs.declared.fault.FetchFault.TheVariants.{Clash, Disk
 
 -- A payload of the block: it has the bytes of a block, and the digest that is kept of it; and where the disk's contents are
 -- known, it is drawn from the intact blocks, whichever test distinguishes them: it is the block's own, or a sum of intact ones.
-pub record IsFetched (tells : Type 0) (v : Opened) (c : Files) (b : BlockId) (payload : List ℕ) : Type 0 where
+pub record IsFetched (reveals : Type 0) (v : Opened) (c : Files) (b : BlockId) (payload : List ℕ) : Type 0 where
   pub wide : length payload ≡ v.shape.block
   pub digest : block_digest b payload ≡ recorded_in v.shape v.digests b
-  pub drawn : tells → (known : BlockId → Bool) → TellsSurvivors v.shape v.lattice.n v.digests c known → IsDrawn v known c b payload
+  pub drawn : reveals → (known : BlockId → Bool) → RevealsSurvivors v.shape v.lattice.n v.digests c known → IsDrawn v known c b payload
 
 -- The object was fetched: what was appended is its first bytes, as many as its length says, of payloads of its data blocks.
-pub record HasFetched (tells : Type 0) (v : Opened) (c : Files) (p : Placed) (old new : SinkState) : Type 0 where
+pub record HasFetched (reveals : Type 0) (v : Opened) (c : Files) (p : Placed) (old new : SinkState) : Type 0 where
   pub payloads : List (List ℕ)
-  pub are : ArePayloads (IsFetched tells v c) (data_of p.parts) payloads
+  pub are : ArePayloads (IsFetched reveals v c) (data_of p.parts) payloads
   pub long : length (take p.object.length (joined payloads)) ≡ p.object.length
   pub appended : Appends old.written new.written (take p.object.length (joined payloads))
 
 -- A first part of it was appended: of the payloads of some first ones of its data blocks, cut to its length.
-pub record HasFetchedPart (tells : Type 0) (v : Opened) (c : Files) (p : Placed) (old new : SinkState) : Type 0 where
+pub record HasFetchedPart (reveals : Type 0) (v : Opened) (c : Files) (p : Placed) (old new : SinkState) : Type 0 where
   pub front : List BlockId
   pub is_front : IsFront front (data_of p.parts)
   pub payloads : List (List ℕ)
-  pub are : ArePayloads (IsFetched tells v c) front payloads
+  pub are : ArePayloads (IsFetched reveals v c) front payloads
   pub part : AppendsPart old.written new.written (take p.object.length (joined payloads))
 
 -- The first of the blocks that the known ones do not determine, with its listed nodes.
@@ -46,7 +46,7 @@ pub record IsFirstOpen (l : Lattice) (known : BlockId → Bool) (blocks : List B
 
 -- two digests of a block differ
 abbrev pub IsClashing : {T : Type 0} → Result T FetchFault → Type 0
-IsClashing result = (b : BlockId) × (told : List ℕ) × (computed : List ℕ) × (result ≡ Err (Clash b told computed))
+IsClashing result = (b : BlockId) × (revealed : List ℕ) × (computed : List ℕ) × (result ≡ Err (Clash b revealed computed))
 
 -- the disk failed, or memory ran out
 abbrev pub IsOutside : {T : Type 0} → Result T FetchFault → Type 0

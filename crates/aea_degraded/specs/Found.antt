@@ -7,7 +7,7 @@ use Rattle.aea_disk.specs.Files.{Files}
 use Rattle.aea_gauss.specs.declared.fates.Fate.{Fate}
 use Rattle.aea_gauss.specs.Fates.{block_of_fate, IsFate}
 use Rattle.aea_ledger.specs.Values.{Opened}
-use Rattle.aea_archive.specs.Blocks.{TellsSurvivors}
+use Rattle.aea_archive.specs.Blocks.{RevealsSurvivors}
 use Rattle.aea_degraded.specs.Summed.{IsOfEquations}
 
 -- at this place of the list is the fate of the block, and it is listed equations
@@ -20,6 +20,6 @@ pub record IsSumAt (fates : List Fate) (b : BlockId) (at : ℕ) : Type 0 where
 -- What a search found out is right for the intact blocks, which the test tells: each listed fate is that of its block where these
 -- are known, and this block is marked as damaged where it is none of them.
 pub record IsFoundBy (v : Opened) (c : Files) (damaged : Marked) (fates : List Fate) (b : BlockId) (known : BlockId → Bool) : Type 0 where
-  pub survivors : TellsSurvivors v.shape v.lattice.n v.digests c known
+  pub survivors : RevealsSurvivors v.shape v.lattice.n v.digests c known
   pub right : All (IsFate v.lattice known) fates
   pub marked : known b ≡ not (is_marked damaged b)

@@ -7,7 +7,7 @@ use Rattle.aea_view.specs.Marked.{Marked, is_marked}
 use Rattle.aea_disk.specs.Files.{Files}
 use Rattle.aea_envelope.specs.Cells.{block_digest}
 use Rattle.aea_ledger.specs.Values.{Opened}
-use Rattle.aea_archive.specs.Blocks.{recorded_in, TellsSurvivors}
+use Rattle.aea_archive.specs.Blocks.{recorded_in, RevealsSurvivors}
 use Rattle.aea_gauss.specs.declared.fates.Fate.{Fate}
 use Rattle.aea_gauss.specs.declared.fates.Fate.TheVariants.{Word}
 use Rattle.aea_gauss.specs.Fates.{AreFates, IsFate, block_of_fate}
@@ -27,7 +27,7 @@ IsGiven fates b = (nodes : List ℕ) → Contains fates (Word b nodes) → ⊥
 -- What was found out is right for the intact blocks, which the test distinguishes: each fate is that of its block where these are
 -- known, and of the given blocks those are marked that are not among them.
 pub record IsRightPlan (v : Opened) (c : Files) (damaged : Marked) (fates : List Fate) (blocks : List BlockId) (known : BlockId → Bool) : Type 0 where
-  pub survivors : TellsSurvivors v.shape v.lattice.n v.digests c known
+  pub survivors : RevealsSurvivors v.shape v.lattice.n v.digests c known
   pub right : All (IsFate v.lattice known) fates
   pub marked : All (λ b. known b ≡ not (is_marked damaged b)) blocks
 
@@ -38,14 +38,14 @@ IsChecked v c damaged fates b =
 
 -- The second pass may ask for the block: no fate of it is listed nodes, and where the disk's contents are known, what was found out is
 -- right for the intact blocks, and the block is checked.
-pub record IsPlanned (tells : Type 0) (v : Opened) (c : Files) (damaged : Marked) (fates : List Fate) (b : BlockId) : Type 0 where
+pub record IsPlanned (reveals : Type 0) (v : Opened) (c : Files) (damaged : Marked) (fates : List Fate) (b : BlockId) : Type 0 where
   pub lattice : damaged.lattice ≡ v.lattice
   pub are : AreFatesOf v.lattice damaged fates
   pub given : IsGiven fates b
-  pub right : tells → (known : BlockId → Bool) → TellsSurvivors v.shape v.lattice.n v.digests c known → IsFoundBy v c damaged fates b known
-  pub checked : tells → IsChecked v c damaged fates b
+  pub right : reveals → (known : BlockId → Bool) → RevealsSurvivors v.shape v.lattice.n v.digests c known → IsFoundBy v c damaged fates b known
+  pub checked : reveals → IsChecked v c damaged fates b
 
 -- how the first pass of a fetch fails: a data block is not determined, two digests differ, the disk failed, or memory ran out
 abbrev pub IsFirstFault : FetchFault → Type 0
 IsFirstFault fault =
-    ((b : BlockId) × (nodes : List ℕ) × (fault ≡ Undetermined b nodes)) ⊎ (((b : BlockId) × (told : List ℕ) × (computed : List ℕ) × (fault ≡ Clash b told computed)) ⊎ ((fault ≡ DiskFault) ⊎ (fault ≡ NoMemory)))
+    ((b : BlockId) × (nodes : List ℕ) × (fault ≡ Undetermined b nodes)) ⊎ (((b : BlockId) × (revealed : List ℕ) × (computed : List ℕ) × (fault ≡ Clash b revealed computed)) ⊎ ((fault ≡ DiskFault) ⊎ (fault ≡ NoMemory)))

@@ -11,13 +11,13 @@ use Rattle.aea_degraded.specs.declared.fault.FetchFault.TheVariants.{Clash, Writ
 -- two digests differ, the output failed, or the disk did
 abbrev pub IsSendFault : FetchFault → Type 0
 IsSendFault fault =
-    ((b : BlockId) × (told : List ℕ) × (computed : List ℕ) × (fault ≡ Clash b told computed)) ⊎ ((fault ≡ WriteFault) ⊎ (fault ≡ DiskFault))
+    ((b : BlockId) × (revealed : List ℕ) × (computed : List ℕ) × (fault ≡ Clash b revealed computed)) ⊎ ((fault ≡ WriteFault) ⊎ (fault ≡ DiskFault))
 
 -- What a fault of a payload says: a clash is one of two digests that differ, the first of them the ledger's; and there is none where the
 -- disk's contents are known.
 abbrev pub IsPlanFault : Type 0 → Opened → PayloadFault → Type 0
-IsPlanFault tells v (payload.Clash b recorded computed) = IsOtherDigest v b recorded computed × (tells → ⊥)
-IsPlanFault tells v payload.DiskFault = Unit {0}
+IsPlanFault reveals v (payload.Clash b recorded computed) = IsOtherDigest v b recorded computed × (reveals → ⊥)
+IsPlanFault reveals v payload.DiskFault = Unit {0}
 
 -- a fault of a payload as one of a fetch
 abbrev pub fetch_fault : PayloadFault → FetchFault

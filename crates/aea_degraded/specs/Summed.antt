@@ -46,21 +46,21 @@ sum_at l shape c fate = xor_all shape.block (map (payload_at shape c) (summands 
 -- The payload is the XOR of payloads that were read at their homes, one of each in their order, each of which has the digest
 -- that the ledger keeps of its block.
 abbrev pub IsSummed : Type 0 → Opened → Files → Fate → List ℕ → Type 0
-IsSummed tells v c fate payload = IsJudgedSum tells v c (replicate v.shape.block 0) (summands v.lattice fate) payload
+IsSummed reveals v c fate payload = IsJudgedSum reveals v c (replicate v.shape.block 0) (summands v.lattice fate) payload
 
 -- Two digests of the block of a sum differ: the one that the ledger keeps of it, and that of such a payload.
-pub record IsSummedClash (tells : Type 0) (v : Opened) (c : Files) (fate : Fate) (told computed : List ℕ) : Type 0 where
-  pub other : IsOtherDigest v (block_of_fate fate) told computed
+pub record IsSummedClash (reveals : Type 0) (v : Opened) (c : Files) (fate : Fate) (revealed computed : List ℕ) : Type 0 where
+  pub other : IsOtherDigest v (block_of_fate fate) revealed computed
   pub payload : List ℕ
-  pub summed : IsSummed tells v c fate payload
+  pub summed : IsSummed reveals v c fate payload
   pub computed_is : computed ≡ block_digest (block_of_fate fate) payload
 
 -- What a clash says that comes while the payload is computed: it is one of a summand that was read, and is not intact; or of the
 -- block itself.
 abbrev pub IsPayloadClash : Type 0 → Opened → Files → Fate → BlockId → List ℕ → List ℕ → Type 0
-IsPayloadClash tells v c fate d told computed =
-    IsReadClashIn tells v c (summands v.lattice fate) d told computed
-    ⊎ ((d ≡ block_of_fate fate) × IsSummedClash tells v c fate told computed)
+IsPayloadClash reveals v c fate d revealed computed =
+    IsReadClashIn reveals v c (summands v.lattice fate) d revealed computed
+    ⊎ ((d ≡ block_of_fate fate) × IsSummedClash reveals v c fate revealed computed)
 
 -- whether the fate is listed nodes
 abbrev pub is_word : Fate → Bool

@@ -46,9 +46,9 @@ fn read_own<D: Disk>(
     requires cell { length cell.old ≡ cell_size ledger.now.shape }
     requires sum { length sum.old ≡ ledger.now.shape.block }
     ensures digest { OnOk result (block_digest b sum.new ≡ recorded_in ledger.now.shape ledger.now.digests b) }
-    ensures intact { OnOk result (D.tells → IsIntactBy ledger.now.shape ledger.now.digests (D.state disk.old).files b → sum.new ≡ payload_at ledger.now.shape (D.state disk.old).files b) }
-    ensures found { (d : BlockId) (told computed : List ℕ) → result ≡ Err (PayloadFault.Clash d told computed) → (d ≡ b) × IsReadClash D.tells ledger.now (D.state disk.old).files d told computed }
-    ensures reads { OnlyReads D.tells (result ≡ Err PayloadFault.DiskFault) (D.state disk.old) (D.state disk.new) }
+    ensures intact { OnOk result (D.reveals → IsIntactBy ledger.now.shape ledger.now.digests (D.state disk.old).files b → sum.new ≡ payload_at ledger.now.shape (D.state disk.old).files b) }
+    ensures found { (d : BlockId) (revealed computed : List ℕ) → result ≡ Err (PayloadFault.Clash d revealed computed) → (d ≡ b) × IsReadClash D.reveals ledger.now (D.state disk.old).files d revealed computed }
+    ensures reads { OnlyReads D.reveals (result ≡ Err PayloadFault.DiskFault) (D.state disk.old) (D.state disk.new) }
 {
     match read_payload(ledger, disk, b, cell) {
         Ok(()) => {
@@ -82,18 +82,18 @@ pub(crate) fn block_payload<D: Disk>(
 
     // Where the disk tells its files, and the marks and fates are right for the intact blocks, it is drawn from these, and a clash
     // is one of such a payload, of this block, which is damaged then.
-    ensures drawn { OnOk result (D.tells → (known : BlockId → Bool) → IsFoundBy ledger.now (D.state disk.old).files damaged.now fates.now b known → IsDrawn ledger.now known (D.state disk.old).files b sum.new) }
-    ensures clash { (d : BlockId) (told computed : List ℕ) → result ≡ Err (PayloadFault.Clash d told computed) → IsOtherDigest ledger.now d told computed }
-    ensures computed { (d : BlockId) (told computed : List ℕ) → result ≡ Err (PayloadFault.Clash d told computed) → D.tells → (known : BlockId → Bool) → IsFoundBy ledger.now (D.state disk.old).files damaged.now fates.now b known
-        → (d ≡ b) × ((known b ≡ false) × IsClash ledger.now known (D.state disk.old).files d told computed) }
+    ensures drawn { OnOk result (D.reveals → (known : BlockId → Bool) → IsFoundBy ledger.now (D.state disk.old).files damaged.now fates.now b known → IsDrawn ledger.now known (D.state disk.old).files b sum.new) }
+    ensures clash { (d : BlockId) (revealed computed : List ℕ) → result ≡ Err (PayloadFault.Clash d revealed computed) → IsOtherDigest ledger.now d revealed computed }
+    ensures computed { (d : BlockId) (revealed computed : List ℕ) → result ≡ Err (PayloadFault.Clash d revealed computed) → D.reveals → (known : BlockId → Bool) → IsFoundBy ledger.now (D.state disk.old).files damaged.now fates.now b known
+        → (d ≡ b) × ((known b ≡ false) × IsClash ledger.now known (D.state disk.old).files d revealed computed) }
 
     // What is computed there is the sum of what is at the homes of the blocks that the fate adds up to; so a second run of it makes
     // the same.
-    ensures summed { OnOk result (D.tells → (known : BlockId → Bool) → IsFoundBy ledger.now (D.state disk.old).files damaged.now fates.now b known → is_marked damaged.now b ≡ true
+    ensures summed { OnOk result (D.reveals → (known : BlockId → Bool) → IsFoundBy ledger.now (D.state disk.old).files damaged.now fates.now b known → is_marked damaged.now b ≡ true
         → (fate : Fate) → slice_get fates.now at ≡ Some fate → sum.new ≡ sum_at ledger.now.lattice ledger.now.shape (D.state disk.old).files fate) }
-    ensures summed_clash { (d : BlockId) (told computed : List ℕ) → result ≡ Err (PayloadFault.Clash d told computed) → D.tells → (known : BlockId → Bool) → IsFoundBy ledger.now (D.state disk.old).files damaged.now fates.now b known
+    ensures summed_clash { (d : BlockId) (revealed computed : List ℕ) → result ≡ Err (PayloadFault.Clash d revealed computed) → D.reveals → (known : BlockId → Bool) → IsFoundBy ledger.now (D.state disk.old).files damaged.now fates.now b known
         → (fate : Fate) → slice_get fates.now at ≡ Some fate → computed ≡ block_digest b (sum_at ledger.now.lattice ledger.now.shape (D.state disk.old).files fate) }
-    ensures reads { OnlyReads D.tells (result ≡ Err PayloadFault.DiskFault) (D.state disk.old) (D.state disk.new) }
+    ensures reads { OnlyReads D.reveals (result ≡ Err PayloadFault.DiskFault) (D.state disk.old) (D.state disk.new) }
 {
     let _lattice = ledger.lattice();
     if !damaged.get(b) {

@@ -38,11 +38,11 @@ fn check_sum<D: Disk>(
     requires given { IsGiven fates.now b }
     requires cell { length cell.old ≡ cell_size ledger.now.shape }
     requires sum { length sum.old ≡ ledger.now.shape.block }
-    ensures checked { OnOk result (D.tells → (known : BlockId → Bool) → IsFoundBy ledger.now (D.state disk.old).files damaged.now fates.now b known → IsChecked ledger.now (D.state disk.old).files damaged.now fates.now b) }
-    ensures clash { (d : BlockId) (told computed : List ℕ) → result ≡ Err (PayloadFault.Clash d told computed) → IsOtherDigest ledger.now d told computed }
-    ensures computed { (d : BlockId) (told computed : List ℕ) → result ≡ Err (PayloadFault.Clash d told computed) → D.tells → (known : BlockId → Bool) → IsFoundBy ledger.now (D.state disk.old).files damaged.now fates.now b known
-        → (d ≡ b) × ((known b ≡ false) × IsClash ledger.now known (D.state disk.old).files d told computed) }
-    ensures reads { OnlyReads D.tells (result ≡ Err PayloadFault.DiskFault) (D.state disk.old) (D.state disk.new) }
+    ensures checked { OnOk result (D.reveals → (known : BlockId → Bool) → IsFoundBy ledger.now (D.state disk.old).files damaged.now fates.now b known → IsChecked ledger.now (D.state disk.old).files damaged.now fates.now b) }
+    ensures clash { (d : BlockId) (revealed computed : List ℕ) → result ≡ Err (PayloadFault.Clash d revealed computed) → IsOtherDigest ledger.now d revealed computed }
+    ensures computed { (d : BlockId) (revealed computed : List ℕ) → result ≡ Err (PayloadFault.Clash d revealed computed) → D.reveals → (known : BlockId → Bool) → IsFoundBy ledger.now (D.state disk.old).files damaged.now fates.now b known
+        → (d ≡ b) × ((known b ≡ false) × IsClash ledger.now known (D.state disk.old).files d revealed computed) }
+    ensures reads { OnlyReads D.reveals (result ≡ Err PayloadFault.DiskFault) (D.state disk.old) (D.state disk.new) }
 {
     lists_are_one();
     if !damaged.get(b) {
@@ -69,13 +69,13 @@ pub(crate) fn check_sums<D: Disk>(
     requires given { All (IsGiven fates.now) (data_under (get ledger.now.objects name.now)) }
     requires cell { length cell.old ≡ cell_size ledger.now.shape }
     requires sum { length sum.old ≡ ledger.now.shape.block }
-    ensures checked { OnOk result (D.tells → (known : BlockId → Bool) → IsRightPlan ledger.now (D.state disk.old).files damaged.now fates.now (data_under (get ledger.now.objects name.now)) known
+    ensures checked { OnOk result (D.reveals → (known : BlockId → Bool) → IsRightPlan ledger.now (D.state disk.old).files damaged.now fates.now (data_under (get ledger.now.objects name.now)) known
         → All (IsChecked ledger.now (D.state disk.old).files damaged.now fates.now) (data_under (get ledger.now.objects name.now))) }
-    ensures clash { (d : BlockId) (told computed : List ℕ) → result ≡ Err (PayloadFault.Clash d told computed) → IsOtherDigest ledger.now d told computed }
-    ensures computed { (d : BlockId) (told computed : List ℕ) → result ≡ Err (PayloadFault.Clash d told computed) → D.tells → (known : BlockId → Bool)
+    ensures clash { (d : BlockId) (revealed computed : List ℕ) → result ≡ Err (PayloadFault.Clash d revealed computed) → IsOtherDigest ledger.now d revealed computed }
+    ensures computed { (d : BlockId) (revealed computed : List ℕ) → result ≡ Err (PayloadFault.Clash d revealed computed) → D.reveals → (known : BlockId → Bool)
         → IsRightPlan ledger.now (D.state disk.old).files damaged.now fates.now (data_under (get ledger.now.objects name.now)) known
-        → IsOneOf (data_under (get ledger.now.objects name.now)) d × ((known d ≡ false) × IsClash ledger.now known (D.state disk.old).files d told computed) }
-    ensures reads { OnlyReads D.tells (result ≡ Err PayloadFault.DiskFault) (D.state disk.old) (D.state disk.new) }
+        → IsOneOf (data_under (get ledger.now.objects name.now)) d × ((known d ≡ false) × IsClash ledger.now known (D.state disk.old).files d revealed computed) }
+    ensures reads { OnlyReads D.reveals (result ≡ Err PayloadFault.DiskFault) (D.state disk.old) (D.state disk.new) }
 {
     let mut blocks = DataBlocks::new(ledger, name);
     while let Some(b) = blocks.next() {

@@ -32,7 +32,7 @@ fn judge_sum(ledger: &Ledger, b: BlockId, sum: &[u8]) -> Result<(), RestoreFault
     requires block { HasBlock ledger.now.lattice b }
     requires sum { length sum.now ≡ ledger.now.shape.block }
     ensures digest { OnOk result (block_digest b sum.now ≡ recorded_in ledger.now.shape ledger.now.digests b) }
-    ensures clash { (d : BlockId) (told computed : List ℕ) → result ≡ Err (RestoreFault.Clash d told computed) → (d ≡ b) × (IsOtherDigest ledger.now b told computed × (computed ≡ block_digest b sum.now)) }
+    ensures clash { (d : BlockId) (revealed computed : List ℕ) → result ≡ Err (RestoreFault.Clash d revealed computed) → (d ≡ b) × (IsOtherDigest ledger.now b revealed computed × (computed ≡ block_digest b sum.now)) }
     ensures disk { result ≢ Err RestoreFault.DiskFault }
 {
     let want = recorded(ledger, b);
@@ -59,9 +59,9 @@ fn sum_payload<D: Disk>(
     requires cell { length cell.old ≡ cell_size ledger.now.shape }
     requires sum { length sum.old ≡ ledger.now.shape.block }
     ensures digest { OnOk result (block_digest b sum.new ≡ recorded_in ledger.now.shape ledger.now.digests b) }
-    ensures judged { OnOk result (IsSummed D.tells ledger.now (D.state disk.old).files (Fate.Sum b equations.now) sum.new) }
-    ensures found { (d : BlockId) (told computed : List ℕ) → result ≡ Err (RestoreFault.Clash d told computed) → IsPayloadClash D.tells ledger.now (D.state disk.old).files (Fate.Sum b equations.now) d told computed }
-    ensures reads { OnlyReads D.tells (result ≡ Err RestoreFault.DiskFault) (D.state disk.old) (D.state disk.new) }
+    ensures judged { OnOk result (IsSummed D.reveals ledger.now (D.state disk.old).files (Fate.Sum b equations.now) sum.new) }
+    ensures found { (d : BlockId) (revealed computed : List ℕ) → result ≡ Err (RestoreFault.Clash d revealed computed) → IsPayloadClash D.reveals ledger.now (D.state disk.old).files (Fate.Sum b equations.now) d revealed computed }
+    ensures reads { OnlyReads D.reveals (result ≡ Err RestoreFault.DiskFault) (D.state disk.old) (D.state disk.new) }
 {
     clear(sum);
     match add_equations(ledger, disk, b, equations, cell, sum) {
@@ -90,16 +90,16 @@ pub fn payload<D: Disk>(
     // What is computed is the sum of judged payloads, and has the recorded digest. Where the disk tells its files, and the
     // summands are intact, it is the sum of what is at their homes.
     ensures digest { OnOk result (block_digest (block_of_fate fate.now) sum.new ≡ recorded_in ledger.now.shape ledger.now.digests (block_of_fate fate.now)) }
-    ensures judged { OnOk result (IsSummed D.tells ledger.now (D.state disk.old).files fate.now sum.new) }
-    ensures sum { OnOk result (D.tells → AreAllIntact ledger.now (is_summand ledger.now.lattice fate.now) (D.state disk.old).files → sum.new ≡ sum_at ledger.now.lattice ledger.now.shape (D.state disk.old).files fate.now) }
+    ensures judged { OnOk result (IsSummed D.reveals ledger.now (D.state disk.old).files fate.now sum.new) }
+    ensures sum { OnOk result (D.reveals → AreAllIntact ledger.now (is_summand ledger.now.lattice fate.now) (D.state disk.old).files → sum.new ≡ sum_at ledger.now.lattice ledger.now.shape (D.state disk.old).files fate.now) }
 
     // A clash is one of two digests that differ, the first of them the ledger's: of a summand that was read, which is then not
     // intact, or of the computed payload. Where the disk tells its files, and the summands are intact, it is the latter.
-    ensures clash { (d : BlockId) (told computed : List ℕ) → result ≡ Err (PayloadFault.Clash d told computed) → IsOtherDigest ledger.now d told computed }
-    ensures found { (d : BlockId) (told computed : List ℕ) → result ≡ Err (PayloadFault.Clash d told computed) → IsPayloadClash D.tells ledger.now (D.state disk.old).files fate.now d told computed }
-    ensures computed { (d : BlockId) (told computed : List ℕ) → result ≡ Err (PayloadFault.Clash d told computed) → D.tells → AreAllIntact ledger.now (is_summand ledger.now.lattice fate.now) (D.state disk.old).files
+    ensures clash { (d : BlockId) (revealed computed : List ℕ) → result ≡ Err (PayloadFault.Clash d revealed computed) → IsOtherDigest ledger.now d revealed computed }
+    ensures found { (d : BlockId) (revealed computed : List ℕ) → result ≡ Err (PayloadFault.Clash d revealed computed) → IsPayloadClash D.reveals ledger.now (D.state disk.old).files fate.now d revealed computed }
+    ensures computed { (d : BlockId) (revealed computed : List ℕ) → result ≡ Err (PayloadFault.Clash d revealed computed) → D.reveals → AreAllIntact ledger.now (is_summand ledger.now.lattice fate.now) (D.state disk.old).files
         → (d ≡ block_of_fate fate.now) × (computed ≡ block_digest (block_of_fate fate.now) (sum_at ledger.now.lattice ledger.now.shape (D.state disk.old).files fate.now)) }
-    ensures reads { OnlyReads D.tells (result ≡ Err PayloadFault.DiskFault) (D.state disk.old) (D.state disk.new) }
+    ensures reads { OnlyReads D.reveals (result ≡ Err PayloadFault.DiskFault) (D.state disk.old) (D.state disk.new) }
 {
     match fate {
         Fate::Sum { block, eqs } => match sum_payload(ledger, disk, *block, eqs, cell, sum) {

@@ -20,7 +20,7 @@ impl From<RestoreFault> for PayloadFault {
     ghost use Rattle.std.specs.Prelude.{◌≡◌};
     ghost use Rattle.aea_degraded.specs.Faults.{payload_fault};
 
-    ghost from_gives = { λ fault told. told ≡ payload_fault fault };
+    ghost from_gives = { λ fault revealed. revealed ≡ payload_fault fault };
 
     fn from(fault: RestoreFault) -> PayloadFault {
         match fault {
@@ -67,7 +67,7 @@ impl From<PayloadFault> for FetchFault {
     ghost use Rattle.std.specs.Prelude.{◌≡◌};
     ghost use Rattle.aea_degraded.specs.Sent.{fetch_fault};
 
-    ghost from_gives = { λ fault told. told ≡ fetch_fault fault };
+    ghost from_gives = { λ fault revealed. revealed ≡ fetch_fault fault };
 
     fn from(fault: PayloadFault) -> FetchFault {
         match fault {

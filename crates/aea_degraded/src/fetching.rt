@@ -13,7 +13,7 @@ ghost use Rattle.aea_catalog.specs.Catalogs.{Placed};
 ghost use Rattle.aea_records.specs.Format.{Record};
 ghost use Rattle.aea_ledger.specs.Recorded.{AreRecordsOf};
 ghost use Rattle.aea_ledger.specs.Values.{HasRecords};
-ghost use Rattle.aea_archive.specs.Blocks.{TellsSurvivors};
+ghost use Rattle.aea_archive.specs.Blocks.{RevealsSurvivors};
 ghost use Rattle.aea_archive.specs.Data.{AreSurvivorsHonest};
 ghost use Rattle.aea_archive.specs.Objects.{data_of, object_in, IsOneOf};
 ghost use Rattle.aea_restore.specs.Drawn.{IsOtherDigest, IsClash};
@@ -22,7 +22,7 @@ ghost use Rattle.aea_degraded.specs.Fetched.{HasFetched, HasFetchedPart, IsFirst
 use crate::fault::FetchFault;
 use crate::first::first_pass;
 use crate::sending::send_fetched;
-use aea_archive::{cell_buffer, survivors_are_told};
+use aea_archive::{cell_buffer, survivors_are_revealed};
 use aea_disk::Disk;
 use aea_fates::lists_are_one;
 use aea_io::{Page, Sink};
@@ -55,11 +55,11 @@ pub fn fetch<D: Disk, O: Sink>(
 ) -> Result<u64, FetchFault>
     // Fetched.
     ensures fetched { IfOk result (λ n. (p : Placed) × (get ledger.now.objects name.now ≡ Some p) × (n ≡ p.object.length)
-        × HasFetched D.tells ledger.now (D.state disk.old).files p (O.state out.old) (O.state out.new)) }
+        × HasFetched D.reveals ledger.now (D.state disk.old).files p (O.state out.old) (O.state out.new)) }
     ensures flushed { OnOk result (IsFlushed (O.state out.new)) }
 
     // Of survivors that are honest for a data list it is the object in that list.
-    ensures own { OnOk result (D.tells → (p : Placed) (datas : List (List ℕ)) → get ledger.now.objects name.now ≡ Some p → IsDataList ledger.now.lattice ledger.now.shape.block datas
+    ensures own { OnOk result (D.reveals → (p : Placed) (datas : List (List ℕ)) → get ledger.now.objects name.now ≡ Some p → IsDataList ledger.now.lattice ledger.now.shape.block datas
         → AreSurvivorsHonest ledger.now.shape ledger.now.lattice ledger.now.digests datas (D.state disk.old).files → Appends (O.state out.old).written (O.state out.new).written (object_in p datas)) }
 
     // No object has the name.
@@ -69,34 +69,34 @@ pub fn fetch<D: Disk, O: Sink>(
     // are those that are listed for some known blocks.
     ensures undetermined { (b : BlockId) (nodes : List ℕ) → result ≡ Err (FetchFault.Undetermined b nodes) → (p : Placed) × (get ledger.now.objects name.now ≡ Some p) × IsOneOf (data_of p.parts) b
         × ((test : BlockId → Bool) × IsWord ledger.now.lattice test b nodes) × (out.new ≡ out.old)
-        × (D.tells → (known : BlockId → Bool) → TellsSurvivors ledger.now.shape ledger.now.lattice.n ledger.now.digests (D.state disk.old).files known → IsFirstOpen ledger.now.lattice known (data_of p.parts) b nodes) }
-    ensures open_refused { D.tells → (p : Placed) (known : BlockId → Bool) (b : BlockId) (nodes : List ℕ) → get ledger.now.objects name.now ≡ Some p
-        → TellsSurvivors ledger.now.shape ledger.now.lattice.n ledger.now.digests (D.state disk.old).files known → IsFirstOpen ledger.now.lattice known (data_of p.parts) b nodes
+        × (D.reveals → (known : BlockId → Bool) → RevealsSurvivors ledger.now.shape ledger.now.lattice.n ledger.now.digests (D.state disk.old).files known → IsFirstOpen ledger.now.lattice known (data_of p.parts) b nodes) }
+    ensures open_refused { D.reveals → (p : Placed) (known : BlockId → Bool) (b : BlockId) (nodes : List ℕ) → get ledger.now.objects name.now ≡ Some p
+        → RevealsSurvivors ledger.now.shape ledger.now.lattice.n ledger.now.digests (D.state disk.old).files known → IsFirstOpen ledger.now.lattice known (data_of p.parts) b nodes
         → (result ≡ Err (FetchFault.Undetermined b nodes)) ⊎ IsOutside result }
 
     // A clash is one of two digests that differ, the first of them the ledger's; where the disk's contents are known, it is one
     // of a damaged data block of the object, of which the survivors' sum has another digest, and nothing was written; and
     // there is none where the survivors are honest for a data list that the ledger records.
-    ensures clash { (b : BlockId) (told computed : List ℕ) → result ≡ Err (FetchFault.Clash b told computed) → IsOtherDigest ledger.now b told computed }
-    ensures computed { D.tells → (known : BlockId → Bool) → TellsSurvivors ledger.now.shape ledger.now.lattice.n ledger.now.digests (D.state disk.old).files known
-        → (b : BlockId) (told computed : List ℕ) → result ≡ Err (FetchFault.Clash b told computed)
-        → ((p : Placed) → get ledger.now.objects name.now ≡ Some p → IsOneOf (data_of p.parts) b) × (known b ≡ false) × IsClash ledger.now known (D.state disk.old).files b told computed × (out.new ≡ out.old) }
-    ensures no_clash { D.tells → (records : List Record) (datas : List (List ℕ)) → HasRecords ledger.now records → AreRecordsOf ledger.now.shape records datas
+    ensures clash { (b : BlockId) (revealed computed : List ℕ) → result ≡ Err (FetchFault.Clash b revealed computed) → IsOtherDigest ledger.now b revealed computed }
+    ensures computed { D.reveals → (known : BlockId → Bool) → RevealsSurvivors ledger.now.shape ledger.now.lattice.n ledger.now.digests (D.state disk.old).files known
+        → (b : BlockId) (revealed computed : List ℕ) → result ≡ Err (FetchFault.Clash b revealed computed)
+        → ((p : Placed) → get ledger.now.objects name.now ≡ Some p → IsOneOf (data_of p.parts) b) × (known b ≡ false) × IsClash ledger.now known (D.state disk.old).files b revealed computed × (out.new ≡ out.old) }
+    ensures no_clash { D.reveals → (records : List Record) (datas : List (List ℕ)) → HasRecords ledger.now records → AreRecordsOf ledger.now.shape records datas
         → AreSurvivorsHonest ledger.now.shape ledger.now.lattice ledger.now.digests datas (D.state disk.old).files
-        → (b : BlockId) (told computed : List ℕ) → result ≢ Err (FetchFault.Clash b told computed) }
+        → (b : BlockId) (revealed computed : List ℕ) → result ≢ Err (FetchFault.Clash b revealed computed) }
 
     // Where the intact blocks determine all data blocks it is fetched, but for a clash, faults and lack of memory.
-    ensures complete { D.tells → (p : Placed) (known : BlockId → Bool) → get ledger.now.objects name.now ≡ Some p
-        → TellsSurvivors ledger.now.shape ledger.now.lattice.n ledger.now.digests (D.state disk.old).files known → All (Determines ledger.now.lattice known) (data_of p.parts)
+    ensures complete { D.reveals → (p : Placed) (known : BlockId → Bool) → get ledger.now.objects name.now ≡ Some p
+        → RevealsSurvivors ledger.now.shape ledger.now.lattice.n ledger.now.digests (D.state disk.old).files known → All (Determines ledger.now.lattice known) (data_of p.parts)
         → IsOk result ⊎ (IsClashing result ⊎ ((result ≡ Err FetchFault.WriteFault) ⊎ IsOutside result)) }
 
     // What was appended where it was not fetched: nothing, or where the second pass was cut short a first part.
     ensures unused { (result ≡ Err FetchFault.UnknownName) ⊎ (result ≡ Err FetchFault.NoMemory) → out.new ≡ out.old }
     ensures part { IfErr result (λ fault. (p : Placed) → get ledger.now.objects name.now ≡ Some p
-        → (out.new ≡ out.old) ⊎ HasFetchedPart D.tells ledger.now (D.state disk.old).files p (O.state out.old) (O.state out.new)) }
+        → (out.new ≡ out.old) ⊎ HasFetchedPart D.reveals ledger.now (D.state disk.old).files p (O.state out.old) (O.state out.new)) }
 
     // The disk is only read, and when the disk and the sink are at fault.
-    ensures reads { OnlyReads D.tells (result ≡ Err FetchFault.DiskFault) (D.state disk.old) (D.state disk.new) }
+    ensures reads { OnlyReads D.reveals (result ≡ Err FetchFault.DiskFault) (D.state disk.old) (D.state disk.new) }
     ensures out_kept { (O.state out.old).faults ≤ (O.state out.new).faults }
     ensures out_cause { result ≡ Err FetchFault.WriteFault → Rose (O.state out.old).faults (O.state out.new).faults }
     ensures out_still { result ≢ Err FetchFault.WriteFault → (O.state out.new).faults ≡ (O.state out.old).faults }
@@ -104,7 +104,7 @@ pub fn fetch<D: Disk, O: Sink>(
         → (result ≡ Err FetchFault.WriteFault → ⊥) × ((O.state out.new).faults ≡ (O.state out.old).faults) }
 {
     lists_are_one();
-    survivors_are_told();
+    survivors_are_revealed();
     objects_are_of_records();
     let _lattice = ledger.lattice();
     let Some(object) = ledger.catalog().find(name) else {

@@ -8,7 +8,7 @@ ghost use Rattle.aea_lattice.specs.LeastWord.{IsWord};
 ghost use Rattle.aea_disk.specs.Frames.{OnlyReads};
 ghost use Rattle.aea_shelf.specs.Places.{cell_size};
 ghost use Rattle.aea_gauss.specs.declared.fates.Fate.TheVariants.{Word};
-ghost use Rattle.aea_archive.specs.Blocks.{TellsSurvivors};
+ghost use Rattle.aea_archive.specs.Blocks.{RevealsSurvivors};
 ghost use Rattle.aea_archive.specs.Objects.{data_under, IsOneOf};
 ghost use Rattle.aea_restore.specs.Drawn.{IsOtherDigest, IsClash};
 ghost use Rattle.aea_degraded.specs.Fetched.{IsFirstOpen, IsOutside};
@@ -18,7 +18,7 @@ use crate::checking::check_sums;
 use crate::fault::FetchFault;
 use crate::planning::first_lost;
 use crate::searching::search_object;
-use aea_archive::survivors_are_told;
+use aea_archive::survivors_are_revealed;
 use aea_disk::Disk;
 use aea_fates::{sums_are_determined, words_are_open};
 use aea_fetch::DataBlocks;
@@ -55,9 +55,9 @@ fn plan_object<D: Disk>(
     requires buffer { length cell.old ≡ cell_size ledger.now.shape }
     ensures lattice { IfOk result (λ p. p.search.unknown.lattice ≡ ledger.now.lattice) }
     ensures fates { IfOk result (λ p. AreFatesOf ledger.now.lattice p.search.unknown p.fates) }
-    ensures right { IfOk result (λ p. D.tells → (known : BlockId → Bool) → TellsSurvivors ledger.now.shape ledger.now.lattice.n ledger.now.digests (D.state disk.old).files known
+    ensures right { IfOk result (λ p. D.reveals → (known : BlockId → Bool) → RevealsSurvivors ledger.now.shape ledger.now.lattice.n ledger.now.digests (D.state disk.old).files known
         → IsRightPlan ledger.now (D.state disk.old).files p.search.unknown p.fates (data_under (get ledger.now.objects name.now)) known) }
-    ensures reads { OnlyReads D.tells (result ≡ Err SearchFault.DiskFault) (D.state disk.old) (D.state disk.new) }
+    ensures reads { OnlyReads D.reveals (result ≡ Err SearchFault.DiskFault) (D.state disk.old) (D.state disk.new) }
 {
     let search = match search_object(alloc, ledger, disk, name, cell) {
         Ok(search) => search,
@@ -95,26 +95,26 @@ pub(crate) fn first_pass<D: Disk>(
 ) -> Result<Plan, FetchFault>
     requires cell { length cell.old ≡ cell_size ledger.now.shape }
     requires sum { length sum.old ≡ ledger.now.shape.block }
-    ensures planned { IfOk result (λ p. All (IsPlanned D.tells ledger.now (D.state disk.old).files p.search.unknown p.fates) (data_under (get ledger.now.objects name.now))) }
+    ensures planned { IfOk result (λ p. All (IsPlanned D.reveals ledger.now (D.state disk.old).files p.search.unknown p.fates) (data_under (get ledger.now.objects name.now))) }
 
     // The block that is not determined.
     ensures undetermined { (b : BlockId) (nodes : List ℕ) → result ≡ Err (FetchFault.Undetermined b nodes) → IsOneOf (data_under (get ledger.now.objects name.now)) b × ((test : BlockId → Bool) × IsWord ledger.now.lattice test b nodes)
-        × (D.tells → (known : BlockId → Bool) → TellsSurvivors ledger.now.shape ledger.now.lattice.n ledger.now.digests (D.state disk.old).files known → IsFirstOpen ledger.now.lattice known (data_under (get ledger.now.objects name.now)) b nodes) }
-    ensures determined { D.tells → (known : BlockId → Bool) → TellsSurvivors ledger.now.shape ledger.now.lattice.n ledger.now.digests (D.state disk.old).files known
+        × (D.reveals → (known : BlockId → Bool) → RevealsSurvivors ledger.now.shape ledger.now.lattice.n ledger.now.digests (D.state disk.old).files known → IsFirstOpen ledger.now.lattice known (data_under (get ledger.now.objects name.now)) b nodes) }
+    ensures determined { D.reveals → (known : BlockId → Bool) → RevealsSurvivors ledger.now.shape ledger.now.lattice.n ledger.now.digests (D.state disk.old).files known
         → All (Determines ledger.now.lattice known) (data_under (get ledger.now.objects name.now)) ⊎ (((b : BlockId) × (nodes : List ℕ) × (result ≡ Err (FetchFault.Undetermined b nodes))) ⊎ IsOutside result) }
 
     // A clash.
-    ensures clash { (d : BlockId) (told computed : List ℕ) → result ≡ Err (FetchFault.Clash d told computed) → IsOtherDigest ledger.now d told computed }
-    ensures computed { (d : BlockId) (told computed : List ℕ) → result ≡ Err (FetchFault.Clash d told computed) → D.tells → (known : BlockId → Bool)
-        → TellsSurvivors ledger.now.shape ledger.now.lattice.n ledger.now.digests (D.state disk.old).files known
-        → IsOneOf (data_under (get ledger.now.objects name.now)) d × ((known d ≡ false) × IsClash ledger.now known (D.state disk.old).files d told computed) }
+    ensures clash { (d : BlockId) (revealed computed : List ℕ) → result ≡ Err (FetchFault.Clash d revealed computed) → IsOtherDigest ledger.now d revealed computed }
+    ensures computed { (d : BlockId) (revealed computed : List ℕ) → result ≡ Err (FetchFault.Clash d revealed computed) → D.reveals → (known : BlockId → Bool)
+        → RevealsSurvivors ledger.now.shape ledger.now.lattice.n ledger.now.digests (D.state disk.old).files known
+        → IsOneOf (data_under (get ledger.now.objects name.now)) d × ((known d ≡ false) × IsClash ledger.now known (D.state disk.old).files d revealed computed) }
     ensures faults { IfErr result IsFirstFault }
-    ensures reads { OnlyReads D.tells (result ≡ Err FetchFault.DiskFault) (D.state disk.old) (D.state disk.new) }
+    ensures reads { OnlyReads D.reveals (result ≡ Err FetchFault.DiskFault) (D.state disk.old) (D.state disk.new) }
 {
     passing_are_among();
     sums_are_determined();
     words_are_open();
-    survivors_are_told();
+    survivors_are_revealed();
     let _blocks = DataBlocks::new(ledger, name);
     let plan = match plan_object(alloc, ledger, disk, name, cell) {
         Ok(plan) => plan,

@@ -9,7 +9,7 @@ ghost use Rattle.aea_degraded.specs.Sent.{IsPlanFault};
 use crate::block::block_payload;
 use crate::fault::PayloadFault;
 use crate::planning::place_of;
-use aea_archive::survivors_are_told;
+use aea_archive::survivors_are_revealed;
 use aea_disk::Disk;
 use aea_fetch::PayloadSource;
 use aea_gauss::FateList;
@@ -34,15 +34,15 @@ pub(crate) struct PlanReader<'a> {
 impl<'a> PayloadSource for PlanReader<'a> {
     type Fault = PayloadFault;
 
-    ghost has = { λ tells v c b p. IsFetched tells v c b p };
+    ghost has = { λ reveals v c b p. IsFetched reveals v c b p };
 
-    ghost says = { λ tells v c b fault. IsPlanFault tells v fault };
+    ghost says = { λ reveals v c b fault. IsPlanFault reveals v fault };
 
     ghost use Rattle.aea_degraded.specs.declared.fault.PayloadFault.TheVariants.{DiskFault};
 
     ghost is_disk = { λ fault. fault ≡ DiskFault };
 
-    ghost ready = { λ s tells v c b. IsPlanned tells v c s.damaged.now s.fates.now b × (length s.cell.now ≡ cell_size v.shape) × (length s.sum.now ≡ v.shape.block) };
+    ghost ready = { λ s reveals v c b. IsPlanned reveals v c s.damaged.now s.fates.now b × (length s.cell.now ≡ cell_size v.shape) × (length s.sum.now ≡ v.shape.block) };
 
     ghost has_one = { λ s. Unit {0} };
 
@@ -54,7 +54,7 @@ impl<'a> PayloadSource for PlanReader<'a> {
         disk: &mut D,
         b: BlockId,
     ) -> Result<(), PayloadFault> {
-        survivors_are_told();
+        survivors_are_revealed();
         let at = place_of(&ledger.lattice(), self.fates, b);
         block_payload(
             ledger,

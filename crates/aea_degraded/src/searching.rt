@@ -7,7 +7,7 @@ ghost use Rattle.aea_lattice.specs.Blocks.{HasBlock};
 ghost use Rattle.aea_view.specs.Marked.{is_marked};
 ghost use Rattle.aea_disk.specs.Frames.{OnlyReads};
 ghost use Rattle.aea_shelf.specs.Places.{cell_size};
-ghost use Rattle.aea_archive.specs.Blocks.{TellsSurvivors};
+ghost use Rattle.aea_archive.specs.Blocks.{RevealsSurvivors};
 ghost use Rattle.aea_archive.specs.Objects.{data_under};
 ghost use Rattle.aea_search.specs.Searches.{Goes, IsRightBy};
 
@@ -29,8 +29,8 @@ fn look_at<D: Disk>(
     requires inside { All (HasBlock ledger.now.lattice) blocks }
     requires buffer { length cell.old ≡ cell_size ledger.now.shape }
     ensures read { OnOk result (All (λ b. is_marked search.new.read b ≡ true) blocks.entry) }
-    ensures goes { Goes D.tells ledger.now (D.state disk.old).files search.old search.new }
-    ensures reads { OnlyReads D.tells (result ≡ Err SearchFault.DiskFault) (D.state disk.old) (D.state disk.new) }
+    ensures goes { Goes D.reveals ledger.now (D.state disk.old).files search.old search.new }
+    ensures reads { OnlyReads D.reveals (result ≡ Err SearchFault.DiskFault) (D.state disk.old) (D.state disk.new) }
 {
     while let Some(b) = blocks.next() {
         match search.look(ledger, disk, b, cell) {
@@ -54,9 +54,9 @@ pub(crate) fn search_object<D: Disk>(
     ensures lattice { IfOk result (λ s. s.read.lattice ≡ ledger.now.lattice) }
     ensures done { IfOk result (λ s. s.waiting ≡ []) }
     ensures read { IfOk result (λ s. All (λ b. is_marked s.read b ≡ true) (data_under (get ledger.now.objects name.now))) }
-    ensures right { IfOk result (λ s. D.tells → (known : BlockId → Bool) → TellsSurvivors ledger.now.shape ledger.now.lattice.n ledger.now.digests (D.state disk.old).files known
+    ensures right { IfOk result (λ s. D.reveals → (known : BlockId → Bool) → RevealsSurvivors ledger.now.shape ledger.now.lattice.n ledger.now.digests (D.state disk.old).files known
         → IsRightBy ledger.now.lattice known s) }
-    ensures reads { OnlyReads D.tells (result ≡ Err SearchFault.DiskFault) (D.state disk.old) (D.state disk.new) }
+    ensures reads { OnlyReads D.reveals (result ≡ Err SearchFault.DiskFault) (D.state disk.old) (D.state disk.new) }
 {
     let _lattice = ledger.lattice();
     let mut search = match Search::new(alloc, ledger) {

@@ -37,17 +37,17 @@ pub(crate) fn send_fetched<D: Disk, O: Sink>(
     page: &mut Page,
     out: &mut O,
 ) -> Result<(), FetchFault>
-    requires planned { All (IsPlanned D.tells ledger.now (D.state disk.old).files damaged.now fates.now) (data_under (get ledger.now.objects name.now)) }
+    requires planned { All (IsPlanned D.reveals ledger.now (D.state disk.old).files damaged.now fates.now) (data_under (get ledger.now.objects name.now)) }
     requires cell { length cell.old ≡ cell_size ledger.now.shape }
     requires sum { length sum.old ≡ ledger.now.shape.block }
     requires empty { page.old ≡ [] }
-    ensures sent { OnOk result (HasSent (IsFetched D.tells ledger.now (D.state disk.old).files) (data_under (get ledger.now.objects name.now)) most (O.state out.old) (O.state out.new)) }
-    ensures cut { IfErr result (λ fault. HasCut (IsFetched D.tells ledger.now (D.state disk.old).files) (data_under (get ledger.now.objects name.now)) most (O.state out.old) [] (O.state out.new) (fault ≡ FetchFault.WriteFault)) }
+    ensures sent { OnOk result (HasSent (IsFetched D.reveals ledger.now (D.state disk.old).files) (data_under (get ledger.now.objects name.now)) most (O.state out.old) (O.state out.new)) }
+    ensures cut { IfErr result (λ fault. HasCut (IsFetched D.reveals ledger.now (D.state disk.old).files) (data_under (get ledger.now.objects name.now)) most (O.state out.old) [] (O.state out.new) (fault ≡ FetchFault.WriteFault)) }
     ensures faults { IfErr result IsSendFault }
-    ensures clash { (d : BlockId) (told computed : List ℕ) → result ≡ Err (FetchFault.Clash d told computed) → IsOtherDigest ledger.now d told computed × (D.tells → ⊥) }
+    ensures clash { (d : BlockId) (revealed computed : List ℕ) → result ≡ Err (FetchFault.Clash d revealed computed) → IsOtherDigest ledger.now d revealed computed × (D.reveals → ⊥) }
     ensures still { result ≢ Err FetchFault.WriteFault → (O.state out.new).faults ≡ (O.state out.old).faults }
     ensures flushed { OnOk result (IsFlushed (O.state out.new)) }
-    ensures reads { OnlyReads D.tells (result ≡ Err FetchFault.DiskFault) (D.state disk.old) (D.state disk.new) }
+    ensures reads { OnlyReads D.reveals (result ≡ Err FetchFault.DiskFault) (D.state disk.old) (D.state disk.new) }
 {
     let mut payloads = PlanReader {
         damaged,

@@ -42,9 +42,9 @@ fn add_other<D: Disk>(
     requires block { HasBlock ledger.now.lattice other }
     requires buffer { length read.old ≡ cell_size ledger.now.shape }
     requires sum { length sum.old ≡ ledger.now.shape.block }
-    ensures judged { OnOk result (IsJudgedSum D.tells ledger.now (D.state disk.old).files sum.old (filter (is_other (is_left_over ledger.now.lattice all.now) b) (other ∷ [])) sum.new) }
-    ensures found { (d : BlockId) (told computed : List ℕ) → result ≡ Err (RestoreFault.Clash d told computed) → IsReadClashIn D.tells ledger.now (D.state disk.old).files (filter (is_other (is_left_over ledger.now.lattice all.now) b) (other ∷ [])) d told computed }
-    ensures reads { OnlyReads D.tells (result ≡ Err RestoreFault.DiskFault) (D.state disk.old) (D.state disk.new) }
+    ensures judged { OnOk result (IsJudgedSum D.reveals ledger.now (D.state disk.old).files sum.old (filter (is_other (is_left_over ledger.now.lattice all.now) b) (other ∷ [])) sum.new) }
+    ensures found { (d : BlockId) (revealed computed : List ℕ) → result ≡ Err (RestoreFault.Clash d revealed computed) → IsReadClashIn D.reveals ledger.now (D.state disk.old).files (filter (is_other (is_left_over ledger.now.lattice all.now) b) (other ∷ [])) d revealed computed }
+    ensures reads { OnlyReads D.reveals (result ≡ Err RestoreFault.DiskFault) (D.state disk.old) (D.state disk.new) }
 {
     if !is_another(&ledger.lattice(), all, b, other) {
         return Ok(());
@@ -66,9 +66,9 @@ fn add_input<D: Disk>(
     requires block { IfSome input (HasBlock ledger.now.lattice) }
     requires buffer { length read.old ≡ cell_size ledger.now.shape }
     requires sum { length sum.old ≡ ledger.now.shape.block }
-    ensures judged { OnOk result (IsJudgedSum D.tells ledger.now (D.state disk.old).files sum.old (filter (is_other (is_left_over ledger.now.lattice all.now) b) (option_to_list input)) sum.new) }
-    ensures found { (d : BlockId) (told computed : List ℕ) → result ≡ Err (RestoreFault.Clash d told computed) → IsReadClashIn D.tells ledger.now (D.state disk.old).files (filter (is_other (is_left_over ledger.now.lattice all.now) b) (option_to_list input)) d told computed }
-    ensures reads { OnlyReads D.tells (result ≡ Err RestoreFault.DiskFault) (D.state disk.old) (D.state disk.new) }
+    ensures judged { OnOk result (IsJudgedSum D.reveals ledger.now (D.state disk.old).files sum.old (filter (is_other (is_left_over ledger.now.lattice all.now) b) (option_to_list input)) sum.new) }
+    ensures found { (d : BlockId) (revealed computed : List ℕ) → result ≡ Err (RestoreFault.Clash d revealed computed) → IsReadClashIn D.reveals ledger.now (D.state disk.old).files (filter (is_other (is_left_over ledger.now.lattice all.now) b) (option_to_list input)) d revealed computed }
+    ensures reads { OnlyReads D.reveals (result ≡ Err RestoreFault.DiskFault) (D.state disk.old) (D.state disk.new) }
 {
     match input {
         None => Ok(()),
@@ -90,9 +90,9 @@ fn add_equation<D: Disk>(
     requires equation { HasEquation ledger.now.lattice e }
     requires buffer { length read.old ≡ cell_size ledger.now.shape }
     requires sum { length sum.old ≡ ledger.now.shape.block }
-    ensures judged { OnOk result (IsJudgedSum D.tells ledger.now (D.state disk.old).files sum.old (other_blocks ledger.now.lattice (is_left_over ledger.now.lattice all.now) b (e ∷ [])) sum.new) }
-    ensures found { (d : BlockId) (told computed : List ℕ) → result ≡ Err (RestoreFault.Clash d told computed) → IsReadClashIn D.tells ledger.now (D.state disk.old).files (other_blocks ledger.now.lattice (is_left_over ledger.now.lattice all.now) b (e ∷ [])) d told computed }
-    ensures reads { OnlyReads D.tells (result ≡ Err RestoreFault.DiskFault) (D.state disk.old) (D.state disk.new) }
+    ensures judged { OnOk result (IsJudgedSum D.reveals ledger.now (D.state disk.old).files sum.old (other_blocks ledger.now.lattice (is_left_over ledger.now.lattice all.now) b (e ∷ [])) sum.new) }
+    ensures found { (d : BlockId) (revealed computed : List ℕ) → result ≡ Err (RestoreFault.Clash d revealed computed) → IsReadClashIn D.reveals ledger.now (D.state disk.old).files (other_blocks ledger.now.lattice (is_left_over ledger.now.lattice all.now) b (e ∷ [])) d revealed computed }
+    ensures reads { OnlyReads D.reveals (result ≡ Err RestoreFault.DiskFault) (D.state disk.old) (D.state disk.new) }
 {
     let blocks = ledger.lattice().equation(e);
     match add_input(ledger, disk, all, b, blocks.input, read, sum) {
@@ -122,9 +122,9 @@ pub(crate) fn add_equations<D: Disk>(
     requires equations { All (HasEquation ledger.now.lattice) equations.now }
     requires buffer { length read.old ≡ cell_size ledger.now.shape }
     requires sum { length sum.old ≡ ledger.now.shape.block }
-    ensures judged { OnOk result (IsJudgedSum D.tells ledger.now (D.state disk.old).files sum.old (other_blocks ledger.now.lattice (is_left_over ledger.now.lattice equations.now) b equations.now) sum.new) }
-    ensures found { (d : BlockId) (told computed : List ℕ) → result ≡ Err (RestoreFault.Clash d told computed) → IsReadClashIn D.tells ledger.now (D.state disk.old).files (other_blocks ledger.now.lattice (is_left_over ledger.now.lattice equations.now) b equations.now) d told computed }
-    ensures reads { OnlyReads D.tells (result ≡ Err RestoreFault.DiskFault) (D.state disk.old) (D.state disk.new) }
+    ensures judged { OnOk result (IsJudgedSum D.reveals ledger.now (D.state disk.old).files sum.old (other_blocks ledger.now.lattice (is_left_over ledger.now.lattice equations.now) b equations.now) sum.new) }
+    ensures found { (d : BlockId) (revealed computed : List ℕ) → result ≡ Err (RestoreFault.Clash d revealed computed) → IsReadClashIn D.reveals ledger.now (D.state disk.old).files (other_blocks ledger.now.lattice (is_left_over ledger.now.lattice equations.now) b equations.now) d revealed computed }
+    ensures reads { OnlyReads D.reveals (result ≡ Err RestoreFault.DiskFault) (D.state disk.old) (D.state disk.new) }
 {
     for k in 0..equations.len() {
         let Some(e) = equations.get(k) else {

@@ -182,29 +182,29 @@ pub synced_fixed : (s : State) (file : ℕ) → IsSynced s → IsFixed s file
 synced_fixed s file synced c here = synced c here file
 
 -- what a call does to the other files
-pub others_change : (tells : Type 0) (file : ℕ) (step : List ℕ → List ℕ → Type 0) (old new : State) → Follows (ChangesFile file step) old new → (tells → (f : ℕ) → f ≢ file → new.files f ≡ old.files f) → KeepsOthers tells file old new
-others_change tells file step old new follows reads = record {
+pub others_change : (reveals : Type 0) (file : ℕ) (step : List ℕ → List ℕ → Type 0) (old new : State) → Follows (ChangesFile file step) old new → (reveals → (f : ℕ) → f ≢ file → new.files f ≡ old.files f) → KeepsOthers reveals file old new
+others_change reveals file step old new follows reads = record {
   reads = reads;
   images = λ t c from to here. let was = follows t c from to here in (was.0, was.1, was.2.others);
 }
 
 -- calls that keep the images and, where they are known, the contents keep all files other than this one
-pub others_kept : (tells : Type 0) (file : ℕ) (old new : State) → KeepsImages old new → (tells → new.files ≡ old.files) → KeepsOthers tells file old new
-others_kept tells file old new keeps same = record {
-  reads = λ told f other. ap (λ (c : Files). c f) (same told);
+pub others_kept : (reveals : Type 0) (file : ℕ) (old new : State) → KeepsImages old new → (reveals → new.files ≡ old.files) → KeepsOthers reveals file old new
+others_kept reveals file old new keeps same = record {
+  reads = λ revealed f other. ap (λ (c : Files). c f) (same revealed);
   images = λ t c from to here. (c, keeps t c from to here, λ f other. refl);
 }
 
-pub others_none : (tells : Type 0) (file : ℕ) (s : State) → KeepsOthers tells file s s
-others_none tells file s = record {
-  reads = λ told f other. refl;
+pub others_none : (reveals : Type 0) (file : ℕ) (s : State) → KeepsOthers reveals file s s
+others_none reveals file s = record {
+  reads = λ revealed f other. refl;
   images = λ t c from to here. let is : t ≡ s.moment = omega arith in (c, subst (λ (m : ℕ). s.image m c) is here, λ f other. refl);
 }
 
 -- two runs, one after the other, that each keep the files other than this one keep them together
-pub others_both : (tells : Type 0) (file : ℕ) (old mid new : State) → Passes old mid → Passes mid new → KeepsOthers tells file old mid → KeepsOthers tells file mid new → KeepsOthers tells file old new
-others_both tells file old mid new first second early late = record {
-  reads = λ told f other. late.reads told f other ∙ early.reads told f other;
+pub others_both : (reveals : Type 0) (file : ℕ) (old mid new : State) → Passes old mid → Passes mid new → KeepsOthers reveals file old mid → KeepsOthers reveals file mid new → KeepsOthers reveals file old new
+others_both reveals file old mid new first second early late = record {
+  reads = λ revealed f other. late.reads revealed f other ∙ early.reads revealed f other;
   images = λ t c from to here.
       ⊎_elim
       (λ before. early.images t c from (omega arith) ((second.keeps t c (omega arith)).0 here))
@@ -216,23 +216,23 @@ others_both tells file old mid new first second early late = record {
 }
 
 -- a run, and a call that keeps the images
-pub others_then_kept : (tells : Type 0) (file : ℕ) (old mid new : State) → Passes old mid → Passes mid new → KeepsImages mid new → (tells → new.files ≡ mid.files) → KeepsOthers tells file old mid → KeepsOthers tells file old new
-others_then_kept tells file old mid new first second keeps same early =
-    others_both tells file old mid new first second early (others_kept tells file mid new keeps same)
+pub others_then_kept : (reveals : Type 0) (file : ℕ) (old mid new : State) → Passes old mid → Passes mid new → KeepsImages mid new → (reveals → new.files ≡ mid.files) → KeepsOthers reveals file old mid → KeepsOthers reveals file old new
+others_then_kept reveals file old mid new first second keeps same early =
+    others_both reveals file old mid new first second early (others_kept reveals file mid new keeps same)
 
 -- a file that the calls don't touch is as it was in every image of every moment
-pub during_others : (tells : Type 0) (file : ℕ) (old new : State) (other : ℕ) → other ≢ file → KeepsOthers tells file old new → IsFixed old other → During old new (λ c. c other ≡ old.files other)
-during_others tells file old new other apart others fixed t c from to here =
+pub during_others : (reveals : Type 0) (file : ℕ) (old new : State) (other : ℕ) → other ≢ file → KeepsOthers reveals file old new → IsFixed old other → During old new (λ c. c other ≡ old.files other)
+during_others reveals file old new other apart others fixed t c from to here =
     let was = others.images t c from to here in was.2 other apart ∙ fixed was.0 was.1
 
 -- and nothing is pending on it
-pub fixed_others : (tells : Type 0) (file : ℕ) (old new : State) (other : ℕ) → tells → other ≢ file → old.moment ≤ new.moment → KeepsOthers tells file old new → IsFixed old other → IsFixed new other
-fixed_others tells file old new other told apart later others fixed c here =
-    during_others tells file old new other apart others fixed new.moment c later (omega arith) here ∙ sym (others.reads told other apart)
+pub fixed_others : (reveals : Type 0) (file : ℕ) (old new : State) (other : ℕ) → reveals → other ≢ file → old.moment ≤ new.moment → KeepsOthers reveals file old new → IsFixed old other → IsFixed new other
+fixed_others reveals file old new other revealed apart later others fixed c here =
+    during_others reveals file old new other apart others fixed new.moment c later (omega arith) here ∙ sym (others.reads revealed other apart)
 
 -- a range of another file stays in every image
-pub held_by_others : (tells : Type 0) (file : ℕ) (old new : State) (other at : ℕ) (bytes : List ℕ) → other ≢ file → KeepsOthers tells file old new → EveryImage old (HasRange other at bytes) → During old new (HasRange other at bytes)
-held_by_others tells file old new other at bytes apart others held t c from to here =
+pub held_by_others : (reveals : Type 0) (file : ℕ) (old new : State) (other at : ℕ) (bytes : List ℕ) → other ≢ file → KeepsOthers reveals file old new → EveryImage old (HasRange other at bytes) → During old new (HasRange other at bytes)
+held_by_others reveals file old new other at bytes apart others held t c from to here =
     let was = others.images t c from to here in
     subst (λ (l : List ℕ). take (length bytes) (drop at l) ≡ bytes) (sym (was.2 other apart)) (held was.0 was.1)
 
@@ -254,15 +254,15 @@ held_change file at n old mid new f a kept apart first second follows early =
     (λ d c was step. range_kept file at n d c f a kept step apart (during_end old mid (HasRange f a kept) first.later early d was)))
 
 -- files that no call so far is on
-pub where_none : (tells : Type 0) (keep : ℕ → Type 0) (s : State) → KeepsWhere tells keep s s
-where_none tells keep s = record {
-  reads = λ told f kept. refl;
+pub where_none : (reveals : Type 0) (keep : ℕ → Type 0) (s : State) → KeepsWhere reveals keep s s
+where_none reveals keep s = record {
+  reads = λ revealed f kept. refl;
   images = λ t c from to here. let is : t ≡ s.moment = omega arith in (c, subst (λ (m : ℕ). s.image m c) is here, λ f kept. refl);
 }
 
-pub where_both : (tells : Type 0) (keep : ℕ → Type 0) (old mid new : State) → Passes old mid → Passes mid new → KeepsWhere tells keep old mid → KeepsWhere tells keep mid new → KeepsWhere tells keep old new
-where_both tells keep old mid new first second early late = record {
-  reads = λ told f kept. late.reads told f kept ∙ early.reads told f kept;
+pub where_both : (reveals : Type 0) (keep : ℕ → Type 0) (old mid new : State) → Passes old mid → Passes mid new → KeepsWhere reveals keep old mid → KeepsWhere reveals keep mid new → KeepsWhere reveals keep old new
+where_both reveals keep old mid new first second early late = record {
+  reads = λ revealed f kept. late.reads revealed f kept ∙ early.reads revealed f kept;
   images = λ t c from to here.
       ⊎_elim
       (λ before. early.images t c from (omega arith) ((second.keeps t c (omega arith)).0 here))
@@ -273,28 +273,28 @@ where_both tells keep old mid new first second early late = record {
       (cases_lt t mid.moment);
 }
 
-pub where_change : (tells : Type 0) (keep : ℕ → Type 0) (file : ℕ) (step : List ℕ → List ℕ → Type 0) (old mid new : State) → ((f : ℕ) → keep f → f ≢ file) → Passes old mid → Passes mid new → Follows (ChangesFile file step) mid new → (tells → (f : ℕ) → f ≢ file → new.files f ≡ mid.files f)
-    → KeepsWhere tells keep old mid → KeepsWhere tells keep old new
-where_change tells keep file step old mid new apart first second follows reads early =
-    where_both tells keep old mid new first second early
+pub where_change : (reveals : Type 0) (keep : ℕ → Type 0) (file : ℕ) (step : List ℕ → List ℕ → Type 0) (old mid new : State) → ((f : ℕ) → keep f → f ≢ file) → Passes old mid → Passes mid new → Follows (ChangesFile file step) mid new → (reveals → (f : ℕ) → f ≢ file → new.files f ≡ mid.files f)
+    → KeepsWhere reveals keep old mid → KeepsWhere reveals keep old new
+where_change reveals keep file step old mid new apart first second follows reads early =
+    where_both reveals keep old mid new first second early
     (record {
-      reads = λ told f kept. reads told f (apart f kept);
+      reads = λ revealed f kept. reads revealed f (apart f kept);
       images = λ t c from to here. let was = follows t c from to here in (was.0, was.1, λ f kept. was.2.others f (apart f kept));
     })
 
 -- a run that keeps the files that a test picks does so with calls after it that keep the images and, where they
 -- are known, the contents
-pub where_kept : (tells : Type 0) (keep : ℕ → Type 0) (old mid new : State) → Passes old mid → Passes mid new → KeepsImages mid new → (tells → new.files ≡ mid.files) → KeepsWhere tells keep old mid → KeepsWhere tells keep old new
-where_kept tells keep old mid new first second keeps same early =
-    where_both tells keep old mid new first second early
+pub where_kept : (reveals : Type 0) (keep : ℕ → Type 0) (old mid new : State) → Passes old mid → Passes mid new → KeepsImages mid new → (reveals → new.files ≡ mid.files) → KeepsWhere reveals keep old mid → KeepsWhere reveals keep old new
+where_kept reveals keep old mid new first second keeps same early =
+    where_both reveals keep old mid new first second early
     (record {
-      reads = λ told f kept. ap (λ (c : Files). c f) (same told);
+      reads = λ revealed f kept. ap (λ (c : Files). c f) (same revealed);
       images = λ t c from to here. (c, keeps t c from to here, λ f kept. refl);
     })
 
 -- the calls on one file keep the files that a test leaves out of it
-pub where_others : (tells : Type 0) (keep : ℕ → Type 0) (file : ℕ) (old new : State) → ((f : ℕ) → keep f → f ≢ file) → KeepsOthers tells file old new → KeepsWhere tells keep old new
-where_others tells keep file old new apart others = record {
-  reads = λ told f kept. others.reads told f (apart f kept);
+pub where_others : (reveals : Type 0) (keep : ℕ → Type 0) (file : ℕ) (old new : State) → ((f : ℕ) → keep f → f ≢ file) → KeepsOthers reveals file old new → KeepsWhere reveals keep old new
+where_others reveals keep file old new apart others = record {
+  reads = λ revealed f kept. others.reads revealed f (apart f kept);
   images = λ t c from to here. let was = others.images t c from to here in (was.0, was.1, λ f kept. was.2 f (apart f kept));
 }

@@ -174,11 +174,11 @@ pub record IsSure {T E : Type 0} (taken fits : Type 0) (old new : State) (result
   pub goes : OnOk result (KeepsTaking old new)
 
 -- Each other file reads as before, and each image of a moment of the call has it as an image from before the call.
-pub record KeepsOthers (tells : Type 0) (file : ℕ) (old new : State) : Type 0 where
-  pub reads : tells → (f : ℕ) → f ≢ file → new.files f ≡ old.files f
+pub record KeepsOthers (reveals : Type 0) (file : ℕ) (old new : State) : Type 0 where
+  pub reads : reveals → (f : ℕ) → f ≢ file → new.files f ≡ old.files f
   pub images : (t : ℕ) (c : Files) → old.moment ≤ t → t ≤ new.moment → new.image t c → (d : Files) × old.image old.moment d × ((f : ℕ) → f ≢ file → c f ≡ d f)
 
 -- the same of the files that are to stay, by a test of their own
-pub record KeepsWhere (tells : Type 0) (keep : ℕ → Type 0) (old new : State) : Type 0 where
-  pub reads : tells → (f : ℕ) → keep f → new.files f ≡ old.files f
+pub record KeepsWhere (reveals : Type 0) (keep : ℕ → Type 0) (old new : State) : Type 0 where
+  pub reads : reveals → (f : ℕ) → keep f → new.files f ≡ old.files f
   pub images : (t : ℕ) (c : Files) → old.moment ≤ t → t ≤ new.moment → new.image t c → (d : Files) × old.image old.moment d × ((f : ℕ) → keep f → c f ≡ d f)

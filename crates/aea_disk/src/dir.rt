@@ -60,9 +60,9 @@ impl<R: Files<File = File>> DirDisk<R> {
 impl<R: Files<File = File>> Disk for DirDisk<R> {
     ghost state = { silent_state };
 
-    ghost tells = { ⊥ };
+    ghost reveals = { ⊥ };
 
-    ghost as_it_reads = { λ d t c told here. absurd told };
+    ghost as_it_reads = { λ d t c revealed here. absurd revealed };
 
     ghost later_taken = { λ d f b m n le has. tt };
 

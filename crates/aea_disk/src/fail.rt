@@ -73,9 +73,9 @@ impl<D: Disk> FailDisk<D> {
 impl<D: Disk> Disk for FailDisk<D> {
     ghost state = { λ d. with_faults (D.state d.inner) d.faults };
 
-    ghost tells = { D.tells };
+    ghost reveals = { D.reveals };
 
-    ghost as_it_reads = { λ d t c told here. D.as_it_reads d.inner t c told here };
+    ghost as_it_reads = { λ d t c revealed here. D.as_it_reads d.inner t c revealed here };
 
     ghost later_taken = { λ d f b m n le has. tt };
 
@@ -95,15 +95,15 @@ impl<D: Disk> Disk for FailDisk<D> {
 
     fn len(&mut self, file: u8) -> Result<u64, DiskFault>
         requires { file ≤ 66 }
-        ensures length { IfOk result (λ n. D.tells → n ≡ length ((D.state self.old.inner).files file)) }
-        ensures contents { D.tells → (D.state self.new.inner).files ≡ (D.state self.old.inner).files }
+        ensures length { IfOk result (λ n. D.reveals → n ≡ length ((D.state self.old.inner).files file)) }
+        ensures contents { D.reveals → (D.state self.new.inner).files ≡ (D.state self.old.inner).files }
         ensures crash { KeepsImages (D.state self.old.inner) (D.state self.new.inner) }
         ensures settled { Settles (D.state self.old.inner) (D.state self.new.inner) }
         ensures time { Passes (with_faults (D.state self.old.inner) self.old.faults) (with_faults (D.state self.new.inner) self.new.faults) }
         ensures cause { HasCause self.old.faults self.new.faults result }
         ensures counts { Counts self.old self.new result }
         ensures listed { IsListed self.old → FailsAlone self.old self.new result }
-        ensures passed { ¬ IsListed self.old → PassesOn (D.tells × IsReady (D.state self.old.inner)) (IsRoomy (D.state self.old.inner)) (D.state self.old.inner) (D.state self.new.inner) result }
+        ensures passed { ¬ IsListed self.old → PassesOn (D.reveals × IsReady (D.state self.old.inner)) (IsRoomy (D.state self.old.inner)) (D.state self.old.inner) (D.state self.new.inner) result }
     {
         if self.fails_now() {
             return self.counted(Err(DiskFault));
@@ -116,16 +116,16 @@ impl<D: Disk> Disk for FailDisk<D> {
         requires file { file ≤ 66 }
         requires range { at + length buf.old ≤ 2 ^ 62 }
         ensures bound { IfOk result (λ k. k ≤ length buf.new) }
-        ensures count { IfOk result (λ k. D.tells → k ≡ min (length buf.new) (length ((D.state self.old.inner).files file) - at)) }
-        ensures bytes { IfOk result (λ k. D.tells → take k buf.new ≡ take k (drop at ((D.state self.old.inner).files file))) }
-        ensures contents { D.tells → (D.state self.new.inner).files ≡ (D.state self.old.inner).files }
+        ensures count { IfOk result (λ k. D.reveals → k ≡ min (length buf.new) (length ((D.state self.old.inner).files file) - at)) }
+        ensures bytes { IfOk result (λ k. D.reveals → take k buf.new ≡ take k (drop at ((D.state self.old.inner).files file))) }
+        ensures contents { D.reveals → (D.state self.new.inner).files ≡ (D.state self.old.inner).files }
         ensures crash { KeepsImages (D.state self.old.inner) (D.state self.new.inner) }
         ensures settled { Settles (D.state self.old.inner) (D.state self.new.inner) }
         ensures time { Passes (with_faults (D.state self.old.inner) self.old.faults) (with_faults (D.state self.new.inner) self.new.faults) }
         ensures cause { HasCause self.old.faults self.new.faults result }
         ensures counts { Counts self.old self.new result }
         ensures listed { IsListed self.old → FailsAlone self.old self.new result }
-        ensures passed { ¬ IsListed self.old → PassesOn (D.tells × IsReady (D.state self.old.inner)) (IsRoomy (D.state self.old.inner)) (D.state self.old.inner) (D.state self.new.inner) result }
+        ensures passed { ¬ IsListed self.old → PassesOn (D.reveals × IsReady (D.state self.old.inner)) (IsRoomy (D.state self.old.inner)) (D.state self.old.inner) (D.state self.new.inner) result }
     {
         if self.fails_now() {
             return self.counted(Err(DiskFault));
@@ -137,15 +137,15 @@ impl<D: Disk> Disk for FailDisk<D> {
     fn write(&mut self, file: u8, at: u64, bytes: &[u8]) -> Result<(), DiskFault>
         requires file { file ≤ 66 }
         requires range { at + length bytes.now ≤ 2 ^ 62 }
-        ensures written { OnOk result (D.tells → ChangesFile file (Holds at bytes.now) (D.state self.old.inner).files (D.state self.new.inner).files) }
-        ensures torn { OnErr result (D.tells → ChangesFile file (Torn at (length bytes.now)) (D.state self.old.inner).files (D.state self.new.inner).files) }
+        ensures written { OnOk result (D.reveals → ChangesFile file (Holds at bytes.now) (D.state self.old.inner).files (D.state self.new.inner).files) }
+        ensures torn { OnErr result (D.reveals → ChangesFile file (Torn at (length bytes.now)) (D.state self.old.inner).files (D.state self.new.inner).files) }
         ensures crash { Follows (ChangesFile file (Torn at (length bytes.now))) (D.state self.old.inner) (D.state self.new.inner) }
         ensures settled { Settles (D.state self.old.inner) (D.state self.new.inner) }
         ensures time { Passes (with_faults (D.state self.old.inner) self.old.faults) (with_faults (D.state self.new.inner) self.new.faults) }
         ensures cause { HasCause self.old.faults self.new.faults result }
         ensures counts { Counts self.old self.new result }
         ensures listed { IsListed self.old → FailsAlone self.old self.new result }
-        ensures passed { ¬ IsListed self.old → PassesOn (D.tells × TakesFrom (D.state self.old.inner) file at) ((D.state self.old.inner).room file (at + length bytes.now)) (D.state self.old.inner) (D.state self.new.inner) result }
+        ensures passed { ¬ IsListed self.old → PassesOn (D.reveals × TakesFrom (D.state self.old.inner) file at) ((D.state self.old.inner).room file (at + length bytes.now)) (D.state self.old.inner) (D.state self.new.inner) result }
     {
         if self.fails_now() {
             return self.counted(Err(DiskFault));
@@ -157,16 +157,16 @@ impl<D: Disk> Disk for FailDisk<D> {
     fn cut(&mut self, file: u8, len: u64) -> Result<(), DiskFault>
         requires file { file ≤ 66 }
         requires range { len ≤ 2 ^ 62 }
-        requires within { D.tells → len ≤ length ((D.state self.old.inner).files file) }
-        ensures cut { OnOk result (D.tells → ChangesFile file (IsCut len) (D.state self.old.inner).files (D.state self.new.inner).files) }
-        ensures torn { OnErr result (D.tells → ChangesFile file (MayBeCut len) (D.state self.old.inner).files (D.state self.new.inner).files) }
+        requires within { D.reveals → len ≤ length ((D.state self.old.inner).files file) }
+        ensures cut { OnOk result (D.reveals → ChangesFile file (IsCut len) (D.state self.old.inner).files (D.state self.new.inner).files) }
+        ensures torn { OnErr result (D.reveals → ChangesFile file (MayBeCut len) (D.state self.old.inner).files (D.state self.new.inner).files) }
         ensures crash { Follows (ChangesFile file (MayBeCut len)) (D.state self.old.inner) (D.state self.new.inner) }
         ensures settled { Settles (D.state self.old.inner) (D.state self.new.inner) }
         ensures time { Passes (with_faults (D.state self.old.inner) self.old.faults) (with_faults (D.state self.new.inner) self.new.faults) }
         ensures cause { HasCause self.old.faults self.new.faults result }
         ensures counts { Counts self.old self.new result }
         ensures listed { IsListed self.old → FailsAlone self.old self.new result }
-        ensures passed { ¬ IsListed self.old → PassesOn (D.tells × TakesFrom (D.state self.old.inner) file 0) ((D.state self.old.inner).room file 0) (D.state self.old.inner) (D.state self.new.inner) result }
+        ensures passed { ¬ IsListed self.old → PassesOn (D.reveals × TakesFrom (D.state self.old.inner) file 0) ((D.state self.old.inner).room file 0) (D.state self.old.inner) (D.state self.new.inner) result }
     {
         if self.fails_now() {
             return self.counted(Err(DiskFault));
@@ -176,15 +176,15 @@ impl<D: Disk> Disk for FailDisk<D> {
     }
 
     fn sync(&mut self) -> Result<(), DiskFault>
-        ensures durable { OnOk result (D.tells → IsSynced (D.state self.new.inner)) }
-        ensures contents { D.tells → (D.state self.new.inner).files ≡ (D.state self.old.inner).files }
+        ensures durable { OnOk result (D.reveals → IsSynced (D.state self.new.inner)) }
+        ensures contents { D.reveals → (D.state self.new.inner).files ≡ (D.state self.old.inner).files }
         ensures crash { KeepsImages (D.state self.old.inner) (D.state self.new.inner) }
         ensures settled { Settles (D.state self.old.inner) (D.state self.new.inner) }
         ensures time { Passes (with_faults (D.state self.old.inner) self.old.faults) (with_faults (D.state self.new.inner) self.new.faults) }
         ensures cause { HasCause self.old.faults self.new.faults result }
         ensures counts { Counts self.old self.new result }
         ensures listed { IsListed self.old → FailsAlone self.old self.new result }
-        ensures passed { ¬ IsListed self.old → PassesOn (D.tells × IsReady (D.state self.old.inner)) (IsRoomy (D.state self.old.inner)) (D.state self.old.inner) (D.state self.new.inner) result }
+        ensures passed { ¬ IsListed self.old → PassesOn (D.reveals × IsReady (D.state self.old.inner)) (IsRoomy (D.state self.old.inner)) (D.state self.old.inner) (D.state self.new.inner) result }
     {
         if self.fails_now() {
             return self.counted(Err(DiskFault));

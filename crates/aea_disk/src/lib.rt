@@ -78,45 +78,45 @@ pub trait Disk {
     ghost state: { Self → State };
 
     /// The contents of the disk's files are known.
-    ghost tells: { Type 0 };
+    ghost reveals: { Type 0 };
 
     /// The number of bytes of a file.
     fn len(&mut self, file: u8) -> Result<u64, DiskFault>
         requires { file ≤ 66 }
-        ensures length { IfOk result (λ n. tells → n ≡ length ((state self.old).files file)) }
-        ensures contents { tells → (state self.new).files ≡ (state self.old).files }
+        ensures length { IfOk result (λ n. reveals → n ≡ length ((state self.old).files file)) }
+        ensures contents { reveals → (state self.new).files ≡ (state self.old).files }
         ensures crash { KeepsImages (state self.old) (state self.new) }
         ensures settled { Settles (state self.old) (state self.new) }
         ensures time { Passes (state self.old) (state self.new) }
         ensures cause { HasCause (state self.old).faults (state self.new).faults result }
-        ensures sure { IsSure (tells × IsReady (state self.old)) (IsRoomy (state self.old)) (state self.old) (state self.new) result };
+        ensures sure { IsSure (reveals × IsReady (state self.old)) (IsRoomy (state self.old)) (state self.old) (state self.new) result };
 
     /// The bytes of a file from a place on, as many as there are and the buffer holds.
     fn read(&mut self, file: u8, at: u64, buf: &mut [u8]) -> Result<usize, DiskFault>
         requires file { file ≤ 66 }
         requires range { at + length buf.old ≤ 2 ^ 62 }
         ensures bound { IfOk result (λ k. k ≤ length buf.new) }
-        ensures count { IfOk result (λ k. tells → k ≡ min (length buf.new) (length ((state self.old).files file) - at)) }
-        ensures bytes { IfOk result (λ k. tells → take k buf.new ≡ take k (drop at ((state self.old).files file))) }
-        ensures contents { tells → (state self.new).files ≡ (state self.old).files }
+        ensures count { IfOk result (λ k. reveals → k ≡ min (length buf.new) (length ((state self.old).files file) - at)) }
+        ensures bytes { IfOk result (λ k. reveals → take k buf.new ≡ take k (drop at ((state self.old).files file))) }
+        ensures contents { reveals → (state self.new).files ≡ (state self.old).files }
         ensures crash { KeepsImages (state self.old) (state self.new) }
         ensures settled { Settles (state self.old) (state self.new) }
         ensures time { Passes (state self.old) (state self.new) }
         ensures cause { HasCause (state self.old).faults (state self.new).faults result }
-        ensures sure { IsSure (tells × IsReady (state self.old)) (IsRoomy (state self.old)) (state self.old) (state self.new) result };
+        ensures sure { IsSure (reveals × IsReady (state self.old)) (IsRoomy (state self.old)) (state self.old) (state self.new) result };
 
     /// Writes over what is there and past the end; a gap is filled with zeros. After a fault, and until a sync in
     /// what a crash leaves, the range and whatever lies past the old end may hold any bytes.
     fn write(&mut self, file: u8, at: u64, bytes: &[u8]) -> Result<(), DiskFault>
         requires file { file ≤ 66 }
         requires range { at + length bytes.now ≤ 2 ^ 62 }
-        ensures written { OnOk result (tells → ChangesFile file (Holds at bytes.now) (state self.old).files (state self.new).files) }
-        ensures torn { OnErr result (tells → ChangesFile file (Torn at (length bytes.now)) (state self.old).files (state self.new).files) }
+        ensures written { OnOk result (reveals → ChangesFile file (Holds at bytes.now) (state self.old).files (state self.new).files) }
+        ensures torn { OnErr result (reveals → ChangesFile file (Torn at (length bytes.now)) (state self.old).files (state self.new).files) }
         ensures crash { Follows (ChangesFile file (Torn at (length bytes.now))) (state self.old) (state self.new) }
         ensures settled { Settles (state self.old) (state self.new) }
         ensures time { Passes (state self.old) (state self.new) }
         ensures cause { HasCause (state self.old).faults (state self.new).faults result }
-        ensures sure { IsSure (tells × TakesFrom (state self.old) file at) ((state self.old).room file (at + length bytes.now)) (state self.old) (state self.new) result }
+        ensures sure { IsSure (reveals × TakesFrom (state self.old) file at) ((state self.old).room file (at + length bytes.now)) (state self.old) (state self.new) result }
         ensures full { OnOk result (HasRoom (state self.old) → (state self.old).room file (at + length bytes.now)) };
 
     /// Keeps the first bytes of a file. After a fault, and until a sync in what a crash leaves, it may not have
@@ -124,27 +124,27 @@ pub trait Disk {
     fn cut(&mut self, file: u8, len: u64) -> Result<(), DiskFault>
         requires file { file ≤ 66 }
         requires range { len ≤ 2 ^ 62 }
-        requires within { tells → len ≤ length ((state self.old).files file) }
-        ensures cut { OnOk result (tells → ChangesFile file (IsCut len) (state self.old).files (state self.new).files) }
-        ensures torn { OnErr result (tells → ChangesFile file (MayBeCut len) (state self.old).files (state self.new).files) }
+        requires within { reveals → len ≤ length ((state self.old).files file) }
+        ensures cut { OnOk result (reveals → ChangesFile file (IsCut len) (state self.old).files (state self.new).files) }
+        ensures torn { OnErr result (reveals → ChangesFile file (MayBeCut len) (state self.old).files (state self.new).files) }
         ensures crash { Follows (ChangesFile file (MayBeCut len)) (state self.old) (state self.new) }
         ensures settled { Settles (state self.old) (state self.new) }
         ensures time { Passes (state self.old) (state self.new) }
         ensures cause { HasCause (state self.old).faults (state self.new).faults result }
-        ensures sure { IsSure (tells × TakesFrom (state self.old) file 0) ((state self.old).room file 0) (state self.old) (state self.new) result };
+        ensures sure { IsSure (reveals × TakesFrom (state self.old) file 0) ((state self.old).room file 0) (state self.old) (state self.new) result };
 
     /// Makes all files durable: after it a crash leaves what a read gives.
     fn sync(&mut self) -> Result<(), DiskFault>
-        ensures durable { OnOk result (tells → IsSynced (state self.new)) }
-        ensures contents { tells → (state self.new).files ≡ (state self.old).files }
+        ensures durable { OnOk result (reveals → IsSynced (state self.new)) }
+        ensures contents { reveals → (state self.new).files ≡ (state self.old).files }
         ensures crash { KeepsImages (state self.old) (state self.new) }
         ensures settled { Settles (state self.old) (state self.new) }
         ensures time { Passes (state self.old) (state self.new) }
         ensures cause { HasCause (state self.old).faults (state self.new).faults result }
-        ensures sure { IsSure (tells × IsReady (state self.old)) (IsRoomy (state self.old)) (state self.old) (state self.new) result };
+        ensures sure { IsSure (reveals × IsReady (state self.old)) (IsRoomy (state self.old)) (state self.old) (state self.new) result };
 
     /// A disk whose images are known may be left as it reads.
-    ghost as_it_reads: { (d : Self) (t : ℕ) (c : Files) → tells → (state d).image t c → (state d).image (state d).moment (state d).files };
+    ghost as_it_reads: { (d : Self) (t : ℕ) (c : Files) → reveals → (state d).image t c → (state d).image (state d).moment (state d).files };
 
     /// What is taken from a place on is taken from a later one.
     ghost later_taken: { (d : Self) (f : ℕ) (b : List ℕ) (m n : ℕ) → m ≤ n → (state d).takes f b m → (state d).takes f b n };

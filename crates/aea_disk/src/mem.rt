@@ -201,9 +201,9 @@ impl MemDisk {
 impl Disk for MemDisk {
     ghost state = { log_state };
 
-    ghost tells = { Unit {0} };
+    ghost reveals = { Unit {0} };
 
-    ghost as_it_reads = { λ s t c told here. log_as_it_reads s t c here };
+    ghost as_it_reads = { λ s t c revealed here. log_as_it_reads s t c here };
 
     ghost later_taken = { λ d f b m n le has. tt };
 

@@ -88,11 +88,11 @@ fn file_room(sites: u8, ledger_room: usize, site_room: usize, file: u8) -> usize
 impl Disk for SureDisk {
     ghost state = { sure_state };
 
-    ghost tells = { Unit {0} };
+    ghost reveals = { Unit {0} };
 
     ghost use Rattle.aea_disk.specs.Spaces.{room_smaller};
 
-    ghost as_it_reads = { λ d t c told here. here };
+    ghost as_it_reads = { λ d t c revealed here. here };
 
     ghost later_taken = { λ d f b m n le has. tt };
 

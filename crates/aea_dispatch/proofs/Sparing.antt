@@ -14,9 +14,9 @@ use Rattle.aea_records.specs.Format.{Record, digests_of}
 use Rattle.aea_records.specs.Laws.{HasOneReading}
 use Rattle.aea_ledger.specs.Stops.{HasLedger, HasOpening}
 use Rattle.aea_ledger.specs.Values.{Opened, IsThisOne}
-use Rattle.aea_archive.specs.Blocks.{IsBlockIn, recorded_in, IsIntactBy, TellsSurvivors}
+use Rattle.aea_archive.specs.Blocks.{IsBlockIn, recorded_in, IsIntactBy, RevealsSurvivors}
 use Rattle.aea_archive.specs.Cells.{IsNoSite, ChangesArchive}
-use Rattle.aea_archive.specs.Laws.{SurvivorsAreTold}
+use Rattle.aea_archive.specs.Laws.{SurvivorsAreRevealed}
 use Rattle.aea_command.specs.declared.refusal.Failure.{Failure}
 use Rattle.aea_command.specs.Failures.{Answer}
 use Rattle.aea_command.specs.Worlds.{world}
@@ -34,7 +34,7 @@ same_blocks : (shape : Shape) (records : List Record) (old new : Files) → ((f 
 same_blocks shape records old new same b on was = intact_same shape b (recorded_in shape (digests_of records) b) old new (same (home_file shape b)) (was on.most)
 
 -- no block that is intact is one that a repair restores
-repaired_blocks : (v : Opened) (old new : Files) (one : IsThisOne v (old 0)) (known : BlockId → Bool) (keep : BlockId → Type 0) → TellsSurvivors v.shape v.lattice.n v.digests old known → ((b : BlockId) → IsTrue (known b) → keep b)
+repaired_blocks : (v : Opened) (old new : Files) (one : IsThisOne v (old 0)) (known : BlockId → Bool) (keep : BlockId → Type 0) → RevealsSurvivors v.shape v.lattice.n v.digests old known → ((b : BlockId) → IsTrue (known b) → keep b)
     → ChangesArchive v.shape v.lattice.n keep (IsNoSite v.shape) old new → KeepsBlocks v.shape one.records one.records old new
 repaired_blocks v old new one known keep survivors left changes b on was =
     let few = on.most in
@@ -47,14 +47,14 @@ repaired_blocks v old new one known keep survivors left changes b on was =
     subst (λ (ds : List (List ℕ)). IsIntactBy v.shape ds new b) one.has.digests
     (keeps_intact v.shape keep old new changes.homes b (recorded_in v.shape v.digests b) block (left b ((survivors b inside).1 intact)) intact)
 
-module _ (reading : HasOneReading) (survivors : SurvivorsAreTold) (tells : Type 0) (told : tells) (old new : State) (before after : SinkState) (answer : Answer) where
+module _ (reading : HasOneReading) (survivors : SurvivorsAreRevealed) (reveals : Type 0) (revealed : reveals) (old new : State) (before after : SinkState) (answer : Answer) where
   -- a repair
-  repair_spares : (gave : Result Opened Failure) → IfOk gave (λ v. tells → IsThisOne v (old.files 0)) → IfErr gave (λ f. IsUnopened tells f old new before after answer) → IfOk gave (λ v. RepairsThen tells v old new before after answer)
+  repair_spares : (gave : Result Opened Failure) → IfOk gave (λ v. reveals → IsThisOne v (old.files 0)) → IfErr gave (λ f. IsUnopened reveals f old new before after answer) → IfOk gave (λ v. RepairsThen reveals v old new before after answer)
       → (shape : Shape) (records : List Record) → HasLedger shape records (old.files 0) → HasOpening old new (KeepsBlocks shape records records old.files)
   repair_spares (Ok v) one unopened opened =
-      let here = one told in
+      let here = one revealed in
       let known = survivors v.shape v.lattice.n v.digests old.files in
-      let then = opened.2.alone told known.0 known.1 in
+      let then = opened.2.alone revealed known.0 known.1 in
       by_reading reading v (old.files 0) here (λ shape records. HasOpening old new (KeepsBlocks shape records records old.files))
       (inr (record {
         moment = then.moment;
@@ -66,15 +66,15 @@ module _ (reading : HasOneReading) (survivors : SurvivorsAreTold) (tells : Type 
       }))
   repair_spares (Err f) one unopened opened = λ shape records ledger. inl unopened.reads.crash
 
-pub spare_blocks : HasOneReading → SurvivorsAreTold → (D tells : Type 0) (state : D → State) → RunsSpareBlocks {D = D} tells state
-spare_blocks reading survivors D tells state command old new input rest before after answer (inl is) runs =
-    let here : Runs Repair (world tells (state old) input before) (world tells (state new) rest after) answer =
-    subst (λ (c : Command). Runs c (world tells (state old) input before) (world tells (state new) rest after) answer) is runs in
+pub spare_blocks : HasOneReading → SurvivorsAreRevealed → (D reveals : Type 0) (state : D → State) → RunsSpareBlocks {D = D} reveals state
+spare_blocks reading survivors D reveals state command old new input rest before after answer (inl is) runs =
+    let here : Runs Repair (world reveals (state old) input before) (world reveals (state new) rest after) answer =
+    subst (λ (c : Command). Runs c (world reveals (state old) input before) (world reveals (state new) rest after) answer) is runs in
     let does = here.does in (
-      λ told. opening_more (state old) (state new) _ _ (λ c keeps. keeps 0 (λ site. let first = site.0 in omega (arith, first))) (here.opens told),
-      λ told shape records ledger. repair_spares reading survivors tells told (state old) (state new) before after answer does.opening does.this_one does.unopened does.opened shape records ledger,
+      λ revealed. opening_more (state old) (state new) _ _ (λ c keeps. keeps 0 (λ site. let first = site.0 in omega (arith, first))) (here.opens revealed),
+      λ revealed shape records ledger. repair_spares reading survivors reveals revealed (state old) (state new) before after answer does.opening does.this_one does.unopened does.opened shape records ledger,
     )
-spare_blocks reading survivors D tells state command old new input rest before after answer (inr none) runs = (
-  λ told. opening_more (state old) (state new) _ _ (λ c keeps. keeps 0 (none 0)) (runs.opens told),
-  λ told shape records ledger. opening_more (state old) (state new) _ _ (λ c keeps. same_blocks shape records (state old).files c (λ f. keeps f (none f))) (runs.opens told),
+spare_blocks reading survivors D reveals state command old new input rest before after answer (inr none) runs = (
+  λ revealed. opening_more (state old) (state new) _ _ (λ c keeps. keeps 0 (none 0)) (runs.opens revealed),
+  λ revealed shape records ledger. opening_more (state old) (state new) _ _ (λ c keeps. same_blocks shape records (state old).files c (λ f. keeps f (none f))) (runs.opens revealed),
 )

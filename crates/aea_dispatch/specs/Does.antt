@@ -17,7 +17,7 @@ use Rattle.aea_command.specs.declared.status.Status.{Status}
 use Rattle.aea_command_store.specs.Create.{CreateCauses, Creates, created_line}
 use Rattle.aea_command_loss.specs.Drill.{DamageCauses, Drills, IsOutcome}
 use Rattle.aea_command_read.specs.Stat.{Stats, IsStatOf}
-use Rattle.aea_command_read.specs.Scrub.{Scrubs, TellsIntact, scrub_text}
+use Rattle.aea_command_read.specs.Scrub.{Scrubs, RevealsIntact, scrub_text}
 use Rattle.aea_command_store.specs.Adding.{FitsRecord}
 use Rattle.aea_command_store.specs.Fence.{Fences, FenceCauses, next_fence, fence_line}
 use Rattle.aea_command_store.specs.Upgrade.{Upgrades, UpgradeCauses, next_raise, upgraded_line}
@@ -169,19 +169,19 @@ FitsDisk (Drill l) w = Unit {0}
 FitsDisk (Create shape) w = FitsMaking w.disk shape
 FitsDisk Stat w = IsRoomy w.disk
 FitsDisk command.List w = IsRoomy w.disk
-FitsDisk (Put name) w = FitsPutUnlessRefused name w.tells w.input.left w.disk
-FitsDisk Ingest w = FitsIngest w.tells w.input.left w.disk
+FitsDisk (Put name) w = FitsPutUnlessRefused name w.reveals w.input.left w.disk
+FitsDisk Ingest w = FitsIngest w.reveals w.input.left w.disk
 FitsDisk (Get name) w = IsRoomy w.disk
 FitsDisk (Fetch name) w = IsRoomy w.disk
-FitsDisk Fence w = FitsRecord next_fence w.tells w.disk
-FitsDisk Upgrade w = FitsRecord next_raise w.tells w.disk
+FitsDisk Fence w = FitsRecord next_fence w.reveals w.disk
+FitsDisk Upgrade w = FitsRecord next_raise w.reveals w.disk
 FitsDisk Scrub w = IsRoomy w.disk
-FitsDisk Repair w = FitsRepair w.tells w.disk
+FitsDisk Repair w = FitsRepair w.reveals w.disk
 FitsDisk (Explain word) w = IsRoomy w.disk
 FitsDisk Verify w = IsRoomy w.disk
 FitsDisk (Rehearse number nodes permille) w = Unit {0}
 FitsDisk Sites w = IsRoomy w.disk
-FitsDisk Session w = FitsSession w.tells w.input.left w.disk
+FitsDisk Session w = FitsSession w.reveals w.input.left w.disk
 FitsDisk Copies w = FitsBeginning w.disk
 
 -- no reason for a refusal of the command holds
@@ -200,7 +200,7 @@ FitsOutput (Get name) w = (shape : Shape) (records : List Record) (p : Placed) �
 FitsOutput (Fetch name) w = (shape : Shape) (records : List Record) (p : Placed) → HasObject w.disk.files name shape records p → FitsBytes w.out p.object.length
 FitsOutput Fence w = IsUnrefused Fence w → (shape : Shape) (records : List Record) → HasLedger shape records (w.disk.files 0) → FitsText w.out (fence_line (nodes_of records))
 FitsOutput Upgrade w = IsUnrefused Upgrade w → FitsText w.out upgraded_line
-FitsOutput Scrub w = (l : Lattice) (intact : BlockId → Bool) → TellsIntact w.disk.files l intact → FitsText w.out (scrub_text l intact)
+FitsOutput Scrub w = (l : Lattice) (intact : BlockId → Bool) → RevealsIntact w.disk.files l intact → FitsText w.out (scrub_text l intact)
 FitsOutput Repair w = (text : List ℕ) → IsRepairText w.disk.files text → FitsText w.out text
 FitsOutput (Explain word) w = (text : List ℕ) → IsExplanationText w.disk.files word text → FitsText w.out text
 FitsOutput Verify w = (text : List ℕ) → IsVerdictText w.disk.files (input_of w) text → FitsText w.out text
@@ -212,23 +212,23 @@ FitsOutput Copies w = IsUnrefused Copies w → FitsText w.out copies_line
 -- what a run of the command did
 abbrev pub Does : Command → World → World → Answer → Type 0
 Does (Drill l) old new answer = Drills l old.input new.input old.out new.out answer
-Does (Create shape) old new answer = Creates shape old.tells old.disk new.disk old.out new.out answer
-Does Stat old new answer = Stats old.tells old.disk new.disk old.out new.out answer
-Does command.List old new answer = ListsObjects old.tells old.disk new.disk old.out new.out answer
-Does (Put name) old new answer = Puts name old.tells old.disk new.disk old.input.left new.input.left old.out new.out answer
-Does Ingest old new answer = Ingests old.tells old.disk new.disk old.input.left new.input.left old.out new.out answer
-Does (Get name) old new answer = GetsNamed name old.tells old.disk new.disk old.out new.out answer
-Does (Fetch name) old new answer = FetchesNamed name old.tells old.disk new.disk old.out new.out answer
-Does Fence old new answer = Fences old.tells old.disk new.disk old.out new.out answer
-Does Upgrade old new answer = Upgrades old.tells old.disk new.disk old.out new.out answer
-Does Scrub old new answer = Scrubs old.tells old.disk new.disk old.out new.out answer
-Does Repair old new answer = RepairsArchive old.tells old.disk new.disk old.out new.out answer
-Does (Explain word) old new answer = ExplainsOrNot word old.tells old.disk new.disk old.out new.out answer
-Does Verify old new answer = Verifies old.tells old.disk new.disk old.input new.input old.out new.out answer
+Does (Create shape) old new answer = Creates shape old.reveals old.disk new.disk old.out new.out answer
+Does Stat old new answer = Stats old.reveals old.disk new.disk old.out new.out answer
+Does command.List old new answer = ListsObjects old.reveals old.disk new.disk old.out new.out answer
+Does (Put name) old new answer = Puts name old.reveals old.disk new.disk old.input.left new.input.left old.out new.out answer
+Does Ingest old new answer = Ingests old.reveals old.disk new.disk old.input.left new.input.left old.out new.out answer
+Does (Get name) old new answer = GetsNamed name old.reveals old.disk new.disk old.out new.out answer
+Does (Fetch name) old new answer = FetchesNamed name old.reveals old.disk new.disk old.out new.out answer
+Does Fence old new answer = Fences old.reveals old.disk new.disk old.out new.out answer
+Does Upgrade old new answer = Upgrades old.reveals old.disk new.disk old.out new.out answer
+Does Scrub old new answer = Scrubs old.reveals old.disk new.disk old.out new.out answer
+Does Repair old new answer = RepairsArchive old.reveals old.disk new.disk old.out new.out answer
+Does (Explain word) old new answer = ExplainsOrNot word old.reveals old.disk new.disk old.out new.out answer
+Does Verify old new answer = Verifies old.reveals old.disk new.disk old.input new.input old.out new.out answer
 Does (Rehearse number nodes permille) old new answer = Rehearses number nodes permille old.out new.out answer
-Does Sites old new answer = SumsUpSites old.tells old.disk new.disk old.out new.out answer
-Does Session old new answer = Sessions old.tells old.disk new.disk old.input.left new.input.left old.out new.out answer
-Does Copies old new answer = Begins old.tells old.disk new.disk old.out new.out answer
+Does Sites old new answer = SumsUpSites old.reveals old.disk new.disk old.out new.out answer
+Does Session old new answer = Sessions old.reveals old.disk new.disk old.input.left new.input.left old.out new.out answer
+Does Copies old new answer = Begins old.reveals old.disk new.disk old.out new.out answer
 
 -- where the intact blocks are honest no digests clash: of a repair and of a fetch for some data list that the ledger records,
 -- and no other command compares digests that it computes
@@ -244,12 +244,12 @@ PrintsEarly Session = Unit {0}
 PrintsEarly command = ⊥
 
 -- what decides this refusal of the command is known: of the disk, if it uses it, and of the input, if that is a part of it
-abbrev pub IsToldFor : Command → World → Refusal → Type 0
-IsToldFor command w why = IsDecided (UsesDisk command → w.tells) (IsSome w.input.left) (IsByInput command) why
+abbrev pub IsRevealedFor : Command → World → Refusal → Type 0
+IsRevealedFor command w why = IsDecided (UsesDisk command → w.reveals) (IsSome w.input.left) (IsByInput command) why
 
 -- the contents of what the command uses of the disk and of the input are known
-pub record IsTold (command : Command) (w : World) : Type 0 where
-  pub disk : UsesDisk command → w.tells
+pub record IsRevealed (command : Command) (w : World) : Type 0 where
+  pub disk : UsesDisk command → w.reveals
   pub input : ReadsInput command → IsSome w.input.left
 
 -- Of a run of the command, whichever it is:
@@ -257,13 +257,13 @@ pub record Runs (command : Command) (old new : World) (answer : Answer) : Type 0
   -- what it did
   pub does : Does command old new answer
   -- when it is refused
-  pub refuses : (PrintsEarly command → answer ≢ Err failure.Output) → RefusesBy (IsToldFor command old) (Causes command old) answer
+  pub refuses : (PrintsEarly command → answer ≢ Err failure.Output) → RefusesBy (IsRevealedFor command old) (Causes command old) answer
   -- it does not fail where there is space, on a disk that is ready and whose contents are known
-  pub disk_fits : old.tells → IsReady old.disk → FitsDisk command old → answer ≢ Err failure.Disk
-  pub output_fits : IsTold command old → FitsOutput command old → answer ≢ Err failure.Output
+  pub disk_fits : old.reveals → IsReady old.disk → FitsDisk command old → answer ≢ Err failure.Disk
+  pub output_fits : IsRevealed command old → FitsOutput command old → answer ≢ Err failure.Output
   -- no digests clash where the intact blocks are honest
-  pub honest : (UsesDisk command → old.tells) → IsHonest command old → NeverClashes answer
+  pub honest : (UsesDisk command → old.reveals) → IsHonest command old → NeverClashes answer
   -- the files that it may not change stay; and from the moment at which its first sync has succeeded every image has each
   -- of them as it read before
-  pub stays : KeepsWhere old.tells (Keeps command) old.disk new.disk
-  pub opens : old.tells → HasOpening old.disk new.disk (KeepsFiles (Keeps command) old.disk.files)
+  pub stays : KeepsWhere old.reveals (Keeps command) old.disk new.disk
+  pub opens : old.reveals → HasOpening old.disk new.disk (KeepsFiles (Keeps command) old.disk.files)

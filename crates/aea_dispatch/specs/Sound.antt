@@ -19,7 +19,7 @@ pub record IsSound (old new : World) (answer : Answer) : Type 0 where
   pub disk_cause : answer ≡ Err failure.Disk → Rose old.disk.faults new.disk.faults
   pub input_cause : answer ≡ Err failure.Input → Rose old.input.faults new.input.faults
   pub out_cause : answer ≡ Err failure.Output → Rose old.out.faults new.out.faults
-  pub disk_beneath : old.tells → IsReady old.disk → answer ≡ Err failure.Disk → Rose old.disk.beneath new.disk.beneath
+  pub disk_beneath : old.reveals → IsReady old.disk → answer ≡ Err failure.Disk → Rose old.disk.beneath new.disk.beneath
   pub disk_still : answer ≢ Err failure.Disk → new.disk.faults ≡ old.disk.faults
   pub input_still : answer ≢ Err failure.Input → new.input.faults ≡ old.input.faults
   pub out_still : answer ≢ Err failure.Output → new.out.faults ≡ old.out.faults

@@ -16,6 +16,6 @@ IsSparing command = (command ≡ Repair) ⊎ ((file : ℕ) → MayChange command
 -- Over a disk of a type whose values have these states: a run of such a command is one that leaves the ledger, in the sense of the
 -- law of stopped runs, and it leaves the blocks that are intact.
 abbrev pub RunsSpareBlocks : {D : Type 0} → Type 0 → (D → State) → Type 0
-RunsSpareBlocks {D} tells state =
-    (command : Command) (old new : D) (input rest : SourceState) (before after : SinkState) (answer : Answer) → IsSparing command → Runs command (world tells (state old) input before) (world tells (state new) rest after) answer
-    → DoesRun Leaving tells (state old) (state new) × LeavesBlocks Leaving tells (state old) (state new)
+RunsSpareBlocks {D} reveals state =
+    (command : Command) (old new : D) (input rest : SourceState) (before after : SinkState) (answer : Answer) → IsSparing command → Runs command (world reveals (state old) input before) (world reveals (state new) rest after) answer
+    → DoesRun Leaving reveals (state old) (state new) × LeavesBlocks Leaving reveals (state old) (state new)

@@ -38,11 +38,11 @@ pub fn carry_out<D: Disk, S: Source, O: Sink>(
     requires sane { IsSane command.now }
     requires not { command.now ≢ Command.Copies }
     ensures runs { Runs command.now
-        (world D.tells (D.state disk.old) (S.state input.old) (O.state out.old))
-        (world D.tells (D.state disk.new) (S.state input.new) (O.state out.new)) result }
+        (world D.reveals (D.state disk.old) (S.state input.old) (O.state out.old))
+        (world D.reveals (D.state disk.new) (S.state input.new) (O.state out.new)) result }
     ensures sound { IsSound
-        (world D.tells (D.state disk.old) (S.state input.old) (O.state out.old))
-        (world D.tells (D.state disk.new) (S.state input.new) (O.state out.new)) result }
+        (world D.reveals (D.state disk.old) (S.state input.old) (O.state out.old))
+        (world D.reveals (D.state disk.new) (S.state input.new) (O.state out.new)) result }
     ensures time { Passes (D.state disk.old) (D.state disk.new) }
     ensures words { result ≢ Err Failure.Words }
     ensures input { (ReadsInput command.now → ⊥) → (input.new ≡ input.old) × (result ≢ Err Failure.Input) }

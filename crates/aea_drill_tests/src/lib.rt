@@ -3,9 +3,9 @@
 #![tactic(auto)]
 
 #[cfg(test)]
-mod chance;
-#[cfg(test)]
 mod examples;
+#[cfg(test)]
+mod random;
 #[cfg(test)]
 mod reports;
 #[cfg(test)]

@@ -24,7 +24,7 @@ abbrev pub CellsHaveOnePayload : Type 0
 CellsHaveOnePayload = (b : BlockId) (p q : List ℕ) → cell_of b p ≡ cell_of b q → p ≡ q
 
 -- Cells of two blocks differ, whatever the payloads.
-abbrev pub CellsTellBlocks : Type 0
-CellsTellBlocks =
+abbrev pub CellsRevealBlocks : Type 0
+CellsRevealBlocks =
     (a b : BlockId) (p q : List ℕ)
     → a.node < 2 ^ 32 → b.node < 2 ^ 32 → cell_of a p ≡ cell_of b q → a ≡ b

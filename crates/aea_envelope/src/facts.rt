@@ -1,4 +1,4 @@
-ghost use Rattle.aea_envelope.specs.Facts.{CellsHaveLengths, CellsHaveParts, CellsHaveOnePayload, CellsTellBlocks};
+ghost use Rattle.aea_envelope.specs.Facts.{CellsHaveLengths, CellsHaveParts, CellsHaveOnePayload, CellsRevealBlocks};
 
 /// A head has 16 bytes, a digest 32, and a cell is 48 bytes longer than its payload.
 pub fn cells_have_lengths()
@@ -16,6 +16,6 @@ pub fn cells_have_one_payload()
 {}
 
 /// Cells of two blocks differ, whatever the payloads: their heads do.
-pub fn cells_tell_blocks()
-    ensures { CellsTellBlocks }
+pub fn cells_reveal_blocks()
+    ensures { CellsRevealBlocks }
 {}

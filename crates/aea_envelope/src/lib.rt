@@ -13,4 +13,6 @@ mod cells;
 mod facts;
 
 pub use cells::{decode, digest_of, encode};
-pub use facts::{cells_have_lengths, cells_have_one_payload, cells_have_parts, cells_tell_blocks};
+pub use facts::{
+    cells_have_lengths, cells_have_one_payload, cells_have_parts, cells_reveal_blocks,
+};

@@ -12,7 +12,7 @@ use Rattle.aea_view.specs.Marked.{is_marked}
 use Rattle.aea_disk.specs.Files.{Files}
 use Rattle.aea_ledger.specs.Recorded.{IsLatticeOf}
 use Rattle.aea_ledger.specs.Values.{Opened}
-use Rattle.aea_archive.specs.Blocks.{IsBlockIn, IsIntactBy, TellsSurvivors}
+use Rattle.aea_archive.specs.Blocks.{IsBlockIn, IsIntactBy, RevealsSurvivors}
 use Rattle.aea_fates.specs.Sums.{IsSum}
 use Rattle.aea_fates.specs.Laws.{ListsAreOne, SumsAreDetermined, WordsAreOpen, WordsStay}
 use Rattle.aea_gauss.specs.declared.fates.Fate.{Fate}
@@ -22,7 +22,7 @@ use Rattle.aea_explain.specs.declared.explaining.Explanation.{Explanation}
 use Rattle.aea_explain.specs.declared.explaining.ExplainFault.{ExplainFault}
 use Rattle.aea_explain.specs.declared.explaining.ExplainFault.TheVariants.{DiskFault, NoMemory}
 use Rattle.aea_explain.specs.Explained.{without, Agree, IsExplained, Explains, is_sum, ExplanationsAreOne, SumsExplainDetermined}
-use Rattle.aea_archive.specs.Laws.{SurvivorsAreTold}
+use Rattle.aea_archive.specs.Laws.{SurvivorsAreRevealed}
 use Rattle.aea_search.specs.Searches.{Searched, IsNew, Begins, Goes, IsRightBy}
 use Rattle.aea_search.proofs.Fated.{fate_same}
 use Rattle.aea_search.proofs.Going.{as_read, right_as_read, in_archive}
@@ -30,8 +30,8 @@ use Rattle.aea_explain.specs.Around.{IsAround}
 
 -- ---- one explanation
 
-agree_turned : (l : Lattice) (known test : BlockId → Bool) → Agree l known test → Agree l test known
-agree_turned l known test agree d has = sym (agree d has)
+agree_flipped : (l : Lattice) (known test : BlockId → Bool) → Agree l known test → Agree l test known
+agree_flipped l known test agree d has = sym (agree d has)
 
 agree_without : (l : Lattice) (known test : BlockId → Bool) (b : BlockId) → Agree l known test → Agree l (without known b) (without test b)
 agree_without l known test b agree d has = ap (λ k. k && not (same_block d b)) (agree d has)
@@ -53,7 +53,7 @@ explanations-one one stay l known test b e f has agree by_known by_test =
     explanation_equal e f
     (by_known.intact ∙ agree b has ∙ sym by_test.intact)
     (fate_one one l (without known b) e.fate f.fate (subst (HasBlock l) (sym by_known.block) has) (by_known.block ∙ sym by_test.block) by_known.fate
-    (fate_same stay l (without test b) (without known b) (agree_without l test known b (agree_turned l known test agree)) f.fate by_test.fate))
+    (fate_same stay l (without test b) (without known b) (agree_without l test known b (agree_flipped l known test agree)) f.fate by_test.fate))
 
 -- a fate is a sum exactly where the known blocks determine its block
 fate_determined : SumsAreDetermined → WordsAreOpen → (l : Lattice) (known : BlockId → Bool) (b : BlockId) (fate : Fate) → HasBlock l b → block_of_fate fate ≡ b → IsFate l known fate
@@ -84,7 +84,7 @@ same_truth false false to from = refl
 
 -- two tests that distinguish the intact blocks agree
 tests_agree : (v : Opened) (c : Files) (known test : BlockId → Bool) → ((b : BlockId) → HasBlock v.lattice b → IsBlockIn v.shape v.lattice.n b)
-    → TellsSurvivors v.shape v.lattice.n v.digests c known → TellsSurvivors v.shape v.lattice.n v.digests c test → Agree v.lattice known test
+    → RevealsSurvivors v.shape v.lattice.n v.digests c known → RevealsSurvivors v.shape v.lattice.n v.digests c test → Agree v.lattice known test
 tests_agree v c known test inside first second b has =
     let one = first b (inside b has) in
     let two = second b (inside b has) in
@@ -129,11 +129,11 @@ not_both : (u : Bool) (is : Type 0) → (u ≡ false) ↔ is → IsTrue (not u) 
 not_both u is says = (λ no. says.0 (not-true u no), λ fine. ap not (says.1 fine))
 
 -- and it distinguishes the intact blocks, where the contents of the disk are known
-by_search_tells : (v : Opened) (c : Files) (b : BlockId) (s : Searched) (intact : Bool) (others : BlockId → Bool) → ((d : BlockId) → IsBlockIn v.shape v.lattice.n d → HasBlock v.lattice d)
+by_search_reveals : (v : Opened) (c : Files) (b : BlockId) (s : Searched) (intact : Bool) (others : BlockId → Bool) → ((d : BlockId) → IsBlockIn v.shape v.lattice.n d → HasBlock v.lattice d)
     → IsTrue intact ↔ IsIntactBy v.shape v.digests c b
     → ((d : BlockId) → HasBlock v.lattice d → d ≢ b → is_marked s.read d ≡ true → (is_marked s.unknown d ≡ false) ↔ IsIntactBy v.shape v.digests c d)
-    → TellsSurvivors v.shape v.lattice.n v.digests c others → TellsSurvivors v.shape v.lattice.n v.digests c (by_search s b intact others)
-by_search_tells v c b s intact others inside own told tells d block =
+    → RevealsSurvivors v.shape v.lattice.n v.digests c others → RevealsSurvivors v.shape v.lattice.n v.digests c (by_search s b intact others)
+by_search_reveals v c b s intact others inside own revealed reveals d block =
     elim (cases_Bool (same_block d b)) [
       | inl is ↦
           subst (λ x. IsTrue x ↔ IsIntactBy v.shape v.digests c d) (sym (here_by s b intact others d is))
@@ -143,23 +143,23 @@ by_search_tells v c b s intact others inside own told tells d block =
           (elim (cases_Bool (is_marked s.read d)) [
             | inl read ↦
                 subst (λ x. IsTrue x ↔ IsIntactBy v.shape v.digests c d) (sym (cond-true (is_marked s.read d) (not (is_marked s.unknown d)) (others d) read))
-                (not_both (is_marked s.unknown d) (IsIntactBy v.shape v.digests c d) (told d (inside d block) (apart d b differs) read))
+                (not_both (is_marked s.unknown d) (IsIntactBy v.shape v.digests c d) (revealed d (inside d block) (apart d b differs) read))
             | inr unread ↦
                 subst (λ x. IsTrue x ↔ IsIntactBy v.shape v.digests c d) (sym (cond-false (is_marked s.read d) (not (is_marked s.unknown d)) (others d) unread))
-                (tells d block)
+                (reveals d block)
           ])
     ]
 
 -- Whether the block is intact, and the fate that a search around it has, explain it.
-pub explains : WordsStay → SurvivorsAreTold → (tells : Type 0) (v : Opened) (l : Lattice) (c : Files) (b : BlockId) (e : Explanation) (s : Searched)
+pub explains : WordsStay → SurvivorsAreRevealed → (reveals : Type 0) (v : Opened) (l : Lattice) (c : Files) (b : BlockId) (e : Explanation) (s : Searched)
     → l ≡ v.lattice → IsLatticeOf v.shape l.n l.fences l → HasBlock v.lattice b
-    → (tells → IsTrue e.intact ↔ IsIntactBy v.shape v.digests c b) → IsAround tells v c b s
-    → block_of_fate e.fate ≡ b → ((known : BlockId → Bool) → IsRightBy v.lattice known s → IsFate v.lattice known e.fate) → Explains tells v c b e
-explains stay given tells v l c b e s same of_shape has own around block fate =
+    → (reveals → IsTrue e.intact ↔ IsIntactBy v.shape v.digests c b) → IsAround reveals v c b s
+    → block_of_fate e.fate ≡ b → ((known : BlockId → Bool) → IsRightBy v.lattice known s → IsFate v.lattice known e.fate) → Explains reveals v c b e
+explains stay given reveals v l c b e s same of_shape has own around block fate =
     let others = given v.shape v.lattice.n v.digests c in
     let known = by_search s b e.intact others.0 in
-    let survivors : tells → TellsSurvivors v.shape v.lattice.n v.digests c known =
-    λ tell. by_search_tells v c b s e.intact others.0 (in_lattice v l same of_shape) (own tell) (around.told tell) others.1 in
+    let survivors : reveals → RevealsSurvivors v.shape v.lattice.n v.digests c known =
+    λ reveal. by_search_reveals v c b s e.intact others.0 (in_lattice v l same of_shape) (own reveal) (around.revealed reveal) others.1 in
     let by_known : IsExplained v.lattice known b e = record {
       intact = sym (here_by s b e.intact others.0 b (same_block-refl b));
       block = block;
@@ -167,29 +167,29 @@ explains stay given tells v l c b e s same of_shape has own around block fate =
     } in
     record {
       intact = own;
-      told = λ tell test tells_test.
-          explained_same stay v.lattice known test b e has (tests_agree v c known test (in_archive v l same of_shape) (survivors tell) tells_test) by_known;
+      revealed = λ reveal test reveals_test.
+          explained_same stay v.lattice known test b e has (tests_agree v c known test (in_archive v l same of_shape) (survivors reveal) reveals_test) by_known;
       some = (known, survivors, by_known);
     }
 
 -- over the same files it is the same
-pub around_as : (tells : Type 0) (v : Opened) (c d : Files) (b : BlockId) (s : Searched) → (tells → c ≡ d) → IsAround tells v c b s → IsAround tells v d b s
-around_as tells v c d b s same around = record {
+pub around_as : (reveals : Type 0) (v : Opened) (c d : Files) (b : BlockId) (s : Searched) → (reveals → c ≡ d) → IsAround reveals v c b s → IsAround reveals v d b s
+around_as reveals v c d b s same around = record {
   lattice = around.lattice;
   done = around.done;
   unknown = around.unknown;
-  told = λ tell. subst (λ (f : Files). (x : BlockId) → HasBlock v.lattice x → x ≢ b → is_marked s.read x ≡ true → (is_marked s.unknown x ≡ false) ↔ IsIntactBy v.shape v.digests f x) (same tell) (around.told tell);
+  revealed = λ reveal. subst (λ (f : Files). (x : BlockId) → HasBlock v.lattice x → x ≢ b → is_marked s.read x ≡ true → (is_marked s.unknown x ≡ false) ↔ IsIntactBy v.shape v.digests f x) (same reveal) (around.revealed reveal);
 }
 
 -- A search that had read nothing, took the block as unknown and went on until none waited has gone around it.
-pub gone_around : (tells : Type 0) (v : Opened) (c : Files) (b : BlockId) (s t u : Searched) → HasBlock v.lattice b → IsNew v.lattice s → Begins s t b → Goes tells v c t u → u.waiting ≡ []
-    → IsAround tells v c b u
-gone_around tells v c b s t u has none begins goes done = record {
+pub gone_around : (reveals : Type 0) (v : Opened) (c : Files) (b : BlockId) (s t u : Searched) → HasBlock v.lattice b → IsNew v.lattice s → Begins s t b → Goes reveals v c t u → u.waiting ≡ []
+    → IsAround reveals v c b u
+gone_around reveals v c b s t u has none begins goes done = record {
   lattice = goes.same ∙ begins.read.same ∙ none.lattice;
   done = done;
   unknown = goes.kept b has begins.read.here ∙ begins.unknown.here;
-  told = λ tell d inside other read.
-      goes.told tell d inside
+  revealed = λ reveal d inside other read.
+      goes.revealed reveal d inside
       (begins.read.others d (subst (λ (l : Lattice). HasBlock l d) (sym none.lattice) inside) other ∙ none.read d) read;
 }
 

@@ -10,9 +10,9 @@ use Rattle.aea_search.specs.Searches.{Searched}
 
 -- The block was taken as unknown, and no unknown block waits. Where the contents of the disk are known, each other block that
 -- was read is unknown exactly where it is not intact.
-pub record IsAround (tells : Type 0) (v : Opened) (c : Files) (b : BlockId) (s : Searched) : Type 0 where
+pub record IsAround (reveals : Type 0) (v : Opened) (c : Files) (b : BlockId) (s : Searched) : Type 0 where
   pub lattice : s.read.lattice ≡ v.lattice
   pub done : s.waiting ≡ []
   pub unknown : is_marked s.unknown b ≡ true
-  pub told : tells → (d : BlockId) → HasBlock v.lattice d → d ≢ b → is_marked s.read d ≡ true
+  pub revealed : reveals → (d : BlockId) → HasBlock v.lattice d → d ≢ b → is_marked s.read d ≡ true
       → (is_marked s.unknown d ≡ false) ↔ IsIntactBy v.shape v.digests c d

@@ -6,7 +6,7 @@ use Rattle.aea_lattice.specs.Blocks.{HasBlock, same_block}
 use Rattle.aea_lattice.specs.Data.{Determines}
 use Rattle.aea_disk.specs.Files.{Files}
 use Rattle.aea_ledger.specs.Values.{Opened}
-use Rattle.aea_archive.specs.Blocks.{IsIntactBy, TellsSurvivors}
+use Rattle.aea_archive.specs.Blocks.{IsIntactBy, RevealsSurvivors}
 use Rattle.aea_gauss.specs.declared.fates.Fate.{Fate}
 use Rattle.aea_gauss.specs.declared.fates.Fate.TheVariants.{Sum, Word}
 use Rattle.aea_gauss.specs.Fates.{block_of_fate, IsFate}
@@ -25,10 +25,10 @@ pub record IsExplained (l : Lattice) (known : BlockId → Bool) (b : BlockId) (e
 
 -- The block of an opened ledger has this explanation. Of a disk whose contents are known it is that by the intact blocks of
 -- these files, whichever test distinguishes them; of any other one it is that by some test.
-pub record Explains (tells : Type 0) (v : Opened) (c : Files) (b : BlockId) (e : Explanation) : Type 0 where
-  pub intact : tells → IsTrue e.intact ↔ IsIntactBy v.shape v.digests c b
-  pub told : tells → (known : BlockId → Bool) → TellsSurvivors v.shape v.lattice.n v.digests c known → IsExplained v.lattice known b e
-  pub some : (known : BlockId → Bool) × (tells → TellsSurvivors v.shape v.lattice.n v.digests c known) × IsExplained v.lattice known b e
+pub record Explains (reveals : Type 0) (v : Opened) (c : Files) (b : BlockId) (e : Explanation) : Type 0 where
+  pub intact : reveals → IsTrue e.intact ↔ IsIntactBy v.shape v.digests c b
+  pub revealed : reveals → (known : BlockId → Bool) → RevealsSurvivors v.shape v.lattice.n v.digests c known → IsExplained v.lattice known b e
+  pub some : (known : BlockId → Bool) × (reveals → RevealsSurvivors v.shape v.lattice.n v.digests c known) × IsExplained v.lattice known b e
 
 -- the two tests are the same at each block of the lattice
 abbrev pub Agree : Lattice → (BlockId → Bool) → (BlockId → Bool) → Type 0

@@ -8,7 +8,7 @@ ghost use Rattle.aea_explain.specs.Around.{IsAround};
 ghost use Rattle.aea_explain.specs.Explained.{Explains};
 
 use crate::fate::fate_of;
-use aea_archive::{cell_buffer, is_block_intact, survivors_are_told};
+use aea_archive::{cell_buffer, is_block_intact, survivors_are_revealed};
 use aea_disk::Disk;
 use aea_fates::words_stay;
 use aea_gauss::Fate;
@@ -44,8 +44,8 @@ fn search_around<D: Disk>(
 ) -> Result<Search, ExplainFault>
     requires block { HasBlock ledger.now.lattice block }
     requires buffer { length cell.old ≡ cell_size ledger.now.shape }
-    ensures around { IfOk result (IsAround D.tells ledger.now (D.state disk.old).files block) }
-    ensures reads { OnlyReads D.tells (result ≡ Err ExplainFault.DiskFault) (D.state disk.old) (D.state disk.new) }
+    ensures around { IfOk result (IsAround D.reveals ledger.now (D.state disk.old).files block) }
+    ensures reads { OnlyReads D.reveals (result ≡ Err ExplainFault.DiskFault) (D.state disk.old) (D.state disk.new) }
 {
     let Ok(mut search) = Search::new(alloc, ledger) else {
         return Err(ExplainFault::NoMemory);
@@ -75,13 +75,13 @@ pub fn explain<D: Disk>(
     requires { HasBlock ledger.now.lattice block }
 
     // The intact blocks give the explanation, by whichever test they are distinguished, and no other one.
-    ensures explains { IfOk result (Explains D.tells ledger.now (D.state disk.old).files block) }
+    ensures explains { IfOk result (Explains D.reveals ledger.now (D.state disk.old).files block) }
 
     // Nothing is written, and when the disk is at fault.
-    ensures reads { OnlyReads D.tells (result ≡ Err ExplainFault.DiskFault) (D.state disk.old) (D.state disk.new) }
+    ensures reads { OnlyReads D.reveals (result ≡ Err ExplainFault.DiskFault) (D.state disk.old) (D.state disk.new) }
 {
     words_stay();
-    survivors_are_told();
+    survivors_are_revealed();
     let lattice = ledger.lattice();
     let Ok(mut cell) = cell_buffer(alloc, ledger) else {
         return Err(ExplainFault::NoMemory);

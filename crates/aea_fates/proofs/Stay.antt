@@ -18,15 +18,15 @@ end_to : (l : Lattice) (s t : BlockId → Bool) → SameMisses l s t → (e : Bl
 end_to l s t same e some =
     (some.0, record { block = some.1.block; misses = same.to some.0 some.1.misses; contains = some.1.contains; greatest = some.1.greatest })
 
-turned : (l : Lattice) (s t : BlockId → Bool) → SameMisses l s t → SameMisses l t s
-turned l s t same = record { to = same.back; back = same.to }
+flipped : (l : Lattice) (s t : BlockId → Bool) → SameMisses l s t → SameMisses l t s
+flipped l s t same = record { to = same.back; back = same.to }
 
 word_to : (l : Lattice) (s t : BlockId → Bool) → SameMisses l s t → (e : BlockId) (nodes : ℕ → Bool) → IsWordOfEnd l s e nodes → IsWordOfEnd l t e nodes
 word_to l s t same e nodes w = record {
   is_end = end_to l s t same e w.is_end;
   misses = same.to nodes w.misses;
   contains = w.contains;
-  alone = λ d d_end h. w.alone d (end_to l t s (turned l s t same) d d_end) h;
+  alone = λ d d_end h. w.alone d (end_to l t s (flipped l s t same) d d_end) h;
 }
 
 listed_to : (l : Lattice) (s t : BlockId → Bool) → SameMisses l s t → (b : BlockId) (nodes : List ℕ) → IsWord l s b nodes → IsWord l t b nodes
@@ -36,7 +36,7 @@ listed_to l s t same b nodes w = record {
     record {
       word = word_to l s t same w.chosen.0 (has_node nodes) w.chosen.1.word;
       contains = w.chosen.1.contains;
-      least = λ d others other h. w.chosen.1.least d others (word_to l t s (turned l s t same) d others other) h;
+      least = λ d others other h. w.chosen.1.least d others (word_to l t s (flipped l s t same) d others other) h;
     },
   );
   ordered = w.ordered;
@@ -51,4 +51,4 @@ words-stay l known more within determined b nodes =
       to = λ word misses d has marked. words-miss l known word misses d has (determined d has marked);
       back = λ word misses d has is_known. misses d has (within d has is_known);
     } in
-    (listed_to l known more same b nodes, listed_to l more known (turned l known more same) b nodes)
+    (listed_to l known more same b nodes, listed_to l more known (flipped l known more same) b nodes)

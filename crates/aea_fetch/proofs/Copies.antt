@@ -71,7 +71,7 @@ module _ (has : BlockId → List ℕ → Type 0) where
     part = (0, omega arith, Appends-nil s.written);
     kept = omega arith;
     cause = λ is. absurd (other is);
-    fits = λ room told enough. (other, refl);
+    fits = λ room revealed enough. (other, refl);
   }
 
   -- the output failed at the payload of a block
@@ -86,7 +86,7 @@ module _ (has : BlockId → List ℕ → Type 0) where
         part = subst (λ (l : List ℕ). AppendsPart a.written d.written (before ++ l)) text prints.bytes;
         kept = prints.cause.kept;
         cause = λ _. prints.cause.rose;
-        fits = λ room told enough. absurd (false≢true (prints.fits room told (subst (λ (l : List ℕ). length (before ++ l) ≤ room) (sym text) enough)));
+        fits = λ room revealed enough. absurd (false≢true (prints.fits room revealed (subst (λ (l : List ℕ). length (before ++ l) ≤ room) (sym text) enough)));
       }
 
   -- what was cut short at the first blocks was so among all
@@ -134,12 +134,12 @@ module _ (has : BlockId → List ℕ → Type 0) (size : ℕ) (wide : (b : Block
             (subst (λ (l : List ℕ). AppendsPart a.written d.written l) regroup (AppendsPart-then a.written b.written d.written sent.0 (q ++ y) sent.1 two.part));
         kept = let k = one.prints.cause.kept in let m = two.kept in omega (arith, k, m);
         cause = λ e. let k = one.prints.cause.kept in let rose : Rose b.faults d.faults = two.cause e in omega (arith, k, rose);
-        fits = λ room told enough.
+        fits = λ room revealed enough.
             let whole : length (p ++ take most (joined (one.payloads ++ two.payloads))) ≡ length (p ++ x) + length y = ap (λ (l : List ℕ). length (p ++ l)) text ∙ longer in
-            let l = one.prints.left room told (omega (arith, enough, whole)) in
+            let l = one.prints.left room revealed (omega (arith, enough, whole)) in
             let le = l.2 in
             let s = two.fits l.0 l.1 (omega (arith, enough, whole, le, length-append q y)) in
-            (s.0, s.1 ∙ one.prints.steady room told (omega (arith, enough, whole)));
+            (s.0, s.1 ∙ one.prints.steady room revealed (omega (arith, enough, whole)));
       }
 
   -- the payloads of an object's data blocks are long enough for it
@@ -163,7 +163,7 @@ module _ (has : BlockId → List ℕ → Type 0) (bs : List BlockId) (most : ℕ
         are = copied.are;
         appended = printed_all whole;
         kept = whole.cause.kept;
-        steady = λ room told enough. whole.steady room told enough;
+        steady = λ room revealed enough. whole.steady room revealed enough;
       }
 
   -- or the output failed at that
@@ -178,7 +178,7 @@ module _ (has : BlockId → List ℕ → Type 0) (bs : List BlockId) (most : ℕ
         part = whole.bytes;
         kept = whole.cause.kept;
         cause = λ _. whole.cause.rose;
-        fits = λ room told enough. absurd (false≢true (whole.fits room told enough));
+        fits = λ room revealed enough. absurd (false≢true (whole.fits room revealed enough));
       }
 
 -- ---- payloads by another word too
@@ -197,5 +197,5 @@ module _ (has other : BlockId → List ℕ → Type 0) (also : (b : BlockId) (p 
     part = one.part;
     kept = one.kept;
     cause = λ is. one.cause (from is);
-    fits = λ room told enough. let s = one.fits room told enough in (λ is. s.0 (from is), s.1);
+    fits = λ room revealed enough. let s = one.fits room revealed enough in (λ is. s.0 (from is), s.1);
   }

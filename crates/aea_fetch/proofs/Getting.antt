@@ -19,14 +19,14 @@ placed_of (Some p) object is = (p, refl, (let h : Some p.object ≡ Some object 
 -- ---- what is said of the data blocks of what is under a name, where an object is
 
 -- what was found among them
-pub found_under : (tells : Type 0) (shape : Shape) (digests : List (List ℕ)) (c : Files) (o : Option Placed) (p : Placed) {r s : Option BlockId} → o ≡ Some p → r ≡ s → IsFound tells shape digests c (data_under o) r → IsFound tells shape digests c (data_of p.parts) s
-found_under tells shape digests c o p {r} {s} is same found =
-    subst (IsFound tells shape digests c (data_of p.parts)) same (subst (λ (bs : List BlockId). IsFound tells shape digests c bs r) (ap data_under is) found)
+pub found_under : (reveals : Type 0) (shape : Shape) (digests : List (List ℕ)) (c : Files) (o : Option Placed) (p : Placed) {r s : Option BlockId} → o ≡ Some p → r ≡ s → IsFound reveals shape digests c (data_under o) r → IsFound reveals shape digests c (data_of p.parts) s
+found_under reveals shape digests c o p {r} {s} is same found =
+    subst (IsFound reveals shape digests c (data_of p.parts)) same (subst (λ (bs : List BlockId). IsFound reveals shape digests c bs r) (ap data_under is) found)
 
 -- what was appended of them
 pub sent_under : (has : BlockId → List ℕ → Type 0) (o : Option Placed) (p : Placed) (most : ℕ) (a b : SinkState) → o ≡ Some p → HasSent has (data_under o) most a b → HasSent has (data_of p.parts) most a b
 sent_under has o p most a b is sent = subst (λ (bs : List BlockId). HasSent has bs most a b) (ap data_under is) sent
 
 -- and what was where a fault came
-pub broken_under : (tells : Type 0) (shape : Shape) (digests : List (List ℕ)) (c : Files) (o : Option Placed) (p : Placed) (most : ℕ) (a b : SinkState) (fault : GetFault) → o ≡ Some p → HasBroken tells shape digests c (data_under o) most a [] b fault → HasBroken tells shape digests c (data_of p.parts) most a [] b fault
-broken_under tells shape digests c o p most a b fault is broken = subst (λ (bs : List BlockId). HasBroken tells shape digests c bs most a [] b fault) (ap data_under is) broken
+pub broken_under : (reveals : Type 0) (shape : Shape) (digests : List (List ℕ)) (c : Files) (o : Option Placed) (p : Placed) (most : ℕ) (a b : SinkState) (fault : GetFault) → o ≡ Some p → HasBroken reveals shape digests c (data_under o) most a [] b fault → HasBroken reveals shape digests c (data_of p.parts) most a [] b fault
+broken_under reveals shape digests c o p most a b fault is broken = subst (λ (bs : List BlockId). HasBroken reveals shape digests c bs most a [] b fault) (ap data_under is) broken

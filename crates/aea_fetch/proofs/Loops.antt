@@ -17,33 +17,33 @@ one_more all front left b are = are ∙ sym (append_assoc front (b ∷ []) left)
 -- ---- the first block that is not good
 
 -- Of all these blocks some are left, and the ones before them are good.
-pub record HasSeen (tells : Type 0) (good : BlockId → Type 0) (all left : List BlockId) : Type 0 where
+pub record HasSeen (reveals : Type 0) (good : BlockId → Type 0) (all left : List BlockId) : Type 0 where
   pub front : List BlockId
   pub are : all ≡ front ++ left
-  pub seen : tells → All good front
+  pub seen : reveals → All good front
 
-module _ (tells : Type 0) (good : BlockId → Type 0) where
-  pub seen_none : (all : List BlockId) → HasSeen tells good all all
-  seen_none all = record { front = []; are = refl; seen = λ told. All-nil good }
+module _ (reveals : Type 0) (good : BlockId → Type 0) where
+  pub seen_none : (all : List BlockId) → HasSeen reveals good all all
+  seen_none all = record { front = []; are = refl; seen = λ revealed. All-nil good }
 
   -- the next one is good
-  pub seen_more : (all left : List BlockId) (b : BlockId) → HasSeen tells good all (b ∷ left) → (tells → good b) → HasSeen tells good all left
+  pub seen_more : (all left : List BlockId) (b : BlockId) → HasSeen reveals good all (b ∷ left) → (reveals → good b) → HasSeen reveals good all left
   seen_more all left b has is = record {
     front = has.front ++ b ∷ [];
     are = one_more all has.front left b has.are;
-    seen = λ told. All-append good has.front (b ∷ []) (has.seen told) (All-cons good b [] (is told) (All-nil good));
+    seen = λ revealed. All-append good has.front (b ∷ []) (has.seen revealed) (All-cons good b [] (is revealed) (All-nil good));
   }
 
   -- it is not
-  pub seen_one : (all left : List BlockId) (b : BlockId) → HasSeen tells good all (b ∷ left) → IsOneOf all b
+  pub seen_one : (all left : List BlockId) (b : BlockId) → HasSeen reveals good all (b ∷ left) → IsOneOf all b
   seen_one all left b has = record { before = has.front; after = left; are = has.are }
 
-  pub seen_first : (all left : List BlockId) (b : BlockId) → HasSeen tells good all (b ∷ left) → tells → (good b → ⊥) → IsFirstWithout good all b
-  seen_first all left b has told bad = record { before = has.front; after = left; are = has.are; good_before = has.seen told; bad = bad }
+  pub seen_first : (all left : List BlockId) (b : BlockId) → HasSeen reveals good all (b ∷ left) → reveals → (good b → ⊥) → IsFirstWithout good all b
+  seen_first all left b has revealed bad = record { before = has.front; after = left; are = has.are; good_before = has.seen revealed; bad = bad }
 
   -- none is left
-  pub seen_all : (all : List BlockId) → HasSeen tells good all [] → tells → All good all
-  seen_all all has told = subst (All good) (sym (has.are ∙ append-nil has.front)) (has.seen told)
+  pub seen_all : (all : List BlockId) → HasSeen reveals good all [] → reveals → All good all
+  seen_all all has revealed = subst (All good) (sym (has.are ∙ append-nil has.front)) (has.seen revealed)
 
 -- ---- payloads that are printed
 

@@ -56,7 +56,7 @@ module _ (shape : Shape) (l : Lattice) (datas : List (List ℕ)) (is_data : IsDa
       split.are ∙ ap (λ (f : List (List ℕ)). f ++ split.back) front ∙ ap (λ (b : List (List ℕ)). take e.count (drop (e.first - 1) datas) ++ b) back
 
 -- the payload of a datum that is intact is that of the list for which the survivors are honest
-pub own_payload : (tells : Type 0) (shape : Shape) (l : Lattice) (digests : List (List ℕ)) (c : Files) (datas : List (List ℕ)) → tells → AreSurvivorsHonest shape l digests datas c
-    → (i : ℕ) (p : List ℕ) → 1 ≤ i → i ≤ l.n → IsPayload tells shape digests c (block_of i Datum) p → p ≡ datum_at shape.block datas i
-own_payload tells shape l digests c datas told honest i p first last is =
-    is.home told ∙ honest (block_of i Datum) (record { first = first; last = last; used = omega arith }) (is.intact told)
+pub own_payload : (reveals : Type 0) (shape : Shape) (l : Lattice) (digests : List (List ℕ)) (c : Files) (datas : List (List ℕ)) → reveals → AreSurvivorsHonest shape l digests datas c
+    → (i : ℕ) (p : List ℕ) → 1 ≤ i → i ≤ l.n → IsPayload reveals shape digests c (block_of i Datum) p → p ≡ datum_at shape.block datas i
+own_payload reveals shape l digests c datas revealed honest i p first last is =
+    is.home revealed ∙ honest (block_of i Datum) (record { first = first; last = last; used = omega arith }) (is.intact revealed)

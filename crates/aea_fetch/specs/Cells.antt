@@ -9,5 +9,5 @@ use Rattle.aea_fetch.specs.declared.cells.CellFault.TheVariants.{Damaged, DiskFa
 
 -- the block is damaged, and no other: it is not intact; or the disk failed
 abbrev pub IsCellFault : Type 0 → Shape → List (List ℕ) → Files → BlockId → CellFault → Type 0
-IsCellFault tells shape digests c b (Damaged k) = (k ≡ b) × (tells → IsIntactBy shape digests c b → ⊥)
-IsCellFault tells shape digests c b DiskFault = Unit {0}
+IsCellFault reveals shape digests c b (Damaged k) = (k ≡ b) × (reveals → IsIntactBy shape digests c b → ⊥)
+IsCellFault reveals shape digests c b DiskFault = Unit {0}

@@ -10,11 +10,11 @@ use Rattle.aea_archive.specs.Objects.{IsFirstWithout}
 
 -- A payload of the block: it has the bytes of a block, and the digest that is kept of it; and where the disk's contents are
 -- known, it is what is at the home, in an intact cell.
-pub record IsPayload (tells : Type 0) (shape : Shape) (digests : List (List ℕ)) (c : Files) (b : BlockId) (payload : List ℕ) : Type 0 where
+pub record IsPayload (reveals : Type 0) (shape : Shape) (digests : List (List ℕ)) (c : Files) (b : BlockId) (payload : List ℕ) : Type 0 where
   pub wide : length payload ≡ shape.block
   pub digest : block_digest b payload ≡ recorded_in shape digests b
-  pub home : tells → payload ≡ payload_at shape c b
-  pub intact : tells → IsIntactBy shape digests c b
+  pub home : reveals → payload ≡ payload_at shape c b
+  pub intact : reveals → IsIntactBy shape digests c b
 
 -- the first one of the blocks that is not intact
 abbrev pub IsFirstDamaged : Shape → List (List ℕ) → Files → List BlockId → BlockId → Type 0

@@ -31,15 +31,15 @@ pub struct CellReader<'a> {
 impl<'a> PayloadSource for CellReader<'a> {
     type Fault = CellFault;
 
-    ghost has = { λ tells v c b p. IsPayload tells v.shape v.digests c b p };
+    ghost has = { λ reveals v c b p. IsPayload reveals v.shape v.digests c b p };
 
-    ghost says = { λ tells v c b fault. IsCellFault tells v.shape v.digests c b fault };
+    ghost says = { λ reveals v c b fault. IsCellFault reveals v.shape v.digests c b fault };
 
     ghost use Rattle.aea_fetch.specs.declared.cells.CellFault.TheVariants.{DiskFault};
 
     ghost is_disk = { λ fault. fault ≡ DiskFault };
 
-    ghost ready = { λ s tells v c b. length s.cell.now ≡ cell_size v.shape };
+    ghost ready = { λ s reveals v c b. length s.cell.now ≡ cell_size v.shape };
 
     ghost has_one = { λ s. 48 ≤ length s.cell.now };
 

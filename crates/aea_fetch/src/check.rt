@@ -23,8 +23,8 @@ fn check_blocks<D: Disk>(
 ) -> Result<Option<BlockId>, DiskFault>
     requires inside { All (HasBlock ledger.now.lattice) blocks }
     requires buffer { length cell.old ≡ cell_size ledger.now.shape }
-    ensures found { IfOk result (IsFound D.tells ledger.now.shape ledger.now.digests (D.state disk.old).files blocks.entry) }
-    ensures reads { OnlyReads D.tells (IsErr result) (D.state disk.old) (D.state disk.new) }
+    ensures found { IfOk result (IsFound D.reveals ledger.now.shape ledger.now.digests (D.state disk.old).files blocks.entry) }
+    ensures reads { OnlyReads D.reveals (IsErr result) (D.state disk.old) (D.state disk.new) }
 {
     while let Some(b) = blocks.next() {
         match is_block_intact(disk, ledger, b, cell) {
@@ -46,8 +46,8 @@ pub fn check_object<D: Disk>(
     cell: &mut [u8],
 ) -> Result<Option<BlockId>, DiskFault>
     requires buffer { length cell.old ≡ cell_size ledger.now.shape }
-    ensures found { IfOk result (IsFound D.tells ledger.now.shape ledger.now.digests (D.state disk.old).files (data_under (get ledger.now.objects name.now))) }
-    ensures reads { OnlyReads D.tells (IsErr result) (D.state disk.old) (D.state disk.new) }
+    ensures found { IfOk result (IsFound D.reveals ledger.now.shape ledger.now.digests (D.state disk.old).files (data_under (get ledger.now.objects name.now))) }
+    ensures reads { OnlyReads D.reveals (IsErr result) (D.state disk.old) (D.state disk.new) }
 {
     check_blocks(disk, ledger, DataBlocks::new(ledger, name), cell)
 }

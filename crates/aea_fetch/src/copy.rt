@@ -37,14 +37,14 @@ fn copy_block<P: PayloadSource, D: Disk, O: Sink>(
     page: &mut Page,
     out: &mut O,
 ) -> Result<(), SendFault<P::Fault>>
-    requires ready { P.ready payloads.old D.tells ledger.now (D.state disk.old).files b }
+    requires ready { P.ready payloads.old D.reveals ledger.now (D.state disk.old).files b }
     requires block { HasBlock ledger.now.lattice b }
-    ensures ready { (d : BlockId) → P.ready payloads.old D.tells ledger.now (D.state disk.old).files d → P.ready payloads.new D.tells ledger.now (D.state disk.new).files d }
-    ensures copied { OnOk result ((c : Files) → (D.tells → (D.state disk.old).files ≡ c) → HasCopied (IsWide ledger.now.shape.block (P.has D.tells ledger.now c)) (b ∷ []) most (O.state out.old) page.old (O.state out.new) page.new) }
-    ensures cut { IfErr result (λ fault. (c : Files) → (D.tells → (D.state disk.old).files ≡ c) → HasCut (IsWide ledger.now.shape.block (P.has D.tells ledger.now c)) (b ∷ []) most (O.state out.old) page.old (O.state out.new) (fault ≡ SendFault.Output)) }
-    ensures why { (fault : P.Fault) → result ≡ Err (SendFault.Payload fault) → (c : Files) → (D.tells → (D.state disk.old).files ≡ c) → P.says D.tells ledger.now c b fault }
+    ensures ready { (d : BlockId) → P.ready payloads.old D.reveals ledger.now (D.state disk.old).files d → P.ready payloads.new D.reveals ledger.now (D.state disk.new).files d }
+    ensures copied { OnOk result ((c : Files) → (D.reveals → (D.state disk.old).files ≡ c) → HasCopied (IsWide ledger.now.shape.block (P.has D.reveals ledger.now c)) (b ∷ []) most (O.state out.old) page.old (O.state out.new) page.new) }
+    ensures cut { IfErr result (λ fault. (c : Files) → (D.reveals → (D.state disk.old).files ≡ c) → HasCut (IsWide ledger.now.shape.block (P.has D.reveals ledger.now c)) (b ∷ []) most (O.state out.old) page.old (O.state out.new) (fault ≡ SendFault.Output)) }
+    ensures why { (fault : P.Fault) → result ≡ Err (SendFault.Payload fault) → (c : Files) → (D.reveals → (D.state disk.old).files ≡ c) → P.says D.reveals ledger.now c b fault }
     ensures still { result ≢ Err SendFault.Output → (O.state out.new).faults ≡ (O.state out.old).faults }
-    ensures reads { OnlyReads D.tells (IsPayloadFault P.is_disk result) (D.state disk.old) (D.state disk.new) }
+    ensures reads { OnlyReads D.reveals (IsPayloadFault P.is_disk result) (D.state disk.old) (D.state disk.new) }
 {
     match payloads.get_one(ledger, disk, b) {
         Ok(()) => (),
@@ -73,14 +73,14 @@ fn copy_blocks<P: PayloadSource, D: Disk, O: Sink>(
     page: &mut Page,
     out: &mut O,
 ) -> Result<(), SendFault<P::Fault>>
-    requires ready { All (P.ready payloads.old D.tells ledger.now (D.state disk.old).files) blocks }
+    requires ready { All (P.ready payloads.old D.reveals ledger.now (D.state disk.old).files) blocks }
     requires inside { All (HasBlock ledger.now.lattice) blocks }
-    ensures ready { (d : BlockId) → P.ready payloads.old D.tells ledger.now (D.state disk.old).files d → P.ready payloads.new D.tells ledger.now (D.state disk.new).files d }
-    ensures copied { OnOk result (HasCopied (IsWide ledger.now.shape.block (P.has D.tells ledger.now (D.state disk.old).files)) blocks.entry most (O.state out.old) page.old (O.state out.new) page.new) }
-    ensures cut { IfErr result (λ fault. HasCut (IsWide ledger.now.shape.block (P.has D.tells ledger.now (D.state disk.old).files)) blocks.entry most (O.state out.old) page.old (O.state out.new) (fault ≡ SendFault.Output)) }
-    ensures why { (fault : P.Fault) → result ≡ Err (SendFault.Payload fault) → (b : BlockId) × IsOneOf blocks.entry b × P.says D.tells ledger.now (D.state disk.old).files b fault }
+    ensures ready { (d : BlockId) → P.ready payloads.old D.reveals ledger.now (D.state disk.old).files d → P.ready payloads.new D.reveals ledger.now (D.state disk.new).files d }
+    ensures copied { OnOk result (HasCopied (IsWide ledger.now.shape.block (P.has D.reveals ledger.now (D.state disk.old).files)) blocks.entry most (O.state out.old) page.old (O.state out.new) page.new) }
+    ensures cut { IfErr result (λ fault. HasCut (IsWide ledger.now.shape.block (P.has D.reveals ledger.now (D.state disk.old).files)) blocks.entry most (O.state out.old) page.old (O.state out.new) (fault ≡ SendFault.Output)) }
+    ensures why { (fault : P.Fault) → result ≡ Err (SendFault.Payload fault) → (b : BlockId) × IsOneOf blocks.entry b × P.says D.reveals ledger.now (D.state disk.old).files b fault }
     ensures still { result ≢ Err SendFault.Output → (O.state out.new).faults ≡ (O.state out.old).faults }
-    ensures reads { OnlyReads D.tells (IsPayloadFault P.is_disk result) (D.state disk.old) (D.state disk.new) }
+    ensures reads { OnlyReads D.reveals (IsPayloadFault P.is_disk result) (D.state disk.old) (D.state disk.new) }
 {
     let size = ledger.shape().block();
     let mut left = most;
@@ -105,21 +105,21 @@ pub fn send_payloads<P: PayloadSource, D: Disk, O: Sink>(
     page: &mut Page,
     out: &mut O,
 ) -> Result<(), SendFault<P::Fault>>
-    requires ready { All (P.ready payloads.old D.tells ledger.now (D.state disk.old).files) (data_under (get ledger.now.objects name.now)) }
+    requires ready { All (P.ready payloads.old D.reveals ledger.now (D.state disk.old).files) (data_under (get ledger.now.objects name.now)) }
     requires empty { page.old ≡ [] }
-    ensures ready { (d : BlockId) → P.ready payloads.old D.tells ledger.now (D.state disk.old).files d → P.ready payloads.new D.tells ledger.now (D.state disk.new).files d }
+    ensures ready { (d : BlockId) → P.ready payloads.old D.reveals ledger.now (D.state disk.old).files d → P.ready payloads.new D.reveals ledger.now (D.state disk.new).files d }
 
     // Sent.
-    ensures sent { OnOk result (HasSent (P.has D.tells ledger.now (D.state disk.old).files) (data_under (get ledger.now.objects name.now)) most (O.state out.old) (O.state out.new)) }
+    ensures sent { OnOk result (HasSent (P.has D.reveals ledger.now (D.state disk.old).files) (data_under (get ledger.now.objects name.now)) most (O.state out.old) (O.state out.new)) }
     ensures flushed { OnOk result (IsFlushed (O.state out.new)) }
 
     // Cut short: by the payload of one of the blocks, or by the output.
-    ensures cut { IfErr result (λ fault. HasCut (P.has D.tells ledger.now (D.state disk.old).files) (data_under (get ledger.now.objects name.now)) most (O.state out.old) [] (O.state out.new) (fault ≡ SendFault.Output)) }
-    ensures why { (fault : P.Fault) → result ≡ Err (SendFault.Payload fault) → (b : BlockId) × IsOneOf (data_under (get ledger.now.objects name.now)) b × P.says D.tells ledger.now (D.state disk.old).files b fault }
+    ensures cut { IfErr result (λ fault. HasCut (P.has D.reveals ledger.now (D.state disk.old).files) (data_under (get ledger.now.objects name.now)) most (O.state out.old) [] (O.state out.new) (fault ≡ SendFault.Output)) }
+    ensures why { (fault : P.Fault) → result ≡ Err (SendFault.Payload fault) → (b : BlockId) × IsOneOf (data_under (get ledger.now.objects name.now)) b × P.says D.reveals ledger.now (D.state disk.old).files b fault }
 
     // When the disk and the sink are at fault.
     ensures still { result ≢ Err SendFault.Output → (O.state out.new).faults ≡ (O.state out.old).faults }
-    ensures reads { OnlyReads D.tells (IsPayloadFault P.is_disk result) (D.state disk.old) (D.state disk.new) }
+    ensures reads { OnlyReads D.reveals (IsPayloadFault P.is_disk result) (D.state disk.old) (D.state disk.new) }
 {
     let blocks = DataBlocks::new(ledger, name);
     match copy_blocks(payloads, ledger, disk, blocks, most, page, out) {

@@ -49,12 +49,12 @@ pub fn send_object<D: Disk, O: Sink>(
 ) -> Result<(), GetFault>
     requires buffer { length cell.old ≡ cell_size ledger.now.shape }
     requires empty { page.old ≡ [] }
-    ensures sent { OnOk result (HasSent (IsPayload D.tells ledger.now.shape ledger.now.digests (D.state disk.old).files) (data_under (get ledger.now.objects name.now)) most (O.state out.old) (O.state out.new)) }
-    ensures broken { IfErr result (HasBroken D.tells ledger.now.shape ledger.now.digests (D.state disk.old).files (data_under (get ledger.now.objects name.now)) most (O.state out.old) [] (O.state out.new)) }
+    ensures sent { OnOk result (HasSent (IsPayload D.reveals ledger.now.shape ledger.now.digests (D.state disk.old).files) (data_under (get ledger.now.objects name.now)) most (O.state out.old) (O.state out.new)) }
+    ensures broken { IfErr result (HasBroken D.reveals ledger.now.shape ledger.now.digests (D.state disk.old).files (data_under (get ledger.now.objects name.now)) most (O.state out.old) [] (O.state out.new)) }
     ensures faults { IfErr result IsCopyFault }
     ensures still { result ≢ Err GetFault.WriteFault → (O.state out.new).faults ≡ (O.state out.old).faults }
     ensures flushed { OnOk result (IsFlushed (O.state out.new)) }
-    ensures reads { OnlyReads D.tells (result ≡ Err GetFault.DiskFault) (D.state disk.old) (D.state disk.new) }
+    ensures reads { OnlyReads D.reveals (result ≡ Err GetFault.DiskFault) (D.state disk.old) (D.state disk.new) }
 {
     let mut payloads = CellReader { cell };
     match send_payloads(&mut payloads, ledger, disk, name, most, page, out) {
@@ -79,15 +79,15 @@ pub fn get<D: Disk, O: Sink>(
 ) -> Result<u64, GetFault>
     // Got.
     ensures got { IfOk result (λ n. (p : Placed) × (get ledger.now.objects name.now ≡ Some p) × (n ≡ p.object.length)
-        × HasGot D.tells ledger.now.shape ledger.now.digests (D.state disk.old).files p (O.state out.old) (O.state out.new)) }
+        × HasGot D.reveals ledger.now.shape ledger.now.digests (D.state disk.old).files p (O.state out.old) (O.state out.new)) }
     ensures flushed { OnOk result (IsFlushed (O.state out.new)) }
 
     // Of survivors that are honest for a data list it is the object in that list.
-    ensures own { OnOk result (D.tells → (p : Placed) (datas : List (List ℕ)) → get ledger.now.objects name.now ≡ Some p → IsDataList ledger.now.lattice ledger.now.shape.block datas
+    ensures own { OnOk result (D.reveals → (p : Placed) (datas : List (List ℕ)) → get ledger.now.objects name.now ≡ Some p → IsDataList ledger.now.lattice ledger.now.shape.block datas
         → AreSurvivorsHonest ledger.now.shape ledger.now.lattice ledger.now.digests datas (D.state disk.old).files → Appends (O.state out.old).written (O.state out.new).written (object_in p datas)) }
 
     // Of objects that were put one after the other, and whose blocks are recorded, it is the one that was put under the name.
-    ensures put { OnOk result (D.tells → (records : List Record) (puts : List NewObject) (o : NewObject) → HasRecords ledger.now records → AreOfPuts records puts
+    ensures put { OnOk result (D.reveals → (records : List Record) (puts : List NewObject) (o : NewObject) → HasRecords ledger.now records → AreOfPuts records puts
         → AreRecordsOf ledger.now.shape records (datas_of ledger.now.shape puts) → AreSurvivorsHonest ledger.now.shape ledger.now.lattice ledger.now.digests (datas_of ledger.now.shape puts) (D.state disk.old).files
         → Contains puts o → o.name ≡ name.now → Appends (O.state out.old).written (O.state out.new).written o.bytes) }
 
@@ -96,21 +96,21 @@ pub fn get<D: Disk, O: Sink>(
 
     // A data block is damaged: the first one, found before anything is written.
     ensures damaged { (b : BlockId) → result ≡ Err (GetFault.Damaged b) → (p : Placed) × (get ledger.now.objects name.now ≡ Some p) × IsOneOf (data_of p.parts) b
-        × (D.tells → IsFirstDamaged ledger.now.shape ledger.now.digests (D.state disk.old).files (data_of p.parts) b × (out.new ≡ out.old)) }
-    ensures damage_refused { D.tells → (p : Placed) (b : BlockId) → get ledger.now.objects name.now ≡ Some p → IsFirstDamaged ledger.now.shape ledger.now.digests (D.state disk.old).files (data_of p.parts) b
+        × (D.reveals → IsFirstDamaged ledger.now.shape ledger.now.digests (D.state disk.old).files (data_of p.parts) b × (out.new ≡ out.old)) }
+    ensures damage_refused { D.reveals → (p : Placed) (b : BlockId) → get ledger.now.objects name.now ≡ Some p → IsFirstDamaged ledger.now.shape ledger.now.digests (D.state disk.old).files (data_of p.parts) b
         → (result ≡ Err (GetFault.Damaged b)) ⊎ IsOutside result }
 
     // Where all data blocks are intact it is got, but for faults and lack of memory.
-    ensures complete { D.tells → (p : Placed) → get ledger.now.objects name.now ≡ Some p → All (IsIntactBy ledger.now.shape ledger.now.digests (D.state disk.old).files) (data_of p.parts)
+    ensures complete { D.reveals → (p : Placed) → get ledger.now.objects name.now ≡ Some p → All (IsIntactBy ledger.now.shape ledger.now.digests (D.state disk.old).files) (data_of p.parts)
         → IsOk result ⊎ ((result ≡ Err GetFault.WriteFault) ⊎ IsOutside result) }
 
     // What was appended where it was not got: nothing, or where the second pass was cut short a first part.
     ensures unused { (result ≡ Err GetFault.UnknownName) ⊎ (result ≡ Err GetFault.NoMemory) → (out.new ≡ out.old) × (disk.new ≡ disk.old) }
     ensures part { IfErr result (λ fault. (p : Placed) → get ledger.now.objects name.now ≡ Some p
-        → (out.new ≡ out.old) ⊎ HasBroken D.tells ledger.now.shape ledger.now.digests (D.state disk.old).files (data_of p.parts) p.object.length (O.state out.old) [] (O.state out.new) fault) }
+        → (out.new ≡ out.old) ⊎ HasBroken D.reveals ledger.now.shape ledger.now.digests (D.state disk.old).files (data_of p.parts) p.object.length (O.state out.old) [] (O.state out.new) fault) }
 
     // The disk is only read, and when the disk and the sink are at fault.
-    ensures reads { OnlyReads D.tells (result ≡ Err GetFault.DiskFault) (D.state disk.old) (D.state disk.new) }
+    ensures reads { OnlyReads D.reveals (result ≡ Err GetFault.DiskFault) (D.state disk.old) (D.state disk.new) }
     ensures out_kept { (O.state out.old).faults ≤ (O.state out.new).faults }
     ensures out_cause { result ≡ Err GetFault.WriteFault → Rose (O.state out.old).faults (O.state out.new).faults }
     ensures out_still { result ≢ Err GetFault.WriteFault → (O.state out.new).faults ≡ (O.state out.old).faults }

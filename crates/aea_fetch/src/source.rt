@@ -43,14 +43,14 @@ pub trait PayloadSource {
         disk: &mut D,
         b: BlockId,
     ) -> Result<(), Self::Fault>
-        requires ready { ready self.old D.tells ledger.now (D.state disk.old).files b }
+        requires ready { ready self.old D.reveals ledger.now (D.state disk.old).files b }
         requires block { HasBlock ledger.now.lattice b }
-        ensures ready { (d : BlockId) → ready self.old D.tells ledger.now (D.state disk.old).files d → ready self.new D.tells ledger.now (D.state disk.new).files d }
+        ensures ready { (d : BlockId) → ready self.old D.reveals ledger.now (D.state disk.old).files d → ready self.new D.reveals ledger.now (D.state disk.new).files d }
         ensures one { OnOk result (has_one self.new) }
         ensures wide { OnOk result (length (held self.new) ≡ ledger.now.shape.block) }
-        ensures had { OnOk result ((c : Files) → (D.tells → (D.state disk.old).files ≡ c) → has D.tells ledger.now c b (held self.new)) }
-        ensures why { IfErr result (λ fault. (c : Files) → (D.tells → (D.state disk.old).files ≡ c) → says D.tells ledger.now c b fault) }
-        ensures reads { OnlyReads D.tells (IsErrAnd result is_disk) (D.state disk.old) (D.state disk.new) };
+        ensures had { OnOk result ((c : Files) → (D.reveals → (D.state disk.old).files ≡ c) → has D.reveals ledger.now c b (held self.new)) }
+        ensures why { IfErr result (λ fault. (c : Files) → (D.reveals → (D.state disk.old).files ≡ c) → says D.reveals ledger.now c b fault) }
+        ensures reads { OnlyReads D.reveals (IsErrAnd result is_disk) (D.state disk.old) (D.state disk.new) };
 
     /// The bytes of the payload that it had last.
     fn payload(&self) -> &[u8]

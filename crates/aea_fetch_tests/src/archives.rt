@@ -23,9 +23,9 @@ fn leaves<D: Disk>(
         ..NONE
     };
     let left = run_failing(alloc, line.as_str(), disk, b"unread", faults)?;
-    let is_told = left.status == status && left.err.bytes() == err.as_bytes();
+    let is_revealed = left.status == status && left.err.bytes() == err.as_bytes();
     let is_printed = left.out.bytes() == out && left.unread == 6;
-    Ok(is_told && is_printed && has_bytes(alloc, disk, stands.as_slice())?)
+    Ok(is_revealed && is_printed && has_bytes(alloc, disk, stands.as_slice())?)
 }
 
 /// Whether these bytes are fetched as the object, and all files stay as they are.

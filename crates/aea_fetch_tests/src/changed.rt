@@ -78,10 +78,10 @@ fn a_cell_that_changes_between_the_passes_is_a_clash(rt: HostRuntime) -> Result<
     for (is_damaged, from, block, class, node, written) in CLASHES {
         let left = fetch_changed(alloc, bytes.as_slice(), is_damaged, from)?;
         let line = line_of_changed(alloc, bytes.as_slice(), block, class, node)?;
-        let is_told = left.status == Status::Clash && left.err.bytes() == line.as_bytes();
+        let is_revealed = left.status == Status::Clash && left.err.bytes() == line.as_bytes();
         let out = left.out.bytes();
         let is_part = out.len() == written && bytes.as_slice().starts_with(out);
-        assert!(rt; is_told && is_part, "{is_damaged} {from}");
+        assert!(rt; is_revealed && is_part, "{is_damaged} {from}");
     }
     Ok(())
 }
@@ -122,8 +122,11 @@ fn cells_that_change_before_it_are_damaged(rt: HostRuntime) -> Result<(), Fail> 
         } else {
             b""
         };
-        let is_told = left.status == status && left.err.bytes() == line.as_bytes();
-        assert!(rt; is_told && left.out.bytes() == out, "{is_damaged} {from}");
+        let is_revealed = left.status == status && left.err.bytes() == line.as_bytes();
+        assert!(rt;
+            is_revealed && left.out.bytes() == out,
+            "{is_damaged} {from}"
+        );
     }
     Ok(())
 }

@@ -78,13 +78,13 @@ fn a_sum_with_another_digest_is_a_clash(rt: HostRuntime) -> Result<(), Fail> {
     }
     // and one that is not determined goes before it
     let mut disk = dishonest(alloc, &[0, 2, 3])?;
-    let is_told = is_refused(alloc, &mut disk, "a", "refused: undetermined d2 by 2\n")?;
-    assert!(rt; is_told);
+    let is_revealed = is_refused(alloc, &mut disk, "a", "refused: undetermined d2 by 2\n")?;
+    assert!(rt; is_revealed);
     Ok(())
 }
 
 #[test]
-fn a_clash_is_told_as_far_as_there_is_room(rt: HostRuntime) -> Result<(), Fail> {
+fn a_clash_is_reported_as_far_as_there_is_room(rt: HostRuntime) -> Result<(), Fail> {
     let alloc = rt.alloc();
     let line = first_line(alloc)?;
     assert!(rt; line.len() == 157);
@@ -93,9 +93,9 @@ fn a_clash_is_told_as_far_as_there_is_room(rt: HostRuntime) -> Result<(), Fail> 
     for err_room in [200usize, 157, 156, 64, 6, 0] {
         let faults = Faults { err_room, ..NONE };
         let left = run_failing(alloc, "fetch a", &mut disk, b"unread", faults)?;
-        let told = left.err.bytes();
+        let revealed = left.err.bytes();
         assert!(rt; left.status == Status::Clash && left.out.bytes().is_empty());
-        assert!(rt; told.len() == err_room.min(157) && line.as_bytes().starts_with(told));
+        assert!(rt; revealed.len() == err_room.min(157) && line.as_bytes().starts_with(revealed));
         assert!(rt;
             has_bytes(alloc, &mut disk, stands.as_slice())?,
             "{err_room}"

@@ -126,8 +126,8 @@ fn what_the_object_does_not_need_is_not_missed(rt: HostRuntime) -> Result<(), Fa
     }
     assert!(rt; is_fetched(alloc, &mut disk, "none", b"")?);
     for name in ["b", "aa", "non", "A"] {
-        let is_told = is_refused(alloc, &mut disk, name, "refused: unknown name\n")?;
-        assert!(rt; is_told, "{name}");
+        let is_revealed = is_refused(alloc, &mut disk, name, "refused: unknown name\n")?;
+        assert!(rt; is_revealed, "{name}");
     }
     let left = run_fetch(alloc, &mut disk, "", 99)?;
     assert!(rt; left.is(Status::Refused, "", "refused: unknown name\n"));
@@ -192,7 +192,7 @@ fn is_as_explained(
 }
 
 #[test]
-fn what_is_solved_is_fetched_and_what_is_lost_is_told(rt: HostRuntime) -> Result<(), Fail> {
+fn what_is_solved_is_fetched_and_what_is_lost_is_reported(rt: HostRuntime) -> Result<(), Fail> {
     let alloc = rt.alloc();
     let mut disk = nineteen(alloc)?;
     for (name, from, count, block, line) in PIECES {

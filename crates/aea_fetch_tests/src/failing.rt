@@ -119,14 +119,14 @@ fn each_call_of_the_output_fails(rt: HostRuntime) -> Result<(), Fail> {
         (0, short, short),
     ] {
         let left = fetch_pages(alloc, &mut disk, call, room)?;
-        let is_told = has_ended(
+        let is_revealed = has_ended(
             &left,
             Status::Output,
             "fault: output\n",
             bytes.as_slice(),
             written,
         );
-        assert!(rt; is_told, "{call} {room}");
+        assert!(rt; is_revealed, "{call} {room}");
     }
     let left = fetch_pages(alloc, &mut disk, 6, long)?;
     assert!(rt; has_ended(&left, Status::Done, "", bytes.as_slice(), long));

@@ -5,8 +5,6 @@
 #[cfg(test)]
 mod archives;
 #[cfg(test)]
-mod chance;
-#[cfg(test)]
 mod changed;
 #[cfg(test)]
 mod clashes;
@@ -14,3 +12,5 @@ mod clashes;
 mod examples;
 #[cfg(test)]
 mod failing;
+#[cfg(test)]
+mod random;

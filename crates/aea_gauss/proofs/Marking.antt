@@ -198,13 +198,13 @@ outputs_live l known blocks outputs equations m marks outputs_are equations_are 
 -- ---- turned marks
 
 -- turned marks have those that are not marked
-pub turned_marks : (l : Lattice) (m turned : Marked) → m.lattice ≡ l → turned.lattice ≡ m.lattice → turned.marks ≡ map not m.marks → IsWhole turned
-    → (b : BlockId) → HasBlock l b → is_marked turned b ≡ not (is_marked m b)
-turned_marks l m turned same turned_same marks whole b has =
+pub flipped_marks : (l : Lattice) (m flipped : Marked) → m.lattice ≡ l → flipped.lattice ≡ m.lattice → flipped.marks ≡ map not m.marks → IsWhole flipped
+    → (b : BlockId) → HasBlock l b → is_marked flipped b ≡ not (is_marked m b)
+flipped_marks l m flipped same flipped_same marks whole b has =
     let k = number_of l b in
-    let long : length m.marks ≡ blocks_count l = sym (length-map m.marks not) ∙ ap length (sym marks) ∙ whole ∙ ap blocks_count (turned_same ∙ same) in
+    let long : length m.marks ≡ blocks_count l = sym (length-map m.marks not) ∙ ap length (sym marks) ∙ whole ∙ ap blocks_count (flipped_same ∙ same) in
     let below : k < length m.marks = subst (λ n. k < n) (sym long) (number_below l b has) in
-    ap (λ (x : Lattice). get_or turned.marks (number_of x b) false) (turned_same ∙ same)
+    ap (λ (x : Lattice). get_or flipped.marks (number_of x b) false) (flipped_same ∙ same)
     ∙ ap (λ xs. get_or xs k false) marks
     ∙ get_or-map not m.marks k false false below
     ∙ ap (λ (x : Lattice). not (get_or m.marks (number_of x b) false)) (sym same)

@@ -22,7 +22,7 @@ use Rattle.aea_sweep.specs.Ends.{AddsEnds}
 use Rattle.aea_gauss.specs.declared.fates.Fate.{Fate}
 use Rattle.aea_gauss.specs.declared.fates.Fate.TheVariants.{Sum, Word}
 use Rattle.aea_gauss.specs.Fates.{block_of_fate, IsFate, AreFates}
-use Rattle.aea_gauss.specs.Told.{TellsFate}
+use Rattle.aea_gauss.specs.Revealed.{RevealsFate}
 use Rattle.aea_gauss.specs.Lost.{IsLost, IsNotLost, AreLostRight}
 use Rattle.aea_gauss.specs.Parts.{ArePart, StandsIn, HaveEach, PutsFate, Rights, IsWanted, fate_in}
 use Rattle.aea_gauss.proofs.Turning.{once}
@@ -31,21 +31,21 @@ use Rattle.aea_gauss.proofs.Parting.{fate_alone, part_unknown, stands_at}
 -- ---- what a part's rows tell
 
 -- what they tell of the wanted blocks of the part is right
-abbrev pub TellsRight : Lattice → (BlockId → Bool) → (BlockId → Type 0) → List BlockId → List EqId → Type 0
-TellsRight l kn Wanted part equations = (f : Fate) → StandsIn part (block_of_fate f) → TellsFate l part equations f → Wanted (block_of_fate f) → IsFate l kn f
+abbrev pub RevealsRight : Lattice → (BlockId → Bool) → (BlockId → Type 0) → List BlockId → List EqId → Type 0
+RevealsRight l kn Wanted part equations = (f : Fate) → StandsIn part (block_of_fate f) → RevealsFate l part equations f → Wanted (block_of_fate f) → IsFate l kn f
 
 stands_inside : (l : Lattice) (bs : List BlockId) → AreListed l bs → (b : BlockId) → StandsIn bs b → HasBlock l b
 stands_inside l bs listed b stands = subst (HasBlock l) stands.2 (All-get_or (HasBlock l) bs stands.0 (block_of 0 Datum) stands.1 listed.inside)
 
 -- the fates of a part by itself are those of its blocks
-pub part_right : PartsStandAlone → (l : Lattice) (kn : BlockId → Bool) (bs : List BlockId) (es : List EqId) → AreListed l bs → ArePart l kn bs es → TellsRight l kn IsWanted bs es
-part_right law l kn bs es listed p f stands tells wanted =
+pub part_right : PartsStandAlone → (l : Lattice) (kn : BlockId → Bool) (bs : List BlockId) (es : List EqId) → AreListed l bs → ArePart l kn bs es → RevealsRight l kn IsWanted bs es
+part_right law l kn bs es listed p f stands reveals wanted =
     let w = p.within in
     let many : stands.0 < length (unknown_blocks l (known_or_outside kn w)) = subst (λ xs. stands.0 < length xs) p.blocks_are stands.1 in
     let in_all : block_of_fate f ≡ block_in (unknown_blocks l (known_or_outside kn w)) stands.0 = sym stands.2 ∙ ap (λ xs. block_in xs stands.0) p.blocks_are in
     fate_alone law l kn w p.part f (stands_inside l bs listed (block_of_fate f) stands)
     (ap w in_all ∙ (part_unknown l kn w stands.0 many).1)
-    (tells (known_or_outside kn w) p.blocks_are p.equations_are)
+    (reveals (known_or_outside kn w) p.blocks_are p.equations_are)
 
 -- a block that the list has no nodes for is determined
 determined_at : (l : Lattice) (kn : BlockId → Bool) (losses : List (Option (List ℕ))) → AreLosses l kn losses → (b : BlockId) → HasBlock l b → IsNotLost l losses b → Determines l kn b
@@ -64,9 +64,9 @@ right_for law l kn more losses are adds (Word b nodes) has word none =
 
 -- The fates of a part where the ends are known too are right for its determined blocks.
 pub part_determined : PartsStandAlone → EndsStandAside → (l : Lattice) (kn more : BlockId → Bool) (losses : List (Option (List ℕ))) → AreLosses l kn losses → AddsEnds l kn more
-    → (bs : List BlockId) (es : List EqId) → AreListed l bs → ArePart l more bs es → TellsRight l kn (IsNotLost l losses) bs es
-part_determined law aside l kn more losses are adds bs es listed p f stands tells not_lost =
-    right_for aside l kn more losses are adds f (stands_inside l bs listed (block_of_fate f) stands) (part_right law l more bs es listed p f stands tells tt) not_lost
+    → (bs : List BlockId) (es : List EqId) → AreListed l bs → ArePart l more bs es → RevealsRight l kn (IsNotLost l losses) bs es
+part_determined law aside l kn more losses are adds bs es listed p f stands reveals not_lost =
+    right_for aside l kn more losses are adds f (stands_inside l bs listed (block_of_fate f) stands) (part_right law l more bs es listed p f stands reveals tt) not_lost
 
 -- ---- fates that are put at their places
 
@@ -92,8 +92,8 @@ map-set fates bs a f are less is = at fates a f (subst (λ xs. block_in xs a ≡
 -- the fates of the wanted ones of the first blocks of a part are put
 pub record Placed (l : Lattice) (Wanted : BlockId → Type 0) (us part : List BlockId) (equations : List EqId) (count : ℕ) (old new : List Fate) : Type 0 where
   pub blocks : map block_of_fate new ≡ us
-  pub kept : (kn : BlockId → Bool) → TellsRight l kn Wanted part equations → (a : ℕ) → a < length us → IsFate l kn (fate_in old a) → IsFate l kn (fate_in new a)
-  pub done : (kn : BlockId → Bool) → TellsRight l kn Wanted part equations → (a t : ℕ) → a < length us → t < count → t < length part → block_in part t ≡ block_in us a
+  pub kept : (kn : BlockId → Bool) → RevealsRight l kn Wanted part equations → (a : ℕ) → a < length us → IsFate l kn (fate_in old a) → IsFate l kn (fate_in new a)
+  pub done : (kn : BlockId → Bool) → RevealsRight l kn Wanted part equations → (a t : ℕ) → a < length us → t < count → t < length part → block_in part t ≡ block_in us a
       → Wanted (block_in us a) → IsFate l kn (fate_in new a)
 
 pub placed_none : (l : Lattice) (Wanted : BlockId → Type 0) (us part : List BlockId) (equations : List EqId) (fates : List Fate) → map block_of_fate fates ≡ us
@@ -111,21 +111,21 @@ placed_more l Wanted us part equations listed count old now new here placed puts
     subst (Placed l Wanted us part equations (count + 1) old) (sym puts.is)
     (record {
       blocks = map-set now us puts.at puts.fate placed.blocks puts.inside puts.here;
-      kept = λ kn right k less h. put_kept l kn now puts.at puts.fate room (told kn right) k (placed.kept kn right k less h);
+      kept = λ kn right k less h. put_kept l kn now puts.at puts.fate room (revealed kn right) k (placed.kept kn right k less h);
       done = λ kn right k t less t_less t_in same is_wanted. elim (cases_eq t count) [
         | inl last ↦
             (let at : block_in us k ≡ block_in us puts.at = sym same ∙ ap (block_in part) last ∙ sym puts.block ∙ sym puts.here in
             let one : k ≡ puts.at = once l us listed k puts.at less puts.inside at in
-            subst (λ j. IsFate l kn (fate_in (set now puts.at puts.fate) j)) (sym one) (put_here l kn now puts.at puts.fate room (told kn right)))
-        | inr other ↦ put_kept l kn now puts.at puts.fate room (told kn right) k (placed.done kn right k t less (omega arith) t_in same is_wanted)
+            subst (λ j. IsFate l kn (fate_in (set now puts.at puts.fate) j)) (sym one) (put_here l kn now puts.at puts.fate room (revealed kn right)))
+        | inr other ↦ put_kept l kn now puts.at puts.fate room (revealed kn right) k (placed.done kn right k t less (omega arith) t_in same is_wanted)
       ];
     })
   where
     room : puts.at < length now
     room = let m = length-map now block_of_fate in let n = ap length placed.blocks in let inside = puts.inside in omega arith
 
-    told : (kn : BlockId → Bool) → TellsRight l kn Wanted part equations → IsFate l kn puts.fate
-    told kn right = right puts.fate (count, here, sym puts.block) puts.tells (subst Wanted (sym puts.block) wanted)
+    revealed : (kn : BlockId → Bool) → RevealsRight l kn Wanted part equations → IsFate l kn puts.fate
+    revealed kn right = right puts.fate (count, here, sym puts.block) puts.reveals (subst Wanted (sym puts.block) wanted)
 
 -- or none is put, where the next block is not wanted
 pub placed_less : (l : Lattice) (Wanted : BlockId → Type 0) (us part : List BlockId) (equations : List EqId) (count : ℕ) (old new : List Fate)
@@ -141,7 +141,7 @@ placed_less l Wanted us part equations count old new placed unwanted = record {
 
 -- all are put
 pub placed_all : (l : Lattice) (Wanted : BlockId → Type 0) (us part : List BlockId) (equations : List EqId) (count : ℕ) (old new : List Fate)
-    → Placed l Wanted us part equations count old new → length part ≤ count → (kn : BlockId → Bool) → TellsRight l kn Wanted part equations → Rights l kn Wanted us part old new
+    → Placed l Wanted us part equations count old new → length part ≤ count → (kn : BlockId → Bool) → RevealsRight l kn Wanted part equations → Rights l kn Wanted us part old new
 placed_all l Wanted us part equations count old new placed all kn right = record {
   kept = placed.kept kn right;
   put = λ a less stands wanted.

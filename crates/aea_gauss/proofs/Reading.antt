@@ -17,7 +17,7 @@ use Rattle.aea_gauss_words.proofs.Reduced.{lead_unique}
 use Rattle.aea_readings.specs.Readings.{has_none_below, is_lead, IsFree, word_at}
 use Rattle.aea_readings.specs.Small.{block_in, equation_in, own_column, small_start, nodes_at, equations_at}
 use Rattle.aea_readings.proofs.Leads.{lead_test, test_lead}
-use Rattle.aea_gauss.specs.Told.{AreLeads}
+use Rattle.aea_gauss.specs.Revealed.{AreLeads}
 
 -- ---- leads over more columns
 

@@ -39,8 +39,8 @@ bit_of_pow m i =
       | inr n ↦ ap (λ b. b == 1) (bit_at-pow_other m i n) ∙ sym (ne_eqb i m n)
     ]
 
-turned : (x m i : ℕ) → m < 64 → (bit_at (bit_xor x ((1 * 2 ^ m) % 2 ^ 64)) i == 1) ≡ differ (bit_at x i == 1) (i == m)
-turned x m i less =
+flipped : (x m i : ℕ) → m < 64 → (bit_at (bit_xor x ((1 * 2 ^ m) % 2 ^ 64)) i == 1) ≡ differ (bit_at x i == 1) (i == m)
+flipped x m i less =
     ap (λ p. bit_at (bit_xor x p) i == 1) (one_shl m 64 less)
     ∙ ap (λ b. b == 1) (bit_at_xor x (2 ^ m) i)
     ∙ bit_test (bit_at x i) (bit_at (2 ^ m) i) (bit_at-lt x i) (bit_at-lt (2 ^ m) i)
@@ -59,7 +59,7 @@ turns_bit words begin wide c inside less =
         | inl same ↦
             ap (λ j. bit_at (get_or (set words (begin + c / 64) v) (begin + j) 0) (k % 64) == 1) same
             ∙ ap (λ x. bit_at x (k % 64) == 1) (get_or-set_same words (begin + c / 64) v 0 place)
-            ∙ turned (get_or words (begin + c / 64) 0) (c % 64) (k % 64) (omega arith)
+            ∙ flipped (get_or words (begin + c / 64) 0) (c % 64) (k % 64) (omega arith)
             ∙ ap (differ (bit_at (get_or words (begin + c / 64) 0) (k % 64) == 1)) (place_test k c same)
             ∙ ap (λ j. differ (bit_at (get_or words (begin + j) 0) (k % 64) == 1) (k == c)) (sym same)
         | inr other ↦
@@ -201,18 +201,18 @@ module _ (l : Lattice) (blocks : List BlockId) (own : ℕ) (behind : length bloc
   abbrev Input : ℕ → ℕ → List ℕ → List ℕ → Option BlockId → Type 0
   Input begin wide old new q = MatchOption q (Turns begin wide (λ k. false) old new) (λ g. Turns begin wide (stands blocks g) old new)
 
-  turned_by : (e : EqId) (begin wide : ℕ) (w0 w1 w2 w3 w4 : List ℕ) → HasEquation l e
+  flipped_by : (e : EqId) (begin wide : ℕ) (w0 w1 w2 w3 w4 : List ℕ) → HasEquation l e
       → (p : Option ℕ) → previous l e.class e.node ≡ p → Input begin wide w0 w1 (option_map (λ g. block_of g e.class) p)
       → Turns begin wide (stands blocks (block_of e.node Datum)) w1 w2 → Turns begin wide (stands blocks (block_of e.node e.class)) w2 w3
       → Turns begin wide (λ k. k == own) w3 w4 → Turns begin wide (small_row l blocks e own) w0 w4
-  turned_by e begin wide w0 w1 w2 w3 w4 has None was input datum output column =
+  flipped_by e begin wide w0 w1 w2 w3 w4 has None was input datum output column =
       let d = stands blocks (block_of e.node Datum) in
       let o = stands blocks (block_of e.node e.class) in
       let c : ℕ → Bool = λ k. k == own in
       turns_same begin wide (λ k. differ (differ (d k) (o k)) (c k)) (small_row l blocks e own) w0 w4 (λ k less. row_two e k has was)
       (turns_more begin wide (λ k. differ (d k) (o k)) c w0 w3 w4
       (turns_more begin wide d o w0 w2 w3 (turns_more begin wide (λ k. false) d w0 w1 w2 input datum) output) column)
-  turned_by e begin wide w0 w1 w2 w3 w4 has (Some g) was input datum output column =
+  flipped_by e begin wide w0 w1 w2 w3 w4 has (Some g) was input datum output column =
       let i = stands blocks (block_of g e.class) in
       let d = stands blocks (block_of e.node Datum) in
       let o = stands blocks (block_of e.node e.class) in
@@ -223,13 +223,13 @@ module _ (l : Lattice) (blocks : List BlockId) (own : ℕ) (behind : length bloc
 
   -- to flip, one after the other, the bits of the input, if there is one, of the datum, of the output and of a
   -- column after the blocks flips those of the row of an equation of the lattice that has this column
-  pub row_turned : (e : EqId) (begin wide : ℕ) (w0 w1 w2 w3 w4 : List ℕ) → HasEquation l e
+  pub row_flipped : (e : EqId) (begin wide : ℕ) (w0 w1 w2 w3 w4 : List ℕ) → HasEquation l e
       → (q : Option BlockId) (d o : BlockId) → q ≡ option_map (λ g. block_of g e.class) (previous l e.class e.node)
       → d ≡ block_of e.node Datum → o ≡ block_of e.node e.class
       → Input begin wide w0 w1 q → Turns begin wide (stands blocks d) w1 w2 → Turns begin wide (stands blocks o) w2 w3
       → Turns begin wide (λ k. k == own) w3 w4 → Turns begin wide (small_row l blocks e own) w0 w4
-  row_turned e begin wide w0 w1 w2 w3 w4 has q d o eq ed eo input datum output column =
-      turned_by e begin wide w0 w1 w2 w3 w4 has (previous l e.class e.node) refl
+  row_flipped e begin wide w0 w1 w2 w3 w4 has q d o eq ed eo input datum output column =
+      flipped_by e begin wide w0 w1 w2 w3 w4 has (previous l e.class e.node) refl
       (subst (Input begin wide w0 w1) eq input)
       (subst (λ b. Turns begin wide (stands blocks b) w1 w2) ed datum)
       (subst (λ b. Turns begin wide (stands blocks b) w2 w3) eo output)

@@ -1,6 +1,6 @@
 pub mod Fates
 pub mod Fills
-pub mod Told
+pub mod Revealed
 pub mod Parts
 pub mod Lost
 pub mod Outputs

@@ -12,7 +12,7 @@ use Rattle.aea_fates.specs.Laws.{IsPart, known_or_outside}
 use Rattle.aea_gauss.specs.declared.fates.Fate.{Fate}
 use Rattle.aea_gauss.specs.declared.fates.Fate.TheVariants.{Word}
 use Rattle.aea_gauss.specs.Fates.{block_of_fate, IsFate}
-use Rattle.aea_gauss.specs.Told.{TellsFate}
+use Rattle.aea_gauss.specs.Revealed.{RevealsFate}
 
 -- the items at the places that pass, in order
 abbrev pub items_at : {A : Type 0} → (ℕ → Bool) → List A → List A
@@ -94,7 +94,7 @@ pub record PutsFate (l : Lattice) (blocks part : List BlockId) (equations : List
   pub inside : at < length blocks
   pub here : block_in blocks at ≡ block_of_fate fate
   pub block : block_of_fate fate ≡ block_in part a
-  pub tells : TellsFate l part equations fate
+  pub reveals : RevealsFate l part equations fate
   pub is : new ≡ slice_set old at fate
 
 -- The fates of those blocks of a part that are wanted are right now, and those that were right still are.

@@ -7,7 +7,7 @@ ghost use Rattle.aea_sweep.specs.Losses.{AreLosses};
 ghost use Rattle.aea_gauss.specs.Fates.{block_of_fate};
 ghost use Rattle.aea_gauss.specs.Lost.{IsLost, IsNotLost};
 ghost use Rattle.aea_gauss.specs.Parts.{ArePart, IsReady, StandsIn, PutsFate, Rights};
-ghost use Rattle.aea_gauss.specs.Told.{AreReduced};
+ghost use Rattle.aea_gauss.specs.Revealed.{AreReduced};
 
 use crate::fates::FateList;
 use crate::lost::has_determined;

@@ -1,6 +1,6 @@
 ghost use Rattle.std.specs.Prelude.{◌≡◌, ℕ, ◌+◌, ◌*◌, ◌<◌, ◌≤◌, ◌^◌, length, IfOk};
 ghost use Rattle.aea_gauss_words.specs.Words.{bit_matrix};
-ghost use Rattle.aea_gauss.specs.Told.{AreLeads};
+ghost use Rattle.aea_gauss.specs.Revealed.{AreLeads};
 
 use aea_gauss_words::lead;
 use std::alloc::{AllocError, Global};

@@ -3,14 +3,14 @@ ghost use Rattle.std.specs.Prelude.{ℕ};
 ghost use Rattle.aea_readings.specs.Small.{block_in, AreListed};
 ghost use Rattle.aea_gauss.specs.Fates.{block_of_fate};
 ghost use Rattle.aea_gauss.specs.Parts.{StandsIn, PutsFate};
-ghost use Rattle.aea_gauss.specs.Told.{AreReduced};
+ghost use Rattle.aea_gauss.specs.Revealed.{AreReduced};
 
 use crate::columns::find_column;
 use crate::fates::{Fate, FateList};
 use crate::read::read_fate;
 use crate::small::Reduced;
 use aea_lattice::{BlockId, EqId, Lattice};
-use aea_readings::small_rows_tell_fates;
+use aea_readings::small_rows_reveal_fates;
 use std::alloc::{AllocError, Global};
 
 // Puts a fate at the place of its block.
@@ -43,7 +43,7 @@ pub(crate) fn solve_block(
     requires a { a < length part_blocks.now }
     ensures { OnOk result (PutsFate lattice.now blocks.now part_blocks.now part_equations.now a fates.old fates.new) }
 {
-    small_rows_tell_fates();
+    small_rows_reveal_fates();
     let fate = read_fate(
         alloc,
         reduced.words.as_slice(),

@@ -5,7 +5,7 @@ ghost use Rattle.aea_gauss_words.specs.Matrices.{IsReduced};
 ghost use Rattle.aea_readings.specs.Readings.{word_at};
 ghost use Rattle.aea_readings.specs.Small.{block_in, equation_in, own_column, nodes_at, equations_at};
 ghost use Rattle.aea_gauss.specs.Fates.{block_of_fate};
-ghost use Rattle.aea_gauss.specs.Told.{AreLeads, IsTold};
+ghost use Rattle.aea_gauss.specs.Revealed.{AreLeads, IsRevealed};
 
 use crate::fates::Fate;
 use aea_gauss_words::has;
@@ -153,7 +153,7 @@ pub(crate) fn read_fate(
     requires reduced { IsReduced (length equations.now) (64 * wide) (bit_matrix wide words.now) }
     requires a { a < length blocks.now }
     ensures block { IfOk result (λ fate. block_of_fate fate ≡ block_in blocks.now a) }
-    ensures told { IfOk result (IsTold blocks.now equations.now (bit_matrix wide words.now)) }
+    ensures revealed { IfOk result (IsRevealed blocks.now equations.now (bit_matrix wide words.now)) }
 {
     let block = blocks[a];
     match leads[a] {

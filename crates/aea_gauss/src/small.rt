@@ -3,7 +3,7 @@ ghost use Rattle.aea_gauss_words.specs.Words.{words_for, bit_matrix};
 ghost use Rattle.aea_gauss_words.specs.Matrices.{IsReduced, IsReduction};
 ghost use Rattle.aea_readings.specs.Small.{small_start, AreListed};
 ghost use Rattle.aea_lattice.specs.Equations.{HasEquation};
-ghost use Rattle.aea_gauss.specs.Told.{AreReduced};
+ghost use Rattle.aea_gauss.specs.Revealed.{AreReduced};
 
 use crate::leads::lead_table;
 use crate::rows::start_words;

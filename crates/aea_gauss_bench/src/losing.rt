@@ -62,7 +62,12 @@ fn count(alloc: Global, list: &LossList, unknown: u32) -> Result<String, AllocEr
 }
 
 // What is lost where the marked blocks are known, or how many are not marked where it is not asked for.
-fn told(alloc: Global, lattice: &Lattice, known: &Marks, asked: bool) -> Result<String, AllocError>
+fn revealed(
+    alloc: Global,
+    lattice: &Lattice,
+    known: &Marks,
+    asked: bool,
+) -> Result<String, AllocError>
     requires { known.now.lattice ≡ lattice.now }
 {
     let unknown = known.unmarked();
@@ -82,7 +87,7 @@ pub fn random_line(alloc: Global, numbers: [u32; 6], asked: bool) -> Result<Stri
         None => return String::from_str(alloc, "no lattice"),
     };
     let known = random_marks(alloc, &lattice, permille, seed)?;
-    told(alloc, &lattice, &known, asked)
+    revealed(alloc, &lattice, &known, asked)
 }
 
 /// Counts what is lost of a lattice where the first of so many sites are gone, or makes the marks alone.
@@ -97,5 +102,5 @@ pub fn sites_line(alloc: Global, numbers: [u32; 6], asked: bool) -> Result<Strin
         return String::from_str(alloc, "no sites");
     }
     let known = marks_of_sites(alloc, &lattice, sites, gone)?;
-    told(alloc, &lattice, &known, asked)
+    revealed(alloc, &lattice, &known, asked)
 }

@@ -12,7 +12,7 @@ pub fn step(x: u64) -> u64 {
 }
 
 // A random word: the high halves of two steps.
-fn chance(x: &mut u64) -> u64 {
+fn random(x: &mut u64) -> u64 {
     *x = step(*x);
     let high = *x >> 32;
     *x = step(*x);
@@ -25,7 +25,7 @@ fn random_rows(alloc: Global, rows: u32, wide: u32) -> Result<Vec<u64>, AllocErr
     let mut x = 1;
     for _row in 0..rows {
         for _at in 0..wide {
-            words.push(chance(&mut x))?;
+            words.push(random(&mut x))?;
         }
     }
     Ok(words)

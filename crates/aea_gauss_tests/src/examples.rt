@@ -1,7 +1,7 @@
 //! The worked examples as fates.
 
 use crate::bench::{blocks_of, fates_of, marks_without};
-use crate::chance::lost_blocks;
+use crate::random::lost_blocks;
 use aea_gauss::solve_open;
 use aea_lattice::Lattice;
 use std::test::Fail;

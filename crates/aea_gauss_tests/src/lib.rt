@@ -5,8 +5,6 @@
 #[cfg(test)]
 mod bench;
 #[cfg(test)]
-mod chance;
-#[cfg(test)]
 mod examples;
 #[cfg(test)]
 mod parts;
@@ -14,5 +12,7 @@ mod parts;
 mod patterns;
 #[cfg(test)]
 mod plain;
+#[cfg(test)]
+mod random;
 #[cfg(test)]
 mod words;

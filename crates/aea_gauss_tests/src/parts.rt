@@ -1,7 +1,7 @@
 //! Lists of lost blocks of which parts share no equation, and the same parts alone.
 
 use crate::bench::fates_of;
-use crate::chance::{SHAPES, fenced, lost_blocks, step};
+use crate::random::{SHAPES, fenced, lost_blocks, step};
 use aea_lattice::{BlockId, Class, EqId, Lattice};
 use std::alloc::{AllocError, Global};
 use std::process::Abort;

@@ -63,7 +63,7 @@ fn a_name_that_no_object_has(rt: HostRuntime) -> Result<(), Fail> {
 }
 
 #[test]
-fn the_first_damaged_block_is_told(rt: HostRuntime) -> Result<(), Fail> {
+fn the_first_damaged_block_is_named(rt: HostRuntime) -> Result<(), Fail> {
     let alloc = rt.alloc();
     // d1 is on site 1, d2 on site 2, d3 on site 3
     for (file, line) in [
@@ -111,12 +111,12 @@ fn each_write_of_the_output_fails(rt: HostRuntime) -> Result<(), Fail> {
             &mut out,
             &mut err,
         );
-        let told = if call < 6 {
+        let revealed = if call < 6 {
             (Status::Output, "fault: output\n")
         } else {
             (Status::Done, "")
         };
-        assert!(rt; (status, text_of(err.bytes())?) == told, "{call}");
+        assert!(rt; (status, text_of(err.bytes())?) == revealed, "{call}");
         assert!(rt; out.bytes().len() == written, "{call}");
         assert!(rt; bytes.as_slice().starts_with(out.bytes()), "{call}");
     }

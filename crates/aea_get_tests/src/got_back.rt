@@ -29,7 +29,7 @@ struct Object {
 }
 
 // Bytes of 0 to 5 blocks, whole ones or up to 16 bytes more.
-fn bytes_of_chance(alloc: Global, block: usize, seed: u64) -> Result<Vec<u8>, AllocError> {
+fn random_bytes(alloc: Global, block: usize, seed: u64) -> Result<Vec<u8>, AllocError> {
     let mut bytes = Vec::new(alloc);
     let mut x = step(seed);
     let many = if (x >> 20) % 3 == 0 {
@@ -48,11 +48,11 @@ fn bytes_of_chance(alloc: Global, block: usize, seed: u64) -> Result<Vec<u8>, Al
 }
 
 // The k-th object: names differ, and do not come in the order of their bytes.
-fn object_of_chance(alloc: Global, block: usize, k: u64) -> Result<Object, AllocError> {
+fn random_object(alloc: Global, block: usize, k: u64) -> Result<Object, AllocError> {
     let number = k.wrapping_mul(7) % OBJECTS;
     Ok(Object {
         name: format!(in alloc; "{number}-{k}")?,
-        bytes: bytes_of_chance(alloc, block, k.wrapping_add(block as u64))?,
+        bytes: random_bytes(alloc, block, k.wrapping_add(block as u64))?,
     })
 }
 
@@ -68,14 +68,14 @@ fn add_listed(text: &mut String, object: &Object) -> Result<(), AllocError> {
 }
 
 #[test]
-fn objects_of_chance_are_got_back_and_listed(rt: HostRuntime) -> Result<(), Fail> {
+fn random_objects_are_got_back_and_listed(rt: HostRuntime) -> Result<(), Fail> {
     let alloc = rt.alloc();
     for (line, block) in SHAPES {
         let mut disk = SureDisk::new(alloc, 64, 65_536, 65_536)?;
         let _made = run_over(alloc, line, &mut disk, 99)?;
         let mut objects = Vec::new(alloc);
         for k in 0..OBJECTS {
-            let object = object_of_chance(alloc, block, k)?;
+            let object = random_object(alloc, block, k)?;
             let left = run_put(
                 alloc,
                 &mut disk,

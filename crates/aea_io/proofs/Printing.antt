@@ -42,12 +42,12 @@ prints_then {a} {b} {c} {p} {q} {r} {result} {x} {y} first second =
     let f = length-append q y in
     record {
       bytes = bytes_then a b c p q r result x y first.bytes second.bytes;
-      fits = λ room told enough. let l = first.left room told (omega arith) in let le = l.2 in second.fits l.0 l.1 (omega arith);
-      left = λ room told enough.
-          let l = first.left room told (omega arith) in let le = l.2 in
+      fits = λ room revealed enough. let l = first.left room revealed (omega arith) in let le = l.2 in second.fits l.0 l.1 (omega arith);
+      left = λ room revealed enough.
+          let l = first.left room revealed (omega arith) in let le = l.2 in
           let m = second.left l.0 l.1 (omega arith) in let me = m.2 in
           (m.0, m.1, omega arith);
-      steady = λ room told enough. let l = first.left room told (omega arith) in let le = l.2 in second.steady l.0 l.1 (omega arith) ∙ first.steady room told (omega arith);
+      steady = λ room revealed enough. let l = first.left room revealed (omega arith) in let le = l.2 in second.steady l.0 l.1 (omega arith) ∙ first.steady room revealed (omega arith);
       cause = cause_then a.faults b.faults c.faults result first.cause.still second.cause;
     }
 
@@ -71,9 +71,9 @@ prints_stopped {a} {b} {p} {q} {result} {x} y stopped first =
     let l = longer p x y in
     record {
       bytes = stopped_bytes a b p q result x y stopped first.bytes;
-      fits = λ room told enough. absurd (false≢true (first.fits room told (omega arith)));
-      left = λ room told enough. absurd (false≢true (first.fits room told (omega arith)));
-      steady = λ room told enough. absurd (false≢true (first.fits room told (omega arith)));
+      fits = λ room revealed enough. absurd (false≢true (first.fits room revealed (omega arith)));
+      left = λ room revealed enough. absurd (false≢true (first.fits room revealed (omega arith)));
+      steady = λ room revealed enough. absurd (false≢true (first.fits room revealed (omega arith)));
       cause = stopped_cause a.faults b.faults result stopped first.cause.kept first.cause.rose;
     }
 
@@ -87,15 +87,15 @@ pub prints_failed : {T U E F : Type 0} {a b : SinkState} {p q r : List ℕ} {e :
 prints_failed {a} {b} {p} {r} {result} {x} failed first =
     record {
       bytes = failed_bytes a b p r result x failed first.bytes;
-      fits = λ room told enough. absurd (false≢true (first.fits room told enough));
-      left = λ room told enough. absurd (false≢true (first.fits room told enough));
-      steady = λ room told enough. absurd (false≢true (first.fits room told enough));
+      fits = λ room revealed enough. absurd (false≢true (first.fits room revealed enough));
+      left = λ room revealed enough. absurd (false≢true (first.fits room revealed enough));
+      steady = λ room revealed enough. absurd (false≢true (first.fits room revealed enough));
       cause = stopped_cause a.faults b.faults result failed first.cause.kept first.cause.rose;
     }
 
 -- another answer with what is printed
 pub prints_as : {T U E F : Type 0} {a b : SinkState} {p q : List ℕ} {v : T} {x : List ℕ} (u : U) → Prints {E = E} a p b q (Ok v) x → Prints {E = F} a p b q (Ok u) x
-prints_as u first = record { bytes = first.bytes; fits = λ room told enough. refl; left = first.left; steady = first.steady; cause = record { kept = first.cause.kept; rose = tt; still = first.cause.still } }
+prints_as u first = record { bytes = first.bytes; fits = λ room revealed enough. refl; left = first.left; steady = first.steady; cause = record { kept = first.cause.kept; rose = tt; still = first.cause.still } }
 
 -- nothing is printed
 pub prints_none : {T E : Type 0} (a : SinkState) (p : List ℕ) (v : T) → Prints {E = E} a p a p (Ok v) []
@@ -103,9 +103,9 @@ prints_none a p v =
     let e = ap length (append-nil p) in
     record {
       bytes = ([], Appends-nil a.written, append-nil p);
-      fits = λ room told enough. refl;
-      left = λ room told enough. (room, told, omega arith);
-      steady = λ room told enough. refl;
+      fits = λ room revealed enough. refl;
+      left = λ room revealed enough. (room, revealed, omega arith);
+      steady = λ room revealed enough. refl;
       cause = record { kept = omega arith; rose = tt; still = refl };
     }
 
@@ -116,9 +116,9 @@ prints_page {p} appended room cause =
     let e = ap length (append-nil p) in
     record {
       bytes = (p, appended, refl);
-      fits = λ n told enough. refl;
-      left = λ n told enough. (n - length p, room.left n told (omega arith), omega arith);
-      steady = λ n told enough. room.steady n told (omega arith);
+      fits = λ n revealed enough. refl;
+      left = λ n revealed enough. (n - length p, room.left n revealed (omega arith), omega arith);
+      steady = λ n revealed enough. room.steady n revealed (omega arith);
       cause = cause;
     }
 
@@ -135,9 +135,9 @@ prints_past {a} {b} {p} {result} {piece} none put room cause =
     let z : length p ≡ 0 = rw none in
     record {
       bytes = put_bytes a b p result piece none put;
-      fits = λ n told enough. room.fits n told (omega arith);
-      left = λ n told enough. (n - length piece, room.left n told (omega arith), omega arith);
-      steady = λ n told enough. room.steady n told (omega arith);
+      fits = λ n revealed enough. room.fits n revealed (omega arith);
+      left = λ n revealed enough. (n - length piece, room.left n revealed (omega arith), omega arith);
+      steady = λ n revealed enough. room.steady n revealed (omega arith);
       cause = cause;
     }
 
@@ -146,9 +146,9 @@ prints_held : {T E : Type 0} (a : SinkState) (p x : List ℕ) (v : T) → Prints
 prints_held a p x v =
     record {
       bytes = ([], Appends-nil a.written, refl);
-      fits = λ room told enough. refl;
-      left = λ room told enough. (room, told, refl);
-      steady = λ room told enough. refl;
+      fits = λ room revealed enough. refl;
+      left = λ room revealed enough. (room, revealed, refl);
+      steady = λ room revealed enough. refl;
       cause = record { kept = omega arith; rose = tt; still = refl };
     }
 

@@ -44,7 +44,7 @@ pub PutsInRoom-then : {T S E F : Type 0} {a b c : SinkState} {one : T} {result :
 PutsInRoom-then {xs} {ys} first then =
     let whole = length-append xs ys in
     record {
-      fits = λ room told enough. then.fits (room - length xs) (first.left room told (omega arith)) (omega arith);
-      left = λ room told enough. then.left (room - length xs) (first.left room told (omega arith)) (omega arith) ∙ ap Some (omega arith);
-      steady = λ room told enough. then.steady (room - length xs) (first.left room told (omega arith)) (omega arith) ∙ first.steady room told (omega arith);
+      fits = λ room revealed enough. then.fits (room - length xs) (first.left room revealed (omega arith)) (omega arith);
+      left = λ room revealed enough. then.left (room - length xs) (first.left room revealed (omega arith)) (omega arith) ∙ ap Some (omega arith);
+      steady = λ room revealed enough. then.steady (room - length xs) (first.left room revealed (omega arith)) (omega arith) ∙ first.steady room revealed (omega arith);
     }

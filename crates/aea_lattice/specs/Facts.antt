@@ -91,8 +91,8 @@ SumsAreListed =
     × AreOfSum l equations (flat_map (equation_blocks l) (filter equations (equations_of l)))
 
 -- Two blocks of a lattice with one number are the same.
-abbrev pub NumbersTellBlocks : Type 0
-NumbersTellBlocks = (l : Lattice) (a b : BlockId) → HasBlock l a → HasBlock l b → number_of l a ≡ number_of l b → a ≡ b
+abbrev pub NumbersRevealBlocks : Type 0
+NumbersRevealBlocks = (l : Lattice) (a b : BlockId) → HasBlock l a → HasBlock l b → number_of l a ≡ number_of l b → a ≡ b
 
 -- Every item of the list of the blocks of a lattice is a block of the lattice.
 abbrev pub BlocksAreInside : Type 0

@@ -1,5 +1,5 @@
 ghost use Rattle.aea_lattice.specs.LeastWord.{WordsAreOne};
-ghost use Rattle.aea_lattice.specs.Facts.{CodewordsAreEven, ReachedAreDetermined, WordsMissDetermined, ChangesAreCodewords, EquationsAddUp, SetsAddUp, SumsAreListed, NumbersTellBlocks, BlocksAreInside, PassingAreAmong, LastsEnter, JoinedStandAfterTheFence};
+ghost use Rattle.aea_lattice.specs.Facts.{CodewordsAreEven, ReachedAreDetermined, WordsMissDetermined, ChangesAreCodewords, EquationsAddUp, SetsAddUp, SumsAreListed, NumbersRevealBlocks, BlocksAreInside, PassingAreAmong, LastsEnter, JoinedStandAfterTheFence};
 
 /// A set of blocks is a codeword exactly where every equation has an even number of its blocks, and is then the
 /// codeword of its data nodes.
@@ -49,8 +49,8 @@ pub fn sums_are_listed()
 {}
 
 /// Two blocks of a lattice with one number are the same.
-pub fn numbers_tell_blocks()
-    ensures { NumbersTellBlocks }
+pub fn numbers_reveal_blocks()
+    ensures { NumbersRevealBlocks }
 {}
 
 /// Every item of the list of the blocks of a lattice is a block of it.

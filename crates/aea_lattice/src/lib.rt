@@ -27,7 +27,7 @@ mod texts;
 pub use blocks::{BlockId, Class, EqId, Equation};
 pub use facts::{
     blocks_are_inside, changes_are_codewords, codewords_are_even, equations_add_up,
-    joined_stand_after_the_fence, lasts_enter, numbers_tell_blocks, passing_are_among,
+    joined_stand_after_the_fence, lasts_enter, numbers_reveal_blocks, passing_are_among,
     reached_are_determined, sets_add_up, sums_are_listed, words_are_one, words_miss_determined,
 };
 pub use fences::{Fences, MAX_FENCES};

@@ -211,17 +211,17 @@ this_one v w r old new taken next is appended =
     }
 
 -- a call that does nothing leaves the old ledger
-pub leaves_none : (tells : Type 0) (v : Opened) (r : Record) (s : State) → (tells → IsFixed s 0) → LeavesOldOrNew tells v r s s
-leaves_none tells v r s fixed = record {
-  any_moment = λ tell records its t c from to image.
+pub leaves_none : (reveals : Type 0) (v : Opened) (r : Record) (s : State) → (reveals → IsFixed s 0) → LeavesOldOrNew reveals v r s s
+leaves_none reveals v r s fixed = record {
+  any_moment = λ reveal records its t c from to image.
       let now : t ≡ s.moment = omega (arith, from, to) in
-      let same : c 0 ≡ s.files 0 = fixed tell c (subst (λ (n : ℕ). s.image n c) now image) in
+      let same : c 0 ≡ s.files 0 = fixed reveal c (subst (λ (n : ℕ). s.image n c) now image) in
       inl (subst (HasLedger v.shape records) (sym same) (subst (IsLedger (s.files 0) v.shape records) its.ledger.place its.ledger));
-  stays = λ tell records its t u from between to all c image.
+  stays = λ reveal records its t u from between to all c image.
       let same : u ≡ t = omega (arith, from, between, to) in
       all c (subst (λ (n : ℕ). s.image n c) same image);
-  reads = λ tell records its. inl (subst (IsLedger (s.files 0) v.shape records) its.ledger.place its.ledger);
-  long = λ tell. omega arith;
+  reads = λ reveal records its. inl (subst (IsLedger (s.files 0) v.shape records) its.ledger.place its.ledger);
+  long = λ reveal. omega arith;
 }
 
 -- an opened ledger with the parts of one that has some records has some

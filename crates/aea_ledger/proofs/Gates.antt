@@ -32,10 +32,10 @@ read_on old cursor records place read = record {
 
 -- and they are those of the same file under another name, where the bytes of this cursor are the file's at its
 -- place
-pub told_on : (old : Reader) (cursor : Ahead) (records : List Record) (file other : List ℕ) → cursor.place ≡ old.input.cursor.place → file ≡ other → IsAhead cursor other → AreIn old records file → AreIn (with_cursor old cursor) records other
-told_on old cursor records file other place same ahead told = record {
-  long = subst (λ (l : List ℕ). 18 ≤ length l) same told.long;
-  spelling = sym same ∙ told.spelling ∙ (λ i. spelled old.shape records ++ drop (sym place i) (same i));
+pub revealed_on : (old : Reader) (cursor : Ahead) (records : List Record) (file other : List ℕ) → cursor.place ≡ old.input.cursor.place → file ≡ other → IsAhead cursor other → AreIn old records file → AreIn (with_cursor old cursor) records other
+revealed_on old cursor records file other place same ahead revealed = record {
+  long = subst (λ (l : List ℕ). 18 ≤ length l) same revealed.long;
+  spelling = sym same ∙ revealed.spelling ∙ (λ i. spelled old.shape records ++ drop (sym place i) (same i));
   ahead = ahead;
 }
 
@@ -58,30 +58,30 @@ window_is cursor size is = ap (λ (n : ℕ). take n cursor.bytes) is ∙ take_mi
 pub bad_gate : (r : Reader) (records : List Record) (file window : List ℕ) (at place : ℕ) → ReadersKnow → HasRead r records → AreIn r records file
     → IsBadWindow r.shape (known_in r.catalog.objects r.lattice.n r.lattice.fences r.raised) window at
     → window ≡ take 315 (drop r.input.cursor.place file) → place ≡ r.input.cursor.place + at → IsBadAt file place
-bad_gate r records file window at place law read told bad is sum =
-    bad_at r.shape records file r at place refl read told
+bad_gate r records file window at place law read revealed bad is sum =
+    bad_at r.shape records file r at place refl read revealed
     (ap (λ (known : Known). gate_fault r.shape known (drop r.input.cursor.place file)) (sym (knows r records law read)) ∙ bad (drop r.input.cursor.place file) is) sum
 
 -- a window with a head
-pub at_head : (tells : Type 0) (file : List ℕ) (r : Reader) (found : Found) (window : List ℕ) (records : List Record) → ReadersKnow → HasRead r records → (tells → AreIn r records file)
+pub at_head : (reveals : Type 0) (file : List ℕ) (r : Reader) (found : Found) (window : List ℕ) (records : List Record) → ReadersKnow → HasRead r records → (reveals → AreIn r records file)
     → window ≡ take 315 r.input.cursor.bytes
     → IsHead r.shape (known_in r.catalog.objects r.lattice.n r.lattice.fences r.raised) window (found_at window found) (head_end found.fields) → head_end found.fields ≤ length window
-    → IsSmall found.fields → GoesOn r.lattice found.fields → (tells → take 315 r.input.cursor.bytes ≡ take 315 (drop r.input.cursor.place file)) → IsAtHead tells file r found
-at_head tells file r found window records law read told same stands within small goes window_told = record {
+    → IsSmall found.fields → GoesOn r.lattice found.fields → (reveals → take 315 r.input.cursor.bytes ≡ take 315 (drop r.input.cursor.place file)) → IsAtHead reveals file r found
+at_head reveals file r found window records law read revealed same stands within small goes window_revealed = record {
   records = records;
   read = read;
-  told = told;
+  revealed = revealed;
   stands = subst (λ (known : Known). IsHead r.shape known (take 315 r.input.cursor.bytes) (found_at (take 315 r.input.cursor.bytes) found) (head_end found.fields)) (knows r records law read)
       (subst (λ (w : List ℕ). IsHead r.shape (known_in r.catalog.objects r.lattice.n r.lattice.fences r.raised) w (found_at w found) (head_end found.fields)) same stands);
   within = omega (arith, within, ap length same, length-take 315 r.input.cursor.bytes);
   small = small;
   goes = goes;
-  window = window_told;
+  window = window_revealed;
 }
 
 -- a gate that is closed ends the ledger
 pub ends_at : (r : Reader) (records : List Record) (file window : List ℕ) → HasRead r records → AreIn r records file → window ≡ take 315 (drop r.input.cursor.place file) → IsClosed window → IsLedger file r.shape records r.input.cursor.place
-ends_at r records file window read told is closed =
+ends_at r records file window read revealed is closed =
     let first : slice_index window 0 ≡ slice_index (drop r.input.cursor.place file) 0 =
     ap (λ (l : List ℕ). slice_index l 0) is ∙ get_or-take 315 (drop r.input.cursor.place file) 0 0 (omega arith) in
     record {
@@ -89,22 +89,22 @@ ends_at r records file window read told is closed =
       gate = slice_index (drop r.input.cursor.place file) 0;
       closed = λ e. closed.gate (first ∙ e);
       after = drop 1 (drop r.input.cursor.place file);
-      spelling = told.spelling ∙ ap (λ (l : List ℕ). spelled r.shape records ++ l)
+      spelling = revealed.spelling ∙ ap (λ (l : List ℕ). spelled r.shape records ++ l)
           (drop_more (drop r.input.cursor.place file) 0 0 (omega (arith, ap length is, length-take 315 (drop r.input.cursor.place file), closed.there)));
       place = read.place;
     }
 
 -- where the file's contents are known, they may be named otherwise
-pub reading_in : (tells : Type 0) (file other : List ℕ) (r : Reader) → (tells → file ≡ other) → IsReading tells file r → IsReading tells other r
-reading_in tells file other r same reading = record {
+pub reading_in : (reveals : Type 0) (file other : List ℕ) (r : Reader) → (reveals → file ≡ other) → IsReading reveals file r → IsReading reveals other r
+reading_in reveals file other r same reading = record {
   records = reading.records;
   read = reading.read;
-  told = λ tell. subst (AreIn r reading.records) (same tell) (reading.told tell);
+  revealed = λ reveal. subst (AreIn r reading.records) (same reveal) (reading.revealed reveal);
 }
 
-pub whole_in : (tells : Type 0) (file other : List ℕ) (r : Reader) → (tells → file ≡ other) → IsWhole tells file r → IsWhole tells other r
-whole_in tells file other r same whole = record {
+pub whole_in : (reveals : Type 0) (file other : List ℕ) (r : Reader) → (reveals → file ≡ other) → IsWhole reveals file r → IsWhole reveals other r
+whole_in reveals file other r same whole = record {
   records = whole.records;
   read = whole.read;
-  told = λ tell. subst (λ (l : List ℕ). IsLedger l r.shape whole.records r.input.cursor.place) (same tell) (whole.told tell);
+  revealed = λ reveal. subst (λ (l : List ℕ). IsLedger l r.shape whole.records r.input.cursor.place) (same reveal) (whole.revealed reveal);
 }

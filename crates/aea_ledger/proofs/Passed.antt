@@ -13,54 +13,54 @@ use Rattle.aea_ledger.specs.Readings.{HasPassed, HasDigests, HasParts}
 use Rattle.aea_ledger.specs.declared.input.Input.{Input}
 
 -- over nothing
-pub passed_none : (tells : Type 0) (file : List ℕ) (i : Input) → (tells → IsAhead i.cursor file) → HasPassed tells file i i []
-passed_none tells file i ahead = record {
+pub passed_none : (reveals : Type 0) (file : List ℕ) (i : Input) → (reveals → IsAhead i.cursor file) → HasPassed reveals file i i []
+passed_none reveals file i ahead = record {
   are = All-nil (λ b. b < 2 ^ 8);
   holds = λ message held. subst (Holds256 i.hasher) (sym (append-nil message)) held;
   place = omega arith;
   ahead = ahead;
-  bytes = λ tell. refl;
+  bytes = λ reveal. refl;
 }
 
 -- over bytes, and then over others
-pub passed_then : (tells : Type 0) (file : List ℕ) (old mid new : Input) (x y : List ℕ) → HasPassed tells file old mid x → HasPassed tells file mid new y → HasPassed tells file old new (x ++ y)
-passed_then tells file old mid new x y early late = record {
+pub passed_then : (reveals : Type 0) (file : List ℕ) (old mid new : Input) (x y : List ℕ) → HasPassed reveals file old mid x → HasPassed reveals file mid new y → HasPassed reveals file old new (x ++ y)
+passed_then reveals file old mid new x y early late = record {
   are = All-append (λ b. b < 2 ^ 8) x y early.are late.are;
   holds = λ message held. subst (Holds256 new.hasher) (append_assoc message x y) (late.holds (message ++ x) (early.holds message held));
   place = omega (arith, early.place, late.place, length-append x y);
   ahead = late.ahead;
-  bytes = λ tell. early.bytes tell ∙ ap (λ (l : List ℕ). x ++ l) (late.bytes tell) ∙ sym (append_assoc x y (drop new.cursor.place file));
+  bytes = λ reveal. early.bytes reveal ∙ ap (λ (l : List ℕ). x ++ l) (late.bytes reveal) ∙ sym (append_assoc x y (drop new.cursor.place file));
 }
 
 -- over the first bytes of those that were read, which may have been read meanwhile
-pub passed_over : (tells : Type 0) (file : List ℕ) (old mid new : Input) (count : ℕ) → mid.cursor.place ≡ old.cursor.place → ((message : List ℕ) → Holds256 old.hasher message → Holds256 mid.hasher message)
-    → (tells → IsAhead mid.cursor file) → count ≤ length mid.cursor.bytes → AreBytes (take count mid.cursor.bytes)
+pub passed_over : (reveals : Type 0) (file : List ℕ) (old mid new : Input) (count : ℕ) → mid.cursor.place ≡ old.cursor.place → ((message : List ℕ) → Holds256 old.hasher message → Holds256 mid.hasher message)
+    → (reveals → IsAhead mid.cursor file) → count ≤ length mid.cursor.bytes → AreBytes (take count mid.cursor.bytes)
     → ((message : List ℕ) → Holds256 mid.hasher message → Holds256 new.hasher (message ++ take count mid.cursor.bytes)) → new.cursor.place ≡ mid.cursor.place + count
-    → ((f : List ℕ) → IsAhead mid.cursor f → IsAhead new.cursor f) → HasPassed tells file old new (take count mid.cursor.bytes)
-passed_over tells file old mid new count at same told within are holds place ahead =
+    → ((f : List ℕ) → IsAhead mid.cursor f → IsAhead new.cursor f) → HasPassed reveals file old new (take count mid.cursor.bytes)
+passed_over reveals file old mid new count at same revealed within are holds place ahead =
     let size : length (take count mid.cursor.bytes) ≡ count = omega (arith, length-take count mid.cursor.bytes, within) in
     record {
       are = are;
       holds = λ message held. holds message (same message held);
       place = omega (arith, place, at, size);
-      ahead = λ tell. ahead file (told tell);
-      bytes = λ tell.
+      ahead = λ reveal. ahead file (revealed reveal);
+      bytes = λ reveal.
           let rest : List ℕ = drop mid.cursor.place file in
           let front : take count mid.cursor.bytes ≡ take count (drop mid.cursor.place file) =
-          ap (take count) (told tell) ∙ take-take count (length mid.cursor.bytes) (drop mid.cursor.place file) within in
+          ap (take count) (revealed reveal) ∙ take-take count (length mid.cursor.bytes) (drop mid.cursor.place file) within in
           ap (λ (n : ℕ). drop n file) (sym at) ∙ sym (take-append-drop count (drop mid.cursor.place file))
           ∙ ap (λ (l : List ℕ). l ++ drop count (drop mid.cursor.place file)) (sym front)
           ∙ ap (λ (l : List ℕ). take count mid.cursor.bytes ++ l) (drop-drop count mid.cursor.place file ∙ ap (λ (n : ℕ). drop n file) (sym place));
     }
 
 -- where the file's contents are known, they may be named otherwise
-pub passed_in : (tells : Type 0) (file other : List ℕ) (old new : Input) (text : List ℕ) → (tells → file ≡ other) → HasPassed tells file old new text → HasPassed tells other old new text
-passed_in tells file other old new text same passed = record {
+pub passed_in : (reveals : Type 0) (file other : List ℕ) (old new : Input) (text : List ℕ) → (reveals → file ≡ other) → HasPassed reveals file old new text → HasPassed reveals other old new text
+passed_in reveals file other old new text same passed = record {
   are = passed.are;
   holds = passed.holds;
   place = passed.place;
-  ahead = λ tell. subst (IsAhead new.cursor) (same tell) (passed.ahead tell);
-  bytes = λ tell. subst (λ (f : List ℕ). drop old.cursor.place f ≡ text ++ drop new.cursor.place f) (same tell) (passed.bytes tell);
+  ahead = λ reveal. subst (IsAhead new.cursor) (same reveal) (passed.ahead reveal);
+  bytes = λ reveal. subst (λ (f : List ℕ). drop old.cursor.place f ≡ text ++ drop new.cursor.place f) (same reveal) (passed.bytes reveal);
 }
 
 -- ---- pieces and parts one after the other
@@ -107,13 +107,13 @@ extents-append (suc n) m x y size =
 
 -- ---- digests and parts
 
-pub digests_none : (tells : Type 0) (file : List ℕ) (i : Input) (before : List (List ℕ)) → (tells → IsAhead i.cursor file) → HasDigests tells file i i 0 before before
-digests_none tells file i before ahead = record { text = []; long = refl; passed = passed_none tells file i ahead; digests = sym (append-nil before) }
+pub digests_none : (reveals : Type 0) (file : List ℕ) (i : Input) (before : List (List ℕ)) → (reveals → IsAhead i.cursor file) → HasDigests reveals file i i 0 before before
+digests_none reveals file i before ahead = record { text = []; long = refl; passed = passed_none reveals file i ahead; digests = sym (append-nil before) }
 
 -- 32 bytes that the input went on over, put after others as they are, are one digest that it went on over
-pub digests_one : (tells : Type 0) (file : List ℕ) (old new : Input) (bytes digest : List ℕ) (before after : List (List ℕ)) → length bytes ≡ 32 → HasPassed tells file old new bytes → digest ≡ bytes
-    → after ≡ before ++ digest ∷ [] → HasDigests tells file old new 1 before after
-digests_one tells file old new bytes digest before after long passed is pushed = record {
+pub digests_one : (reveals : Type 0) (file : List ℕ) (old new : Input) (bytes digest : List ℕ) (before after : List (List ℕ)) → length bytes ≡ 32 → HasPassed reveals file old new bytes → digest ≡ bytes
+    → after ≡ before ++ digest ∷ [] → HasDigests reveals file old new 1 before after
+digests_one reveals file old new bytes digest before after long passed is pushed = record {
   text = bytes;
   long = long;
   passed = passed;
@@ -121,29 +121,29 @@ digests_one tells file old new bytes digest before after long passed is pushed =
 }
 
 -- the input that went on over so many digests, and then over one, went on over one more than so many
-pub digests_push : (tells : Type 0) (file : List ℕ) (old mid new : Input) (count : ℕ) (before between after : List (List ℕ)) → HasDigests tells file old mid count before between → HasDigests tells file mid new 1 between after
-    → HasDigests tells file old new (count + 1) before after
-digests_push tells file old mid new count before between after early late = record {
+pub digests_push : (reveals : Type 0) (file : List ℕ) (old mid new : Input) (count : ℕ) (before between after : List (List ℕ)) → HasDigests reveals file old mid count before between → HasDigests reveals file mid new 1 between after
+    → HasDigests reveals file old new (count + 1) before after
+digests_push reveals file old mid new count before between after early late = record {
   text = early.text ++ late.text;
   long = omega (arith, length-append early.text late.text, early.long, late.long);
-  passed = passed_then tells file old mid new early.text late.text early.passed late.passed;
+  passed = passed_then reveals file old mid new early.text late.text early.passed late.passed;
   digests = late.digests ∙ ap (λ (l : List (List ℕ)). l ++ pieces 32 1 late.text) early.digests ∙ append_assoc before (pieces 32 count early.text) (pieces 32 1 late.text)
       ∙ ap (λ (l : List (List ℕ)). before ++ l) (sym (pieces-append 32 count 1 early.text late.text early.long));
 }
 
 -- digests that were read of a file were read of another one that is the same, where the file's contents are known
-pub digests_in : (tells : Type 0) (file other : List ℕ) (old new : Input) (count : ℕ) (before after : List (List ℕ)) → (tells → file ≡ other) → HasDigests tells file old new count before after
-    → HasDigests tells other old new count before after
-digests_in tells file other old new count before after same has = record { text = has.text; long = has.long; passed = passed_in tells file other old new has.text same has.passed; digests = has.digests }
+pub digests_in : (reveals : Type 0) (file other : List ℕ) (old new : Input) (count : ℕ) (before after : List (List ℕ)) → (reveals → file ≡ other) → HasDigests reveals file old new count before after
+    → HasDigests reveals other old new count before after
+digests_in reveals file other old new count before after same has = record { text = has.text; long = has.long; passed = passed_in reveals file other old new has.text same has.passed; digests = has.digests }
 
-pub parts_none : (tells : Type 0) (file : List ℕ) (i : Input) (before : List Extent) → (tells → IsAhead i.cursor file) → HasParts tells file i i 0 before before
-parts_none tells file i before ahead = record { text = []; long = refl; passed = passed_none tells file i ahead; parts = sym (append-nil before) }
+pub parts_none : (reveals : Type 0) (file : List ℕ) (i : Input) (before : List Extent) → (reveals → IsAhead i.cursor file) → HasParts reveals file i i 0 before before
+parts_none reveals file i before ahead = record { text = []; long = refl; passed = passed_none reveals file i ahead; parts = sym (append-nil before) }
 
 -- 8 bytes that the input went on over, put after others as the part that they spell, are one part that it went on
 -- over
-pub parts_one : (tells : Type 0) (file : List ℕ) (old new : Input) (bytes : List ℕ) (part : Extent) (before after : List Extent) → length bytes ≡ 8 → HasPassed tells file old new bytes
-    → part ≡ record { first = from_be_bytes w32 (take 4 bytes); count = from_be_bytes w32 (drop 4 bytes) } → after ≡ before ++ part ∷ [] → HasParts tells file old new 1 before after
-parts_one tells file old new bytes part before after long passed is pushed = record {
+pub parts_one : (reveals : Type 0) (file : List ℕ) (old new : Input) (bytes : List ℕ) (part : Extent) (before after : List Extent) → length bytes ≡ 8 → HasPassed reveals file old new bytes
+    → part ≡ record { first = from_be_bytes w32 (take 4 bytes); count = from_be_bytes w32 (drop 4 bytes) } → after ≡ before ++ part ∷ [] → HasParts reveals file old new 1 before after
+parts_one reveals file old new bytes part before after long passed is pushed = record {
   text = bytes;
   long = long;
   passed = passed;
@@ -151,20 +151,20 @@ parts_one tells file old new bytes part before after long passed is pushed = rec
 }
 
 -- the input that went on over so many parts, and then over one, went on over one more than so many
-pub parts_push : (tells : Type 0) (file : List ℕ) (old mid new : Input) (count : ℕ) (before between after : List Extent) → HasParts tells file old mid count before between → HasParts tells file mid new 1 between after
-    → HasParts tells file old new (count + 1) before after
-parts_push tells file old mid new count before between after early late = record {
+pub parts_push : (reveals : Type 0) (file : List ℕ) (old mid new : Input) (count : ℕ) (before between after : List Extent) → HasParts reveals file old mid count before between → HasParts reveals file mid new 1 between after
+    → HasParts reveals file old new (count + 1) before after
+parts_push reveals file old mid new count before between after early late = record {
   text = early.text ++ late.text;
   long = omega (arith, length-append early.text late.text, early.long, late.long);
-  passed = passed_then tells file old mid new early.text late.text early.passed late.passed;
+  passed = passed_then reveals file old mid new early.text late.text early.passed late.passed;
   parts = late.parts ∙ ap (λ (l : List Extent). l ++ extents 1 late.text) early.parts ∙ append_assoc before (extents count early.text) (extents 1 late.text)
       ∙ ap (λ (l : List Extent). before ++ l) (sym (extents-append count 1 early.text late.text early.long));
 }
 
 -- parts that were read of a file were read of another one that is the same, where the file's contents are known
-pub parts_in : (tells : Type 0) (file other : List ℕ) (old new : Input) (count : ℕ) (before after : List Extent) → (tells → file ≡ other) → HasParts tells file old new count before after
-    → HasParts tells other old new count before after
-parts_in tells file other old new count before after same has = record { text = has.text; long = has.long; passed = passed_in tells file other old new has.text same has.passed; parts = has.parts }
+pub parts_in : (reveals : Type 0) (file other : List ℕ) (old new : Input) (count : ℕ) (before after : List Extent) → (reveals → file ≡ other) → HasParts reveals file old new count before after
+    → HasParts reveals other old new count before after
+parts_in reveals file other old new count before after same has = record { text = has.text; long = has.long; passed = passed_in reveals file other old new has.text same has.passed; parts = has.parts }
 
 -- as many parts are read as are asked for, whatever the bytes are
 pub length-extents : (n : ℕ) (bytes : List ℕ) → length (extents n bytes) ≡ n

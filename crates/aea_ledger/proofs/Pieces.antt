@@ -12,9 +12,9 @@ drop-part xs from to n h =
 
 -- bytes that are read stay those of the file, when the place goes on
 pub ahead_later : (a b : Ahead) (n : ℕ) (file : List ℕ) → n ≤ length a.bytes → b.place ≡ a.place + n → b.bytes ≡ drop n a.bytes → IsAhead a file → IsAhead b file
-ahead_later a b n file h place bytes told =
+ahead_later a b n file h place bytes revealed =
     let size : length a.bytes ≡ n + length b.bytes = omega (arith, ap length bytes, length-drop n a.bytes) in
-    bytes ∙ ap (drop n) (told ∙ ap (λ (k : ℕ). take k (drop a.place file)) size) ∙ drop-take n (length b.bytes) (drop a.place file)
+    bytes ∙ ap (drop n) (revealed ∙ ap (λ (k : ℕ). take k (drop a.place file)) size) ∙ drop-take n (length b.bytes) (drop a.place file)
     ∙ ap (take (length b.bytes)) (drop-drop n a.place file ∙ ap (λ (k : ℕ). drop k file) (sym place))
 
 -- a front, and what follows it up to a place
@@ -45,8 +45,8 @@ copied_front old new from to h within size copied =
 
 -- bytes of a file, and those that are read after them
 pub read_on : (file bytes : List ℕ) (kept n place next : ℕ) → kept ≤ n → length bytes ≡ kept → next ≡ place + kept → bytes ≡ take (length bytes) (drop place file) → bytes ++ take (n - kept) (drop next file) ≡ take n (drop place file)
-read_on file bytes kept n place next h size sum told =
-    ap (λ (l : List ℕ). l ++ take (n - kept) (drop next file)) (told ∙ ap (λ (k : ℕ). take k (drop place file)) size)
+read_on file bytes kept n place next h size sum revealed =
+    ap (λ (l : List ℕ). l ++ take (n - kept) (drop next file)) (revealed ∙ ap (λ (k : ℕ). take k (drop place file)) size)
     ∙ ap (λ (l : List ℕ). take kept (drop place file) ++ take (n - kept) l) (ap (λ (k : ℕ). drop k file) sum ∙ sym (drop-drop kept place file))
     ∙ take-both (drop place file) kept n h
 
@@ -54,8 +54,8 @@ read_on file bytes kept n place next h size sum told =
 pub refilled : (copied new bytes file : List ℕ) (len kept more n place next : ℕ) → length new ≡ len → len ≡ n → kept ≤ n → next ≡ place + kept → length bytes ≡ kept → take kept copied ≡ bytes
     → take (kept + more) new ≡ take kept copied ++ take (n - kept) (drop next file) → bytes ≡ take (length bytes) (drop place file)
     → take (kept + more - 0) (take len (new ++ drop (length new) copied)) ≡ take n (drop place file)
-refilled copied new bytes file len kept more n place next size same h sum long front read told =
+refilled copied new bytes file len kept more n place next size same h sum long front read revealed =
     let less : kept + more - 0 ≡ kept + more = omega arith in
     ap (λ (k : ℕ). take k (take len (new ++ drop (length new) copied))) less
     ∙ ap (take (kept + more)) (take_at new (drop (length new) copied) len size) ∙ read ∙ ap (λ (l : List ℕ). l ++ take (n - kept) (drop next file)) front
-    ∙ read_on file bytes kept n place next h long sum told
+    ∙ read_on file bytes kept n place next h long sum revealed

@@ -30,19 +30,19 @@ fence_found bytes node = record { bytes = bytes; fields = Fenced node }
 abbrev pub raise_found : ℕ → Found
 raise_found bytes = record { bytes = bytes; fields = Raised }
 
-short_goes : (tells : Type 0) (file : List ℕ) (old : Reader) (found : Found) (new : Input) (r : Record) → TailsAreSpelled → (at : IsAtHead tells file old found)
-    → HasPassed tells file old.input new (take (head_end found.fields) old.input.cursor.bytes) → Spells (tail_fields old.shape (known_of at.records) (found_at (take 315 old.input.cursor.bytes) found)) [] r
-    → Goes tells file old new at.records r
-short_goes tells file old found new r law at passed spells =
-    goes_on tells file old found new [] r law at (subst (HasPassed tells file old.input new) (sym (append-nil (take (head_end found.fields) old.input.cursor.bytes))) passed) (All-nil (λ b. b < 2 ^ 8)) spells
+short_goes : (reveals : Type 0) (file : List ℕ) (old : Reader) (found : Found) (new : Input) (r : Record) → TailsAreSpelled → (at : IsAtHead reveals file old found)
+    → HasPassed reveals file old.input new (take (head_end found.fields) old.input.cursor.bytes) → Spells (tail_fields old.shape (known_of at.records) (found_at (take 315 old.input.cursor.bytes) found)) [] r
+    → Goes reveals file old new at.records r
+short_goes reveals file old found new r law at passed spells =
+    goes_on reveals file old found new [] r law at (subst (HasPassed reveals file old.input new) (sym (append-nil (take (head_end found.fields) old.input.cursor.bytes))) passed) (All-nil (λ b. b < 2 ^ 8)) spells
 
 -- a reader that went on over a fence with 4 as its number of bytes, and set it, has read records, those of the
 -- file where its contents are known, and is further on
-pub fence_read : (tells : Type 0) (file : List ℕ) (old new : Reader) (bytes node : ℕ) → TailsAreSpelled → (at : IsAtHead tells file old (fence_found bytes node)) → HasPassed tells file old.input new.input (take 10 old.input.cursor.bytes)
-    → bytes ≡ 4 → new.shape ≡ old.shape → IsFenced old.lattice new.lattice → new.catalog.objects ≡ old.catalog.objects → new.raised ≡ old.raised → new.digests.items ≡ old.digests.items → IsReading tells file new × (old.input.cursor.place < new.input.cursor.place)
-fence_read tells file old new bytes node law at passed four shape lattice objects raised items =
+pub fence_read : (reveals : Type 0) (file : List ℕ) (old new : Reader) (bytes node : ℕ) → TailsAreSpelled → (at : IsAtHead reveals file old (fence_found bytes node)) → HasPassed reveals file old.input new.input (take 10 old.input.cursor.bytes)
+    → bytes ≡ 4 → new.shape ≡ old.shape → IsFenced old.lattice new.lattice → new.catalog.objects ≡ old.catalog.objects → new.raised ≡ old.raised → new.digests.items ≡ old.digests.items → IsReading reveals file new × (old.input.cursor.place < new.input.cursor.place)
+fence_read reveals file old new bytes node law at passed four shape lattice objects raised items =
     let records : List Record = at.records in
-    let goes : Goes tells file old new.input at.records (Fence node) = short_goes tells file old (fence_found bytes node) new.input (Fence node) law at passed (eq-eqb bytes 4 four, (refl, refl)) in
+    let goes : Goes reveals file old new.input at.records (Fence node) = short_goes reveals file old (fence_found bytes node) new.input (Fence node) law at passed (eq-eqb bytes 4 four, (refl, refl)) in
     let nodes : nodes_of (at.records ++ Fence node ∷ []) ≡ nodes_of at.records = nodes_of-push at.records (Fence node) ∙ (let z : nodes_of at.records + 0 ≡ nodes_of at.records = omega arith in z) in
     let is : IsLatticeOf old.shape (nodes_of (at.records ++ Fence node ∷ [])) (fences_of (at.records ++ Fence node ∷ [])) new.lattice = record {
       alpha = lattice.shape.alpha ∙ at.read.lattice.alpha;
@@ -62,10 +62,10 @@ fence_read tells file old new bytes node law at passed four shape lattice object
           holds = subst (λ (s : Shape). Holds256 new.input.hasher (spelled s (at.records ++ Fence node ∷ []))) (sym shape) goes.holds;
           place = goes.place ∙ ap (λ (s : Shape). length (spelled s (at.records ++ Fence node ∷ []))) (sym shape);
         };
-        told = λ tell. record {
-          long = (at.told tell).long;
-          spelling = goes.spelling tell ∙ ap (λ (s : Shape). spelled s (at.records ++ Fence node ∷ []) ++ drop new.input.cursor.place file) (sym shape);
-          ahead = goes.ahead tell;
+        revealed = λ reveal. record {
+          long = (at.revealed reveal).long;
+          spelling = goes.spelling reveal ∙ ap (λ (s : Shape). spelled s (at.records ++ Fence node ∷ []) ++ drop new.input.cursor.place file) (sym shape);
+          ahead = goes.ahead reveal;
         };
       },
       goes.on,
@@ -73,10 +73,10 @@ fence_read tells file old new bytes node law at passed four shape lattice object
 
 -- a reader that went on over a raise with 4 as its number of bytes, and took it, has read records, those of the
 -- file where its contents are known, and is further on
-pub raise_read : (tells : Type 0) (file : List ℕ) (old new : Reader) (bytes : ℕ) → TailsAreSpelled → (at : IsAtHead tells file old (raise_found bytes)) → HasPassed tells file old.input new.input (take 10 old.input.cursor.bytes)
-    → bytes ≡ 4 → new.shape ≡ old.shape → new.lattice ≡ old.lattice → new.catalog.objects ≡ old.catalog.objects → new.raised ≡ true → new.digests.items ≡ old.digests.items → IsReading tells file new × (old.input.cursor.place < new.input.cursor.place)
-raise_read tells file old new bytes law at passed four shape lattice objects raised items =
-    let goes : Goes tells file old new.input at.records Raise = short_goes tells file old (raise_found bytes) new.input Raise law at passed (eq-eqb bytes 4 four, (refl, refl)) in
+pub raise_read : (reveals : Type 0) (file : List ℕ) (old new : Reader) (bytes : ℕ) → TailsAreSpelled → (at : IsAtHead reveals file old (raise_found bytes)) → HasPassed reveals file old.input new.input (take 10 old.input.cursor.bytes)
+    → bytes ≡ 4 → new.shape ≡ old.shape → new.lattice ≡ old.lattice → new.catalog.objects ≡ old.catalog.objects → new.raised ≡ true → new.digests.items ≡ old.digests.items → IsReading reveals file new × (old.input.cursor.place < new.input.cursor.place)
+raise_read reveals file old new bytes law at passed four shape lattice objects raised items =
+    let goes : Goes reveals file old new.input at.records Raise = short_goes reveals file old (raise_found bytes) new.input Raise law at passed (eq-eqb bytes 4 four, (refl, refl)) in
     let nodes : nodes_of (at.records ++ Raise ∷ []) ≡ nodes_of at.records = nodes_of-push at.records Raise ∙ (let z : nodes_of at.records + 0 ≡ nodes_of at.records = omega arith in z) in
     let fences : fences_of (at.records ++ Raise ∷ []) ≡ fences_of at.records = fences_of-push at.records Raise ∙ append-nil (fences_of at.records) in
     let was : IsLatticeOf old.shape (nodes_of at.records) (fences_of at.records) new.lattice = subst (IsLatticeOf old.shape (nodes_of at.records) (fences_of at.records)) (sym lattice) at.read.lattice in
@@ -98,21 +98,21 @@ raise_read tells file old new bytes law at passed four shape lattice objects rai
           holds = subst (λ (s : Shape). Holds256 new.input.hasher (spelled s (at.records ++ Raise ∷ []))) (sym shape) goes.holds;
           place = goes.place ∙ ap (λ (s : Shape). length (spelled s (at.records ++ Raise ∷ []))) (sym shape);
         };
-        told = λ tell. record {
-          long = (at.told tell).long;
-          spelling = goes.spelling tell ∙ ap (λ (s : Shape). spelled s (at.records ++ Raise ∷ []) ++ drop new.input.cursor.place file) (sym shape);
-          ahead = goes.ahead tell;
+        revealed = λ reveal. record {
+          long = (at.revealed reveal).long;
+          spelling = goes.spelling reveal ∙ ap (λ (s : Shape). spelled s (at.records ++ Raise ∷ []) ++ drop new.input.cursor.place file) (sym shape);
+          ahead = goes.ahead reveal;
         };
       },
       goes.on,
     )
 
 -- the number of bytes of a fence or a raise is another
-pub fence_wrong : (tells : Type 0) (file : List ℕ) (old : Reader) (bytes node place : ℕ) → TailsAreJudged → IsAtHead tells file old (fence_found bytes node) → tells → bytes ≢ 4 → place ≡ old.input.cursor.place + 2 → IsBadAt file place
-fence_wrong tells file old bytes node place law at tell wrong is =
-    bad_tail tells file old (fence_found bytes node) 2 place law at tell (ap (λ (x : Result (Record × ℕ) ℕ). bad_of x) (unless (bytes == 4) _ (Err 2) (ne_eqb bytes 4 wrong))) is
+pub fence_wrong : (reveals : Type 0) (file : List ℕ) (old : Reader) (bytes node place : ℕ) → TailsAreJudged → IsAtHead reveals file old (fence_found bytes node) → reveals → bytes ≢ 4 → place ≡ old.input.cursor.place + 2 → IsBadAt file place
+fence_wrong reveals file old bytes node place law at reveal wrong is =
+    bad_tail reveals file old (fence_found bytes node) 2 place law at reveal (ap (λ (x : Result (Record × ℕ) ℕ). bad_of x) (unless (bytes == 4) _ (Err 2) (ne_eqb bytes 4 wrong))) is
 
 -- where the file's contents are known, and the number of bytes of a raise is not 4, the file is bad at this number
-pub raise_wrong : (tells : Type 0) (file : List ℕ) (old : Reader) (bytes place : ℕ) → TailsAreJudged → IsAtHead tells file old (raise_found bytes) → tells → bytes ≢ 4 → place ≡ old.input.cursor.place + 2 → IsBadAt file place
-raise_wrong tells file old bytes place law at tell wrong is =
-    bad_tail tells file old (raise_found bytes) 2 place law at tell (ap (λ (x : Result (Record × ℕ) ℕ). bad_of x) (unless (bytes == 4) _ (Err 2) (ne_eqb bytes 4 wrong))) is
+pub raise_wrong : (reveals : Type 0) (file : List ℕ) (old : Reader) (bytes place : ℕ) → TailsAreJudged → IsAtHead reveals file old (raise_found bytes) → reveals → bytes ≢ 4 → place ≡ old.input.cursor.place + 2 → IsBadAt file place
+raise_wrong reveals file old bytes place law at reveal wrong is =
+    bad_tail reveals file old (raise_found bytes) 2 place law at reveal (ap (λ (x : Result (Record × ℕ) ℕ). bad_of x) (unless (bytes == 4) _ (Err 2) (ne_eqb bytes 4 wrong))) is

@@ -50,9 +50,9 @@ answered bytes (Err NoMemory) not_bad one_place archives is = record {
 }
 
 -- the reader past the header
-pub started : (tells : Type 0) (file window : List ℕ) (r : Reader) → take 17 window ≡ header r.shape → 18 ≤ length window → r.input.cursor.place ≡ 17 → IsLatticeOf r.shape 0 [] r.lattice → r.catalog.objects ≡ empty
-    → r.raised ≡ false → r.digests.items ≡ [] → Holds256 r.input.hasher (take 17 window) → (tells → window ≡ take 18 file) → (tells → IsAhead r.input.cursor file) → IsReading tells file r
-started tells file window r head long place lattice objects raised digests holds told ahead =
+pub started : (reveals : Type 0) (file window : List ℕ) (r : Reader) → take 17 window ≡ header r.shape → 18 ≤ length window → r.input.cursor.place ≡ 17 → IsLatticeOf r.shape 0 [] r.lattice → r.catalog.objects ≡ empty
+    → r.raised ≡ false → r.digests.items ≡ [] → Holds256 r.input.hasher (take 17 window) → (reveals → window ≡ take 18 file) → (reveals → IsAhead r.input.cursor file) → IsReading reveals file r
+started reveals file window r head long place lattice objects raised digests holds revealed ahead =
     let spelling : take 17 window ≡ spelled r.shape [] = head ∙ sym (append-nil (header r.shape)) in
     record {
       records = [];
@@ -65,13 +65,13 @@ started tells file window r head long place lattice objects raised digests holds
         holds = subst (Holds256 r.input.hasher) spelling holds;
         place = place;
       };
-      told = λ tell.
-          let size : 18 ≤ length file = omega (arith, ap length (told tell), length-take 18 file, long) in
-          let front : take 17 file ≡ spelled r.shape [] = sym (ap (take 17) (told tell) ∙ take-take 17 18 file (omega arith)) ∙ spelling in
+      revealed = λ reveal.
+          let size : 18 ≤ length file = omega (arith, ap length (revealed reveal), length-take 18 file, long) in
+          let front : take 17 file ≡ spelled r.shape [] = sym (ap (take 17) (revealed reveal) ∙ take-take 17 18 file (omega arith)) ∙ spelling in
           record {
             long = size;
             spelling = sym (take-append-drop 17 file) ∙ ap (λ (l : List ℕ). l ++ drop 17 file) front ∙ ap (λ (n : ℕ). spelled r.shape [] ++ drop n file) (sym place);
-            ahead = ahead tell;
+            ahead = ahead reveal;
           };
     }
 

@@ -40,9 +40,9 @@ use Rattle.aea_records.proofs.OneMore.{MayFollow-push, fences_of-push, nodes_of-
 -- what is bad after records
 pub bad_at : (shape : Shape) (records : List Record) (file : List ℕ) (r : Reader) (fault place : ℕ) → r.shape ≡ shape → HasRead r records → AreIn r records file
     → gate_fault r.shape (known_of records) (drop r.input.cursor.place file) ≡ Some fault → place ≡ r.input.cursor.place + fault → IsBadAt file place
-bad_at shape records file r fault place same read told bad is = record {
-  header = record { long = told.long; gate = ap (λ (l : List ℕ). slice_index l 0) told.spelling };
-  bad = inr (record { shape = r.shape; records = records; valid = read.valid; rest = drop r.input.cursor.place file; spelling = told.spelling; fault = fault; bad = bad; place = omega (arith, is, read.place) });
+bad_at shape records file r fault place same read revealed bad is = record {
+  header = record { long = revealed.long; gate = ap (λ (l : List ℕ). slice_index l 0) revealed.spelling };
+  bad = inr (record { shape = r.shape; records = records; valid = read.valid; rest = drop r.input.cursor.place file; spelling = revealed.spelling; fault = fault; bad = bad; place = omega (arith, is, read.place) });
 }
 
 -- the head ends within the window
@@ -53,18 +53,18 @@ short_head (Fenced node) small = omega arith
 short_head Raised small = omega arith
 
 -- the input goes on over the record
-pub record Goes (tells : Type 0) (file : List ℕ) (old : Reader) (new : Input) (records : List Record) (r : Record) : Type 0 where
+pub record Goes (reveals : Type 0) (file : List ℕ) (old : Reader) (new : Input) (records : List Record) (r : Record) : Type 0 where
   pub next : IsNext old.shape records r
   pub holds : Holds256 new.hasher (spelled old.shape (records ++ r ∷ []))
   pub place : new.cursor.place ≡ length (spelled old.shape (records ++ r ∷ []))
-  pub spelling : tells → file ≡ spelled old.shape (records ++ r ∷ []) ++ drop new.cursor.place file
-  pub ahead : tells → IsAhead new.cursor file
+  pub spelling : reveals → file ≡ spelled old.shape (records ++ r ∷ []) ++ drop new.cursor.place file
+  pub ahead : reveals → IsAhead new.cursor file
   pub on : old.input.cursor.place < new.cursor.place
 
-pub goes_on : (tells : Type 0) (file : List ℕ) (old : Reader) (found : Found) (new : Input) (back : List ℕ) (r : Record) → TailsAreSpelled → (at : IsAtHead tells file old found)
-    → HasPassed tells file old.input new (take (head_end found.fields) old.input.cursor.bytes ++ back) → AreBytes back
-    → Spells (tail_fields old.shape (known_of at.records) (found_at (take 315 old.input.cursor.bytes) found)) back r → Goes tells file old new at.records r
-goes_on tells file old found new back r law at passed are spells =
+pub goes_on : (reveals : Type 0) (file : List ℕ) (old : Reader) (found : Found) (new : Input) (back : List ℕ) (r : Record) → TailsAreSpelled → (at : IsAtHead reveals file old found)
+    → HasPassed reveals file old.input new (take (head_end found.fields) old.input.cursor.bytes ++ back) → AreBytes back
+    → Spells (tail_fields old.shape (known_of at.records) (found_at (take 315 old.input.cursor.bytes) found)) back r → Goes reveals file old new at.records r
+goes_on reveals file old found new back r law at passed are spells =
     let bytes : List ℕ = old.input.cursor.bytes in
     let end : ℕ = head_end found.fields in
     let records : List Record = at.records in
@@ -80,8 +80,8 @@ goes_on tells file old found new back r law at passed are spells =
       holds = subst (Holds256 new.hasher) more (passed.holds (spelled old.shape at.records) at.read.holds);
       place = passed.place ∙ ap (λ (n : ℕ). n + length (take (head_end found.fields) old.input.cursor.bytes ++ back)) at.read.place
           ∙ sym (length-append (spelled old.shape at.records) (take (head_end found.fields) old.input.cursor.bytes ++ back)) ∙ ap length more;
-      spelling = λ tell.
-          (at.told tell).spelling ∙ ap (λ (l : List ℕ). spelled old.shape at.records ++ l) (passed.bytes tell)
+      spelling = λ reveal.
+          (at.revealed reveal).spelling ∙ ap (λ (l : List ℕ). spelled old.shape at.records ++ l) (passed.bytes reveal)
           ∙ sym (append_assoc (spelled old.shape at.records) (take (head_end found.fields) old.input.cursor.bytes ++ back) (drop new.cursor.place file))
           ∙ ap (λ (l : List ℕ). l ++ drop new.cursor.place file) more;
       ahead = passed.ahead;
@@ -92,18 +92,18 @@ goes_on tells file old found new back r law at passed are spells =
     some r = omega arith
 
 -- what is bad after a head
-pub bad_tail : (tells : Type 0) (file : List ℕ) (old : Reader) (found : Found) (fault place : ℕ) → TailsAreJudged → (at : IsAtHead tells file old found) → tells
+pub bad_tail : (reveals : Type 0) (file : List ℕ) (old : Reader) (found : Found) (fault place : ℕ) → TailsAreJudged → (at : IsAtHead reveals file old found) → reveals
     → bad_of (judge (tail_fields old.shape (known_of at.records) (found_at (take 315 old.input.cursor.bytes) found)) (head_end found.fields) (drop old.input.cursor.place file)) ≡ Some fault
     → place ≡ old.input.cursor.place + fault → IsBadAt file place
-bad_tail tells file old found fault place law at tell bad is =
-    bad_at old.shape at.records file old fault place refl at.read (at.told tell)
-    (law old.shape (known_of at.records) (take 315 old.input.cursor.bytes) (drop old.input.cursor.place file) (found_at (take 315 old.input.cursor.bytes) found) (head_end found.fields) at.stands (at.window tell) ∙ bad)
+bad_tail reveals file old found fault place law at reveal bad is =
+    bad_at old.shape at.records file old fault place refl at.read (at.revealed reveal)
+    (law old.shape (known_of at.records) (take 315 old.input.cursor.bytes) (drop old.input.cursor.place file) (found_at (take 315 old.input.cursor.bytes) found) (head_end found.fields) at.stands (at.window reveal) ∙ bad)
     is
 
 -- the bytes that are left have the head
-pub head_there : (tells : Type 0) (file : List ℕ) (old : Reader) (found : Found) (at : IsAtHead tells file old found) → tells → head_end found.fields ≤ length (drop old.input.cursor.place file)
-head_there tells file old found at tell =
-    omega (arith, at.within, short_head found.fields at.small, ap length (at.window tell), length-take 315 old.input.cursor.bytes, length-take 315 (drop old.input.cursor.place file))
+pub head_there : (reveals : Type 0) (file : List ℕ) (old : Reader) (found : Found) (at : IsAtHead reveals file old found) → reveals → head_end found.fields ≤ length (drop old.input.cursor.place file)
+head_there reveals file old found at reveal =
+    omega (arith, at.within, short_head found.fields at.small, ap length (at.window reveal), length-take 315 old.input.cursor.bytes, length-take 315 (drop old.input.cursor.place file))
 
 -- ---- choices
 
@@ -167,8 +167,8 @@ abbrev pub alone_found : ℕ → ObjectFields → Found
 alone_found bytes object = record { bytes = bytes; fields = Alone object }
 
 -- the name in the window
-pub name_long : (tells : Type 0) (file : List ℕ) (old : Reader) (found : Found) (long : ℕ) → IsAtHead tells file old found → 8 + long ≤ head_end found.fields → length (bytes_at long 8 (take 315 old.input.cursor.bytes)) ≡ long
-name_long tells file old found long at within =
+pub name_long : (reveals : Type 0) (file : List ℕ) (old : Reader) (found : Found) (long : ℕ) → IsAtHead reveals file old found → 8 + long ≤ head_end found.fields → length (bytes_at long 8 (take 315 old.input.cursor.bytes)) ≡ long
+name_long reveals file old found long at within =
     length-bytes_at (take 315 old.input.cursor.bytes) 8 long (omega (arith, length-take 315 old.input.cursor.bytes, at.within, short_head found.fields at.small, within))
 
 -- the record
@@ -178,16 +178,16 @@ alone_record old object text =
 
 -- an input that went on over the fields of an object whose nodes are all new, and over its digests, as many as
 -- there must be and with the right number of bytes, went on over a record that may follow
-pub alone_goes : (tells : Type 0) (file : List ℕ) (old : Reader) (mid new : Input) (object : ObjectFields) (bytes count : ℕ) (before after : List (List ℕ)) → TailsAreSpelled
-    → (at : IsAtHead tells file old (alone_found bytes object)) → HasPassed tells file old.input mid (take (object_end object) old.input.cursor.bytes)
-    → (ds : HasDigests tells file mid new count before after) → count ≡ object.count * (1 + old.shape.alpha) → bytes ≡ 50 + object.long + 32 * count
-    → Goes tells file old new at.records (alone_record old object ds.text)
-alone_goes tells file old mid new object bytes count before after law at head ds many right =
+pub alone_goes : (reveals : Type 0) (file : List ℕ) (old : Reader) (mid new : Input) (object : ObjectFields) (bytes count : ℕ) (before after : List (List ℕ)) → TailsAreSpelled
+    → (at : IsAtHead reveals file old (alone_found bytes object)) → HasPassed reveals file old.input mid (take (object_end object) old.input.cursor.bytes)
+    → (ds : HasDigests reveals file mid new count before after) → count ≡ object.count * (1 + old.shape.alpha) → bytes ≡ 50 + object.long + 32 * count
+    → Goes reveals file old new at.records (alone_record old object ds.text)
+alone_goes reveals file old mid new object bytes count before after law at head ds many right =
     let long : length ds.text ≡ 32 * (object.count * (1 + old.shape.alpha)) = ds.long ∙ ap (λ (n : ℕ). 32 * n) many in
-    let name = name_long tells file old (alone_found bytes object) object.long at (omega arith) in
+    let name = name_long reveals file old (alone_found bytes object) object.long at (omega arith) in
     let size : bytes ≡ 50 + length (bytes_at object.long 8 (take 315 old.input.cursor.bytes)) + 32 * (object.count * (1 + old.shape.alpha)) = right ∙ (λ i. 50 + sym name i + 32 * many i) in
-    goes_on tells file old (alone_found bytes object) new ds.text (alone_record old object ds.text) law at
-    (passed_then tells file old.input mid new (take (object_end object) old.input.cursor.bytes) ds.text head ds.passed) ds.passed.are
+    goes_on reveals file old (alone_found bytes object) new ds.text (alone_record old object ds.text) law at
+    (passed_then reveals file old.input mid new (take (object_end object) old.input.cursor.bytes) ds.text head ds.passed) ds.passed.are
     (digests_spell old.shape bytes 50 (stored_at (take 315 old.input.cursor.bytes) object) (λ o. Object o) ds.text long size)
 
 -- ---- what is read then
@@ -208,12 +208,12 @@ pub one_count : (o : Stored) → sum_by (λ (q : Stored). q.count) (o ∷ []) �
 one_count o = omega (arith, sum_by-cons (λ (q : Stored). q.count) o [])
 
 -- records of an object
-pub object_read : (tells : Type 0) (file : List ℕ) (old new : Reader) (records : List Record) (r : Record) (o : Stored) (more : List (List ℕ)) → HasRead old records → (tells → AreIn old records file)
-    → Goes tells file old new.input records r → new.shape ≡ old.shape → IsGrown old.lattice (old.lattice.n + o.count) new.lattice
+pub object_read : (reveals : Type 0) (file : List ℕ) (old new : Reader) (records : List Record) (r : Record) (o : Stored) (more : List (List ℕ)) → HasRead old records → (reveals → AreIn old records file)
+    → Goes reveals file old new.input records r → new.shape ≡ old.shape → IsGrown old.lattice (old.lattice.n + o.count) new.lattice
     → nodes_of (records ++ r ∷ []) ≡ nodes_of records + o.count → fences_of (records ++ r ∷ []) ≡ fences_of records → list_any is_raise (records ++ r ∷ []) ≡ list_any is_raise records
     → digests_of (records ++ r ∷ []) ≡ digests_of records ++ more → new.catalog.objects ≡ objects_of (records ++ r ∷ []) → new.raised ≡ old.raised
-    → new.digests.items ≡ old.digests.items ++ more → IsReading tells file new
-object_read tells file old new records r o more read told goes shape lattice nodes fences raise digests objects raised items = record {
+    → new.digests.items ≡ old.digests.items ++ more → IsReading reveals file new
+object_read reveals file old new records r o more read revealed goes shape lattice nodes fences raise digests objects raised items = record {
   records = records ++ r ∷ [];
   read = record {
     valid = subst (λ (s : Shape). AreRecords s (records ++ r ∷ [])) (sym shape) (MayFollow-push old.shape [] records r read.valid goes.next);
@@ -225,10 +225,10 @@ object_read tells file old new records r o more read told goes shape lattice nod
     holds = subst (λ (s : Shape). Holds256 new.input.hasher (spelled s (records ++ r ∷ []))) (sym shape) goes.holds;
     place = goes.place ∙ ap (λ (s : Shape). length (spelled s (records ++ r ∷ []))) (sym shape);
   };
-  told = λ tell. record {
-    long = (told tell).long;
-    spelling = goes.spelling tell ∙ ap (λ (s : Shape). spelled s (records ++ r ∷ []) ++ drop new.input.cursor.place file) (sym shape);
-    ahead = goes.ahead tell;
+  revealed = λ reveal. record {
+    long = (revealed reveal).long;
+    spelling = goes.spelling reveal ∙ ap (λ (s : Shape). spelled s (records ++ r ∷ []) ++ drop new.input.cursor.place file) (sym shape);
+    ahead = goes.ahead reveal;
   };
 }
 
@@ -243,9 +243,9 @@ name_is old name long short is = front-bytes_at old.input.cursor.bytes 8 long 31
 
 -- the name that was read of an object whose nodes are all new, and whose record may follow, is a name and not
 -- taken
-pub alone_put : (tells : Type 0) (file : List ℕ) (old : Reader) (new : Input) (object : ObjectFields) (text name : List ℕ) (records : List Record) → NewNamesAreFree → HasRead old records → object.long ≤ 255
-    → Goes tells file old new records (alone_record old object text) → name ≡ bytes_at object.long 8 old.input.cursor.bytes → MayBePut old.catalog.objects name
-alone_put tells file old new object text name records law read short goes is =
+pub alone_put : (reveals : Type 0) (file : List ℕ) (old : Reader) (new : Input) (object : ObjectFields) (text name : List ℕ) (records : List Record) → NewNamesAreFree → HasRead old records → object.long ≤ 255
+    → Goes reveals file old new records (alone_record old object text) → name ≡ bytes_at object.long 8 old.input.cursor.bytes → MayBePut old.catalog.objects name
+alone_put reveals file old new object text name records law read short goes is =
     let same = name_is old name object.long (omega (arith, short)) is in
     record {
       named = subst IsName same goes.next.stored.name;
@@ -255,17 +255,17 @@ alone_put tells file old new object text name records law read short goes is =
 
 -- a reader that went on over the record of an object whose nodes are all new, and took its nodes, its object and
 -- its digests, has read records, those of the file where its contents are known
-pub alone_read : (tells : Type 0) (file : List ℕ) (old new : Reader) (object : ObjectFields) (bytes : ℕ) (text name : List ℕ) (placed : ObjectRef) → (at : IsAtHead tells file old (alone_found bytes object))
-    → Goes tells file old new.input at.records (alone_record old object text) → new.shape ≡ old.shape → IsGrown old.lattice (old.lattice.n + object.count) new.lattice
+pub alone_read : (reveals : Type 0) (file : List ℕ) (old new : Reader) (object : ObjectFields) (bytes : ℕ) (text name : List ℕ) (placed : ObjectRef) → (at : IsAtHead reveals file old (alone_found bytes object))
+    → Goes reveals file old new.input at.records (alone_record old object text) → new.shape ≡ old.shape → IsGrown old.lattice (old.lattice.n + object.count) new.lattice
     → name ≡ bytes_at object.long 8 old.input.cursor.bytes → placed ≡ record { first = object.first; count = object.count; length = object.size; digest = object.digest }
     → new.catalog.objects ≡ insert old.catalog.objects name (placed_alone placed) → new.raised ≡ old.raised
-    → new.digests.items ≡ old.digests.items ++ pieces 32 (object.count * (1 + old.shape.alpha)) text → IsReading tells file new
-alone_read tells file old new object bytes text name placed at goes shape lattice is places objects raised items =
+    → new.digests.items ≡ old.digests.items ++ pieces 32 (object.count * (1 + old.shape.alpha)) text → IsReading reveals file new
+alone_read reveals file old new object bytes text name placed at goes shape lattice is places objects raised items =
     let r : Record = alone_record old object text in
     let o : Stored = record (stored_at (take 315 old.input.cursor.bytes) object) { digests = pieces 32 (object.count * (1 + old.shape.alpha)) text } in
     let same = name_is old name object.long (omega (arith, at.small.0)) is in
-    object_read tells file old new at.records (alone_record old object text) (record (stored_at (take 315 old.input.cursor.bytes) object) { digests = pieces 32 (object.count * (1 + old.shape.alpha)) text })
-    (pieces 32 (object.count * (1 + old.shape.alpha)) text) at.read at.told goes shape lattice
+    object_read reveals file old new at.records (alone_record old object text) (record (stored_at (take 315 old.input.cursor.bytes) object) { digests = pieces 32 (object.count * (1 + old.shape.alpha)) text })
+    (pieces 32 (object.count * (1 + old.shape.alpha)) text) at.read at.revealed goes shape lattice
     (nodes_of-push at.records (alone_record old object text) ∙ ap (λ (n : ℕ). nodes_of at.records + n) (one_count (record (stored_at (take 315 old.input.cursor.bytes) object) { digests = pieces 32 (object.count * (1 + old.shape.alpha)) text })))
     (fences_of-push at.records (alone_record old object text) ∙ append-nil (fences_of at.records))
     (raised_stays at.records (alone_record old object text) refl)
@@ -274,22 +274,22 @@ alone_read tells file old new object bytes text name placed at goes shape lattic
     raised items
 
 -- the digests of an object are not all there
-pub alone_missing : (tells : Type 0) (file : List ℕ) (old : Reader) (mid : Input) (object : ObjectFields) (bytes count place : ℕ) → TailsAreJudged → (at : IsAtHead tells file old (alone_found bytes object)) → tells
+pub alone_missing : (reveals : Type 0) (file : List ℕ) (old : Reader) (mid : Input) (object : ObjectFields) (bytes count place : ℕ) → TailsAreJudged → (at : IsAtHead reveals file old (alone_found bytes object)) → reveals
     → mid.cursor.place ≡ old.input.cursor.place + object_end object → count ≡ object.count * (1 + old.shape.alpha) → length (drop mid.cursor.place file) < 32 * count
     → place ≡ old.input.cursor.place + object_end object → IsBadAt file place
-alone_missing tells file old mid object bytes count place law at tell behind many missing is =
-    bad_tail tells file old (alone_found bytes object) (object_end object) place law at tell
+alone_missing reveals file old mid object bytes count place law at reveal behind many missing is =
+    bad_tail reveals file old (alone_found bytes object) (object_end object) place law at reveal
     (digests_missing old.shape bytes 50 (stored_at (take 315 old.input.cursor.bytes) object) (λ o. Object o) (object_end object) (drop old.input.cursor.place file)
     (omega (arith, missing, length-drop mid.cursor.place file, length-drop old.input.cursor.place file, behind, many))) is
 
 -- the number of bytes of an object is another
-pub alone_wrong : (tells : Type 0) (file : List ℕ) (old : Reader) (mid new : Input) (object : ObjectFields) (bytes count place : ℕ) (before after : List (List ℕ)) → TailsAreJudged
-    → (at : IsAtHead tells file old (alone_found bytes object)) → tells → HasPassed tells file old.input mid (take (object_end object) old.input.cursor.bytes) → HasDigests tells file mid new count before after
+pub alone_wrong : (reveals : Type 0) (file : List ℕ) (old : Reader) (mid new : Input) (object : ObjectFields) (bytes count place : ℕ) (before after : List (List ℕ)) → TailsAreJudged
+    → (at : IsAtHead reveals file old (alone_found bytes object)) → reveals → HasPassed reveals file old.input mid (take (object_end object) old.input.cursor.bytes) → HasDigests reveals file mid new count before after
     → count ≡ object.count * (1 + old.shape.alpha) → bytes ≢ 50 + object.long + 32 * count → place ≡ old.input.cursor.place + 2 → IsBadAt file place
-alone_wrong tells file old mid new object bytes count place before after law at tell head ds many wrong is =
-    let name = name_long tells file old (alone_found bytes object) object.long at (omega arith) in
-    let there = length_left file old.input.cursor.place (take (object_end object) old.input.cursor.bytes) ds.text mid.cursor.place new.cursor.place (head.bytes tell) (ds.passed.bytes tell) in
-    bad_tail tells file old (alone_found bytes object) 2 place law at tell
+alone_wrong reveals file old mid new object bytes count place before after law at reveal head ds many wrong is =
+    let name = name_long reveals file old (alone_found bytes object) object.long at (omega arith) in
+    let there = length_left file old.input.cursor.place (take (object_end object) old.input.cursor.bytes) ds.text mid.cursor.place new.cursor.place (head.bytes reveal) (ds.passed.bytes reveal) in
+    bad_tail reveals file old (alone_found bytes object) 2 place law at reveal
     (length_wrong old.shape bytes 50 (stored_at (take 315 old.input.cursor.bytes) object) (λ o. Object o) (object_end object) (drop old.input.cursor.place file)
     (omega (arith, there, ds.long, many, length-take (object_end object) old.input.cursor.bytes, at.within))
     (λ e. wrong (e ∙ (λ i. 50 + name i + 32 * sym many i)))) is

@@ -33,19 +33,19 @@ pub record HasTaken (v : Opened) (r : Record) (w : Opened) : Type 0 where
 
 -- What a call leaves that commits a record, whatever it returns: the old ledger or the new one at each moment; a new one
 -- stays; and no write ends past the gate that ends the new ledger.
-pub record LeavesOldOrNew (tells : Type 0) (v : Opened) (r : Record) (old new : State) : Type 0 where
-  pub any_moment : tells → (records : List Record) → AreItsRecords v records (old.files 0) → During old new (λ c. HasOldOrNew v.shape records r (c 0))
-  pub stays : tells → (records : List Record) → AreItsRecords v records (old.files 0) → Stays old new (λ c. HasLedger v.shape (records ++ r ∷ []) (c 0))
-  pub reads : tells → (records : List Record) → AreItsRecords v records (old.files 0) → HasOldOrNew v.shape records r (new.files 0)
-  pub long : tells → length (new.files 0) ≤ max (length (old.files 0)) (v.end + length (entry r) + 1)
+pub record LeavesOldOrNew (reveals : Type 0) (v : Opened) (r : Record) (old new : State) : Type 0 where
+  pub any_moment : reveals → (records : List Record) → AreItsRecords v records (old.files 0) → During old new (λ c. HasOldOrNew v.shape records r (c 0))
+  pub stays : reveals → (records : List Record) → AreItsRecords v records (old.files 0) → Stays old new (λ c. HasLedger v.shape (records ++ r ∷ []) (c 0))
+  pub reads : reveals → (records : List Record) → AreItsRecords v records (old.files 0) → HasOldOrNew v.shape records r (new.files 0)
+  pub long : reveals → length (new.files 0) ≤ max (length (old.files 0)) (v.end + length (entry r) + 1)
 
 -- What holds at Ok: the new ledger, in the value and on the disk, byte for byte, and all of it durable.
-pub record HasCommitted (tells : Type 0) (v w : Opened) (r : Record) (old new : State) : Type 0 where
+pub record HasCommitted (reveals : Type 0) (v w : Opened) (r : Record) (old new : State) : Type 0 where
   pub value : (records : List Record) → HasRecords v records → HasRecords w (records ++ r ∷ [])
   pub same_shape : w.shape ≡ v.shape
   pub live : w.live ≡ true
-  pub this_one : tells → IsThisOne w (new.files 0)
-  pub exactly : tells → new.files 0 ≡ committed (old.files 0) v.end (body r ++ 0 ∷ [])
-  pub appended : tells → (records : List Record) → AreItsRecords v records (old.files 0) → HasLedger v.shape (records ++ r ∷ []) (new.files 0)
-  pub durable : tells → IsSynced new
+  pub this_one : reveals → IsThisOne w (new.files 0)
+  pub exactly : reveals → new.files 0 ≡ committed (old.files 0) v.end (body r ++ 0 ∷ [])
+  pub appended : reveals → (records : List Record) → AreItsRecords v records (old.files 0) → HasLedger v.shape (records ++ r ∷ []) (new.files 0)
+  pub durable : reveals → IsSynced new
   pub room : HasRoom old → HasRoomTo old 0 (v.end + length (entry r) + 1)

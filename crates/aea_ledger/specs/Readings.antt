@@ -34,25 +34,25 @@ IsBadAsSaid file DiskFault = Unit {0}
 IsBadAsSaid file NoMemory = Unit {0}
 
 -- The input went on over these bytes, which are those of the file at its place, where its contents are known.
-pub record HasPassed (tells : Type 0) (file : List ℕ) (old new : Input) (text : List ℕ) : Type 0 where
+pub record HasPassed (reveals : Type 0) (file : List ℕ) (old new : Input) (text : List ℕ) : Type 0 where
   pub are : AreBytes text
   pub holds : (message : List ℕ) → Holds256 old.hasher message → Holds256 new.hasher (message ++ text)
   pub place : new.cursor.place ≡ old.cursor.place + length text
-  pub ahead : tells → IsAhead new.cursor file
-  pub bytes : tells → drop old.cursor.place file ≡ text ++ drop new.cursor.place file
+  pub ahead : reveals → IsAhead new.cursor file
+  pub bytes : reveals → drop old.cursor.place file ≡ text ++ drop new.cursor.place file
 
 -- The input went on over so many digests, which were put after others.
-pub record HasDigests (tells : Type 0) (file : List ℕ) (old new : Input) (count : ℕ) (before after : List (List ℕ)) : Type 0 where
+pub record HasDigests (reveals : Type 0) (file : List ℕ) (old new : Input) (count : ℕ) (before after : List (List ℕ)) : Type 0 where
   pub text : List ℕ
   pub long : length text ≡ 32 * count
-  pub passed : HasPassed tells file old new text
+  pub passed : HasPassed reveals file old new text
   pub digests : after ≡ before ++ pieces 32 count text
 
 -- The input went on over so many parts, which were put after others.
-pub record HasParts (tells : Type 0) (file : List ℕ) (old new : Input) (count : ℕ) (before after : List Extent) : Type 0 where
+pub record HasParts (reveals : Type 0) (file : List ℕ) (old new : Input) (count : ℕ) (before after : List Extent) : Type 0 where
   pub text : List ℕ
   pub long : length text ≡ 8 * count
-  pub passed : HasPassed tells file old new text
+  pub passed : HasPassed reveals file old new text
   pub parts : after ≡ before ++ extents count text
 
 -- The reader has read these records, and is at the gate after them.
@@ -72,24 +72,24 @@ pub record AreIn (r : Reader) (records : List Record) (file : List ℕ) : Type 0
   pub ahead : IsAhead r.input.cursor file
 
 -- The reader has read some records; they are those of the file, where its contents are known.
-pub record IsReading (tells : Type 0) (file : List ℕ) (r : Reader) : Type 0 where
+pub record IsReading (reveals : Type 0) (file : List ℕ) (r : Reader) : Type 0 where
   pub records : List Record
   pub read : HasRead r records
-  pub told : tells → AreIn r records file
+  pub revealed : reveals → AreIn r records file
 
 -- The reader has read all records; they are those of the file, where its contents are known.
-pub record IsWhole (tells : Type 0) (file : List ℕ) (r : Reader) : Type 0 where
+pub record IsWhole (reveals : Type 0) (file : List ℕ) (r : Reader) : Type 0 where
   pub records : List Record
   pub read : HasRead r records
-  pub told : tells → IsLedger file r.shape records r.input.cursor.place
+  pub revealed : reveals → IsLedger file r.shape records r.input.cursor.place
 
 -- The reader has read some records, and at its place are an open gate and a head, which its window has whole.
-pub record IsAtHead (tells : Type 0) (file : List ℕ) (r : Reader) (found : Found) : Type 0 where
+pub record IsAtHead (reveals : Type 0) (file : List ℕ) (r : Reader) (found : Found) : Type 0 where
   pub records : List Record
   pub read : HasRead r records
-  pub told : tells → AreIn r records file
+  pub revealed : reveals → AreIn r records file
   pub stands : IsHead r.shape (known_of records) (take 315 r.input.cursor.bytes) (found_at (take 315 r.input.cursor.bytes) found) (head_end found.fields)
   pub within : head_end found.fields ≤ length r.input.cursor.bytes
   pub small : IsSmall found.fields
   pub goes : GoesOn r.lattice found.fields
-  pub window : tells → take 315 r.input.cursor.bytes ≡ take 315 (drop r.input.cursor.place file)
+  pub window : reveals → take 315 r.input.cursor.bytes ≡ take 315 (drop r.input.cursor.place file)

@@ -201,14 +201,14 @@ impl Ledger {
         requires nodes { HasNodes self.old object.now.size object.now.count (option_map (λ extents. extents.now) parts) }
         requires fits { self.old.lattice.n + object.now.count ≤ limit_when self.old.raised }
         requires digests { length digests.now ≡ object.now.count * (1 + self.old.shape.alpha) }
-        requires this { D.tells → IsThisOne self.old ((D.state disk.old).files 0) }
-        requires fixed { D.tells → IsFixed (D.state disk.old) 0 }
+        requires this { D.reveals → IsThisOne self.old ((D.state disk.old).files 0) }
+        requires fixed { D.reveals → IsFixed (D.state disk.old) 0 }
         ensures full { (result ≡ Err AppendFault.CatalogFull) ↔ (len self.old.objects ≡ greatest_objects) }
         ensures unchanged { (result ≡ Err AppendFault.CatalogFull) ⊎ (result ≡ Err AppendFault.NoMemory) → (self.new ≡ self.old) × (disk.new ≡ disk.old) }
-        ensures leaves { LeavesOldOrNew D.tells self.old (made (stored_as name.now object.now digests.now) (option_map (λ extents. extents.now) parts.entry)) (D.state disk.old) (D.state disk.new) }
-        ensures committed { OnOk result (HasCommitted D.tells self.old self.new (made (stored_as name.now object.now digests.now) (option_map (λ extents. extents.now) parts.entry)) (D.state disk.old) (D.state disk.new)) }
+        ensures leaves { LeavesOldOrNew D.reveals self.old (made (stored_as name.now object.now digests.now) (option_map (λ extents. extents.now) parts.entry)) (D.state disk.old) (D.state disk.new) }
+        ensures committed { OnOk result (HasCommitted D.reveals self.old self.new (made (stored_as name.now object.now digests.now) (option_map (λ extents. extents.now) parts.entry)) (D.state disk.old) (D.state disk.new)) }
         ensures dead { result ≡ Err AppendFault.DiskFault → self.new ≡ record self.old { live = false } }
-        ensures writes { OnlyWrites D.tells (IsReady (D.state disk.old)) (FitsAdding (D.state disk.old) 1 (self.old.end + length (entry (made (stored_as name.now object.now digests.now) (option_map (λ extents. extents.now) parts.entry))))) (result ≡ Err AppendFault.DiskFault) (ChangesOnly 0) (D.state disk.old) (D.state disk.new) }
+        ensures writes { OnlyWrites D.reveals (IsReady (D.state disk.old)) (FitsAdding (D.state disk.old) 1 (self.old.end + length (entry (made (stored_as name.now object.now digests.now) (option_map (λ extents. extents.now) parts.entry))))) (result ≡ Err AppendFault.DiskFault) (ChangesOnly 0) (D.state disk.old) (D.state disk.new) }
     {
         objects_are_counted();
         records_are_few();
@@ -253,20 +253,20 @@ impl Ledger {
         requires count { count ≡ nodes_for self.old.shape size }
         requires fits { self.old.lattice.n + count ≤ limit_when self.old.raised }
         requires digests { length digests.now ≡ count * (1 + self.old.shape.alpha) }
-        requires this { D.tells → IsThisOne self.old ((D.state disk.old).files 0) }
-        requires fixed { D.tells → IsFixed (D.state disk.old) 0 }
+        requires this { D.reveals → IsThisOne self.old ((D.state disk.old).files 0) }
+        requires fixed { D.reveals → IsFixed (D.state disk.old) 0 }
 
         // Refusals, before anything is written.
         ensures full { (result ≡ Err AppendFault.CatalogFull) ↔ (len self.old.objects ≡ greatest_objects) }
         ensures unchanged { (result ≡ Err AppendFault.CatalogFull) ⊎ (result ≡ Err AppendFault.NoMemory) → (self.new ≡ self.old) × (disk.new ≡ disk.old) }
 
         // The old ledger or the new one at each moment, and the new one at Ok.
-        ensures leaves { LeavesOldOrNew D.tells self.old (Object (next_stored self.old name.now size digest count digests.now)) (D.state disk.old) (D.state disk.new) }
-        ensures committed { OnOk result (HasCommitted D.tells self.old self.new (Object (next_stored self.old name.now size digest count digests.now)) (D.state disk.old) (D.state disk.new)) }
+        ensures leaves { LeavesOldOrNew D.reveals self.old (Object (next_stored self.old name.now size digest count digests.now)) (D.state disk.old) (D.state disk.new) }
+        ensures committed { OnOk result (HasCommitted D.reveals self.old self.new (Object (next_stored self.old name.now size digest count digests.now)) (D.state disk.old) (D.state disk.new)) }
         ensures dead { result ≡ Err AppendFault.DiskFault → self.new ≡ record self.old { live = false } }
 
         // No other file changes, and when the disk is at fault.
-        ensures writes { OnlyWrites D.tells (IsReady (D.state disk.old)) (FitsAdding (D.state disk.old) 1 (self.old.end + length (entry (Object (next_stored self.old name.now size digest count digests.now))))) (result ≡ Err AppendFault.DiskFault) (ChangesOnly 0) (D.state disk.old) (D.state disk.new) }
+        ensures writes { OnlyWrites D.reveals (IsReady (D.state disk.old)) (FitsAdding (D.state disk.old) 1 (self.old.end + length (entry (Object (next_stored self.old name.now size digest count digests.now))))) (result ≡ Err AppendFault.DiskFault) (ChangesOnly 0) (D.state disk.old) (D.state disk.new) }
     {
         let object = self.next_fields(name, size, digest, count);
         self.add(disk, name, &object, None, digests)
@@ -293,20 +293,20 @@ impl Ledger {
         requires fits { self.old.lattice.n + count ≤ raised_limit }
         requires parts { IsTrue (are_parts self.old.shape size (self.old.lattice.n + count) parts.now) }
         requires digests { length digests.now ≡ count * (1 + self.old.shape.alpha) }
-        requires this { D.tells → IsThisOne self.old ((D.state disk.old).files 0) }
-        requires fixed { D.tells → IsFixed (D.state disk.old) 0 }
+        requires this { D.reveals → IsThisOne self.old ((D.state disk.old).files 0) }
+        requires fixed { D.reveals → IsFixed (D.state disk.old) 0 }
 
         // Refusals, before anything is written.
         ensures full { (result ≡ Err AppendFault.CatalogFull) ↔ (len self.old.objects ≡ greatest_objects) }
         ensures unchanged { (result ≡ Err AppendFault.CatalogFull) ⊎ (result ≡ Err AppendFault.NoMemory) → (self.new ≡ self.old) × (disk.new ≡ disk.old) }
 
         // The old ledger or the new one at each moment, and the new one at Ok.
-        ensures leaves { LeavesOldOrNew D.tells self.old (Joined (next_stored self.old name.now size digest count digests.now) parts.now) (D.state disk.old) (D.state disk.new) }
-        ensures committed { OnOk result (HasCommitted D.tells self.old self.new (Joined (next_stored self.old name.now size digest count digests.now) parts.now) (D.state disk.old) (D.state disk.new)) }
+        ensures leaves { LeavesOldOrNew D.reveals self.old (Joined (next_stored self.old name.now size digest count digests.now) parts.now) (D.state disk.old) (D.state disk.new) }
+        ensures committed { OnOk result (HasCommitted D.reveals self.old self.new (Joined (next_stored self.old name.now size digest count digests.now) parts.now) (D.state disk.old) (D.state disk.new)) }
         ensures dead { result ≡ Err AppendFault.DiskFault → self.new ≡ record self.old { live = false } }
 
         // No other file changes, and when the disk is at fault.
-        ensures writes { OnlyWrites D.tells (IsReady (D.state disk.old)) (FitsAdding (D.state disk.old) 1 (self.old.end + length (entry (Joined (next_stored self.old name.now size digest count digests.now) parts.now)))) (result ≡ Err AppendFault.DiskFault) (ChangesOnly 0) (D.state disk.old) (D.state disk.new) }
+        ensures writes { OnlyWrites D.reveals (IsReady (D.state disk.old)) (FitsAdding (D.state disk.old) 1 (self.old.end + length (entry (Joined (next_stored self.old name.now size digest count digests.now) parts.now)))) (result ≡ Err AppendFault.DiskFault) (ChangesOnly 0) (D.state disk.old) (D.state disk.new) }
     {
         let object = self.next_fields(name, size, digest, count);
         self.add(disk, name, &object, Some(parts), digests)

@@ -33,9 +33,9 @@ impl From<DiskFault> for CreateFault {
 
 // Syncs all files, and looks whether the ledger's file has an open header.
 fn is_occupied<D: Disk>(disk: &mut D) -> Result<bool, DiskFault>
-    ensures occupied { IfOk result (λ found. D.tells → IsTrue found ↔ HasOpenHeader ((D.state disk.old).files 0)) }
-    ensures durable { OnOk result (D.tells → IsSynced (D.state disk.new)) }
-    ensures reads { OnlyReads D.tells (IsErr result) (D.state disk.old) (D.state disk.new) }
+    ensures occupied { IfOk result (λ found. D.reveals → IsTrue found ↔ HasOpenHeader ((D.state disk.old).files 0)) }
+    ensures durable { OnOk result (D.reveals → IsSynced (D.state disk.new)) }
+    ensures reads { OnlyReads D.reveals (IsErr result) (D.state disk.old) (D.state disk.new) }
 {
     disk.sync()?;
     let mut front = [0; 18];
@@ -45,9 +45,9 @@ fn is_occupied<D: Disk>(disk: &mut D) -> Result<bool, DiskFault>
 
 // Empties the ledger's file, and syncs that.
 fn empty<D: Disk>(disk: &mut D) -> Result<(), DiskFault>
-    ensures emptied { OnOk result (D.tells → (D.state disk.new).files 0 ≡ []) }
-    ensures durable { OnOk result (D.tells → IsSynced (D.state disk.new)) }
-    ensures writes { OnlyWrites D.tells (TakesFrom (D.state disk.old) 0 0) (FitsTo (D.state disk.old) 0 []) (IsErr result) (ChangesFile 0 (MayBeCut 0)) (D.state disk.old) (D.state disk.new) }
+    ensures emptied { OnOk result (D.reveals → (D.state disk.new).files 0 ≡ []) }
+    ensures durable { OnOk result (D.reveals → IsSynced (D.state disk.new)) }
+    ensures writes { OnlyWrites D.reveals (TakesFrom (D.state disk.old) 0 0) (FitsTo (D.state disk.old) 0 []) (IsErr result) (ChangesFile 0 (MayBeCut 0)) (D.state disk.old) (D.state disk.new) }
 {
     disk.cut(0, 0)?;
     disk.sync()
@@ -55,14 +55,14 @@ fn empty<D: Disk>(disk: &mut D) -> Result<(), DiskFault>
 
 // Makes the ledger's file one closed gate. No crash leaves an archive on the way.
 fn begin<D: Disk>(disk: &mut D) -> Result<(), DiskFault>
-    requires none { D.tells → IsNoArchive ((D.state disk.old).files 0) }
-    requires fixed { D.tells → IsFixed (D.state disk.old) 0 }
-    ensures any_moment { D.tells → During (D.state disk.old) (D.state disk.new) (λ c. IsNoArchive (c 0)) }
-    ensures reads { D.tells → IsNoArchive ((D.state disk.new).files 0) }
-    ensures begun { OnOk result (D.tells → (D.state disk.new).files 0 ≡ 0 ∷ []) }
-    ensures durable { OnOk result (D.tells → IsSynced (D.state disk.new)) }
-    ensures length { D.tells → length ((D.state disk.new).files 0) ≤ max (length ((D.state disk.old).files 0)) 1 }
-    ensures writes { OnlyWrites D.tells (IsReady (D.state disk.old)) (FitsTo (D.state disk.old) 1 ((D.state disk.old).files 0)) (IsErr result) (ChangesOnly 0) (D.state disk.old) (D.state disk.new) }
+    requires none { D.reveals → IsNoArchive ((D.state disk.old).files 0) }
+    requires fixed { D.reveals → IsFixed (D.state disk.old) 0 }
+    ensures any_moment { D.reveals → During (D.state disk.old) (D.state disk.new) (λ c. IsNoArchive (c 0)) }
+    ensures reads { D.reveals → IsNoArchive ((D.state disk.new).files 0) }
+    ensures begun { OnOk result (D.reveals → (D.state disk.new).files 0 ≡ 0 ∷ []) }
+    ensures durable { OnOk result (D.reveals → IsSynced (D.state disk.new)) }
+    ensures length { D.reveals → length ((D.state disk.new).files 0) ≤ max (length ((D.state disk.old).files 0)) 1 }
+    ensures writes { OnlyWrites D.reveals (IsReady (D.state disk.old)) (FitsTo (D.state disk.old) 1 ((D.state disk.old).files 0)) (IsErr result) (ChangesOnly 0) (D.state disk.old) (D.state disk.new) }
 {
     empty(disk)?;
     write_through(disk, 0, &[0])
@@ -96,14 +96,14 @@ pub(crate) fn behind_gate(shape: &Shape) -> [u8; 17]
 
 // Writes what follows a closed gate at the start of the ledger's file, and then opens the gate.
 fn finish<D: Disk>(disk: &mut D, shape: &Shape) -> Result<(), DiskFault>
-    requires begun { D.tells → (D.state disk.old).files 0 ≡ 0 ∷ [] }
-    requires fixed { D.tells → IsFixed (D.state disk.old) 0 }
-    ensures any_moment { D.tells → During (D.state disk.old) (D.state disk.new) (λ c. IsNoneOrEmpty shape.now (c 0)) }
-    ensures reads { D.tells → IsNoneOrEmpty shape.now ((D.state disk.new).files 0) }
-    ensures created { OnOk result (D.tells → (D.state disk.new).files 0 ≡ empty_ledger shape.now) }
-    ensures durable { OnOk result (D.tells → IsSynced (D.state disk.new)) }
-    ensures length { D.tells → length ((D.state disk.new).files 0) ≤ 18 }
-    ensures writes { OnlyWrites D.tells (IsReady (D.state disk.old)) (FitsMaking (D.state disk.old) shape.now) (IsErr result) (ChangesOnly 0) (D.state disk.old) (D.state disk.new) }
+    requires begun { D.reveals → (D.state disk.old).files 0 ≡ 0 ∷ [] }
+    requires fixed { D.reveals → IsFixed (D.state disk.old) 0 }
+    ensures any_moment { D.reveals → During (D.state disk.old) (D.state disk.new) (λ c. IsNoneOrEmpty shape.now (c 0)) }
+    ensures reads { D.reveals → IsNoneOrEmpty shape.now ((D.state disk.new).files 0) }
+    ensures created { OnOk result (D.reveals → (D.state disk.new).files 0 ≡ empty_ledger shape.now) }
+    ensures durable { OnOk result (D.reveals → IsSynced (D.state disk.new)) }
+    ensures length { D.reveals → length ((D.state disk.new).files 0) ≤ 18 }
+    ensures writes { OnlyWrites D.reveals (IsReady (D.state disk.old)) (FitsMaking (D.state disk.old) shape.now) (IsErr result) (ChangesOnly 0) (D.state disk.old) (D.state disk.new) }
     ensures full { OnOk result (HasRoom (D.state disk.old) → HasRoomTo (D.state disk.new) 0 18) }
 {
     write_through(disk, 1, &behind_gate(shape))?;
@@ -112,14 +112,14 @@ fn finish<D: Disk>(disk: &mut D, shape: &Shape) -> Result<(), DiskFault>
 
 // Makes an archive where there is none.
 fn make<D: Disk>(disk: &mut D, shape: &Shape) -> Result<(), DiskFault>
-    requires none { D.tells → IsNoArchive ((D.state disk.old).files 0) }
-    requires fixed { D.tells → IsFixed (D.state disk.old) 0 }
-    ensures any_moment { D.tells → During (D.state disk.old) (D.state disk.new) (λ c. IsNoneOrEmpty shape.now (c 0)) }
-    ensures reads { D.tells → IsNoneOrEmpty shape.now ((D.state disk.new).files 0) }
-    ensures created { OnOk result (D.tells → (D.state disk.new).files 0 ≡ empty_ledger shape.now) }
-    ensures durable { OnOk result (D.tells → IsSynced (D.state disk.new)) }
-    ensures length { D.tells → length ((D.state disk.new).files 0) ≤ max (length ((D.state disk.old).files 0)) 18 }
-    ensures writes { OnlyWrites D.tells (IsReady (D.state disk.old)) (FitsMaking (D.state disk.old) shape.now) (IsErr result) (ChangesOnly 0) (D.state disk.old) (D.state disk.new) }
+    requires none { D.reveals → IsNoArchive ((D.state disk.old).files 0) }
+    requires fixed { D.reveals → IsFixed (D.state disk.old) 0 }
+    ensures any_moment { D.reveals → During (D.state disk.old) (D.state disk.new) (λ c. IsNoneOrEmpty shape.now (c 0)) }
+    ensures reads { D.reveals → IsNoneOrEmpty shape.now ((D.state disk.new).files 0) }
+    ensures created { OnOk result (D.reveals → (D.state disk.new).files 0 ≡ empty_ledger shape.now) }
+    ensures durable { OnOk result (D.reveals → IsSynced (D.state disk.new)) }
+    ensures length { D.reveals → length ((D.state disk.new).files 0) ≤ max (length ((D.state disk.old).files 0)) 18 }
+    ensures writes { OnlyWrites D.reveals (IsReady (D.state disk.old)) (FitsMaking (D.state disk.old) shape.now) (IsErr result) (ChangesOnly 0) (D.state disk.old) (D.state disk.new) }
     ensures full { OnOk result (HasRoom (D.state disk.old) → HasRoomTo (D.state disk.new) 0 18) }
 {
     begin(disk)?;
@@ -131,24 +131,24 @@ fn make<D: Disk>(disk: &mut D, shape: &Shape) -> Result<(), DiskFault>
 /// bytes and the first of them is 1, and is then left as it is. It takes no memory.
 pub fn create_ledger<D: Disk>(disk: &mut D, shape: &Shape) -> Result<(), CreateFault>
     // When the folder is occupied, and that it is left as it is.
-    ensures occupied { result ≡ Err CreateFault.Occupied → D.tells → HasOpenHeader ((D.state disk.old).files 0) }
-    ensures free { OnOk result (D.tells → IsNoArchive ((D.state disk.old).files 0)) }
-    ensures untouched { result ≡ Err CreateFault.Occupied → KeepsImages (D.state disk.old) (D.state disk.new) × (D.tells → (D.state disk.new).files ≡ (D.state disk.old).files) }
+    ensures occupied { result ≡ Err CreateFault.Occupied → D.reveals → HasOpenHeader ((D.state disk.old).files 0) }
+    ensures free { OnOk result (D.reveals → IsNoArchive ((D.state disk.old).files 0)) }
+    ensures untouched { result ≡ Err CreateFault.Occupied → KeepsImages (D.state disk.old) (D.state disk.new) × (D.reveals → (D.state disk.new).files ≡ (D.state disk.old).files) }
 
     // What holds at Ok. Nothing is pending on any file after any result but a fault.
-    ensures created { OnOk result (D.tells → (D.state disk.new).files 0 ≡ empty_ledger shape.now) }
-    ensures durable { result ≢ Err CreateFault.DiskFault → D.tells → IsSynced (D.state disk.new) }
+    ensures created { OnOk result (D.reveals → (D.state disk.new).files 0 ≡ empty_ledger shape.now) }
+    ensures durable { result ≢ Err CreateFault.DiskFault → D.reveals → IsSynced (D.state disk.new) }
 
     // What a stop at any moment leaves, and what is there after a fault. Any other result comes after the first sync.
-    ensures stops { D.tells → HasOpening (D.state disk.old) (D.state disk.new) (MakesArchive shape.now (D.state disk.old).files) }
-    ensures opened { result ≢ Err CreateFault.DiskFault → D.tells → IsOpened (D.state disk.old) (D.state disk.new) (MakesArchive shape.now (D.state disk.old).files) }
-    ensures reads { D.tells → IsBeingMade shape.now ((D.state disk.old).files 0) ((D.state disk.new).files 0) }
-    ensures length { D.tells → length ((D.state disk.new).files 0) ≤ max (length ((D.state disk.old).files 0)) 18 }
+    ensures stops { D.reveals → HasOpening (D.state disk.old) (D.state disk.new) (MakesArchive shape.now (D.state disk.old).files) }
+    ensures opened { result ≢ Err CreateFault.DiskFault → D.reveals → IsOpened (D.state disk.old) (D.state disk.new) (MakesArchive shape.now (D.state disk.old).files) }
+    ensures reads { D.reveals → IsBeingMade shape.now ((D.state disk.old).files 0) ((D.state disk.new).files 0) }
+    ensures length { D.reveals → length ((D.state disk.new).files 0) ≤ max (length ((D.state disk.old).files 0)) 18 }
 
     // No other file changes, and when the disk is at fault.
-    ensures writes { OnlyWrites D.tells (IsReady (D.state disk.old)) (FitsMaking (D.state disk.old) shape.now) (result ≡ Err CreateFault.DiskFault) (ChangesOnly 0) (D.state disk.old) (D.state disk.new) }
+    ensures writes { OnlyWrites D.reveals (IsReady (D.state disk.old)) (FitsMaking (D.state disk.old) shape.now) (result ≡ Err CreateFault.DiskFault) (ChangesOnly 0) (D.state disk.old) (D.state disk.new) }
     ensures full { OnOk result (HasRoom (D.state disk.old) → HasRoomTo (D.state disk.new) 0 18) }
-    ensures refused { D.tells → HasOpenHeader ((D.state disk.old).files 0) → IsReady (D.state disk.old) → NeverFails (IsRoomy (D.state disk.old)) (result ≡ Err CreateFault.Occupied) (D.state disk.old) (D.state disk.new) }
+    ensures refused { D.reveals → HasOpenHeader ((D.state disk.old).files 0) → IsReady (D.state disk.old) → NeverFails (IsRoomy (D.state disk.old)) (result ≡ Err CreateFault.Occupied) (D.state disk.old) (D.state disk.new) }
 {
     if is_occupied(disk)? {
         return Err(CreateFault::Occupied);

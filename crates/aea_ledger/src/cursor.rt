@@ -43,10 +43,10 @@ fn read_behind<D: Disk>(
     requires kept { kept ≤ length buffer.old }
     requires range { at + length buffer.old ≤ 2 ^ 62 }
     ensures bound { IfOk result (λ k. kept + k ≤ length buffer.new) }
-    ensures bytes { IfOk result (λ k. D.tells → take (kept + k) buffer.new ≡ take kept buffer.old ++ take (length buffer.old - kept) (drop at ((D.state disk.old).files 0))) }
+    ensures bytes { IfOk result (λ k. D.reveals → take (kept + k) buffer.new ≡ take kept buffer.old ++ take (length buffer.old - kept) (drop at ((D.state disk.old).files 0))) }
     ensures len { length buffer.new ≡ length buffer.old }
     ensures front { take kept buffer.new ≡ take kept buffer.old }
-    ensures reads { OnlyReads D.tells (IsErr result) (D.state disk.old) (D.state disk.new) }
+    ensures reads { OnlyReads D.reveals (IsErr result) (D.state disk.old) (D.state disk.new) }
 {
     let (_, behind) = buffer.split_at_mut(kept);
     disk.read(0, at, behind)
@@ -69,10 +69,10 @@ impl Cursor {
     // Reads on, as far as the buffer has space.
     fn refill<D: Disk>(&mut self, disk: &mut D) -> Result<(), DiskFault>
         requires range { self.old.place ≤ 2 ^ 61 }
-        requires told { D.tells → IsAhead self.old ((D.state disk.old).files 0) }
+        requires revealed { D.reveals → IsAhead self.old ((D.state disk.old).files 0) }
         ensures place { OnOk result (self.new.place ≡ self.old.place) }
-        ensures bytes { OnOk result (D.tells → self.new.bytes ≡ take 65536 (drop self.old.place ((D.state disk.old).files 0))) }
-        ensures reads { OnlyReads D.tells (IsErr result) (D.state disk.old) (D.state disk.new) }
+        ensures bytes { OnOk result (D.reveals → self.new.bytes ≡ take 65536 (drop self.old.place ((D.state disk.old).files 0))) }
+        ensures reads { OnlyReads D.reveals (IsErr result) (D.state disk.old) (D.state disk.new) }
     {
         let kept = self.end - self.start;
         self.buffer.copy_within(self.start..self.end, 0);
@@ -89,12 +89,12 @@ impl Cursor {
     pub(crate) fn fill<D: Disk>(&mut self, disk: &mut D, count: usize) -> Result<usize, DiskFault>
         requires few { count ≤ 65536 }
         requires range { self.old.place ≤ 2 ^ 61 }
-        requires told { D.tells → IsAhead self.old ((D.state disk.old).files 0) }
+        requires revealed { D.reveals → IsAhead self.old ((D.state disk.old).files 0) }
         ensures there { IfOk result (λ k. k ≡ min count (length self.new.bytes)) }
         ensures place { OnOk result (self.new.place ≡ self.old.place) }
-        ensures told { OnOk result (D.tells → IsAhead self.new ((D.state disk.new).files 0)) }
-        ensures window { IfOk result (λ k. D.tells → take k self.new.bytes ≡ take count (drop self.old.place ((D.state disk.old).files 0))) }
-        ensures reads { OnlyReads D.tells (IsErr result) (D.state disk.old) (D.state disk.new) }
+        ensures revealed { OnOk result (D.reveals → IsAhead self.new ((D.state disk.new).files 0)) }
+        ensures window { IfOk result (λ k. D.reveals → take k self.new.bytes ≡ take count (drop self.old.place ((D.state disk.old).files 0))) }
+        ensures reads { OnlyReads D.reveals (IsErr result) (D.state disk.old) (D.state disk.new) }
     {
         if count <= self.end - self.start {
             return Ok(count);
@@ -116,7 +116,7 @@ impl Cursor {
         requires { count ≤ length self.old.bytes }
         ensures place { self.new.place ≡ self.old.place + count }
         ensures bytes { self.new.bytes ≡ drop count self.old.bytes }
-        ensures told { (file : List ℕ) → IsAhead self.old file → IsAhead self.new file }
+        ensures revealed { (file : List ℕ) → IsAhead self.old file → IsAhead self.new file }
     {
         self.start += count;
     }

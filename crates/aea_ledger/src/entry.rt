@@ -16,10 +16,10 @@ use aea_disk::{Disk, DiskFault};
 // Writes bytes of the ledger file, and syncs them. It leaves what a write leaves, and at Ok nothing is pending.
 pub(crate) fn write_through<D: Disk>(disk: &mut D, at: u64, bytes: &[u8]) -> Result<(), DiskFault>
     requires { at + length bytes.now ≤ 2 ^ 62 }
-    ensures written { OnOk result (D.tells → ChangesFile 0 (Holds at bytes.now) (D.state disk.old).files (D.state disk.new).files) }
-    ensures durable { OnOk result (D.tells → IsSynced (D.state disk.new)) }
+    ensures written { OnOk result (D.reveals → ChangesFile 0 (Holds at bytes.now) (D.state disk.old).files (D.state disk.new).files) }
+    ensures durable { OnOk result (D.reveals → IsSynced (D.state disk.new)) }
     ensures settled { Settles (D.state disk.old) (D.state disk.new) }
-    ensures writes { OnlyWrites D.tells (TakesThrough (D.state disk.old) at bytes.now) (FitsThrough (D.state disk.old) at bytes.now) (IsErr result) (ChangesFile 0 (Torn at (length bytes.now))) (D.state disk.old) (D.state disk.new) }
+    ensures writes { OnlyWrites D.reveals (TakesThrough (D.state disk.old) at bytes.now) (FitsThrough (D.state disk.old) at bytes.now) (IsErr result) (ChangesFile 0 (Torn at (length bytes.now))) (D.state disk.old) (D.state disk.new) }
     ensures full { OnOk result (HasRoom (D.state disk.old) → HasRoomTo (D.state disk.old) 0 (at + length bytes.now)) }
 {
     disk.write(0, at, bytes)?;
@@ -30,8 +30,8 @@ pub(crate) fn write_through<D: Disk>(disk: &mut D, at: u64, bytes: &[u8]) -> Res
 // call. It leaves what a write of both leaves.
 fn write_both<D: Disk>(disk: &mut D, at: u64, front: &[u8], back: &[u8]) -> Result<(), DiskFault>
     requires { at + (length front.now + length back.now) ≤ 2 ^ 62 }
-    ensures written { OnOk result (D.tells → ChangesFile 0 (Holds at (front.now ++ back.now)) (D.state disk.old).files (D.state disk.new).files) }
-    ensures writes { OnlyWrites D.tells (TakesBehind (D.state disk.old) at) (HasRoomTo (D.state disk.old) 0 (at + (length front.now + length back.now))) (IsErr result) (ChangesFile 0 (Torn at (length front.now + length back.now))) (D.state disk.old) (D.state disk.new) }
+    ensures written { OnOk result (D.reveals → ChangesFile 0 (Holds at (front.now ++ back.now)) (D.state disk.old).files (D.state disk.new).files) }
+    ensures writes { OnlyWrites D.reveals (TakesBehind (D.state disk.old) at) (HasRoomTo (D.state disk.old) 0 (at + (length front.now + length back.now))) (IsErr result) (ChangesFile 0 (Torn at (length front.now + length back.now))) (D.state disk.old) (D.state disk.new) }
     ensures full { OnOk result (HasRoom (D.state disk.old) → HasRoomTo (D.state disk.old) 0 (at + (length front.now + length back.now))) }
 {
     disk.write(0, at + front.len() as u64, back)?;
@@ -57,9 +57,9 @@ fn joined(front: &[u8], rest: &[u8]) -> [u8; MOST_AT_ONCE]
 fn write_short<D: Disk>(disk: &mut D, at: u64, front: &[u8], rest: &[u8]) -> Result<(), DiskFault>
     requires range { at + (length front.now + (length rest.now + 1)) ≤ 2 ^ 62 }
     requires short { length front.now + length rest.now < 512 }
-    ensures written { OnOk result (D.tells → ChangesFile 0 (Holds at (closed front.now rest.now)) (D.state disk.old).files (D.state disk.new).files) }
-    ensures durable { OnOk result (D.tells → IsSynced (D.state disk.new)) }
-    ensures writes { OnlyWrites D.tells (TakesBehind (D.state disk.old) at) (FitsThrough (D.state disk.old) at (closed front.now rest.now)) (IsErr result) (ChangesFile 0 (Torn at (length front.now + (length rest.now + 1)))) (D.state disk.old) (D.state disk.new) }
+    ensures written { OnOk result (D.reveals → ChangesFile 0 (Holds at (closed front.now rest.now)) (D.state disk.old).files (D.state disk.new).files) }
+    ensures durable { OnOk result (D.reveals → IsSynced (D.state disk.new)) }
+    ensures writes { OnlyWrites D.reveals (TakesBehind (D.state disk.old) at) (FitsThrough (D.state disk.old) at (closed front.now rest.now)) (IsErr result) (ChangesFile 0 (Torn at (length front.now + (length rest.now + 1)))) (D.state disk.old) (D.state disk.new) }
     ensures full { OnOk result (HasRoom (D.state disk.old) → HasRoomTo (D.state disk.old) 0 (at + (length front.now + (length rest.now + 1)))) }
 {
     let bytes = joined(front, rest);
@@ -69,9 +69,9 @@ fn write_short<D: Disk>(disk: &mut D, at: u64, front: &[u8], rest: &[u8]) -> Res
 // Writes the body of a record, which is in two pieces, and a closed gate after it, and syncs them.
 fn write_closed<D: Disk>(disk: &mut D, at: u64, front: &[u8], rest: &[u8]) -> Result<(), DiskFault>
     requires { at + (length front.now + (length rest.now + 1)) ≤ 2 ^ 62 }
-    ensures written { OnOk result (D.tells → ChangesFile 0 (Holds at (closed front.now rest.now)) (D.state disk.old).files (D.state disk.new).files) }
-    ensures durable { OnOk result (D.tells → IsSynced (D.state disk.new)) }
-    ensures writes { OnlyWrites D.tells (TakesBehind (D.state disk.old) at) (FitsThrough (D.state disk.old) at (closed front.now rest.now)) (IsErr result) (ChangesFile 0 (Torn at (length front.now + (length rest.now + 1)))) (D.state disk.old) (D.state disk.new) }
+    ensures written { OnOk result (D.reveals → ChangesFile 0 (Holds at (closed front.now rest.now)) (D.state disk.old).files (D.state disk.new).files) }
+    ensures durable { OnOk result (D.reveals → IsSynced (D.state disk.new)) }
+    ensures writes { OnlyWrites D.reveals (TakesBehind (D.state disk.old) at) (FitsThrough (D.state disk.old) at (closed front.now rest.now)) (IsErr result) (ChangesFile 0 (Torn at (length front.now + (length rest.now + 1)))) (D.state disk.old) (D.state disk.new) }
     ensures full { OnOk result (HasRoom (D.state disk.old) → HasRoomTo (D.state disk.old) 0 (at + (length front.now + (length rest.now + 1)))) }
 {
     if front.len() + rest.len() < MOST_AT_ONCE {
@@ -90,18 +90,18 @@ pub(crate) fn write_body<D: Disk>(
     rest: &[u8],
 ) -> Result<(), DiskFault>
     requires range { end + 1 + (length front.now + (length rest.now + 1)) ≤ 2 ^ 62 }
-    requires fixed { D.tells → IsFixed (D.state disk.old) 0 }
+    requires fixed { D.reveals → IsFixed (D.state disk.old) 0 }
 
     // The old ledger at each moment; at Ok the body follows its gate.
-    ensures any_moment { D.tells → (shape : Shape) (records : List Record) → IsLedger ((D.state disk.old).files 0) shape records end → During (D.state disk.old) (D.state disk.new) (λ c. HasLedger shape records (c 0)) }
-    ensures reads { D.tells → (shape : Shape) (records : List Record) → IsLedger ((D.state disk.old).files 0) shape records end → HasLedger shape records ((D.state disk.new).files 0) }
-    ensures stays { D.tells → (shape : Shape) (records : List Record) (r : Record) → IsLedger ((D.state disk.old).files 0) shape records end → Stays (D.state disk.old) (D.state disk.new) (λ c. HasLedger shape (records ++ r ∷ []) (c 0)) }
-    ensures exactly { OnOk result (D.tells → (D.state disk.new).files 0 ≡ overwritten ((D.state disk.old).files 0) (end + 1) (closed front.now rest.now)) }
-    ensures staged { OnOk result (D.tells → (shape : Shape) (records : List Record) (r : Record) → IsAdded shape records r ((D.state disk.old).files 0) end (closed front.now rest.now) → IsStaged shape records r ((D.state disk.new).files 0) end) }
-    ensures durable { OnOk result (D.tells → IsSynced (D.state disk.new)) }
+    ensures any_moment { D.reveals → (shape : Shape) (records : List Record) → IsLedger ((D.state disk.old).files 0) shape records end → During (D.state disk.old) (D.state disk.new) (λ c. HasLedger shape records (c 0)) }
+    ensures reads { D.reveals → (shape : Shape) (records : List Record) → IsLedger ((D.state disk.old).files 0) shape records end → HasLedger shape records ((D.state disk.new).files 0) }
+    ensures stays { D.reveals → (shape : Shape) (records : List Record) (r : Record) → IsLedger ((D.state disk.old).files 0) shape records end → Stays (D.state disk.old) (D.state disk.new) (λ c. HasLedger shape (records ++ r ∷ []) (c 0)) }
+    ensures exactly { OnOk result (D.reveals → (D.state disk.new).files 0 ≡ overwritten ((D.state disk.old).files 0) (end + 1) (closed front.now rest.now)) }
+    ensures staged { OnOk result (D.reveals → (shape : Shape) (records : List Record) (r : Record) → IsAdded shape records r ((D.state disk.old).files 0) end (closed front.now rest.now) → IsStaged shape records r ((D.state disk.new).files 0) end) }
+    ensures durable { OnOk result (D.reveals → IsSynced (D.state disk.new)) }
 
-    ensures length { D.tells → length ((D.state disk.new).files 0) ≤ max (length ((D.state disk.old).files 0)) (end + 1 + (length front.now + (length rest.now + 1))) }
-    ensures writes { OnlyWrites D.tells (TakesBehind (D.state disk.old) (end + 1)) (FitsThrough (D.state disk.old) (end + 1) (closed front.now rest.now)) (IsErr result) (ChangesOnly 0) (D.state disk.old) (D.state disk.new) }
+    ensures length { D.reveals → length ((D.state disk.new).files 0) ≤ max (length ((D.state disk.old).files 0)) (end + 1 + (length front.now + (length rest.now + 1))) }
+    ensures writes { OnlyWrites D.reveals (TakesBehind (D.state disk.old) (end + 1)) (FitsThrough (D.state disk.old) (end + 1) (closed front.now rest.now)) (IsErr result) (ChangesOnly 0) (D.state disk.old) (D.state disk.new) }
     ensures full { OnOk result (HasRoom (D.state disk.old) → HasRoomTo (D.state disk.old) 0 (end + 1 + (length front.now + (length rest.now + 1)))) }
 {
     write_closed(disk, end + 1, front, rest)
@@ -110,18 +110,18 @@ pub(crate) fn write_body<D: Disk>(
 // Opens the gate at `end`, after which the body of a record lies, and syncs that.
 pub(crate) fn open_gate<D: Disk>(disk: &mut D, end: u64) -> Result<(), DiskFault>
     requires range { end + 1 ≤ 2 ^ 62 }
-    requires fixed { D.tells → IsFixed (D.state disk.old) 0 }
+    requires fixed { D.reveals → IsFixed (D.state disk.old) 0 }
 
     // The old ledger or the new one at each moment, and the new one at Ok.
-    ensures any_moment { D.tells → (shape : Shape) (records : List Record) (r : Record) → IsStaged shape records r ((D.state disk.old).files 0) end → During (D.state disk.old) (D.state disk.new) (λ c. HasOldOrNew shape records r (c 0)) }
-    ensures reads { D.tells → (shape : Shape) (records : List Record) (r : Record) → IsStaged shape records r ((D.state disk.old).files 0) end → HasOldOrNew shape records r ((D.state disk.new).files 0) }
-    ensures stays { D.tells → (shape : Shape) (records : List Record) (r : Record) → IsStaged shape records r ((D.state disk.old).files 0) end → Stays (D.state disk.old) (D.state disk.new) (λ c. HasLedger shape (records ++ r ∷ []) (c 0)) }
-    ensures exactly { OnOk result (D.tells → (D.state disk.new).files 0 ≡ overwritten ((D.state disk.old).files 0) end (1 ∷ [])) }
-    ensures opened { OnOk result (D.tells → (shape : Shape) (records : List Record) (r : Record) → IsStaged shape records r ((D.state disk.old).files 0) end → HasLedger shape (records ++ r ∷ []) ((D.state disk.new).files 0)) }
-    ensures durable { OnOk result (D.tells → IsSynced (D.state disk.new)) }
+    ensures any_moment { D.reveals → (shape : Shape) (records : List Record) (r : Record) → IsStaged shape records r ((D.state disk.old).files 0) end → During (D.state disk.old) (D.state disk.new) (λ c. HasOldOrNew shape records r (c 0)) }
+    ensures reads { D.reveals → (shape : Shape) (records : List Record) (r : Record) → IsStaged shape records r ((D.state disk.old).files 0) end → HasOldOrNew shape records r ((D.state disk.new).files 0) }
+    ensures stays { D.reveals → (shape : Shape) (records : List Record) (r : Record) → IsStaged shape records r ((D.state disk.old).files 0) end → Stays (D.state disk.old) (D.state disk.new) (λ c. HasLedger shape (records ++ r ∷ []) (c 0)) }
+    ensures exactly { OnOk result (D.reveals → (D.state disk.new).files 0 ≡ overwritten ((D.state disk.old).files 0) end (1 ∷ [])) }
+    ensures opened { OnOk result (D.reveals → (shape : Shape) (records : List Record) (r : Record) → IsStaged shape records r ((D.state disk.old).files 0) end → HasLedger shape (records ++ r ∷ []) ((D.state disk.new).files 0)) }
+    ensures durable { OnOk result (D.reveals → IsSynced (D.state disk.new)) }
 
-    ensures length { D.tells → length ((D.state disk.new).files 0) ≤ max (length ((D.state disk.old).files 0)) (end + 1) }
-    ensures writes { OnlyWrites D.tells (TakesThrough (D.state disk.old) end (1 ∷ [])) (FitsThrough (D.state disk.old) end (1 ∷ [])) (IsErr result) (ChangesOnly 0) (D.state disk.old) (D.state disk.new) }
+    ensures length { D.reveals → length ((D.state disk.new).files 0) ≤ max (length ((D.state disk.old).files 0)) (end + 1) }
+    ensures writes { OnlyWrites D.reveals (TakesThrough (D.state disk.old) end (1 ∷ [])) (FitsThrough (D.state disk.old) end (1 ∷ [])) (IsErr result) (ChangesOnly 0) (D.state disk.old) (D.state disk.new) }
 {
     write_through(disk, end, &[1])
 }
@@ -135,19 +135,19 @@ pub(crate) fn write_entry<D: Disk>(
     rest: &[u8],
 ) -> Result<(), DiskFault>
     requires range { end + 1 + (length front.now + (length rest.now + 1)) ≤ 2 ^ 62 }
-    requires fixed { D.tells → IsFixed (D.state disk.old) 0 }
+    requires fixed { D.reveals → IsFixed (D.state disk.old) 0 }
 
     // Where it adds the record r to these records: the old ledger or the new one at each moment, and the new one at Ok.
-    ensures any_moment { D.tells → (shape : Shape) (records : List Record) (r : Record) → IsAdded shape records r ((D.state disk.old).files 0) end (closed front.now rest.now) → During (D.state disk.old) (D.state disk.new) (λ c. HasOldOrNew shape records r (c 0)) }
-    ensures stays { D.tells → (shape : Shape) (records : List Record) (r : Record) → IsAdded shape records r ((D.state disk.old).files 0) end (closed front.now rest.now) → Stays (D.state disk.old) (D.state disk.new) (λ c. HasLedger shape (records ++ r ∷ []) (c 0)) }
-    ensures reads { D.tells → (shape : Shape) (records : List Record) (r : Record) → IsAdded shape records r ((D.state disk.old).files 0) end (closed front.now rest.now) → HasOldOrNew shape records r ((D.state disk.new).files 0) }
+    ensures any_moment { D.reveals → (shape : Shape) (records : List Record) (r : Record) → IsAdded shape records r ((D.state disk.old).files 0) end (closed front.now rest.now) → During (D.state disk.old) (D.state disk.new) (λ c. HasOldOrNew shape records r (c 0)) }
+    ensures stays { D.reveals → (shape : Shape) (records : List Record) (r : Record) → IsAdded shape records r ((D.state disk.old).files 0) end (closed front.now rest.now) → Stays (D.state disk.old) (D.state disk.new) (λ c. HasLedger shape (records ++ r ∷ []) (c 0)) }
+    ensures reads { D.reveals → (shape : Shape) (records : List Record) (r : Record) → IsAdded shape records r ((D.state disk.old).files 0) end (closed front.now rest.now) → HasOldOrNew shape records r ((D.state disk.new).files 0) }
     // At Ok the file is the old one with these bytes past the gate, and the gate opened.
-    ensures exactly { OnOk result (D.tells → (D.state disk.new).files 0 ≡ committed ((D.state disk.old).files 0) end (closed front.now rest.now)) }
-    ensures appended { OnOk result (D.tells → (shape : Shape) (records : List Record) (r : Record) → IsAdded shape records r ((D.state disk.old).files 0) end (closed front.now rest.now) → HasLedger shape (records ++ r ∷ []) ((D.state disk.new).files 0)) }
-    ensures durable { OnOk result (D.tells → IsSynced (D.state disk.new)) }
+    ensures exactly { OnOk result (D.reveals → (D.state disk.new).files 0 ≡ committed ((D.state disk.old).files 0) end (closed front.now rest.now)) }
+    ensures appended { OnOk result (D.reveals → (shape : Shape) (records : List Record) (r : Record) → IsAdded shape records r ((D.state disk.old).files 0) end (closed front.now rest.now) → HasLedger shape (records ++ r ∷ []) ((D.state disk.new).files 0)) }
+    ensures durable { OnOk result (D.reveals → IsSynced (D.state disk.new)) }
 
-    ensures length { D.tells → length ((D.state disk.new).files 0) ≤ max (length ((D.state disk.old).files 0)) (end + 1 + (length front.now + (length rest.now + 1))) }
-    ensures writes { OnlyWrites D.tells (TakesCommit (D.state disk.old) end (closed front.now rest.now)) (FitsCommit (D.state disk.old) end (closed front.now rest.now)) (IsErr result) (ChangesOnly 0) (D.state disk.old) (D.state disk.new) }
+    ensures length { D.reveals → length ((D.state disk.new).files 0) ≤ max (length ((D.state disk.old).files 0)) (end + 1 + (length front.now + (length rest.now + 1))) }
+    ensures writes { OnlyWrites D.reveals (TakesCommit (D.state disk.old) end (closed front.now rest.now)) (FitsCommit (D.state disk.old) end (closed front.now rest.now)) (IsErr result) (ChangesOnly 0) (D.state disk.old) (D.state disk.new) }
     ensures full { OnOk result (HasRoom (D.state disk.old) → HasRoomTo (D.state disk.old) 0 (end + 1 + (length front.now + (length rest.now + 1)))) }
 {
     write_body(disk, end, front, rest)?;
@@ -162,10 +162,10 @@ pub(crate) fn write_next_entry<D: Disk>(
     rest: &[u8],
 ) -> Result<(), DiskFault>
     requires range { end + 1 + (length front.now + (length rest.now + 1)) ≤ 2 ^ 62 }
-    requires fixed { D.tells → IsFixed (D.state disk.old) 0 }
-    ensures leaves { (v : Opened) (r : Record) → v.end ≡ end → front.now ++ rest.now ≡ body r → IsNextOf v r → LeavesOldOrNew D.tells v r (D.state disk.old) (D.state disk.new) }
-    ensures committed { OnOk result ((v w : Opened) (r : Record) → v.end ≡ end → front.now ++ rest.now ≡ body r → IsNextOf v r → (D.tells → IsThisOne v ((D.state disk.old).files 0)) → HasTaken v r w → HasCommitted D.tells v w r (D.state disk.old) (D.state disk.new)) }
-    ensures writes { (v : Opened) (r : Record) → v.end ≡ end → front.now ++ rest.now ≡ body r → IsNextOf v r → (D.tells → IsThisOne v ((D.state disk.old).files 0)) → OnlyWrites D.tells (IsReady (D.state disk.old)) (FitsAdding (D.state disk.old) 1 (v.end + length (entry r))) (IsErr result) (ChangesOnly 0) (D.state disk.old) (D.state disk.new) }
+    requires fixed { D.reveals → IsFixed (D.state disk.old) 0 }
+    ensures leaves { (v : Opened) (r : Record) → v.end ≡ end → front.now ++ rest.now ≡ body r → IsNextOf v r → LeavesOldOrNew D.reveals v r (D.state disk.old) (D.state disk.new) }
+    ensures committed { OnOk result ((v w : Opened) (r : Record) → v.end ≡ end → front.now ++ rest.now ≡ body r → IsNextOf v r → (D.reveals → IsThisOne v ((D.state disk.old).files 0)) → HasTaken v r w → HasCommitted D.reveals v w r (D.state disk.old) (D.state disk.new)) }
+    ensures writes { (v : Opened) (r : Record) → v.end ≡ end → front.now ++ rest.now ≡ body r → IsNextOf v r → (D.reveals → IsThisOne v ((D.state disk.old).files 0)) → OnlyWrites D.reveals (IsReady (D.state disk.old)) (FitsAdding (D.state disk.old) 1 (v.end + length (entry r))) (IsErr result) (ChangesOnly 0) (D.state disk.old) (D.state disk.new) }
 {
     write_entry(disk, end, front, rest)?;
     Ok(())

@@ -44,8 +44,8 @@ impl Ledger {
     /// fault of the disk, which may have left the record or not, the ledger has to be opened anew.
     pub fn append_fence<D: Disk>(&mut self, disk: &mut D) -> Result<u32, FenceFault>
         requires live { self.old.live ≡ true }
-        requires this { D.tells → IsThisOne self.old ((D.state disk.old).files 0) }
-        requires fixed { D.tells → IsFixed (D.state disk.old) 0 }
+        requires this { D.reveals → IsThisOne self.old ((D.state disk.old).files 0) }
+        requires fixed { D.reveals → IsFixed (D.state disk.old) 0 }
 
         // Refusals, before anything is written.
         ensures already { (n : ℕ) → (result ≡ Err (FenceFault.AlreadyFenced n)) ↔ ((n ≡ self.old.lattice.n) × (last_fence self.old.lattice.fences ≡ self.old.lattice.n)) }
@@ -54,12 +54,12 @@ impl Ledger {
 
         // The old ledger or the new one at each moment, and the new one at Ok.
         ensures node { IfOk result (λ n. n ≡ self.old.lattice.n) }
-        ensures leaves { LeavesOldOrNew D.tells self.old (Fence self.old.lattice.n) (D.state disk.old) (D.state disk.new) }
-        ensures committed { OnOk result (HasCommitted D.tells self.old self.new (Fence self.old.lattice.n) (D.state disk.old) (D.state disk.new)) }
+        ensures leaves { LeavesOldOrNew D.reveals self.old (Fence self.old.lattice.n) (D.state disk.old) (D.state disk.new) }
+        ensures committed { OnOk result (HasCommitted D.reveals self.old self.new (Fence self.old.lattice.n) (D.state disk.old) (D.state disk.new)) }
         ensures dead { result ≡ Err FenceFault.DiskFault → self.new ≡ record self.old { live = false } }
 
         // No other file changes, and when the disk is at fault.
-        ensures writes { OnlyWrites D.tells (IsReady (D.state disk.old)) (FitsAdding (D.state disk.old) 1 (self.old.end + 10)) (result ≡ Err FenceFault.DiskFault) (ChangesOnly 0) (D.state disk.old) (D.state disk.new) }
+        ensures writes { OnlyWrites D.reveals (IsReady (D.state disk.old)) (FitsAdding (D.state disk.old) 1 (self.old.end + 10)) (result ≡ Err FenceFault.DiskFault) (ChangesOnly 0) (D.state disk.old) (D.state disk.new) }
     {
         fences_may_follow();
         records_are_few();

@@ -28,7 +28,7 @@ impl Input {
         ensures are { AreBytes (take count self.old.cursor.bytes) }
         ensures holds { (message : List ℕ) → Holds256 self.old.hasher message → Holds256 self.new.hasher (message ++ take count self.old.cursor.bytes) }
         ensures place { self.new.cursor.place ≡ self.old.cursor.place + count }
-        ensures told { (file : List ℕ) → IsAhead self.old.cursor file → IsAhead self.new.cursor file }
+        ensures revealed { (file : List ℕ) → IsAhead self.old.cursor file → IsAhead self.new.cursor file }
     {
         let window = self.cursor.window(count);
         self.hasher.update(window);
@@ -77,11 +77,11 @@ fn read_digest<D: Disk>(
     digests: &mut Vec<[u8; 32]>,
 ) -> Result<bool, OpenFault>
     requires range { input.old.cursor.place ≤ 2 ^ 61 }
-    requires ahead { D.tells → IsAhead input.old.cursor ((D.state disk.old).files 0) }
-    ensures more { IfOk result (λ more. IsTrue more → HasDigests D.tells ((D.state disk.old).files 0) input.old input.new 1 digests.old.items digests.new.items) }
-    ensures last { IfOk result (λ more. more ≡ false → D.tells → length (drop input.old.cursor.place ((D.state disk.old).files 0)) < 32) }
+    requires ahead { D.reveals → IsAhead input.old.cursor ((D.state disk.old).files 0) }
+    ensures more { IfOk result (λ more. IsTrue more → HasDigests D.reveals ((D.state disk.old).files 0) input.old input.new 1 digests.old.items digests.new.items) }
+    ensures last { IfOk result (λ more. more ≡ false → D.reveals → length (drop input.old.cursor.place ((D.state disk.old).files 0)) < 32) }
     ensures outside { IfErr result IsOutside }
-    ensures reads { OnlyReads D.tells (result ≡ Err OpenFault.DiskFault) (D.state disk.old) (D.state disk.new) }
+    ensures reads { OnlyReads D.reveals (result ≡ Err OpenFault.DiskFault) (D.state disk.old) (D.state disk.new) }
 {
     if input.cursor.fill(disk, 32)? < 32 {
         return Ok(false);
@@ -102,11 +102,11 @@ pub(crate) fn read_digests<D: Disk>(
     digests: &mut Vec<[u8; 32]>,
 ) -> Result<bool, OpenFault>
     requires range { input.old.cursor.place + 32 * count ≤ 2 ^ 61 }
-    requires ahead { D.tells → IsAhead input.old.cursor ((D.state disk.old).files 0) }
-    ensures more { IfOk result (λ more. IsTrue more → HasDigests D.tells ((D.state disk.old).files 0) input.old input.new count digests.old.items digests.new.items) }
-    ensures last { IfOk result (λ more. more ≡ false → D.tells → length (drop input.old.cursor.place ((D.state disk.old).files 0)) < 32 * count) }
+    requires ahead { D.reveals → IsAhead input.old.cursor ((D.state disk.old).files 0) }
+    ensures more { IfOk result (λ more. IsTrue more → HasDigests D.reveals ((D.state disk.old).files 0) input.old input.new count digests.old.items digests.new.items) }
+    ensures last { IfOk result (λ more. more ≡ false → D.reveals → length (drop input.old.cursor.place ((D.state disk.old).files 0)) < 32 * count) }
     ensures outside { IfErr result IsOutside }
-    ensures reads { OnlyReads D.tells (result ≡ Err OpenFault.DiskFault) (D.state disk.old) (D.state disk.new) }
+    ensures reads { OnlyReads D.reveals (result ≡ Err OpenFault.DiskFault) (D.state disk.old) (D.state disk.new) }
 {
     for _ in 0..count {
         if !read_digest(input, disk, digests)? {
@@ -123,11 +123,11 @@ fn read_part<D: Disk>(
     parts: &mut Vec<Extent>,
 ) -> Result<bool, OpenFault>
     requires range { input.old.cursor.place ≤ 2 ^ 61 }
-    requires ahead { D.tells → IsAhead input.old.cursor ((D.state disk.old).files 0) }
-    ensures more { IfOk result (λ more. IsTrue more → HasParts D.tells ((D.state disk.old).files 0) input.old input.new 1 parts.old.items parts.new.items) }
-    ensures last { IfOk result (λ more. more ≡ false → D.tells → length (drop input.old.cursor.place ((D.state disk.old).files 0)) < 8) }
+    requires ahead { D.reveals → IsAhead input.old.cursor ((D.state disk.old).files 0) }
+    ensures more { IfOk result (λ more. IsTrue more → HasParts D.reveals ((D.state disk.old).files 0) input.old input.new 1 parts.old.items parts.new.items) }
+    ensures last { IfOk result (λ more. more ≡ false → D.reveals → length (drop input.old.cursor.place ((D.state disk.old).files 0)) < 8) }
     ensures outside { IfErr result IsOutside }
-    ensures reads { OnlyReads D.tells (result ≡ Err OpenFault.DiskFault) (D.state disk.old) (D.state disk.new) }
+    ensures reads { OnlyReads D.reveals (result ≡ Err OpenFault.DiskFault) (D.state disk.old) (D.state disk.new) }
 {
     if input.cursor.fill(disk, 8)? < 8 {
         return Ok(false);
@@ -148,11 +148,11 @@ pub(crate) fn read_parts<D: Disk>(
     parts: &mut Vec<Extent>,
 ) -> Result<bool, OpenFault>
     requires range { input.old.cursor.place + 8 * count ≤ 2 ^ 61 }
-    requires ahead { D.tells → IsAhead input.old.cursor ((D.state disk.old).files 0) }
-    ensures more { IfOk result (λ more. IsTrue more → HasParts D.tells ((D.state disk.old).files 0) input.old input.new count parts.old.items parts.new.items) }
-    ensures last { IfOk result (λ more. more ≡ false → D.tells → length (drop input.old.cursor.place ((D.state disk.old).files 0)) < 8 * count) }
+    requires ahead { D.reveals → IsAhead input.old.cursor ((D.state disk.old).files 0) }
+    ensures more { IfOk result (λ more. IsTrue more → HasParts D.reveals ((D.state disk.old).files 0) input.old input.new count parts.old.items parts.new.items) }
+    ensures last { IfOk result (λ more. more ≡ false → D.reveals → length (drop input.old.cursor.place ((D.state disk.old).files 0)) < 8 * count) }
     ensures outside { IfErr result IsOutside }
-    ensures reads { OnlyReads D.tells (result ≡ Err OpenFault.DiskFault) (D.state disk.old) (D.state disk.new) }
+    ensures reads { OnlyReads D.reveals (result ≡ Err OpenFault.DiskFault) (D.state disk.old) (D.state disk.new) }
 {
     for _ in 0..count {
         if !read_part(input, disk, parts)? {

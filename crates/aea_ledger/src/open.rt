@@ -96,9 +96,9 @@ fn no_nodes(shape: &Shape) -> Lattice
 
 // Reads the header.
 fn start<D: Disk>(alloc: Global, disk: &mut D) -> Result<Reader, OpenFault>
-    ensures reading { IfOk result (λ reader. IsReading D.tells ((D.state disk.old).files 0) reader) }
-    ensures fault { IfErr result (λ fault. D.tells → Answers ((D.state disk.old).files 0) (Err fault)) }
-    ensures reads { OnlyReads D.tells (result ≡ Err OpenFault.DiskFault) (D.state disk.old) (D.state disk.new) }
+    ensures reading { IfOk result (λ reader. IsReading D.reveals ((D.state disk.old).files 0) reader) }
+    ensures fault { IfErr result (λ fault. D.reveals → Answers ((D.state disk.old).files 0) (Err fault)) }
+    ensures reads { OnlyReads D.reveals (result ≡ Err OpenFault.DiskFault) (D.state disk.old) (D.state disk.new) }
 {
     let bytes = disk.len(0)?;
     let mut input = Input {
@@ -153,10 +153,10 @@ fn finish(reader: Reader) -> Result<Ledger, OpenFault>
 
 // Reads the ledger.
 fn read_ledger<D: Disk>(alloc: Global, disk: &mut D) -> Result<Ledger, OpenFault>
-    ensures answers { D.tells → Answers ((D.state disk.old).files 0) result }
+    ensures answers { D.reveals → Answers ((D.state disk.old).files 0) result }
     ensures records { IfOk result HasSomeRecords }
     ensures live { IfOk result (λ v. v.live ≡ true) }
-    ensures reads { OnlyReads D.tells (result ≡ Err OpenFault.DiskFault) (D.state disk.old) (D.state disk.new) }
+    ensures reads { OnlyReads D.reveals (result ≡ Err OpenFault.DiskFault) (D.state disk.old) (D.state disk.new) }
 {
     let mut reader = start(alloc, disk)?;
     reader.read_all(disk)?;
@@ -165,13 +165,13 @@ fn read_ledger<D: Disk>(alloc: Global, disk: &mut D) -> Result<Ledger, OpenFault
 
 // Syncs all files, and reads the ledger.
 fn read_surely<D: Disk>(alloc: Global, disk: &mut D) -> Result<Ledger, OpenFault>
-    ensures answers { D.tells → Answers ((D.state disk.old).files 0) result }
+    ensures answers { D.reveals → Answers ((D.state disk.old).files 0) result }
     ensures records { IfOk result HasSomeRecords }
     ensures live { IfOk result (λ v. v.live ≡ true) }
-    ensures synced { result ≢ Err OpenFault.DiskFault → D.tells → IsSynced (D.state disk.new) }
-    ensures stops { D.tells → HasOpening (D.state disk.old) (D.state disk.new) (StaysAll (D.state disk.old).files) }
-    ensures opened { result ≢ Err OpenFault.DiskFault → D.tells → IsOpened (D.state disk.old) (D.state disk.new) (StaysAll (D.state disk.old).files) }
-    ensures reads { OnlyReads D.tells (result ≡ Err OpenFault.DiskFault) (D.state disk.old) (D.state disk.new) }
+    ensures synced { result ≢ Err OpenFault.DiskFault → D.reveals → IsSynced (D.state disk.new) }
+    ensures stops { D.reveals → HasOpening (D.state disk.old) (D.state disk.new) (StaysAll (D.state disk.old).files) }
+    ensures opened { result ≢ Err OpenFault.DiskFault → D.reveals → IsOpened (D.state disk.old) (D.state disk.new) (StaysAll (D.state disk.old).files) }
+    ensures reads { OnlyReads D.reveals (result ≡ Err OpenFault.DiskFault) (D.state disk.old) (D.state disk.new) }
 {
     disk.sync()?;
     read_ledger(alloc, disk)
@@ -182,21 +182,21 @@ fn read_surely<D: Disk>(alloc: Global, disk: &mut D) -> Result<Ledger, OpenFault
 /// It takes a piece of 65,536 bytes beside the ledger.
 pub fn open_ledger<D: Disk>(alloc: Global, disk: &mut D) -> Result<Ledger, OpenFault>
     // Each result has its cause in the bytes, and the bytes have that result alone.
-    ensures answers { D.tells → Answers ((D.state disk.old).files 0) result }
-    ensures exactly { D.tells → IsAnswered ((D.state disk.old).files 0) result }
+    ensures answers { D.reveals → Answers ((D.state disk.old).files 0) result }
+    ensures exactly { D.reveals → IsAnswered ((D.state disk.old).files 0) result }
 
     // Over any disk, also one whose contents are not known, it is the ledger of some records.
     ensures records { IfOk result HasSomeRecords }
     ensures live { IfOk result (λ v. v.live ≡ true) }
 
     // Nothing is pending then, but after a fault of the disk.
-    ensures synced { result ≢ Err OpenFault.DiskFault → D.tells → IsSynced (D.state disk.new) }
+    ensures synced { result ≢ Err OpenFault.DiskFault → D.reveals → IsSynced (D.state disk.new) }
 
     // Once the first sync has succeeded every image has every file as it reads. Any result but a fault comes after it.
-    ensures stops { D.tells → HasOpening (D.state disk.old) (D.state disk.new) (StaysAll (D.state disk.old).files) }
-    ensures opened { result ≢ Err OpenFault.DiskFault → D.tells → IsOpened (D.state disk.old) (D.state disk.new) (StaysAll (D.state disk.old).files) }
+    ensures stops { D.reveals → HasOpening (D.state disk.old) (D.state disk.new) (StaysAll (D.state disk.old).files) }
+    ensures opened { result ≢ Err OpenFault.DiskFault → D.reveals → IsOpened (D.state disk.old) (D.state disk.new) (StaysAll (D.state disk.old).files) }
 
-    ensures reads { OnlyReads D.tells (result ≡ Err OpenFault.DiskFault) (D.state disk.old) (D.state disk.new) }
+    ensures reads { OnlyReads D.reveals (result ≡ Err OpenFault.DiskFault) (D.state disk.old) (D.state disk.new) }
 {
     ledgers_are_not_bad();
     ledgers_are_bad_at_one_place();

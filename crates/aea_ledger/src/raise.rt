@@ -29,20 +29,20 @@ impl Ledger {
     /// have left the record or not, the ledger has to be opened anew.
     pub fn append_upgrade<D: Disk>(&mut self, disk: &mut D) -> Result<(), UpgradeFault>
         requires live { self.old.live ≡ true }
-        requires this { D.tells → IsThisOne self.old ((D.state disk.old).files 0) }
-        requires fixed { D.tells → IsFixed (D.state disk.old) 0 }
+        requires this { D.reveals → IsThisOne self.old ((D.state disk.old).files 0) }
+        requires fixed { D.reveals → IsFixed (D.state disk.old) 0 }
 
         // The refusal, before anything is written.
         ensures already { (result ≡ Err UpgradeFault.AlreadyUpgraded) ↔ (self.old.raised ≡ true) }
         ensures unchanged { result ≡ Err UpgradeFault.AlreadyUpgraded → (self.new ≡ self.old) × (disk.new ≡ disk.old) }
 
         // The old ledger or the new one at each moment, and the new one at Ok.
-        ensures leaves { LeavesOldOrNew D.tells self.old Raise (D.state disk.old) (D.state disk.new) }
-        ensures committed { OnOk result (HasCommitted D.tells self.old self.new Raise (D.state disk.old) (D.state disk.new)) }
+        ensures leaves { LeavesOldOrNew D.reveals self.old Raise (D.state disk.old) (D.state disk.new) }
+        ensures committed { OnOk result (HasCommitted D.reveals self.old self.new Raise (D.state disk.old) (D.state disk.new)) }
         ensures dead { result ≡ Err UpgradeFault.DiskFault → self.new ≡ record self.old { live = false } }
 
         // No other file changes, and when the disk is at fault.
-        ensures writes { OnlyWrites D.tells (IsReady (D.state disk.old)) (FitsAdding (D.state disk.old) 1 (self.old.end + 10)) (result ≡ Err UpgradeFault.DiskFault) (ChangesOnly 0) (D.state disk.old) (D.state disk.new) }
+        ensures writes { OnlyWrites D.reveals (IsReady (D.state disk.old)) (FitsAdding (D.state disk.old) 1 (self.old.end + 10)) (result ≡ Err UpgradeFault.DiskFault) (ChangesOnly 0) (D.state disk.old) (D.state disk.new) }
     {
         records_are_few();
         if self.raised {

@@ -130,11 +130,11 @@ impl Reader {
         bytes: u32,
     ) -> Result<(), OpenFault>
         requires range { self.old.input.cursor.place ≤ 2 ^ 45 }
-        requires stands { IsAtHead D.tells ((D.state disk.old).files 0) self.old (record { bytes = bytes; fields = HeadFields.Alone object.now }) }
-        ensures more { OnOk result (IsReading D.tells ((D.state disk.old).files 0) self.new) }
+        requires stands { IsAtHead D.reveals ((D.state disk.old).files 0) self.old (record { bytes = bytes; fields = HeadFields.Alone object.now }) }
+        ensures more { OnOk result (IsReading D.reveals ((D.state disk.old).files 0) self.new) }
         ensures on { OnOk result (self.old.input.cursor.place < self.new.input.cursor.place) }
-        ensures bad { IfErr result (λ fault. D.tells → IsBadAsSaid ((D.state disk.old).files 0) fault) }
-        ensures reads { OnlyReads D.tells (result ≡ Err OpenFault.DiskFault) (D.state disk.old) (D.state disk.new) }
+        ensures bad { IfErr result (λ fault. D.reveals → IsBadAsSaid ((D.state disk.old).files 0) fault) }
+        ensures reads { OnlyReads D.reveals (result ≡ Err OpenFault.DiskFault) (D.state disk.old) (D.state disk.new) }
     {
         new_names_are_free();
         tails_are_judged();
@@ -167,11 +167,11 @@ impl Reader {
         bytes: u32,
     ) -> Result<(), OpenFault>
         requires range { self.old.input.cursor.place ≤ 2 ^ 45 }
-        requires stands { IsAtHead D.tells ((D.state disk.old).files 0) self.old (record { bytes = bytes; fields = HeadFields.InParts object.now parts }) }
-        ensures more { OnOk result (IsReading D.tells ((D.state disk.old).files 0) self.new) }
+        requires stands { IsAtHead D.reveals ((D.state disk.old).files 0) self.old (record { bytes = bytes; fields = HeadFields.InParts object.now parts }) }
+        ensures more { OnOk result (IsReading D.reveals ((D.state disk.old).files 0) self.new) }
         ensures on { OnOk result (self.old.input.cursor.place < self.new.input.cursor.place) }
-        ensures bad { IfErr result (λ fault. D.tells → IsBadAsSaid ((D.state disk.old).files 0) fault) }
-        ensures reads { OnlyReads D.tells (result ≡ Err OpenFault.DiskFault) (D.state disk.old) (D.state disk.new) }
+        ensures bad { IfErr result (λ fault. D.reveals → IsBadAsSaid ((D.state disk.old).files 0) fault) }
+        ensures reads { OnlyReads D.reveals (result ≡ Err OpenFault.DiskFault) (D.state disk.old) (D.state disk.new) }
     {
         new_names_are_free();
         tails_are_judged();
@@ -216,11 +216,11 @@ impl Reader {
     // Reads the record at whose head the reader is.
     fn read_record<D: Disk>(&mut self, disk: &mut D, found: &Found) -> Result<(), OpenFault>
         requires range { self.old.input.cursor.place ≤ 2 ^ 45 }
-        requires stands { IsAtHead D.tells ((D.state disk.old).files 0) self.old found.now }
-        ensures more { OnOk result (IsReading D.tells ((D.state disk.old).files 0) self.new) }
+        requires stands { IsAtHead D.reveals ((D.state disk.old).files 0) self.old found.now }
+        ensures more { OnOk result (IsReading D.reveals ((D.state disk.old).files 0) self.new) }
         ensures on { OnOk result (self.old.input.cursor.place < self.new.input.cursor.place) }
-        ensures bad { IfErr result (λ fault. D.tells → IsBadAsSaid ((D.state disk.old).files 0) fault) }
-        ensures reads { OnlyReads D.tells (result ≡ Err OpenFault.DiskFault) (D.state disk.old) (D.state disk.new) }
+        ensures bad { IfErr result (λ fault. D.reveals → IsBadAsSaid ((D.state disk.old).files 0) fault) }
+        ensures reads { OnlyReads D.reveals (result ≡ Err OpenFault.DiskFault) (D.state disk.old) (D.state disk.new) }
     {
         tails_are_judged();
         tails_are_spelled();
@@ -251,12 +251,12 @@ impl Reader {
 
     // Reads a gate and the record after it, if it is open: it says whether it was.
     fn read_gate<D: Disk>(&mut self, disk: &mut D) -> Result<bool, OpenFault>
-        requires reading { IsReading D.tells ((D.state disk.old).files 0) self.old }
-        ensures more { IfOk result (λ more. IsTrue more → IsReading D.tells ((D.state disk.old).files 0) self.new) }
+        requires reading { IsReading D.reveals ((D.state disk.old).files 0) self.old }
+        ensures more { IfOk result (λ more. IsTrue more → IsReading D.reveals ((D.state disk.old).files 0) self.new) }
         ensures on { IfOk result (λ more. IsTrue more → (self.old.input.cursor.place < self.new.input.cursor.place) × (self.old.input.cursor.place ≤ 2 ^ 45)) }
-        ensures last { IfOk result (λ more. more ≡ false → IsWhole D.tells ((D.state disk.old).files 0) self.new) }
-        ensures bad { IfErr result (λ fault. D.tells → IsBadAsSaid ((D.state disk.old).files 0) fault) }
-        ensures reads { OnlyReads D.tells (result ≡ Err OpenFault.DiskFault) (D.state disk.old) (D.state disk.new) }
+        ensures last { IfOk result (λ more. more ≡ false → IsWhole D.reveals ((D.state disk.old).files 0) self.new) }
+        ensures bad { IfErr result (λ fault. D.reveals → IsBadAsSaid ((D.state disk.old).files 0) fault) }
+        ensures reads { OnlyReads D.reveals (result ≡ Err OpenFault.DiskFault) (D.state disk.old) (D.state disk.new) }
     {
         records_are_few();
         readers_know();
@@ -281,10 +281,10 @@ impl Reader {
 
     // Reads all records that are left.
     pub(crate) fn read_all<D: Disk>(&mut self, disk: &mut D) -> Result<(), OpenFault>
-        requires reading { IsReading D.tells ((D.state disk.old).files 0) self.old }
-        ensures whole { OnOk result (IsWhole D.tells ((D.state disk.old).files 0) self.new) }
-        ensures bad { IfErr result (λ fault. D.tells → IsBadAsSaid ((D.state disk.old).files 0) fault) }
-        ensures reads { OnlyReads D.tells (result ≡ Err OpenFault.DiskFault) (D.state disk.old) (D.state disk.new) }
+        requires reading { IsReading D.reveals ((D.state disk.old).files 0) self.old }
+        ensures whole { OnOk result (IsWhole D.reveals ((D.state disk.old).files 0) self.new) }
+        ensures bad { IfErr result (λ fault. D.reveals → IsBadAsSaid ((D.state disk.old).files 0) fault) }
+        ensures reads { OnlyReads D.reveals (result ≡ Err OpenFault.DiskFault) (D.state disk.old) (D.state disk.new) }
     {
         'gates: loop {
             if !self.read_gate(disk)? {

@@ -44,11 +44,11 @@ pub fn add<D: Disk>(
     digests: &[[u8; 32]],
 ) -> Result<bool, AppendFault>
     requires live { ledger.old.live ≡ true }
-    requires this { D.tells → IsThisOne ledger.old ((D.state disk.old).files 0) }
-    requires fixed { D.tells → IsFixed (D.state disk.old) 0 }
+    requires this { D.reveals → IsThisOne ledger.old ((D.state disk.old).files 0) }
+    requires fixed { D.reveals → IsFixed (D.state disk.old) 0 }
     ensures live { OnOk result (ledger.new.live ≡ true) }
-    ensures this { OnOk result (D.tells → IsThisOne ledger.new ((D.state disk.new).files 0)) }
-    ensures fixed { OnOk result (D.tells → IsFixed (D.state disk.new) 0) }
+    ensures this { OnOk result (D.reveals → IsThisOne ledger.new ((D.state disk.new).files 0)) }
+    ensures fixed { OnOk result (D.reveals → IsFixed (D.state disk.new) 0) }
 {
     let shape = ledger.shape();
     let block = u64::from(shape.block());

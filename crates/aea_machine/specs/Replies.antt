@@ -54,30 +54,30 @@ abbrev pub numbers_body : List ℕ → List ℕ
 numbers_body numbers = to_be_bytes w32 (length numbers) ++ flat_map (to_be_bytes w32) numbers
 
 -- the test tells which blocks of a range are intact
-abbrev pub TellsRange : Shape → ℕ → List (List ℕ) → Files → ℕ → ℕ → (ℕ → Bool) → Type 0
-TellsRange shape nodes digests c first count intact =
+abbrev pub RevealsRange : Shape → ℕ → List (List ℕ) → Files → ℕ → ℕ → (ℕ → Bool) → Type 0
+RevealsRange shape nodes digests c first count intact =
     (b : BlockId) → IsBlockIn shape nodes b → first ≤ number_in shape b → number_in shape b < first + count
     → IsTrue (intact (number_in shape b)) ↔ IsIntactBy shape digests c b
 
 -- The reply is that of an object: its bytes, of payloads of its data blocks, where `has b p` says that p is a payload of b and
 -- each of these blocks is intact; or the first of them that is not.
 abbrev pub IsObjectReply : Type 0 → (BlockId → List ℕ → Type 0) → Shape → List (List ℕ) → Files → Message → Placed → ℕ → List ℕ → Type 0
-IsObjectReply tells has shape digests c message placed code bytes =
+IsObjectReply reveals has shape digests c message placed code bytes =
     ((payloads : List (List ℕ)) × ArePayloads has (data_of placed.parts) payloads
-    × (tells → All (IsIntactBy shape digests c) (data_of placed.parts))
+    × (reveals → All (IsIntactBy shape digests c) (data_of placed.parts))
     × (length (take placed.object.length (joined payloads)) ≡ placed.object.length)
     × (code ≡ 0) × (bytes ≡ reply message 0 (object_body placed.object.length (take placed.object.length (joined payloads)))))
-    ⊎ ((b : BlockId) × IsOneOf (data_of placed.parts) b × (tells → IsFirstWithout (IsIntactBy shape digests c) (data_of placed.parts) b)
+    ⊎ ((b : BlockId) × IsOneOf (data_of placed.parts) b × (reveals → IsFirstWithout (IsIntactBy shape digests c) (data_of placed.parts) b)
     × (code ≡ damaged_code) × (bytes ≡ reply message damaged_code (to_be_bytes w32 (number_in shape b))))
 
 -- The reply is that of a range: the numbers of its blocks that are not intact, in order.
 abbrev pub IsRangeReply : Type 0 → Shape → ℕ → List (List ℕ) → Files → Message → ℕ → ℕ → ℕ → List ℕ → Type 0
-IsRangeReply tells shape nodes digests c message first count code bytes =
-    (intact : ℕ → Bool) × (tells → TellsRange shape nodes digests c first count intact)
+IsRangeReply reveals shape nodes digests c message first count code bytes =
+    (intact : ℕ → Bool) × (reveals → RevealsRange shape nodes digests c first count intact)
     × (code ≡ 0) × (bytes ≡ reply message 0 (numbers_body (filter (λ k. not (intact k)) (range_with_len first count))))
 
 -- the reply to a message that was answered so, in an archive with so many nodes and these digests, over these files
 abbrev pub IsReply : Type 0 → (BlockId → List ℕ → Type 0) → Shape → ℕ → List (List ℕ) → Files → Message → Answer → ℕ → List ℕ → Type 0
-IsReply tells has shape nodes digests c message (Reads placed) code bytes = IsObjectReply tells has shape digests c message placed code bytes
-IsReply tells has shape nodes digests c message (Patrols first count) code bytes = IsRangeReply tells shape nodes digests c message first count code bytes
-IsReply tells has shape nodes digests c message answer code bytes = (code ≡ code_of answer) × (bytes ≡ reply message (code_of answer) (body_of answer))
+IsReply reveals has shape nodes digests c message (Reads placed) code bytes = IsObjectReply reveals has shape digests c message placed code bytes
+IsReply reveals has shape nodes digests c message (Patrols first count) code bytes = IsRangeReply reveals shape nodes digests c message first count code bytes
+IsReply reveals has shape nodes digests c message answer code bytes = (code ≡ code_of answer) × (bytes ≡ reply message (code_of answer) (body_of answer))

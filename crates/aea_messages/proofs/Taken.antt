@@ -10,7 +10,7 @@ use Rattle.aea_records.specs.TableLaws.{AreBytes}
 use Rattle.aea_io.specs.Taken.{Took}
 use Rattle.aea_messages.specs.Messages.{greatest_chunk, Begins, IsMessage, spelled}
 use Rattle.aea_messages.specs.Fields.{Lacks, IsLacking, ReadsBehind}
-use Rattle.aea_messages.specs.Reading.{TellsFault, ReadsMessage}
+use Rattle.aea_messages.specs.Reading.{RevealsFault, ReadsMessage}
 use Rattle.aea_messages.proofs.Parts.{Goes, some_list}
 
 pub took_none : (left : Option (List ℕ)) (at : ℕ) → Took left left at at []
@@ -21,16 +21,16 @@ took_trans left mid rest before now after bs cs p q = record { taken = Consumes-
 
 -- ---- a field that is not taken
 
-tells : (rest : Option (List ℕ)) (start after k x : ℕ) (front t : List ℕ) (fault : MessageFault) → Goes (x ∷ front) k → AreBytes t → IsLacking rest after k (length t) fault
-    → TellsFault rest start after ((x ∷ front) ++ t) fault
-tells rest start after k x front t (BadMessage at) goes are lack = absurd lack
-tells rest start after k x front t (BadStream at) goes are lack =
+reveals : (rest : Option (List ℕ)) (start after k x : ℕ) (front t : List ℕ) (fault : MessageFault) → Goes (x ∷ front) k → AreBytes t → IsLacking rest after k (length t) fault
+    → RevealsFault rest start after ((x ∷ front) ++ t) fault
+reveals rest start after k x front t (BadMessage at) goes are lack = absurd lack
+reveals rest start after k x front t (BadStream at) goes are lack =
     let g = goes t are (omega (arith, lack.0)) in
     ((some_list ((x ∷ front) ++ t) (omega (arith, length-append (x ∷ front) t)), (g.0, g.1 lack.0, g.2)), lack.1, lack.2)
-tells rest start after k x front t ReadFault goes are lack =
+reveals rest start after k x front t ReadFault goes are lack =
     let g = goes t are (omega (arith, lack)) in
     (g.0, g.1 lack, g.2)
-tells rest start after k x front t NoMemory goes are lack =
+reveals rest start after k x front t NoMemory goes are lack =
     let g = goes t are lack in
     (some_list ((x ∷ front) ++ t) (omega (arith, length-append (x ∷ front) t)), (g.0, g.2))
 
@@ -39,19 +39,19 @@ pub behind_lacks : (left mid rest : Option (List ℕ)) (before now after k x : �
 behind_lacks left mid rest before now after k x front done fault took lacks goes = (
   done ++ lacks.bytes,
   took_trans left mid rest before now after done lacks.bytes took lacks.took,
-  λ start is. subst (λ (l : List ℕ). TellsFault rest start after l fault) (append_assoc (x ∷ front) done lacks.bytes)
-      (tells rest start after k x (front ++ done) lacks.bytes fault goes lacks.are lacks.lacking),
+  λ start is. subst (λ (l : List ℕ). RevealsFault rest start after l fault) (append_assoc (x ∷ front) done lacks.bytes)
+      (reveals rest start after k x (front ++ done) lacks.bytes fault goes lacks.are lacks.lacking),
 )
 
 -- the same where the field must lack a byte
-tells_short : (rest : Option (List ℕ)) (start after k x : ℕ) (front t : List ℕ) (fault : MessageFault) → fault ≢ NoMemory
+reveals_short : (rest : Option (List ℕ)) (start after k x : ℕ) (front t : List ℕ) (fault : MessageFault) → fault ≢ NoMemory
     → (length t < k → (more : List ℕ) × (more ≢ []) × Begins ((x ∷ front) ++ t) more) → IsLacking rest after k (length t) fault
-    → TellsFault rest start after ((x ∷ front) ++ t) fault
-tells_short rest start after k x front t (BadMessage at) memory goes lack = absurd lack
-tells_short rest start after k x front t (BadStream at) memory goes lack =
+    → RevealsFault rest start after ((x ∷ front) ++ t) fault
+reveals_short rest start after k x front t (BadMessage at) memory goes lack = absurd lack
+reveals_short rest start after k x front t (BadStream at) memory goes lack =
     ((some_list ((x ∷ front) ++ t) (omega (arith, length-append (x ∷ front) t)), goes lack.0), lack.1, lack.2)
-tells_short rest start after k x front t ReadFault memory goes lack = goes lack
-tells_short rest start after k x front t NoMemory memory goes lack = absurd (memory refl)
+reveals_short rest start after k x front t ReadFault memory goes lack = goes lack
+reveals_short rest start after k x front t NoMemory memory goes lack = absurd (memory refl)
 
 pub behind_short : (left mid rest : Option (List ℕ)) (before now after k x : ℕ) (front done : List ℕ) (fault : MessageFault)
     → Took left mid before now done → Lacks mid rest now after k fault → fault ≢ NoMemory
@@ -59,8 +59,8 @@ pub behind_short : (left mid rest : Option (List ℕ)) (before now after k x : �
 behind_short left mid rest before now after k x front done fault took lacks memory goes = (
   done ++ lacks.bytes,
   took_trans left mid rest before now after done lacks.bytes took lacks.took,
-  λ start is. subst (λ (l : List ℕ). TellsFault rest start after l fault) (append_assoc (x ∷ front) done lacks.bytes)
-      (tells_short rest start after k x (front ++ done) lacks.bytes fault memory (goes lacks.bytes lacks.are) lacks.lacking),
+  λ start is. subst (λ (l : List ℕ). RevealsFault rest start after l fault) (append_assoc (x ∷ front) done lacks.bytes)
+      (reveals_short rest start after k x (front ++ done) lacks.bytes fault memory (goes lacks.bytes lacks.are) lacks.lacking),
 )
 
 -- ---- a whole message, or bytes that are none

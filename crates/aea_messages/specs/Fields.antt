@@ -7,7 +7,7 @@ use Rattle.aea_messages.specs.declared.message.Message.{Message}
 use Rattle.aea_messages.specs.declared.fault.MessageFault.{MessageFault}
 use Rattle.aea_messages.specs.declared.fault.MessageFault.TheVariants.{BadMessage, BadStream, ReadFault, NoMemory}
 use Rattle.aea_messages.specs.Messages.{spelled, IsMessage}
-use Rattle.aea_messages.specs.Reading.{TellsFault}
+use Rattle.aea_messages.specs.Reading.{RevealsFault}
 
 -- Why k bytes were not taken, where only so many were: the source is at its end, a read failed, or memory was wanting, which
 -- may also be told behind the last one.
@@ -39,4 +39,4 @@ abbrev pub ReadsBehind : List ℕ → Option (List ℕ) → Option (List ℕ) �
 ReadsBehind front left rest before after (Ok message) =
     IsMessage message × ((bytes : List ℕ) × Took left rest before after bytes × (spelled message ≡ front ++ bytes))
 ReadsBehind front left rest before after (Err fault) =
-    (bytes : List ℕ) × Took left rest before after bytes × ((start : ℕ) → start + length front ≡ before → TellsFault rest start after (front ++ bytes) fault)
+    (bytes : List ℕ) × Took left rest before after bytes × ((start : ℕ) → start + length front ≡ before → RevealsFault rest start after (front ++ bytes) fault)

@@ -5,7 +5,7 @@ use Rattle.aea_disk.specs.State.{State, IsSynced}
 use Rattle.aea_copies.specs.Format.{text_of}
 use Rattle.aea_copies.specs.Grammar.{IsBegun}
 use Rattle.aea_copies.specs.Kept.{IsCopyFile, IsGood, AreOn, AreKept, HasText, LeavesAdopted}
-use Rattle.aea_adopt.specs.Adopting.{IsOff, TellsKept, IsTrueOf}
+use Rattle.aea_adopt.specs.Adopting.{IsOff, RevealsKept, IsTrueOf}
 use Rattle.aea_adopt.specs.declared.answers.Adopted.{Adopted}
 use Rattle.aea_mirror.specs.declared.tail.Tail.{Tail}
 use Rattle.aea_mirror.specs.Guarding.{EndsCopy, BeginsWith, Guards}
@@ -58,7 +58,7 @@ pub guards_true : (s : State) (a : Adopted) (first second : Tail) → IsSynced s
     → first.link ≡ get_or a.links 0 [] → second.link ≡ get_or a.links 1 [] → Guards s a.on a.end first second
 guards_true s a first second synced is one two left right = ⊎_elim
     (λ (off : (AreOn s.files → ⊥) × IsOff a). subst (λ (on : Bool). Guards s on a.end first second) (sym off.1.on) (guards_none s a.end first second synced off.0))
-    (λ (on : (pieces : List (List ℕ)) × HasText (text_of pieces) (s.files 0) × ((f : ℕ) → IsCopyFile f → IsGood pieces (s.files f)) × TellsKept pieces a).
+    (λ (on : (pieces : List (List ℕ)) × HasText (text_of pieces) (s.files 0) × ((f : ℕ) → IsCopyFile f → IsGood pieces (s.files f)) × RevealsKept pieces a).
     subst (λ (on : Bool). Guards s on a.end first second) (sym on.3.on)
     (guards_whole s on.0 a.end first second synced on.2 (text_begins (text_of on.0) (s.files 0) on.1) on.3.end
     (record { gate = one ∙ ap (λ (l : List ℕ). get_or l 0 0) on.3.gates; link = left ∙ ap (λ (l : List (List ℕ)). get_or l 0 []) on.3.links })

@@ -11,7 +11,7 @@ use Rattle.aea_disk.proofs.Moments.{during_both}
 use Rattle.aea_copies.specs.Format.{copied, text_of, whole_copy}
 use Rattle.aea_copies.specs.Grammar.{IsBegun}
 use Rattle.aea_copies.specs.Kept.{IsCopyFile, IsGood, mended}
-use Rattle.aea_copy_writer.specs.Anew.{CanMake, IsOldNoneOrMade, IsNoneOrMade, TellsCopy, FitsCopy}
+use Rattle.aea_copy_writer.specs.Anew.{CanMake, IsOldNoneOrMade, IsNoneOrMade, RevealsCopy, FitsCopy}
 use Rattle.aea_copy_writer.specs.Entries.{HasPieces}
 use Rattle.aea_copy_writer.specs.declared.entries.Written.{Written}
 use Rattle.aea_mirror.specs.declared.further.Further.TheVariants.{Nothing, Until, Broken}
@@ -47,9 +47,9 @@ none_of c one two f is begun =
     ⊎_elim (λ (a : f ≡ 65). one (subst (λ (x : ℕ). IsBegun (c x)) a begun)) (λ (b : f ≡ 66). two (subst (λ (x : ℕ). IsBegun (c x)) b begun)) is
 
 -- while the first is made
-pub first_moments : (tells taken fits fault : Type 0) (pieces : List (List ℕ)) (s m : State) → IsSynced s → NoneBegun s.files → OnlyWrites tells taken fits fault (ChangesOnly 65) s m
+pub first_moments : (reveals taken fits fault : Type 0) (pieces : List (List ℕ)) (s m : State) → IsSynced s → NoneBegun s.files → OnlyWrites reveals taken fits fault (ChangesOnly 65) s m
     → During s m (λ c. IsOldNoneOrMade (whole_copy pieces) (s.files 65) (c 65)) → During s m (λ c. MayBeStarted pieces c)
-first_moments tells taken fits fault pieces s m synced none writes made t c from to here =
+first_moments reveals taken fits fault pieces s m synced none writes made t c from to here =
     let was = writes.crash t c from to here in
     let other : c 66 ≡ s.files 66 = was.2 66 (λ is. omega (arith, is)) ∙ synced was.0 was.1 66 in
     let second : IsBegun (c 66) → ⊥ = λ begun. none 66 (inr refl) (subst IsBegun other begun) in
@@ -60,9 +60,9 @@ first_moments tells taken fits fault pieces s m synced none writes made t c from
     (made t c from to here)
 
 -- while the second is
-pub second_moments : (tells taken fits fault : Type 0) (pieces : List (List ℕ)) (m n : State) → (IsBegun (m.files 66) → ⊥) → m.files 65 ≡ whole_copy pieces → IsSynced m → OnlyWrites tells taken fits fault (ChangesOnly 66) m n
+pub second_moments : (reveals taken fits fault : Type 0) (pieces : List (List ℕ)) (m n : State) → (IsBegun (m.files 66) → ⊥) → m.files 65 ≡ whole_copy pieces → IsSynced m → OnlyWrites reveals taken fits fault (ChangesOnly 66) m n
     → During m n (λ c. IsOldNoneOrMade (whole_copy pieces) (m.files 66) (c 66)) → During m n (λ c. MayBeStarted pieces c)
-second_moments tells taken fits fault pieces m n none whole synced writes made t c from to here =
+second_moments reveals taken fits fault pieces m n none whole synced writes made t c from to here =
     let was = writes.crash t c from to here in
     let first : c 65 ≡ whole_copy pieces = was.2 65 (λ is. omega (arith, is)) ∙ synced was.0 was.1 65 ∙ whole in
     ⊎_elim
@@ -74,43 +74,43 @@ second_moments tells taken fits fault pieces m n none whole synced writes made t
 pub can_same : (pieces : List (List ℕ)) (until : ℕ) (old new : List ℕ) → new ≡ old → CanMake pieces until old → CanMake pieces until new
 can_same pieces until old new same can = subst (CanMake pieces until) (sym same) can
 
-pub both_moments : (tells taken fits fault late_taken late_fits late : Type 0) (pieces : List (List ℕ)) (s m n : State) → tells → IsSynced s → NoneBegun s.files → OnlyWrites tells taken fits fault (ChangesOnly 65) s m
-    → During s m (λ c. IsOldNoneOrMade (whole_copy pieces) (s.files 65) (c 65)) → m.files 65 ≡ whole_copy pieces → IsSynced m → OnlyWrites tells late_taken late_fits late (ChangesOnly 66) m n
+pub both_moments : (reveals taken fits fault late_taken late_fits late : Type 0) (pieces : List (List ℕ)) (s m n : State) → reveals → IsSynced s → NoneBegun s.files → OnlyWrites reveals taken fits fault (ChangesOnly 65) s m
+    → During s m (λ c. IsOldNoneOrMade (whole_copy pieces) (s.files 65) (c 65)) → m.files 65 ≡ whole_copy pieces → IsSynced m → OnlyWrites reveals late_taken late_fits late (ChangesOnly 66) m n
     → During m n (λ c. IsOldNoneOrMade (whole_copy pieces) (m.files 66) (c 66)) → During s n (λ c. MayBeStarted pieces c)
-both_moments tells taken fits fault late_taken late_fits late pieces s m n told synced none writes made whole early later other =
+both_moments reveals taken fits fault late_taken late_fits late pieces s m n revealed synced none writes made whole early later other =
     during_both s m n (MayBeStarted pieces) writes.time later.time
-    (first_moments tells taken fits fault pieces s m synced none writes made)
-    (second_moments tells late_taken late_fits late pieces m n (λ begun. none 66 (inr refl) (subst IsBegun (writes.contents told 66 (λ is. omega (arith, is))) begun)) whole early later other)
+    (first_moments reveals taken fits fault pieces s m synced none writes made)
+    (second_moments reveals late_taken late_fits late pieces m n (λ begun. none 66 (inr refl) (subst IsBegun (writes.contents revealed 66 (λ is. omega (arith, is))) begun)) whole early later other)
 
-pub both_started : (tells taken fits fault : Type 0) (pieces : List (List ℕ)) (until : ℕ) (w v : Written) (one two : Tail) (s m n : State) → tells → CanMake pieces until (s.files 0) → TellsCopy pieces w → TellsCopy pieces v
+pub both_started : (reveals taken fits fault : Type 0) (pieces : List (List ℕ)) (until : ℕ) (w v : Written) (one two : Tail) (s m n : State) → reveals → CanMake pieces until (s.files 0) → RevealsCopy pieces w → RevealsCopy pieces v
     → one.gate ≡ w.gate → one.link ≡ w.link → two.gate ≡ v.gate → two.link ≡ v.link → m.files 65 ≡ whole_copy pieces → n.files 66 ≡ whole_copy pieces
-    → OnlyWrites tells taken fits fault (ChangesOnly 66) m n → HasStarted pieces until one two n.files
-both_started tells taken fits fault pieces until w v one two s m n told can first second gate link other_gate other_link whole also writes = record {
+    → OnlyWrites reveals taken fits fault (ChangesOnly 66) m n → HasStarted pieces until one two n.files
+both_started reveals taken fits fault pieces until w v one two s m n revealed can first second gate link other_gate other_link whole also writes = record {
   text = let place = can.has.place in omega (arith, place);
   one = record { gate = gate ∙ first.gate; link = link ∙ first.link };
   two = record { gate = other_gate ∙ second.gate; link = other_link ∙ second.link };
   whole = λ f is.
-      ⊎_elim (λ (a : f ≡ 65). ap n.files a ∙ writes.contents told 65 (λ e. omega (arith, e)) ∙ whole) (λ (b : f ≡ 66). ap n.files b ∙ also) is;
+      ⊎_elim (λ (a : f ≡ 65). ap n.files a ∙ writes.contents revealed 65 (λ e. omega (arith, e)) ∙ whole) (λ (b : f ≡ 66). ap n.files b ∙ also) is;
 }
 
-pub writes_first : (tells fault : Type 0) (until : ℕ) (s n : State) → OnlyWrites tells s.free (FitsCopy s 65 until) fault (ChangesOnly 65) s n
-    → OnlyWrites tells s.free (FitsMaking s until) fault (KeepsFiles (λ f. f ≤ 64)) s n
-writes_first tells fault until s n writes =
-    writes_wider tells s.free (FitsCopy s 65 until) s.free (FitsMaking s until) fault (KeepsFiles (λ f. f ≤ 64)) (KeepsFiles (λ f. f ≤ 64)) s n
-    (λ c d keeps. keeps) (λ told is. is) (λ told fit. fit.first) (copy_only tells s.free (FitsCopy s 65 until) fault 65 s n (omega arith) writes)
+pub writes_first : (reveals fault : Type 0) (until : ℕ) (s n : State) → OnlyWrites reveals s.free (FitsCopy s 65 until) fault (ChangesOnly 65) s n
+    → OnlyWrites reveals s.free (FitsMaking s until) fault (KeepsFiles (λ f. f ≤ 64)) s n
+writes_first reveals fault until s n writes =
+    writes_wider reveals s.free (FitsCopy s 65 until) s.free (FitsMaking s until) fault (KeepsFiles (λ f. f ≤ 64)) (KeepsFiles (λ f. f ≤ 64)) s n
+    (λ c d keeps. keeps) (λ revealed is. is) (λ revealed fit. fit.first) (copy_only reveals s.free (FitsCopy s 65 until) fault 65 s n (omega arith) writes)
 
-pub writes_second : (tells fault late : Type 0) (until : ℕ) (s m n : State) → (fault → ⊥)
-    → OnlyWrites tells s.free (FitsCopy s 65 until) fault (ChangesOnly 65) s m → OnlyWrites tells m.free (FitsCopy m 66 until) late (ChangesOnly 66) m n
-    → OnlyWrites tells s.free (FitsMaking s until) late (KeepsFiles (λ f. f ≤ 64)) s n
-writes_second tells fault late until s m n fine early late_writes =
-    writes_both tells s.free s.free m.free (FitsMaking s until) (FitsMaking s until) (FitsCopy m 66 until) fault late
+pub writes_second : (reveals fault late : Type 0) (until : ℕ) (s m n : State) → (fault → ⊥)
+    → OnlyWrites reveals s.free (FitsCopy s 65 until) fault (ChangesOnly 65) s m → OnlyWrites reveals m.free (FitsCopy m 66 until) late (ChangesOnly 66) m n
+    → OnlyWrites reveals s.free (FitsMaking s until) late (KeepsFiles (λ f. f ≤ 64)) s n
+writes_second reveals fault late until s m n fine early late_writes =
+    writes_both reveals s.free s.free m.free (FitsMaking s until) (FitsMaking s until) (FitsCopy m 66 until) fault late
     (KeepsFiles (λ f. f ≤ 64)) (KeepsFiles (λ f. f ≤ 64)) (KeepsFiles (λ f. f ≤ 64)) s m n fine
     (λ c d keeps. keeps) (λ c d e one two f near. two f near ∙ one f near)
-    (λ told free. free) (λ told free step takes. early.time.free free)
-    (λ told fit. fit)
-    (λ told fit step passes. later fit.second (step 0 (omega arith)) passes)
-    (writes_first tells fault until s m early)
-    (copy_only tells m.free (FitsCopy m 66 until) late 66 m n (omega arith) late_writes)
+    (λ revealed free. free) (λ revealed free step takes. early.time.free free)
+    (λ revealed fit. fit)
+    (λ revealed fit step passes. later fit.second (step 0 (omega arith)) passes)
+    (writes_first reveals fault until s m early)
+    (copy_only reveals m.free (FitsCopy m 66 until) late 66 m n (omega arith) late_writes)
   where
     later : FitsCopy s 66 until → m.files 0 ≡ s.files 0 → Passes s m → FitsCopy m 66 until
     later fit same passes = record {
@@ -188,9 +188,9 @@ starts_shown files d c pieces last ends can same may shows =
         mended_closed (text_of pieces) (files 0) (let there = ends.there in omega (arith, size, there)) can.has.there
         (λ is. ends.shut (ap (λ (n : ℕ). get_or (files 0) n 0) size ∙ is))
 
-pub begun_shown : (tells taken fits fault : Type 0) (r s n : State) (pieces : List (List ℕ)) (last : ℕ) → ((t : ℕ) (c : Files) → r.image t c → r.image r.moment r.files) → KeepsImages r s → Passes r s → s.files ≡ r.files → IsSynced s
-    → EndsAt (s.files 0) last → CanMake pieces last (s.files 0) → OnlyWrites tells taken fits fault (KeepsFiles (λ f. f ≤ 64)) s n → During s n (λ c. MayBeStarted pieces c) → ShowsNoMore r n
-begun_shown tells taken fits fault r s n pieces last read keeps time contents synced ends can writes during t d c from to here shows =
+pub begun_shown : (reveals taken fits fault : Type 0) (r s n : State) (pieces : List (List ℕ)) (last : ℕ) → ((t : ℕ) (c : Files) → r.image t c → r.image r.moment r.files) → KeepsImages r s → Passes r s → s.files ≡ r.files → IsSynced s
+    → EndsAt (s.files 0) last → CanMake pieces last (s.files 0) → OnlyWrites reveals taken fits fault (KeepsFiles (λ f. f ≤ 64)) s n → During s n (λ c. MayBeStarted pieces c) → ShowsNoMore r n
+begun_shown reveals taken fits fault r s n pieces last read keeps time contents synced ends can writes during t d c from to here shows =
     ⊎_elim
     (λ (before : t < s.moment). (d, keeps t d from (omega (arith, before)) ((writes.time.keeps t d (omega (arith, before))).0 here), shows))
     (λ (after : s.moment ≤ t).
@@ -207,19 +207,19 @@ first_byte (x ∷ file) byte count is same =
     (λ e. (one, here ∙ e), λ both. sym here ∙ both.1)
 
 -- what the calls say together: a sync and reads
-pub begun_reads : (tells fault : Type 0) (r s : State) → (r.free → IsReady r) → OnlyReads tells fault r s → OnlyWrites tells r.free (FitsStart r) fault (KeepsFiles (λ f. f ≤ 64)) r s
-begun_reads tells fault r s ready reads = reads_writes tells r.free (FitsStart r) fault (KeepsFiles (λ f. f ≤ 64)) r s ready (starts_roomy r) (λ c f near. refl) reads
+pub begun_reads : (reveals fault : Type 0) (r s : State) → (r.free → IsReady r) → OnlyReads reveals fault r s → OnlyWrites reveals r.free (FitsStart r) fault (KeepsFiles (λ f. f ≤ 64)) r s
+begun_reads reveals fault r s ready reads = reads_writes reveals r.free (FitsStart r) fault (KeepsFiles (λ f. f ≤ 64)) r s ready (starts_roomy r) (λ c f near. refl) reads
 
 -- and then both copies
-pub begun_writes : (tells fault late : Type 0) (r s n : State) (last : ℕ) → (fault → ⊥) → (r.free → IsReady r) → (tells → EndsAt (s.files 0) last) → OnlyReads tells fault r s
-    → OnlyWrites tells s.free (FitsMaking s last) late (KeepsFiles (λ f. f ≤ 64)) s n → OnlyWrites tells r.free (FitsStart r) late (KeepsFiles (λ f. f ≤ 64)) r n
-begun_writes tells fault late r s n last fine ready ends reads writes =
-    reads_then_writes tells r.free s.free (FitsStart r) (FitsMaking s last) fault late (KeepsFiles (λ f. f ≤ 64)) r s n fine (λ c f near. refl)
-    ready (λ told free same takes. reads.time.free free) (starts_roomy r) (λ told fit same passes. fits_making r s last (ap (λ (x : Files). x 0) same) passes (ends told) fit)
+pub begun_writes : (reveals fault late : Type 0) (r s n : State) (last : ℕ) → (fault → ⊥) → (r.free → IsReady r) → (reveals → EndsAt (s.files 0) last) → OnlyReads reveals fault r s
+    → OnlyWrites reveals s.free (FitsMaking s last) late (KeepsFiles (λ f. f ≤ 64)) s n → OnlyWrites reveals r.free (FitsStart r) late (KeepsFiles (λ f. f ≤ 64)) r n
+begun_writes reveals fault late r s n last fine ready ends reads writes =
+    reads_then_writes reveals r.free s.free (FitsStart r) (FitsMaking s last) fault late (KeepsFiles (λ f. f ≤ 64)) r s n fine (λ c f near. refl)
+    ready (λ revealed free same takes. reads.time.free free) (starts_roomy r) (λ revealed fit same passes. fits_making r s last (ap (λ (x : Files). x 0) same) passes (ends revealed) fit)
     reads writes
 
-pub begun_none : (tells fault : Type 0) (r s : State) → OnlyReads tells fault r s → WritesNone tells r s
-begun_none tells fault r s reads = record { reads = reads.contents; images = reads.crash }
+pub begun_none : (reveals fault : Type 0) (r s : State) → OnlyReads reveals fault r s → WritesNone reveals r s
+begun_none reveals fault r s reads = record { reads = reads.contents; images = reads.crash }
 
 -- the records of one ledger end once
 pub same_end : (a b : List ℕ) (m n : ℕ) → b ≡ a → EndsAt a m → EndsAt b n → m ≡ n

@@ -35,12 +35,12 @@ use Rattle.aea_mirror.proofs.Leading.{reaches_join, kept_holds, further_fits}
 -- ---- after a sync of the lent disk, and reads
 
 -- nothing is pending after reads either
-pub synced_reads : (tells fault : Type 0) (s n : State) → tells → IsSynced s → OnlyReads tells fault s n → IsSynced n
-synced_reads tells fault s n told synced reads c here f = synced c (reads.crash n.moment c reads.time.later (omega arith) here) f ∙ ap (λ (x : Files). x f) (sym (reads.contents told))
+pub synced_reads : (reveals fault : Type 0) (s n : State) → reveals → IsSynced s → OnlyReads reveals fault s n → IsSynced n
+synced_reads reveals fault s n revealed synced reads c here f = synced c (reads.crash n.moment c reads.time.later (omega arith) here) f ∙ ap (λ (x : Files). x f) (sym (reads.contents revealed))
 
 -- an image of a moment is one of each earlier moment after the entry, also over reads
-pub settles_reads : (tells fault : Type 0) (r s n : State) → Settles r s → Passes r s → IsSynced s → OnlyReads tells fault s n → Settles r n
-settles_reads tells fault r s n settles time synced reads t u c after le to here =
+pub settles_reads : (reveals fault : Type 0) (r s n : State) → Settles r s → Passes r s → IsSynced s → OnlyReads reveals fault s n → Settles r n
+settles_reads reveals fault r s n settles time synced reads t u c after le to here =
     ⊎_elim
     (λ (late : s.moment < u).
     let at_s = reads.crash u c (omega (arith, late)) to here in
@@ -55,8 +55,8 @@ settles_reads tells fault r s n settles time synced reads t u c after le to here
     (λ (early : u ≤ s.moment). (reads.time.keeps t c (omega (arith, le, early))).1 (settles t u c after le early ((reads.time.keeps u c early).0 here)))
     (cases_lt s.moment u)
 
-pub keeps_reads : (tells fault : Type 0) (r s n : State) → KeepsImages r s → Passes r s → OnlyReads tells fault s n → KeepsImages r n
-keeps_reads tells fault r s n crash time reads t c from to here =
+pub keeps_reads : (reveals fault : Type 0) (r s n : State) → KeepsImages r s → Passes r s → OnlyReads reveals fault s n → KeepsImages r n
+keeps_reads reveals fault r s n crash time reads t c from to here =
     ⊎_elim
     (λ (before : t < s.moment). crash t c from (omega (arith, before)) ((reads.time.keeps t c (omega (arith, before))).0 here))
     (λ (after : s.moment ≤ t). crash s.moment c time.later (omega arith) (reads.crash t c after to here))
@@ -82,63 +82,63 @@ gates_shut s end first second guards =
         inl (has_one_pieces (s.files f) others are.pieces (length (copied others)) (length (copied are.pieces)) (subst (IsGood others) (are.guarded.fixed d here f is) good) (are.guarded.good f is)).0
 
 -- What is so where a Mirror with copies on has synced the lent disk and looked for further records, from r before to s now.
-pub record Looked (tells : Type 0) (r s : State) (end : ℕ) (first second : Tail) : Type 0 where
+pub record Looked (reveals : Type 0) (r s : State) (end : ℕ) (first second : Tail) : Type 0 where
   pub crash : KeepsImages r s
   pub time : Passes r s
   pub kept : r.faults ≤ s.faults
-  pub contents : tells → s.files ≡ r.files
-  pub synced : tells → IsSynced s
-  pub settles : tells → Settles r s
-  pub guards : tells → ∥ Guards s true end first second ∥₁
+  pub contents : reveals → s.files ≡ r.files
+  pub synced : reveals → IsSynced s
+  pub settles : reveals → Settles r s
+  pub guards : reveals → ∥ Guards s true end first second ∥₁
 
-pub looked : (tells fault : Type 0) (r b s : State) (on : Bool) (end : ℕ) (first second : Tail) → on ≡ true → (tells → b.files ≡ r.files) → KeepsImages r b → Settles r b → Passes r b → r.faults ≤ b.faults → (tells → IsSynced b)
-    → (tells → ∥ Guards r on end first second ∥₁) → OnlyReads tells fault b s → Looked tells r s end first second
-looked tells fault r b s on end first second is contents crash settles time kept synced guards reads =
+pub looked : (reveals fault : Type 0) (r b s : State) (on : Bool) (end : ℕ) (first second : Tail) → on ≡ true → (reveals → b.files ≡ r.files) → KeepsImages r b → Settles r b → Passes r b → r.faults ≤ b.faults → (reveals → IsSynced b)
+    → (reveals → ∥ Guards r on end first second ∥₁) → OnlyReads reveals fault b s → Looked reveals r s end first second
+looked reveals fault r b s on end first second is contents crash settles time kept synced guards reads =
     let later = passes_both r b s time reads.time in
-    let keeps = keeps_reads tells fault r b s crash time reads in
-    let same : tells → s.files ≡ r.files = λ told. reads.contents told ∙ contents told in
+    let keeps = keeps_reads reveals fault r b s crash time reads in
+    let same : reveals → s.files ≡ r.files = λ revealed. reads.contents revealed ∙ contents revealed in
     record {
       crash = keeps;
       time = later;
       kept = let more = reads.kept in omega (arith, kept, more);
       contents = same;
-      synced = λ told. synced_reads tells fault b s told (synced told) reads;
-      settles = λ told. settles_reads tells fault r b s settles time (synced told) reads;
-      guards = λ told. guards_on r s on end first second is (same told) keeps later (guards told);
+      synced = λ revealed. synced_reads reveals fault b s revealed (synced revealed) reads;
+      settles = λ revealed. settles_reads reveals fault r b s settles time (synced revealed) reads;
+      guards = λ revealed. guards_on r s on end first second is (same revealed) keeps later (guards revealed);
     }
 
 -- ---- what is shown, over the whole sync
 
-module _ (tells : Type 0) (r s n : State) (k l : Kept) (end : ℕ) (first second : Tail) (now : Looked tells r s end first second)
-    (read_r : (t : ℕ) (c : Files) → tells → r.image t c → r.image r.moment r.files) (read_s : (t : ℕ) (c : Files) → tells → s.image t c → s.image s.moment s.files)
-    (phase : tells → Phase first.gate second.gate s n) (texts : tells → ∥ ((are : AreOnWith s end first second) → HasTwoTexts are.pieces end s n) ∥₁) where
-  known : tells → Known end first.gate second.gate s n
-  known told =
+module _ (reveals : Type 0) (r s n : State) (k l : Kept) (end : ℕ) (first second : Tail) (now : Looked reveals r s end first second)
+    (read_r : (t : ℕ) (c : Files) → reveals → r.image t c → r.image r.moment r.files) (read_s : (t : ℕ) (c : Files) → reveals → s.image t c → s.image s.moment s.files)
+    (phase : reveals → Phase first.gate second.gate s n) (texts : reveals → ∥ ((are : AreOnWith s end first second) → HasTwoTexts are.pieces end s n) ∥₁) where
+  known : reveals → Known end first.gate second.gate s n
+  known revealed =
       known_out s n end first.gate second.gate
-      (∥∥₁_elim (now.guards told) ∥∥₁_prop (λ was. ∥∥₁_elim (texts told) ∥∥₁_prop (λ two. ∣ known_here s n end first second (was.are refl) (two (was.are refl)) ∣₁)))
+      (∥∥₁_elim (now.guards revealed) ∥∥₁_prop (λ was. ∥∥₁_elim (texts revealed) ∥∥₁_prop (λ two. ∣ known_here s n end first second (was.are refl) (two (was.are refl)) ∣₁)))
 
-  pub all_kept : KeepsImages (mirror_state tells r k) (mirror_state tells n l)
+  pub all_kept : KeepsImages (mirror_state reveals r k) (mirror_state reveals n l)
   all_kept t c from to here =
-      sync_keeps end first.gate second.gate s n (phase here.0) (known here.0) tells r k l now.crash now.time now.contents read_r t c from to here
+      sync_keeps end first.gate second.gate s n (phase here.0) (known here.0) reveals r k l now.crash now.time now.contents read_r t c from to here
 
-  pub all_settled : Settles (mirror_state tells r k) (mirror_state tells n l)
+  pub all_settled : Settles (mirror_state reveals r k) (mirror_state reveals n l)
   all_settled t u c after le to here =
-      sync_settles end first.gate second.gate s n (phase here.0) (known here.0) tells r k l now.settles read_s t u c after le to here
+      sync_settles end first.gate second.gate s n (phase here.0) (known here.0) reveals r k l now.settles read_s t u c after le to here
 
 -- where nothing is written the phase is none
-pub phase_none : (tells : Type 0) (s : State) (end : ℕ) (first second : Tail) → tells → IsSynced s → ∥ Guards s true end first second ∥₁ → Phase first.gate second.gate s s
-phase_none tells s end first second told synced guards = phase_reads tells ⊥ first.gate second.gate s s told synced (λ f g of. (gates_shut s end first second guards f g of).there) (reads_none tells ⊥ s (λ none. none))
+pub phase_none : (reveals : Type 0) (s : State) (end : ℕ) (first second : Tail) → reveals → IsSynced s → ∥ Guards s true end first second ∥₁ → Phase first.gate second.gate s s
+phase_none reveals s end first second revealed synced guards = phase_reads reveals ⊥ first.gate second.gate s s revealed synced (λ f g of. (gates_shut s end first second guards f g of).there) (reads_none reveals ⊥ s (λ none. none))
 
 pub texts_none : (s : State) (end : ℕ) (first second : Tail) → IsSynced s → ∥ ((are : AreOnWith s end first second) → HasTwoTexts are.pieces end s s) ∥₁
 texts_none s end first second synced =
     ∣ (λ are. texts_stay s s are.pieces end are.guarded (λ t d from to image f. synced d (subst (λ (m : ℕ). s.image m d) (let e : t ≡ s.moment = omega (arith, from, to) in e) image) f)) ∣₁
 
 -- so nothing is shown that was not before
-pub none_settled : (tells : Type 0) (r s : State) (k l : Kept) (end : ℕ) (first second : Tail) → Looked tells r s end first second → ((t : ℕ) (c : Files) → tells → r.image t c → r.image r.moment r.files)
-    → ((t : ℕ) (c : Files) → tells → s.image t c → s.image s.moment s.files) → Settles (mirror_state tells r k) (mirror_state tells s l)
-none_settled tells r s k l end first second now read_r read_s =
-    all_settled tells r s s k l end first second now read_r read_s
-    (λ told. phase_none tells s end first second told (now.synced told) (now.guards told)) (λ told. texts_none s end first second (now.synced told))
+pub none_settled : (reveals : Type 0) (r s : State) (k l : Kept) (end : ℕ) (first second : Tail) → Looked reveals r s end first second → ((t : ℕ) (c : Files) → reveals → r.image t c → r.image r.moment r.files)
+    → ((t : ℕ) (c : Files) → reveals → s.image t c → s.image s.moment s.files) → Settles (mirror_state reveals r k) (mirror_state reveals s l)
+none_settled reveals r s k l end first second now read_r read_s =
+    all_settled reveals r s s k l end first second now read_r read_s
+    (λ revealed. phase_none reveals s end first second revealed (now.synced revealed) (now.guards revealed)) (λ revealed. texts_none s end first second (now.synced revealed))
 
 -- while further records are written, each good copy has one of two texts
 pub texts_more : (s n : State) (end last : ℕ) (first second : Tail) → ∥ Guards s true end first second ∥₁ → Phase first.gate second.gate s n
@@ -224,9 +224,9 @@ fits_copy r s file tail end last records more pieces far some time same gate has
   };
 }
 
-pub fits_more : (tells : Type 0) (r s : State) (k : Kept) (end last : ℕ) (first second : Tail) → k.on ≡ true → 1 ≤ end → Passes r s → s.files 0 ≡ r.files 0 → (are : AreOnWith s end first second)
-    → ((before : ℕ) → first.gate ≡ copied_end (before + 1) end → IsFurther (s.files 0) before end (Until last)) → IsRoomy (mirror_state tells r k) → FitsExtending s first second end last
-fits_more tells r s k end last first second on some time same are further roomy =
+pub fits_more : (reveals : Type 0) (r s : State) (k : Kept) (end last : ℕ) (first second : Tail) → k.on ≡ true → 1 ≤ end → Passes r s → s.files 0 ≡ r.files 0 → (are : AreOnWith s end first second)
+    → ((before : ℕ) → first.gate ≡ copied_end (before + 1) end → IsFurther (s.files 0) before end (Until last)) → IsRoomy (mirror_state reveals r k) → FitsExtending s first second end last
+fits_more reveals r s k end last first second on some time same are further roomy =
     let here = kept_holds s end first second are in
     let more = further here.0.records here.1 in
     let pieces = further_fits s end last first second are here.0.records more.0 here.1 more.1 in

@@ -18,20 +18,20 @@ pub gated_here : (s : State) (file gate : ℕ) → IsSynced s → IsShut gate (s
 gated_here s file gate synced shut = record { fixed = λ c here. synced c here file; closed = shut }
 
 -- the phase in which the first copy is extended
-pub phase_one : (tells taken fits fault : Type 0) (first second : ℕ) (s n : State) → tells → IsSynced s → ((f g : ℕ) → IsGateOf first second f g → IsShut g (s.files f))
-    → Extends 65 first s n → OnlyWrites tells taken fits fault (ChangesOnly 65) s n → Phase first second s n
-phase_one tells taken fits fault first second s n told synced shut extends writes =
-    phase_extends tells taken fits fault first second 65 first s s n told
-    (phase_reads tells ⊥ first second s s told synced (λ f g of. (shut f g of).there) (reads_none tells ⊥ s (λ none. none))) synced (inl (refl, refl)) extends writes
+pub phase_one : (reveals taken fits fault : Type 0) (first second : ℕ) (s n : State) → reveals → IsSynced s → ((f g : ℕ) → IsGateOf first second f g → IsShut g (s.files f))
+    → Extends 65 first s n → OnlyWrites reveals taken fits fault (ChangesOnly 65) s n → Phase first second s n
+phase_one reveals taken fits fault first second s n revealed synced shut extends writes =
+    phase_extends reveals taken fits fault first second 65 first s s n revealed
+    (phase_reads reveals ⊥ first second s s revealed synced (λ f g of. (shut f g of).there) (reads_none reveals ⊥ s (λ none. none))) synced (inl (refl, refl)) extends writes
 
-pub phase_two : (tells taken fits fault : Type 0) (first second : ℕ) (s m n : State) → tells → Phase first second s m → IsSynced m → Extends 66 second m n → OnlyWrites tells taken fits fault (ChangesOnly 66) m n → Phase first second s n
-phase_two tells taken fits fault first second s m n told early synced extends writes = phase_extends tells taken fits fault first second 66 second s m n told early synced (inr (refl, refl)) extends writes
+pub phase_two : (reveals taken fits fault : Type 0) (first second : ℕ) (s m n : State) → reveals → Phase first second s m → IsSynced m → Extends 66 second m n → OnlyWrites reveals taken fits fault (ChangesOnly 66) m n → Phase first second s n
+phase_two reveals taken fits fault first second s m n revealed early synced extends writes = phase_extends reveals taken fits fault first second 66 second s m n revealed early synced (inr (refl, refl)) extends writes
 
 -- while the first is extended, the entries follow its gate where that is open; that of the second is closed
-pub bodies_one : (tells taken fits fault : Type 0) (first second : Tail) (more : List (List ℕ)) (s n : State) → IsSynced s → ((f g : ℕ) → IsGateOf first.gate second.gate f g → IsShut g (s.files f))
-    → OnlyWrites tells taken fits fault (ChangesOnly 65) s n → During s n (λ c. get_or (c 65) first.gate 0 ≡ open_gate → HasEntries first.gate first.link more (c 65))
+pub bodies_one : (reveals taken fits fault : Type 0) (first second : Tail) (more : List (List ℕ)) (s n : State) → IsSynced s → ((f g : ℕ) → IsGateOf first.gate second.gate f g → IsShut g (s.files f))
+    → OnlyWrites reveals taken fits fault (ChangesOnly 65) s n → During s n (λ c. get_or (c 65) first.gate 0 ≡ open_gate → HasEntries first.gate first.link more (c 65))
     → During s n (λ c. (f g : ℕ) → IsGateOf first.gate second.gate f g → get_or (c f) g 0 ≡ open_gate → HasEntries g first.link more (c f))
-bodies_one tells taken fits fault first second more s n synced shut writes body t c from to here f g of opened =
+bodies_one reveals taken fits fault first second more s n synced shut writes body t c from to here f g of opened =
     ⊎_elim
     (λ (a : (f ≡ 65) × (g ≡ first.gate)).
     subst (λ (x : ℕ). HasEntries g first.link more (c x)) (sym a.0) (subst (λ (y : ℕ). HasEntries y first.link more (c 65)) (sym a.1)
@@ -43,12 +43,12 @@ bodies_one tells taken fits fault first second more s n synced shut writes body 
     of
 
 -- while the second is, the first has its entries
-pub bodies_two : (tells taken fits fault : Type 0) (first second : Tail) (more : List (List ℕ)) (s m n : State) → second.link ≡ first.link → Passes s m
+pub bodies_two : (reveals taken fits fault : Type 0) (first second : Tail) (more : List (List ℕ)) (s m n : State) → second.link ≡ first.link → Passes s m
     → During s m (λ c. (f g : ℕ) → IsGateOf first.gate second.gate f g → get_or (c f) g 0 ≡ open_gate → HasEntries g first.link more (c f))
     → IsSynced m → HasEntries first.gate first.link more (m.files 65)
-    → OnlyWrites tells taken fits fault (ChangesOnly 66) m n → During m n (λ c. get_or (c 66) second.gate 0 ≡ open_gate → HasEntries second.gate second.link more (c 66))
+    → OnlyWrites reveals taken fits fault (ChangesOnly 66) m n → During m n (λ c. get_or (c 66) second.gate 0 ≡ open_gate → HasEntries second.gate second.link more (c 66))
     → During s n (λ c. (f g : ℕ) → IsGateOf first.gate second.gate f g → get_or (c f) g 0 ≡ open_gate → HasEntries g first.link more (c f))
-bodies_two tells taken fits fault first second more s m n links time early synced has writes body t c from to here f g of opened =
+bodies_two reveals taken fits fault first second more s m n links time early synced has writes body t c from to here f g of opened =
     ⊎_elim
     (λ (before : t < m.moment). early t c from (omega (arith, before)) ((writes.time.keeps t c (omega (arith, before))).0 here) f g of opened)
     (λ (after : m.moment ≤ t).
@@ -72,17 +72,17 @@ fits_second first second more from until old new same fits = (
 )
 
 -- what both have then
-pub both_extended : (tells taken fits fault : Type 0) (first second one two : Tail) (more : List (List ℕ)) (s m n : State) → tells → second.link ≡ first.link → EndsAfter first one more → EndsAfter second two more
+pub both_extended : (reveals taken fits fault : Type 0) (first second one two : Tail) (more : List (List ℕ)) (s m n : State) → reveals → second.link ≡ first.link → EndsAfter first one more → EndsAfter second two more
     → (get_or (m.files 65) first.gate 0 ≡ open_gate) × HasEntries first.gate first.link more (m.files 65)
     → (get_or (n.files 66) second.gate 0 ≡ open_gate) × HasEntries second.gate second.link more (n.files 66)
-    → OnlyWrites tells taken fits fault (ChangesOnly 66) m n → HasExtended first second one two more n.files
-both_extended tells taken fits fault first second one two more s m n told links ends others opened last writes = record {
+    → OnlyWrites reveals taken fits fault (ChangesOnly 66) m n → HasExtended first second one two more n.files
+both_extended reveals taken fits fault first second one two more s m n revealed links ends others opened last writes = record {
   one = ends;
   two = others;
   opened = λ f g of.
       ⊎_elim
       (λ (a : (f ≡ 65) × (g ≡ first.gate)).
-      let same : n.files f ≡ m.files 65 = writes.contents told f (λ is. omega (arith, is, a.0)) ∙ ap m.files a.0 in (
+      let same : n.files f ≡ m.files 65 = writes.contents revealed f (λ is. omega (arith, is, a.0)) ∙ ap m.files a.0 in (
         ap (λ (l : List ℕ). get_or l g 0) same ∙ ap (λ (y : ℕ). get_or (m.files 65) y 0) a.1 ∙ opened.0,
         subst (λ (l : List ℕ). HasEntries g first.link more l) (sym same) (subst (λ (y : ℕ). HasEntries y first.link more (m.files 65)) (sym a.1) opened.1),
       ))
@@ -94,29 +94,29 @@ both_extended tells taken fits fault first second one two more s m n told links 
 }
 
 -- a change of a copy alone changes no ledger and no site
-pub copy_only : (tells taken fits fault : Type 0) (file : ℕ) (s n : State) → 64 < file → OnlyWrites tells taken fits fault (ChangesOnly file) s n → OnlyWrites tells taken fits fault (KeepsFiles (λ f. f ≤ 64)) s n
-copy_only tells taken fits fault file s n far writes =
-    writes_wider tells taken fits taken fits fault (ChangesOnly file) (KeepsFiles (λ f. f ≤ 64)) s n (λ c d changes f near. changes f (λ is. omega (arith, is, near, far))) (λ told is. is) (λ told fit. fit) writes
+pub copy_only : (reveals taken fits fault : Type 0) (file : ℕ) (s n : State) → 64 < file → OnlyWrites reveals taken fits fault (ChangesOnly file) s n → OnlyWrites reveals taken fits fault (KeepsFiles (λ f. f ≤ 64)) s n
+copy_only reveals taken fits fault file s n far writes =
+    writes_wider reveals taken fits taken fits fault (ChangesOnly file) (KeepsFiles (λ f. f ≤ 64)) s n (λ c d changes f near. changes f (λ is. omega (arith, is, near, far))) (λ revealed is. is) (λ revealed fit. fit) writes
 
-pub writes_one_copy : (tells fault : Type 0) (first second : Tail) (from until : ℕ) (s n : State) → OnlyWrites tells s.free (FitsEntries s 65 first.gate first.link from until) fault (ChangesOnly 65) s n
-    → OnlyWrites tells s.free (FitsExtending s first second from until) fault (KeepsFiles (λ f. f ≤ 64)) s n
-writes_one_copy tells fault first second from until s n writes =
-    writes_wider tells s.free (FitsEntries s 65 first.gate first.link from until) s.free (FitsExtending s first second from until) fault (KeepsFiles (λ f. f ≤ 64)) (KeepsFiles (λ f. f ≤ 64)) s n
-    (λ c d keeps. keeps) (λ told is. is) (λ told fit. fit.one) (copy_only tells s.free (FitsEntries s 65 first.gate first.link from until) fault 65 s n (omega arith) writes)
+pub writes_one_copy : (reveals fault : Type 0) (first second : Tail) (from until : ℕ) (s n : State) → OnlyWrites reveals s.free (FitsEntries s 65 first.gate first.link from until) fault (ChangesOnly 65) s n
+    → OnlyWrites reveals s.free (FitsExtending s first second from until) fault (KeepsFiles (λ f. f ≤ 64)) s n
+writes_one_copy reveals fault first second from until s n writes =
+    writes_wider reveals s.free (FitsEntries s 65 first.gate first.link from until) s.free (FitsExtending s first second from until) fault (KeepsFiles (λ f. f ≤ 64)) (KeepsFiles (λ f. f ≤ 64)) s n
+    (λ c d keeps. keeps) (λ revealed is. is) (λ revealed fit. fit.one) (copy_only reveals s.free (FitsEntries s 65 first.gate first.link from until) fault 65 s n (omega arith) writes)
 
-pub writes_two_copies : (tells fault late : Type 0) (first second : Tail) (from until : ℕ) (s m n : State) → (fault → ⊥)
-    → OnlyWrites tells s.free (FitsEntries s 65 first.gate first.link from until) fault (ChangesOnly 65) s m
-    → OnlyWrites tells m.free (FitsEntries m 66 second.gate second.link from until) late (ChangesOnly 66) m n
-    → OnlyWrites tells s.free (FitsExtending s first second from until) late (KeepsFiles (λ f. f ≤ 64)) s n
-writes_two_copies tells fault late first second from until s m n fine early late_writes =
-    writes_both tells s.free s.free m.free (FitsExtending s first second from until) (FitsExtending s first second from until) (FitsEntries m 66 second.gate second.link from until) fault late
+pub writes_two_copies : (reveals fault late : Type 0) (first second : Tail) (from until : ℕ) (s m n : State) → (fault → ⊥)
+    → OnlyWrites reveals s.free (FitsEntries s 65 first.gate first.link from until) fault (ChangesOnly 65) s m
+    → OnlyWrites reveals m.free (FitsEntries m 66 second.gate second.link from until) late (ChangesOnly 66) m n
+    → OnlyWrites reveals s.free (FitsExtending s first second from until) late (KeepsFiles (λ f. f ≤ 64)) s n
+writes_two_copies reveals fault late first second from until s m n fine early late_writes =
+    writes_both reveals s.free s.free m.free (FitsExtending s first second from until) (FitsExtending s first second from until) (FitsEntries m 66 second.gate second.link from until) fault late
     (KeepsFiles (λ f. f ≤ 64)) (KeepsFiles (λ f. f ≤ 64)) (KeepsFiles (λ f. f ≤ 64)) s m n fine
     (λ c d keeps. keeps) (λ c d e one two f near. two f near ∙ one f near)
-    (λ told free. free) (λ told free step takes. early.time.free free)
-    (λ told fit. fit)
-    (λ told fit step passes. later fit.two (step 0 (omega arith)) passes)
-    (writes_one_copy tells fault first second from until s m early)
-    (copy_only tells m.free (FitsEntries m 66 second.gate second.link from until) late 66 m n (omega arith) late_writes)
+    (λ revealed free. free) (λ revealed free step takes. early.time.free free)
+    (λ revealed fit. fit)
+    (λ revealed fit step passes. later fit.two (step 0 (omega arith)) passes)
+    (writes_one_copy reveals fault first second from until s m early)
+    (copy_only reveals m.free (FitsEntries m 66 second.gate second.link from until) late 66 m n (omega arith) late_writes)
   where
     later : FitsEntries s 66 second.gate second.link from until → m.files 0 ≡ s.files 0 → Passes s m → FitsEntries m 66 second.gate second.link from until
     later fit same passes = record {

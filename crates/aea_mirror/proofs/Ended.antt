@@ -24,25 +24,25 @@ off_here true not = absurd (not refl)
 off_here false not = refl
 
 -- with copies off no copy is good, so the files are shown as they are
-pub off_durable : (tells : Type 0) (s : State) (on : Bool) (end : ℕ) (first second : Tail) (l : Kept) → on ≡ false → (tells → IsSynced s) → (tells → ∥ Guards s on end first second ∥₁) → IsSynced (mirror_state tells s l)
-off_durable tells s on end first second l off synced guards =
-    sync_durable tells s l synced (λ told f pieces is good. ∥∥₁_elim (guards told) (Prim.hlevel props) (λ was. absurd ((was.off off).none f is (good_begun pieces (s.files f) good))))
+pub off_durable : (reveals : Type 0) (s : State) (on : Bool) (end : ℕ) (first second : Tail) (l : Kept) → on ≡ false → (reveals → IsSynced s) → (reveals → ∥ Guards s on end first second ∥₁) → IsSynced (mirror_state reveals s l)
+off_durable reveals s on end first second l off synced guards =
+    sync_durable reveals s l synced (λ revealed f pieces is good. ∥∥₁_elim (guards revealed) (Prim.hlevel props) (λ was. absurd ((was.off off).none f is (good_begun pieces (s.files f) good))))
 
 -- an answer that never comes of what is taken
 pub never_sure : {T E : Type 0} (taken fits : Type 0) (old new : State) (e : E) → (taken → ⊥) → IsSure {T = T} taken fits old new (Err e)
 never_sure taken fits old new e not = record { sure = λ is. absurd (not is); beneath = λ is. absurd (not is); goes = tt }
 
 -- what is taken is a list of whole records
-pub broken_never : (tells : Type 0) (r s : State) (k : Kept) (first second : Tail) → k.on ≡ true → (tells → s.files 0 ≡ r.files 0) → (tells → ∥ Guards s true k.end first second ∥₁)
-    → (tells → (before : ℕ) → first.gate ≡ copied_end (before + 1) k.end → IsFurther (s.files 0) before k.end Broken) → tells × IsReady (mirror_state tells r k) → ⊥
-broken_never tells r s k first second on same guards broken is =
-    not_broken s k.end first second (guards is.0) (subst (TakesAll k.end) (sym (same is.0)) (takes_all tells r k on is.1)) (broken is.0)
+pub broken_never : (reveals : Type 0) (r s : State) (k : Kept) (first second : Tail) → k.on ≡ true → (reveals → s.files 0 ≡ r.files 0) → (reveals → ∥ Guards s true k.end first second ∥₁)
+    → (reveals → (before : ℕ) → first.gate ≡ copied_end (before + 1) k.end → IsFurther (s.files 0) before k.end Broken) → reveals × IsReady (mirror_state reveals r k) → ⊥
+broken_never reveals r s k first second on same guards broken is =
+    not_broken s k.end first second (guards is.0) (subst (TakesAll k.end) (sym (same is.0)) (takes_all reveals r k on is.1)) (broken is.0)
 
 -- and can be written
-pub none_never : (tells : Type 0) (r s : State) (k : Kept) (last : ℕ) (first second : Tail) → (tells → ∥ Guards s true k.end first second ∥₁)
-    → (tells → (before : ℕ) → first.gate ≡ copied_end (before + 1) k.end → IsFurther (s.files 0) before k.end (Until last))
-    → (tells → (more : List (List ℕ)) → FitsBoth first second more k.end last (s.files 0) → ⊥) → tells × IsReady (mirror_state tells r k) → ⊥
-none_never tells r s k last first second guards further none is =
+pub none_never : (reveals : Type 0) (r s : State) (k : Kept) (last : ℕ) (first second : Tail) → (reveals → ∥ Guards s true k.end first second ∥₁)
+    → (reveals → (before : ℕ) → first.gate ≡ copied_end (before + 1) k.end → IsFurther (s.files 0) before k.end (Until last))
+    → (reveals → (more : List (List ℕ)) → FitsBoth first second more k.end last (s.files 0) → ⊥) → reveals × IsReady (mirror_state reveals r k) → ⊥
+none_never reveals r s k last first second guards further none is =
     ∥∥₁_elim (guards is.0) (λ a b. absurd a) (λ was.
     let are = was.are refl in
     let here = kept_holds s k.end first second are in
@@ -51,15 +51,15 @@ none_never tells r s k last first second guards further none is =
     none is.0 pieces.0 pieces.1)
 
 -- what is taken stays taken, with all of the ledger as the kept text
-pub takes_on : (tells : Type 0) (r s n : State) (k l : Kept) (first second : Tail) → k.on ≡ true → l.on ≡ k.on → l.dead ≡ false → (tells → s.files 0 ≡ r.files 0) → (tells → n.files 0 ≡ r.files 0) → (tells → ∥ Guards s true k.end first second ∥₁)
-    → (tells → (before : ℕ) → first.gate ≡ copied_end (before + 1) k.end → IsFurther (s.files 0) before k.end (Until l.end)) → KeepsTaking (mirror_state tells r k) (mirror_state tells n l)
-takes_on tells r s n k l first second on stays alive before after guards further file b at has = record {
-  told = has.told;
+pub takes_on : (reveals : Type 0) (r s n : State) (k l : Kept) (first second : Tail) → k.on ≡ true → l.on ≡ k.on → l.dead ≡ false → (reveals → s.files 0 ≡ r.files 0) → (reveals → n.files 0 ≡ r.files 0) → (reveals → ∥ Guards s true k.end first second ∥₁)
+    → (reveals → (before : ℕ) → first.gate ≡ copied_end (before + 1) k.end → IsFurther (s.files 0) before k.end (Until l.end)) → KeepsTaking (mirror_state reveals r k) (mirror_state reveals n l)
+takes_on reveals r s n k l first second on stays alive before after guards further file b at has = record {
+  revealed = has.revealed;
   sound = record {
     alive = alive;
     text = λ is.
-        let text = subst (HoldsText k.end) (sym (before has.told)) (has.sound.text on) in
-        subst (HoldsText l.end) (before has.told ∙ sym (after has.told)) (holds_on s k.end l.end first second (guards has.told) text (further has.told));
+        let text = subst (HoldsText k.end) (sym (before has.revealed)) (has.sound.text on) in
+        subst (HoldsText l.end) (before has.revealed ∙ sym (after has.revealed)) (holds_on s k.end l.end first second (guards has.revealed) text (further has.revealed));
   };
   near = has.near;
   allowed = ⊎_elim (λ (off : k.on ≡ false). inl (stays ∙ off)) (λ rest. inr rest) has.allowed;

@@ -111,8 +111,8 @@ pub record TakesAll (end : ℕ) (ledger : List ℕ) : Type 0 where
   pub last : ℕ
   pub ends : EndsAt ledger last
 
-pub takes_all : (tells : Type 0) (s : State) (k : Kept) → k.on ≡ true → IsReady (mirror_state tells s k) → TakesAll k.end (s.files 0)
-takes_all tells s k on ready =
+pub takes_all : (reveals : Type 0) (s : State) (k : Kept) → k.on ≡ true → IsReady (mirror_state reveals s k) → TakesAll k.end (s.files 0)
+takes_all reveals s k on ready =
     let takes = ready.1 in
     let text = takes.sound.text on in
     ⊎_elim (λ (off : k.on ≡ false). absurd (cc))

@@ -12,9 +12,9 @@ far_from : (first second f g gate : ℕ) → f ≤ 64 → IsGateOf first second 
 far_from first second f g gate near is e = ⊎_elim (λ (a : (g ≡ 65) × (gate ≡ first)). omega (arith, near, e, a.0)) (λ (b : (g ≡ 66) × (gate ≡ second)). omega (arith, near, e, b.0)) is
 
 -- calls that only read
-pub phase_reads : (tells fault : Type 0) (first second : ℕ) (s n : State) → tells → IsSynced s → ((f gate : ℕ) → IsGateOf first second f gate → gate < length (s.files f)) → OnlyReads tells fault s n → Phase first second s n
-phase_reads tells fault first second s n told synced there reads = record {
-  reads = λ f gate is. (ap (λ (c : Files). take gate (c f)) (reads.contents told), subst (λ (c : Files). gate < length (c f)) (sym (reads.contents told)) (there f gate is));
+pub phase_reads : (reveals fault : Type 0) (first second : ℕ) (s n : State) → reveals → IsSynced s → ((f gate : ℕ) → IsGateOf first second f gate → gate < length (s.files f)) → OnlyReads reveals fault s n → Phase first second s n
+phase_reads reveals fault first second s n revealed synced there reads = record {
+  reads = λ f gate is. (ap (λ (c : Files). take gate (c f)) (reads.contents revealed), subst (λ (c : Files). gate < length (c f)) (sym (reads.contents revealed)) (there f gate is));
   same = λ t c from to here f near. synced c (reads.crash t c from to here) f;
   fronts = λ t c from to here f gate is.
       let as_read : c f ≡ s.files f = synced c (reads.crash t c from to here) f in
@@ -36,9 +36,9 @@ phase_reads tells fault first second s n told synced there reads = record {
 }
 
 -- one copy more that is extended
-pub phase_extends : (tells taken fits fault : Type 0) (first second file gate : ℕ) (s m n : State) → tells → Phase first second s m → IsSynced m → IsGateOf first second file gate
-    → Extends file gate m n → OnlyWrites tells taken fits fault (ChangesOnly file) m n → Phase first second s n
-phase_extends tells taken fits fault first second file gate s m n told early synced is extends writes = record {
+pub phase_extends : (reveals taken fits fault : Type 0) (first second file gate : ℕ) (s m n : State) → reveals → Phase first second s m → IsSynced m → IsGateOf first second file gate
+    → Extends file gate m n → OnlyWrites reveals taken fits fault (ChangesOnly file) m n → Phase first second s n
+phase_extends reveals taken fits fault first second file gate s m n revealed early synced is extends writes = record {
   reads = λ f g of.
       let before = early.reads f g of in
       ⊎_elim
@@ -48,7 +48,7 @@ phase_extends tells taken fits fault first second file gate s m n told early syn
         subst (λ (x : ℕ). g < length (n.files x)) (sym own) (subst (λ (y : ℕ). y < length (n.files file)) (sym gates) extends.reads.1),
       ))
       (λ (other : f ≢ file).
-      let stays : n.files f ≡ m.files f = writes.contents told f other in
+      let stays : n.files f ≡ m.files f = writes.contents revealed f other in
       (ap (take g) stays ∙ before.0, subst (λ (l : List ℕ). g < length l) (sym stays) before.1))
       (cases_eq f file);
   same = λ t c from to here f near.

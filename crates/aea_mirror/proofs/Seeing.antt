@@ -15,7 +15,7 @@ use Rattle.aea_mirror.specs.Shown.{AreGood, AreAs}
 
 -- Of calls over a disk: where it holds of each image at the entry, so it does of each image of each moment.
 abbrev pub KeepsCopies : Type 0 → Bool → State → State → Type 0
-KeepsCopies tells on old new = tells → ((c : Files) → old.image old.moment c → AreAs on c) → During old new (AreAs on)
+KeepsCopies reveals on old new = reveals → ((c : Files) → old.image old.moment c → AreAs on c) → During old new (AreAs on)
 
 -- it is decided by the files of the copies
 as_alike : (on : Bool) (c d : Files) → ((f : ℕ) → IsCopyFile f → c f ≡ d f) → AreAs on d → AreAs on c
@@ -36,24 +36,24 @@ as_alike true c d same are = record {
 as_alike false c d same none = λ f copy begun. none f copy (subst IsBegun (same f copy) begun)
 
 -- calls that leave the images
-pub kept_copies : (tells : Type 0) (on : Bool) (old new : State) → KeepsImages old new → KeepsCopies tells on old new
-kept_copies tells on old new keeps told every t c from to here = every c (keeps t c from to here)
+pub kept_copies : (reveals : Type 0) (on : Bool) (old new : State) → KeepsImages old new → KeepsCopies reveals on old new
+kept_copies reveals on old new keeps revealed every t c from to here = every c (keeps t c from to here)
 
 copy_far : (f file : ℕ) → file ≤ 64 → IsCopyFile f → f ≢ file
 copy_far f file near copy e = ⊎_elim (λ (a : f ≡ 65). omega (arith, near, e, a)) (λ (b : f ≡ 66). omega (arith, near, e, b)) copy
 
 -- a call that changes a file of the ledger or of a site
-pub changed_copies : (tells : Type 0) (on : Bool) (file : ℕ) (step : List ℕ → List ℕ → Type 0) (old new : State) → file ≤ 64 → Follows (ChangesFile file step) old new → KeepsCopies tells on old new
-changed_copies tells on file step old new near follows told every t c from to here =
+pub changed_copies : (reveals : Type 0) (on : Bool) (file : ℕ) (step : List ℕ → List ℕ → Type 0) (old new : State) → file ≤ 64 → Follows (ChangesFile file step) old new → KeepsCopies reveals on old new
+changed_copies reveals on file step old new near follows revealed every t c from to here =
     let was = follows t c from to here in
     as_alike on c was.0 (λ f copy. was.2.others f (copy_far f file near copy)) (every was.0 was.1)
 
 -- calls with copies on, and others after them in which both stay good
-pub both_copies : (tells : Type 0) (on : Bool) (old mid new : State) → on ≡ true → Passes old mid → (tells → Passes mid new) → KeepsCopies tells on old mid → (tells → During mid new AreGood) → KeepsCopies tells on old new
-both_copies tells on old mid new is first second early late told every t c from to here =
+pub both_copies : (reveals : Type 0) (on : Bool) (old mid new : State) → on ≡ true → Passes old mid → (reveals → Passes mid new) → KeepsCopies reveals on old mid → (reveals → During mid new AreGood) → KeepsCopies reveals on old new
+both_copies reveals on old mid new is first second early late revealed every t c from to here =
     ⊎_elim
-    (λ (before : t < mid.moment). early told every t c from (omega (arith, before)) (((second told).keeps t c (omega (arith, before))).0 here))
-    (λ (after : mid.moment ≤ t). subst (λ (b : Bool). AreAs b c) (sym is) (late told t c after to here))
+    (λ (before : t < mid.moment). early revealed every t c from (omega (arith, before)) (((second revealed).keeps t c (omega (arith, before))).0 here))
+    (λ (after : mid.moment ≤ t). subst (λ (b : Bool). AreAs b c) (sym is) (late revealed t c after to here))
     (cases_lt t mid.moment)
 
 -- what a Mirror knows says so of each image

@@ -17,28 +17,28 @@ use Rattle.aea_mirror.specs.Extending.{HasEntries}
 use Rattle.aea_mirror.proofs.Staging.{torn_entries}
 
 -- a change of one file changes no other
-pub entries_only : (tells taken fits fault : Type 0) (file : ℕ) (step : List ℕ → List ℕ → Type 0) (s a : State) → OnlyWrites tells taken fits fault (ChangesFile file step) s a → OnlyWrites tells taken fits fault (ChangesOnly file) s a
-entries_only tells taken fits fault file step s a writes =
-    writes_wider tells taken fits taken fits fault (ChangesFile file step) (ChangesOnly file) s a (λ c d changes. changes.others) (λ told is. is) (λ told fit. fit) writes
+pub entries_only : (reveals taken fits fault : Type 0) (file : ℕ) (step : List ℕ → List ℕ → Type 0) (s a : State) → OnlyWrites reveals taken fits fault (ChangesFile file step) s a → OnlyWrites reveals taken fits fault (ChangesOnly file) s a
+entries_only reveals taken fits fault file step s a writes =
+    writes_wider reveals taken fits taken fits fault (ChangesFile file step) (ChangesOnly file) s a (λ c d changes. changes.others) (λ revealed is. is) (λ revealed fit. fit) writes
 
-pub then_sync : (tells fault late : Type 0) (file gate : ℕ) (link : List ℕ) (from until : ℕ) (s a b : State) → (fault → ⊥) → (a.free → IsReady a)
-    → OnlyWrites tells s.free (FitsEntries s file gate link from until) fault (ChangesOnly file) s a → OnlyReads tells late a b → OnlyWrites tells s.free (FitsEntries s file gate link from until) late (ChangesOnly file) s b
-then_sync tells fault late file gate link from until s a b fine ready writes reads =
-    writes_then_reads tells s.free (FitsEntries s file gate link from until) fault late (ChangesOnly file) s a b fine
-    (λ told free step takes. ready (writes.time.free free))
-    (λ told fit step passes. record { some = (file, _, passes.room file _ fit.change.room); sync = passes.syncs (a.files 0) (fit.change.sync a.files step) })
+pub then_sync : (reveals fault late : Type 0) (file gate : ℕ) (link : List ℕ) (from until : ℕ) (s a b : State) → (fault → ⊥) → (a.free → IsReady a)
+    → OnlyWrites reveals s.free (FitsEntries s file gate link from until) fault (ChangesOnly file) s a → OnlyReads reveals late a b → OnlyWrites reveals s.free (FitsEntries s file gate link from until) late (ChangesOnly file) s b
+then_sync reveals fault late file gate link from until s a b fine ready writes reads =
+    writes_then_reads reveals s.free (FitsEntries s file gate link from until) fault late (ChangesOnly file) s a b fine
+    (λ revealed free step takes. ready (writes.time.free free))
+    (λ revealed fit step passes. record { some = (file, _, passes.room file _ fit.change.room); sync = passes.syncs (a.files 0) (fit.change.sync a.files step) })
     writes reads
 
-pub then_open : (tells fault late : Type 0) (file gate : ℕ) (link : List ℕ) (from until : ℕ) (s b n : State) → (fault → ⊥) → ((f m k : ℕ) → m ≤ k → b.room f k → b.room f m)
-    → OnlyWrites tells s.free (FitsEntries s file gate link from until) fault (ChangesOnly file) s b → OnlyWrites tells b.free (FitsChange b file (gate + 1)) late (ChangesFile file (Torn gate 1)) b n
-    → OnlyWrites tells s.free (FitsEntries s file gate link from until) late (ChangesOnly file) s n
-then_open tells fault late file gate link from until s b n fine smaller writes opens =
-    writes_both tells s.free s.free b.free (FitsEntries s file gate link from until) (FitsEntries s file gate link from until) (FitsChange b file (gate + 1)) fault late
+pub then_open : (reveals fault late : Type 0) (file gate : ℕ) (link : List ℕ) (from until : ℕ) (s b n : State) → (fault → ⊥) → ((f m k : ℕ) → m ≤ k → b.room f k → b.room f m)
+    → OnlyWrites reveals s.free (FitsEntries s file gate link from until) fault (ChangesOnly file) s b → OnlyWrites reveals b.free (FitsChange b file (gate + 1)) late (ChangesFile file (Torn gate 1)) b n
+    → OnlyWrites reveals s.free (FitsEntries s file gate link from until) late (ChangesOnly file) s n
+then_open reveals fault late file gate link from until s b n fine smaller writes opens =
+    writes_both reveals s.free s.free b.free (FitsEntries s file gate link from until) (FitsEntries s file gate link from until) (FitsChange b file (gate + 1)) fault late
     (ChangesOnly file) (ChangesFile file (Torn gate 1)) (ChangesOnly file) s b n fine
     (λ c d step. step) (λ c d e one two f other. two.others f other ∙ one f other)
-    (λ told free. free) (λ told free step takes. writes.time.free free)
-    (λ told fit. fit)
-    (λ told fit step passes. record {
+    (λ revealed free. free) (λ revealed free step takes. writes.time.free free)
+    (λ revealed fit. fit)
+    (λ revealed fit step passes. record {
       room = smaller file (gate + 1) _ (omega arith) (passes.room file _ fit.change.room);
       sync = λ c changes. passes.syncs (c 0) (fit.change.sync c (λ f other. changes f other ∙ step f other));
     })

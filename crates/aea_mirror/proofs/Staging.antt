@@ -32,9 +32,9 @@ pub record Staged (file gate : ℕ) (s n : State) : Type 0 where
   pub earlier : HasEarlier s n
   pub time : Passes s n
 
-pub staged_writes : (tells taken fits fault : Type 0) (file gate : ℕ) (s n : State) → tells → IsGated s file gate → OnlyWrites tells taken fits fault (ChangesFile file (KeepsFront (gate + 1))) s n → Staged file gate s n
-staged_writes tells taken fits fault file gate s n told gated writes = record {
-  reads = front_shut gate (s.files file) (n.files file) gated.closed (writes.contents told).here;
+pub staged_writes : (reveals taken fits fault : Type 0) (file gate : ℕ) (s n : State) → reveals → IsGated s file gate → OnlyWrites reveals taken fits fault (ChangesFile file (KeepsFront (gate + 1))) s n → Staged file gate s n
+staged_writes reveals taken fits fault file gate s n revealed gated writes = record {
+  reads = front_shut gate (s.files file) (n.files file) gated.closed (writes.contents revealed).here;
   shut = λ t c from to here.
       let was = writes.crash t c from to here in
       let as_read : was.0 file ≡ s.files file = gated.fixed was.0 was.1 in
@@ -67,10 +67,10 @@ staged_extends file gate s n staged = record {
 }
 
 -- the gate is opened
-pub opened_extends : (tells taken fits fault : Type 0) (file gate : ℕ) (s m n : State) → tells → Staged file gate s m → OnlyWrites tells taken fits fault (ChangesFile file (Torn gate 1)) m n → Settles m n → Extends file gate s n
-opened_extends tells taken fits fault file gate s m n told staged writes settles = record {
+pub opened_extends : (reveals taken fits fault : Type 0) (file gate : ℕ) (s m n : State) → reveals → Staged file gate s m → OnlyWrites reveals taken fits fault (ChangesFile file (Torn gate 1)) m n → Settles m n → Extends file gate s n
+opened_extends reveals taken fits fault file gate s m n revealed staged writes settles = record {
   reads =
-      let torn = (writes.contents told).here in
+      let torn = (writes.contents revealed).here in
       let there = staged.reads.1.there in
       let more = torn.no_shorter in
       (torn_front gate 1 (m.files file) (n.files file) gate (omega arith) (omega (arith, there)) torn ∙ staged.reads.0, omega (arith, there, more));
@@ -104,9 +104,9 @@ torn_entries gate link more old new has torn = record {
 }
 
 -- where the gate is open in an image, the entries follow it
-pub opened_body : (tells taken fits fault : Type 0) (file gate : ℕ) (link : List ℕ) (more : List (List ℕ)) (s m n : State) → Staged file gate s m → IsSynced m → HasEntries gate link more (m.files file)
-    → OnlyWrites tells taken fits fault (ChangesFile file (Torn gate 1)) m n → During s n (λ c. get_or (c file) gate 0 ≡ open_gate → HasEntries gate link more (c file))
-opened_body tells taken fits fault file gate link more s m n staged synced there writes t c from to here opened =
+pub opened_body : (reveals taken fits fault : Type 0) (file gate : ℕ) (link : List ℕ) (more : List (List ℕ)) (s m n : State) → Staged file gate s m → IsSynced m → HasEntries gate link more (m.files file)
+    → OnlyWrites reveals taken fits fault (ChangesFile file (Torn gate 1)) m n → During s n (λ c. get_or (c file) gate 0 ≡ open_gate → HasEntries gate link more (c file))
+opened_body reveals taken fits fault file gate link more s m n staged synced there writes t c from to here opened =
     ⊎_elim
     (λ (before : t < m.moment). absurd ((staged.shut t c from (omega (arith, before)) ((writes.time.keeps t c (omega (arith, before))).0 here)).1.shut opened))
     (λ (after : m.moment ≤ t).

@@ -31,13 +31,13 @@ pub off_fixed : (s : State) (on : Bool) (end : ℕ) (first second : Tail) → on
 off_fixed s on end first second off guards = ∥∥₁_elim guards (Prim.hlevel props) (λ was. (was.off off).fixed)
 
 -- it shows nothing that it might not show before
-pub started_keeps : (tells : Type 0) (r n : State) (k l : Kept) → (tells → ShowsNoMore r n) → KeepsImages (mirror_state tells r k) (mirror_state tells n l)
-started_keeps tells r n k l shows t c from to here =
+pub started_keeps : (reveals : Type 0) (r n : State) (k l : Kept) → (reveals → ShowsNoMore r n) → KeepsImages (mirror_state reveals r k) (mirror_state reveals n l)
+started_keeps reveals r n k l shows t c from to here =
     let was = shows here.0 t here.1.0 c from to here.1.1 here.1.2 in (here.0, (was.0, was.1, was.2))
 
 -- nor where the lent disk was not called
-pub idle_keeps : (tells : Type 0) (r n : State) (k l : Kept) → n ≡ r → KeepsImages (mirror_state tells r k) (mirror_state tells n l)
-idle_keeps tells r n k l same = subst (λ (u : State). KeepsImages (mirror_state tells r k) (mirror_state tells u l)) (sym same) (refused_keeps tells r k l)
+pub idle_keeps : (reveals : Type 0) (r n : State) (k l : Kept) → n ≡ r → KeepsImages (mirror_state reveals r k) (mirror_state reveals n l)
+idle_keeps reveals r n k l same = subst (λ (u : State). KeepsImages (mirror_state reveals r k) (mirror_state reveals u l)) (sym same) (refused_keeps reveals r k l)
 
 -- ---- once both copies are whole
 
@@ -66,13 +66,13 @@ module _ (r n : State) (end : ℕ) (first second : Tail) (ends : EndsAt (r.files
   started_shut is = ends.shut (ap (λ (l : List ℕ). get_or l end 0) (sym ledger) ∙ is)
 
 -- and the files are shown as they read
-pub started_durable : (tells : Type 0) (n : State) (l : Kept) (end : ℕ) (first second : Tail) → (tells → IsSynced n) → (tells → ∥ Guards n true end first second ∥₁) → (tells → get_or (n.files 0) end 0 ≢ 1) → IsSynced (mirror_state tells n l)
-started_durable tells n l end first second synced knows shut = sync_durable tells n l synced (λ told. whole_kept n end first second (knows told) (shut told))
+pub started_durable : (reveals : Type 0) (n : State) (l : Kept) (end : ℕ) (first second : Tail) → (reveals → IsSynced n) → (reveals → ∥ Guards n true end first second ∥₁) → (reveals → get_or (n.files 0) end 0 ≢ 1) → IsSynced (mirror_state reveals n l)
+started_durable reveals n l end first second synced knows shut = sync_durable reveals n l synced (λ revealed. whole_kept n end first second (knows revealed) (shut revealed))
 
 -- ---- faults
 
-pub started_cause : {T E : Type 0} (tells taken fits : Type 0) (step : Files → Files → Type 0) (r n : State) (v : T) → OnlyWrites tells taken fits (false ≡ true) step r n → HasCause {T = T} {E = E} r.faults n.faults (Ok v)
-started_cause tells taken fits step r n v writes = record { kept = writes.kept; rose = tt; still = writes.still (λ is. absurd (cc)) }
+pub started_cause : {T E : Type 0} (reveals taken fits : Type 0) (step : Files → Files → Type 0) (r n : State) (v : T) → OnlyWrites reveals taken fits (false ≡ true) step r n → HasCause {T = T} {E = E} r.faults n.faults (Ok v)
+started_cause reveals taken fits step r n v writes = record { kept = writes.kept; rose = tt; still = writes.still (λ is. absurd (cc)) }
 
-pub failed_cause : {T E : Type 0} (tells taken fits fault : Type 0) (step : Files → Files → Type 0) (r n : State) (e : E) → fault → OnlyWrites tells taken fits fault step r n → HasCause {T = T} {E = E} r.faults n.faults (Err e)
-failed_cause tells taken fits fault step r n e is writes = record { kept = writes.kept; rose = writes.cause is; still = tt }
+pub failed_cause : {T E : Type 0} (reveals taken fits fault : Type 0) (step : Files → Files → Type 0) (r n : State) (e : E) → fault → OnlyWrites reveals taken fits fault step r n → HasCause {T = T} {E = E} r.faults n.faults (Err e)
+failed_cause reveals taken fits fault step r n e is writes = record { kept = writes.kept; rose = writes.cause is; still = tt }

@@ -113,8 +113,8 @@ module _ (end first second : ℕ) (s n : State) (phase : Phase first second s n)
           (some.0, some.1, shows_as_is d some.0 c (λ x near. phase.same u d u_from to image x near ∙ sym (phase.same t some.0 from (omega (arith, le, to)) some.1 x near)) shows is)
 
   -- over a sync of the lent disk and the phase after it no image is shown that was not before
-  pub sync_keeps : (tells : Type 0) (r : State) (k l : Kept) → KeepsImages r s → Passes r s → (tells → s.files ≡ r.files) → ((t : ℕ) (c : Files) → tells → r.image t c → r.image r.moment r.files) → KeepsImages (mirror_state tells r k) (mirror_state tells n l)
-  sync_keeps tells r k l crash time contents read t c from to here =
+  pub sync_keeps : (reveals : Type 0) (r : State) (k l : Kept) → KeepsImages r s → Passes r s → (reveals → s.files ≡ r.files) → ((t : ℕ) (c : Files) → reveals → r.image t c → r.image r.moment r.files) → KeepsImages (mirror_state reveals r k) (mirror_state reveals n l)
+  sync_keeps reveals r k l crash time contents read t c from to here =
       ⊎_elim
       (λ (before : t < s.moment).
       (here.0, (here.1.0, crash t here.1.0 from (omega (arith, before)) ((phase.time.keeps t here.1.0 (omega (arith, before))).0 here.1.1), here.1.2)))
@@ -126,8 +126,8 @@ module _ (end first second : ℕ) (s n : State) (phase : Phase first second s n)
       (cases_lt t s.moment)
 
   -- and what is shown at a moment was shown at each earlier one after the entry
-  pub sync_settles : (tells : Type 0) (r : State) (k l : Kept) → (tells → Settles r s) → ((t : ℕ) (c : Files) → tells → s.image t c → s.image s.moment s.files) → Settles (mirror_state tells r k) (mirror_state tells n l)
-  sync_settles tells r k l settles read t u c after le to here =
+  pub sync_settles : (reveals : Type 0) (r : State) (k l : Kept) → (reveals → Settles r s) → ((t : ℕ) (c : Files) → reveals → s.image t c → s.image s.moment s.files) → Settles (mirror_state reveals r k) (mirror_state reveals n l)
+  sync_settles reveals r k l settles read t u c after le to here =
       ⊎_elim
       (λ (early : u < s.moment).
       let image = settles here.0 t u here.1.0 after le (omega (arith, early)) ((phase.time.keeps u here.1.0 (omega (arith, early))).0 here.1.1) in
@@ -147,8 +147,8 @@ module _ (end first second : ℕ) (s n : State) (phase : Phase first second s n)
       (cases_lt u s.moment)
 
 -- where nothing is pending, and each good copy has the text of all the ledger, the files are shown as they read
-pub sync_durable : (tells : Type 0) (n : State) (l : Kept) → (tells → IsSynced n) → (tells → (f : ℕ) (pieces : List (List ℕ)) → IsCopyFile f → IsGood pieces (n.files f) → mended (text_of pieces) (n.files 0) ≡ n.files 0) → IsSynced (mirror_state tells n l)
-sync_durable tells n l synced whole c here f =
+pub sync_durable : (reveals : Type 0) (n : State) (l : Kept) → (reveals → IsSynced n) → (reveals → (f : ℕ) (pieces : List (List ℕ)) → IsCopyFile f → IsGood pieces (n.files f) → mended (text_of pieces) (n.files 0) ≡ n.files 0) → IsSynced (mirror_state reveals n l)
+sync_durable reveals n l synced whole c here f =
     by_file f
   where
     d : Files

@@ -45,8 +45,8 @@ reaches_past b before (suc j) zero from mid last here is shut = absurd (shut (ap
 reaches_past b before (suc j) (suc k) from mid last here is shut = reaches_past b (suc before) j k (behind b from) mid last here.1 is.1 shut
 
 -- a call that is taken does not begin before the end of the kept text
-pub taken_after : (tells : Type 0) (s : State) (kept : Kept) (at : ℕ) → Takes tells s kept 0 (s.files 0) at → kept.on ≡ true → kept.end ≤ at
-taken_after tells s kept at takes on =
+pub taken_after : (reveals : Type 0) (s : State) (kept : Kept) (at : ℕ) → Takes reveals s kept 0 (s.files 0) at → kept.on ≡ true → kept.end ≤ at
+taken_after reveals s kept at takes on =
     let text = takes.sound.text on in
     ⊎_elim (λ (off : kept.on ≡ false). absurd (cc))
     (λ (rest : IsBare (s.files 0) ⊎ ((last : ℕ) × EndsAt (s.files 0) last × (0 ≡ 0 → last ≤ at))).

@@ -47,11 +47,11 @@ pub record IsSound (kept : Kept) (files : Files) : Type 0 where
 
 -- an image of the lent disk, as the Mirror shows it
 abbrev pub Shown : Type 0 → (Files → Type 0) → Files → Type 0
-Shown tells image c = tells × ((d : Files) × image d × Shows d c)
+Shown reveals image c = reveals × ((d : Files) × image d × Shows d c)
 
 -- the calls that it takes
-pub record Takes (tells : Type 0) (s : State) (kept : Kept) (file : ℕ) (bytes : List ℕ) (at : ℕ) : Type 0 where
-  pub told : tells
+pub record Takes (reveals : Type 0) (s : State) (kept : Kept) (file : ℕ) (bytes : List ℕ) (at : ℕ) : Type 0 where
+  pub revealed : reveals
   pub sound : IsSound kept s.files
   pub near : file ≤ 64
   pub allowed : IsAllowed kept.on file bytes at
@@ -68,23 +68,23 @@ Keeps s on bytes = s.free × s.keeps bytes × ((on ≡ false) ⊎ ((last : ℕ) 
 
 -- what a Mirror sees to in each image of the lent disk
 abbrev pub SeesTo : Type 0 → Bool → Files → Type 0
-SeesTo tells on c = tells → AreAs on c
+SeesTo reveals on c = reveals → AreAs on c
 
 -- What the Mirror's state is, by that of the lent disk and what the Mirror keeps.
 abbrev pub mirror_state : Type 0 → State → Kept → State
-mirror_state tells s kept = record {
+mirror_state reveals s kept = record {
   files = outer s.files;
   moment = s.moment;
-  image = λ t. Shown tells (s.image t);
+  image = λ t. Shown reveals (s.image t);
   faults = added s.faults kept.own;
   room = λ f n. (f ≤ 64) × (s.free × s.room f n);
   beneath = s.faults;
-  takes = Takes tells s kept;
+  takes = Takes reveals s kept;
   keeps = Keeps s kept.on;
   free = ⊥;
-  lent = lent_of kept.name kept.on (SeesTo tells kept.on) s;
+  lent = lent_of kept.name kept.on (SeesTo reveals kept.on) s;
 }
 
 -- the same by the fields of a Mirror
 abbrev pub shown : Type 0 → State → (name : ℕ) (on : Bool) (end : ℕ) (dead : Bool) (own : ℕ) → State
-shown tells s name on end dead own = mirror_state tells s (record { name = name; on = on; end = end; dead = dead; own = own })
+shown reveals s name on end dead own = mirror_state reveals s (record { name = name; on = on; end = end; dead = dead; own = own })

@@ -27,8 +27,8 @@ abbrev pub IsCounted : {T E : Type 0} → (own now : ℕ) → (old new : State) 
 IsCounted own now old new result = ((now ≡ own) × HasCause old.faults new.faults result) ⊎ (IsErr result × (now ≡ one_more own) × (new.faults ≡ old.faults))
 
 -- nothing was written: the lent disk reads as it did, and no image of it is new
-pub record WritesNone (tells : Type 0) (old new : State) : Type 0 where
-  pub reads : tells → new.files ≡ old.files
+pub record WritesNone (reveals : Type 0) (old new : State) : Type 0 where
+  pub reads : reveals → new.files ≡ old.files
   pub images : KeepsImages old new
 
 -- the ledger is no header with whole records up to a gate that is not open

@@ -33,13 +33,13 @@ outer_all c d same = λ i f. (at f) i
 pub shows_outer : (c : Files) → Shows c (outer c)
 shows_outer c = record { sites = λ f some near. outer_near c f near; copies = λ f far. outer_far c f (omega (arith, far)); ledger = inl refl }
 
-pub shown_as_read : (tells : Type 0) (s : State) (kept : Kept) → ((t : ℕ) (c : Files) → tells → s.image t c → s.image s.moment s.files)
-    → (t : ℕ) (c : Files) → (mirror_state tells s kept).image t c → (mirror_state tells s kept).image s.moment (outer s.files)
-shown_as_read tells s kept law t c here = (here.0, (s.files, law t here.1.0 here.0 here.1.1, shows_outer s.files))
+pub shown_as_read : (reveals : Type 0) (s : State) (kept : Kept) → ((t : ℕ) (c : Files) → reveals → s.image t c → s.image s.moment s.files)
+    → (t : ℕ) (c : Files) → (mirror_state reveals s kept).image t c → (mirror_state reveals s kept).image s.moment (outer s.files)
+shown_as_read reveals s kept law t c here = (here.0, (s.files, law t here.1.0 here.0 here.1.1, shows_outer s.files))
 
-pub takes_later : (tells : Type 0) (s : State) (kept : Kept) (f : ℕ) (b : List ℕ) (m n : ℕ) → m ≤ n → Takes tells s kept f b m → Takes tells s kept f b n
-takes_later tells s kept f b m n le has = record {
-  told = has.told;
+pub takes_later : (reveals : Type 0) (s : State) (kept : Kept) (f : ℕ) (b : List ℕ) (m n : ℕ) → m ≤ n → Takes reveals s kept f b m → Takes reveals s kept f b n
+takes_later reveals s kept f b m n le has = record {
+  revealed = has.revealed;
   sound = has.sound;
   near = has.near;
   allowed =
@@ -48,9 +48,9 @@ takes_later tells s kept f b m n le has = record {
       inr (⊎_elim (λ (bare : IsBare b). inl bare) (λ (some : (last : ℕ) × EndsAt b last × (f ≡ 0 → last ≤ m)). inr (some.0, some.1, λ is. let before = some.2 is in omega (arith, before, le))) rest)) has.allowed;
 }
 
-pub takes_sites : (tells : Type 0) (s : State) (kept : Kept) (f : ℕ) (b : List ℕ) (m n : ℕ) → 1 ≤ f → f ≤ 64 → Takes tells s kept 0 b m → Takes tells s kept f b n
-takes_sites tells s kept f b m n some near has = record {
-  told = has.told;
+pub takes_sites : (reveals : Type 0) (s : State) (kept : Kept) (f : ℕ) (b : List ℕ) (m n : ℕ) → 1 ≤ f → f ≤ 64 → Takes reveals s kept 0 b m → Takes reveals s kept f b n
+takes_sites reveals s kept f b m n some near has = record {
+  revealed = has.revealed;
   sound = has.sound;
   near = near;
   allowed =
@@ -59,11 +59,11 @@ takes_sites tells s kept f b m n some near has = record {
       inr (⊎_elim (λ (bare : IsBare b). inl bare) (λ (ends : (last : ℕ) × EndsAt b last × (0 ≡ 0 → last ≤ m)). inr (ends.0, ends.1, λ (is : f ≡ 0). absurd (omega (arith, is, some)))) rest)) has.allowed;
 }
 
-pub takes_ended : (tells : Type 0) (s : State) (kept : Kept) (b c : List ℕ) (m n : ℕ) → EndsAt c n → Takes tells s kept 0 b m → Takes tells s kept 0 c n
-takes_ended tells s kept b c m n ends has = record { told = has.told; sound = has.sound; near = has.near; allowed = inr (inr (n, ends, λ is. omega arith)) }
+pub takes_ended : (reveals : Type 0) (s : State) (kept : Kept) (b c : List ℕ) (m n : ℕ) → EndsAt c n → Takes reveals s kept 0 b m → Takes reveals s kept 0 c n
+takes_ended reveals s kept b c m n ends has = record { revealed = has.revealed; sound = has.sound; near = has.near; allowed = inr (inr (n, ends, λ is. omega arith)) }
 
-pub takes_bare : (tells : Type 0) (s : State) (kept : Kept) (b c : List ℕ) (m : ℕ) → IsBare c → Takes tells s kept 0 b m → Takes tells s kept 0 c 0
-takes_bare tells s kept b c m bare has = record { told = has.told; sound = has.sound; near = has.near; allowed = inr (inl bare) }
+pub takes_bare : (reveals : Type 0) (s : State) (kept : Kept) (b c : List ℕ) (m : ℕ) → IsBare c → Takes reveals s kept 0 b m → Takes reveals s kept 0 c 0
+takes_bare reveals s kept b c m bare has = record { revealed = has.revealed; sound = has.sound; near = has.near; allowed = inr (inl bare) }
 
 -- what a sync needs is decided by the length of the text and the number of its records
 pub keeps_alike : (s : State) (on : Bool) → ((b c : List ℕ) (n : ℕ) (one : EndsAt b n) (two : EndsAt c n) → one.records ≡ two.records → s.keeps b → s.keeps c)

@@ -30,8 +30,8 @@ pub(crate) struct Begun {
 
 // The ledger has a header, whose gate is open.
 fn is_headed<D: Disk>(disk: &mut D) -> Result<bool, DiskFault>
-    ensures headed { IfOk result (λ is. D.tells → (IsTrue is ↔ get_or ((D.state disk.old).files 0) 0 0 ≡ 1)) }
-    ensures reads { OnlyReads D.tells (IsErr result) (D.state disk.old) (D.state disk.new) }
+    ensures headed { IfOk result (λ is. D.reveals → (IsTrue is ↔ get_or ((D.state disk.old).files 0) 0 0 ≡ 1)) }
+    ensures reads { OnlyReads D.reveals (IsErr result) (D.state disk.old) (D.state disk.new) }
 {
     let mut gate = [0; 1];
     let count = disk.read(0, 0, &mut gate)?;
@@ -40,9 +40,9 @@ fn is_headed<D: Disk>(disk: &mut D) -> Result<bool, DiskFault>
 
 // Where the records of the ledger end, at a gate that is not open; None where no whole records lead there from a header.
 fn records_end<D: Disk>(disk: &mut D) -> Result<Option<u64>, DiskFault>
-    ensures ends { IfOk result (λ found. D.tells → MatchOption found (NeverEnds ((D.state disk.old).files 0)) (λ last. EndsAt ((D.state disk.old).files 0) last)) }
+    ensures ends { IfOk result (λ found. D.reveals → MatchOption found (NeverEnds ((D.state disk.old).files 0)) (λ last. EndsAt ((D.state disk.old).files 0) last)) }
     ensures near { IfOk result (λ found. IfSome found (λ last. (17 ≤ last) × (last ≤ 2 ^ 58))) }
-    ensures reads { OnlyReads D.tells (IsErr result) (D.state disk.old) (D.state disk.new) }
+    ensures reads { OnlyReads D.reveals (IsErr result) (D.state disk.old) (D.state disk.new) }
 {
     if !is_headed(disk)? {
         return Ok(None);
@@ -68,14 +68,14 @@ fn tail_of(written: &Written) -> Tail
 // ends; None where the ledger does not begin with pieces that a copy can have.
 fn make_both<D: Disk>(disk: &mut D, until: u64) -> Result<Option<(Tail, Tail)>, DiskFault>
     requires place { until ≤ 2 ^ 58 }
-    requires synced { D.tells → IsSynced (D.state disk.old) }
-    requires none { D.tells → NoneBegun (D.state disk.old).files }
-    ensures any_moment { D.tells → (pieces : List (List ℕ)) → CanMake pieces until ((D.state disk.old).files 0) → During (D.state disk.old) (D.state disk.new) (λ c. MayBeStarted pieces c) }
-    ensures made { IfOk result (λ found. D.tells → (pieces : List (List ℕ)) → CanMake pieces until ((D.state disk.old).files 0) → MatchOption found ⊥ (λ both. HasStarted pieces until both.0 both.1 (D.state disk.new).files)) }
-    ensures bytes { IfOk result (λ found. IfSome found (λ both. D.tells → AreBytes (part_of ((D.state disk.old).files 0) 0 until))) }
+    requires synced { D.reveals → IsSynced (D.state disk.old) }
+    requires none { D.reveals → NoneBegun (D.state disk.old).files }
+    ensures any_moment { D.reveals → (pieces : List (List ℕ)) → CanMake pieces until ((D.state disk.old).files 0) → During (D.state disk.old) (D.state disk.new) (λ c. MayBeStarted pieces c) }
+    ensures made { IfOk result (λ found. D.reveals → (pieces : List (List ℕ)) → CanMake pieces until ((D.state disk.old).files 0) → MatchOption found ⊥ (λ both. HasStarted pieces until both.0 both.1 (D.state disk.new).files)) }
+    ensures bytes { IfOk result (λ found. IfSome found (λ both. D.reveals → AreBytes (part_of ((D.state disk.old).files 0) 0 until))) }
     ensures near { IfOk result (λ found. IfSome found (λ both. (both.0.gate ≤ 2 ^ 58) × (both.1.gate ≤ 2 ^ 58))) }
-    ensures durable { IfOk result (λ found. IfSome found (λ both. D.tells → IsSynced (D.state disk.new))) }
-    ensures writes { OnlyWrites D.tells (D.state disk.old).free (FitsMaking (D.state disk.old) until) (IsErr result) (KeepsFiles (λ f. f ≤ 64)) (D.state disk.old) (D.state disk.new) }
+    ensures durable { IfOk result (λ found. IfSome found (λ both. D.reveals → IsSynced (D.state disk.new))) }
+    ensures writes { OnlyWrites D.reveals (D.state disk.old).free (FitsMaking (D.state disk.old) until) (IsErr result) (KeepsFiles (λ f. f ≤ 64)) (D.state disk.old) (D.state disk.new) }
 {
     let Some(one) = make_copy(disk, 65, until)? else {
         return Ok(None);
@@ -89,16 +89,16 @@ fn make_both<D: Disk>(disk: &mut D, until: u64) -> Result<Option<(Tail, Tail)>, 
 /// Makes both copies of a ledger of which no copy is begun, once all is synced. It answers where they end; None where the
 /// ledger has no header with whole records up to a gate that is not open, and then nothing is written.
 pub(crate) fn begin_copies<D: Disk>(disk: &mut D) -> Result<Option<Begun>, DiskFault>
-    requires none { D.tells → NoneBegun (D.state disk.old).files }
-    requires fixed { D.tells → AreFixed (D.state disk.old) }
-    ensures any_moment { D.tells → (last : ℕ) (pieces : List (List ℕ)) → EndsAt ((D.state disk.old).files 0) last → CanMake pieces last ((D.state disk.old).files 0) → During (D.state disk.old) (D.state disk.new) (λ c. MayBeStarted pieces c) }
-    ensures made { IfOk result (λ found. D.tells → (last : ℕ) (pieces : List (List ℕ)) → EndsAt ((D.state disk.old).files 0) last → CanMake pieces last ((D.state disk.old).files 0) → MatchOption found ⊥ (λ b. HasStarted pieces b.end b.first b.second (D.state disk.new).files)) }
-    ensures ends { IfOk result (λ found. IfSome found (λ b. D.tells → EndsAt ((D.state disk.old).files 0) b.end × AreBytes (part_of ((D.state disk.old).files 0) 0 b.end))) }
-    ensures bare { D.tells → NeverEnds ((D.state disk.old).files 0) → WritesNone D.tells (D.state disk.old) (D.state disk.new) }
-    ensures shown { D.tells → ShowsNoMore (D.state disk.old) (D.state disk.new) }
+    requires none { D.reveals → NoneBegun (D.state disk.old).files }
+    requires fixed { D.reveals → AreFixed (D.state disk.old) }
+    ensures any_moment { D.reveals → (last : ℕ) (pieces : List (List ℕ)) → EndsAt ((D.state disk.old).files 0) last → CanMake pieces last ((D.state disk.old).files 0) → During (D.state disk.old) (D.state disk.new) (λ c. MayBeStarted pieces c) }
+    ensures made { IfOk result (λ found. D.reveals → (last : ℕ) (pieces : List (List ℕ)) → EndsAt ((D.state disk.old).files 0) last → CanMake pieces last ((D.state disk.old).files 0) → MatchOption found ⊥ (λ b. HasStarted pieces b.end b.first b.second (D.state disk.new).files)) }
+    ensures ends { IfOk result (λ found. IfSome found (λ b. D.reveals → EndsAt ((D.state disk.old).files 0) b.end × AreBytes (part_of ((D.state disk.old).files 0) 0 b.end))) }
+    ensures bare { D.reveals → NeverEnds ((D.state disk.old).files 0) → WritesNone D.reveals (D.state disk.old) (D.state disk.new) }
+    ensures shown { D.reveals → ShowsNoMore (D.state disk.old) (D.state disk.new) }
     ensures near { IfOk result (λ found. IfSome found (λ b. (17 ≤ b.end) × (b.end ≤ 2 ^ 58) × (b.first.gate ≤ 2 ^ 58) × (b.second.gate ≤ 2 ^ 58))) }
-    ensures durable { IfOk result (λ found. IfSome found (λ b. D.tells → IsSynced (D.state disk.new))) }
-    ensures writes { OnlyWrites D.tells (D.state disk.old).free (FitsStart (D.state disk.old)) (IsErr result) (KeepsFiles (λ f. f ≤ 64)) (D.state disk.old) (D.state disk.new) }
+    ensures durable { IfOk result (λ found. IfSome found (λ b. D.reveals → IsSynced (D.state disk.new))) }
+    ensures writes { OnlyWrites D.reveals (D.state disk.old).free (FitsStart (D.state disk.old)) (IsErr result) (KeepsFiles (λ f. f ≤ 64)) (D.state disk.old) (D.state disk.new) }
 {
     disk.sync()?;
     let Some(end) = records_end(disk)? else {

@@ -28,13 +28,13 @@ pub(crate) fn extend_copy<D: Disk>(
     requires file { IsCopyFile file }
     requires places { (1 ≤ from) × (from ≤ until) × (until ≤ 2 ^ 58) }
     requires gate { tail.now.gate ≤ 2 ^ 58 }
-    requires gated { D.tells → IsGated (D.state disk.old) file tail.now.gate }
-    ensures extends { D.tells → Extends file tail.now.gate (D.state disk.old) (D.state disk.new) }
-    ensures body { D.tells → (more : List (List ℕ)) → HasPieces false more from until ((D.state disk.old).files 0) → tail.now.gate + length (chain tail.now.link more) ≤ greatest_place → During (D.state disk.old) (D.state disk.new) (λ c. get_or (c file) tail.now.gate 0 ≡ open_gate → HasEntries tail.now.gate tail.now.link more (c file)) }
-    ensures opened { IfOk result (λ found. D.tells → (more : List (List ℕ)) → HasPieces false more from until ((D.state disk.old).files 0) → tail.now.gate + length (chain tail.now.link more) ≤ greatest_place → MatchOption found ⊥ (λ next. EndsAfter tail.now next more × ((get_or ((D.state disk.new).files file) tail.now.gate 0 ≡ open_gate) × HasEntries tail.now.gate tail.now.link more ((D.state disk.new).files file)))) }
+    requires gated { D.reveals → IsGated (D.state disk.old) file tail.now.gate }
+    ensures extends { D.reveals → Extends file tail.now.gate (D.state disk.old) (D.state disk.new) }
+    ensures body { D.reveals → (more : List (List ℕ)) → HasPieces false more from until ((D.state disk.old).files 0) → tail.now.gate + length (chain tail.now.link more) ≤ greatest_place → During (D.state disk.old) (D.state disk.new) (λ c. get_or (c file) tail.now.gate 0 ≡ open_gate → HasEntries tail.now.gate tail.now.link more (c file)) }
+    ensures opened { IfOk result (λ found. D.reveals → (more : List (List ℕ)) → HasPieces false more from until ((D.state disk.old).files 0) → tail.now.gate + length (chain tail.now.link more) ≤ greatest_place → MatchOption found ⊥ (λ next. EndsAfter tail.now next more × ((get_or ((D.state disk.new).files file) tail.now.gate 0 ≡ open_gate) × HasEntries tail.now.gate tail.now.link more ((D.state disk.new).files file)))) }
     ensures near { IfOk result (λ found. IfSome found (λ next. next.gate ≤ 2 ^ 58)) }
-    ensures durable { IfOk result (λ found. IfSome found (λ next. D.tells → IsSynced (D.state disk.new))) }
-    ensures writes { OnlyWrites D.tells (D.state disk.old).free (FitsEntries (D.state disk.old) file tail.now.gate tail.now.link from until) (IsErr result) (ChangesOnly file) (D.state disk.old) (D.state disk.new) }
+    ensures durable { IfOk result (λ found. IfSome found (λ next. D.reveals → IsSynced (D.state disk.new))) }
+    ensures writes { OnlyWrites D.reveals (D.state disk.old).free (FitsEntries (D.state disk.old) file tail.now.gate tail.now.link from until) (IsErr result) (ChangesOnly file) (D.state disk.old) (D.state disk.new) }
 {
     let Some(written) = write_entries(disk, file, tail.gate, from, until, &tail.link)? else {
         return Ok(None);
@@ -57,14 +57,14 @@ pub(crate) fn extend_both<D: Disk>(
 ) -> Result<Option<(Tail, Tail)>, DiskFault>
     requires places { (1 ≤ from) × (from ≤ until) × (until ≤ 2 ^ 58) }
     requires gates { (first.now.gate ≤ 2 ^ 58) × (second.now.gate ≤ 2 ^ 58) }
-    requires synced { D.tells → IsSynced (D.state disk.old) }
-    requires shut { D.tells → (f g : ℕ) → IsGateOf first.now.gate second.now.gate f g → IsShut g ((D.state disk.old).files f) }
-    ensures phase { D.tells → Phase first.now.gate second.now.gate (D.state disk.old) (D.state disk.new) }
-    ensures bodies { D.tells → (more : List (List ℕ)) → FitsBoth first.now second.now more from until ((D.state disk.old).files 0) → During (D.state disk.old) (D.state disk.new) (λ c. (f g : ℕ) → IsGateOf first.now.gate second.now.gate f g → get_or (c f) g 0 ≡ open_gate → HasEntries g first.now.link more (c f)) }
-    ensures opened { IfOk result (λ found. D.tells → (more : List (List ℕ)) → FitsBoth first.now second.now more from until ((D.state disk.old).files 0) → MatchOption found ⊥ (λ both. HasExtended first.now second.now both.0 both.1 more (D.state disk.new).files)) }
+    requires synced { D.reveals → IsSynced (D.state disk.old) }
+    requires shut { D.reveals → (f g : ℕ) → IsGateOf first.now.gate second.now.gate f g → IsShut g ((D.state disk.old).files f) }
+    ensures phase { D.reveals → Phase first.now.gate second.now.gate (D.state disk.old) (D.state disk.new) }
+    ensures bodies { D.reveals → (more : List (List ℕ)) → FitsBoth first.now second.now more from until ((D.state disk.old).files 0) → During (D.state disk.old) (D.state disk.new) (λ c. (f g : ℕ) → IsGateOf first.now.gate second.now.gate f g → get_or (c f) g 0 ≡ open_gate → HasEntries g first.now.link more (c f)) }
+    ensures opened { IfOk result (λ found. D.reveals → (more : List (List ℕ)) → FitsBoth first.now second.now more from until ((D.state disk.old).files 0) → MatchOption found ⊥ (λ both. HasExtended first.now second.now both.0 both.1 more (D.state disk.new).files)) }
     ensures near { IfOk result (λ found. IfSome found (λ both. (both.0.gate ≤ 2 ^ 58) × (both.1.gate ≤ 2 ^ 58))) }
-    ensures durable { IfOk result (λ found. IfSome found (λ both. D.tells → IsSynced (D.state disk.new))) }
-    ensures writes { OnlyWrites D.tells (D.state disk.old).free (FitsExtending (D.state disk.old) first.now second.now from until) (IsErr result) (KeepsFiles (λ f. f ≤ 64)) (D.state disk.old) (D.state disk.new) }
+    ensures durable { IfOk result (λ found. IfSome found (λ both. D.reveals → IsSynced (D.state disk.new))) }
+    ensures writes { OnlyWrites D.reveals (D.state disk.old).free (FitsExtending (D.state disk.old) first.now second.now from until) (IsErr result) (KeepsFiles (λ f. f ≤ 64)) (D.state disk.old) (D.state disk.new) }
 {
     let Some(one) = extend_copy(disk, 65, first, from, until)? else {
         return Ok(None);

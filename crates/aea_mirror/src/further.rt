@@ -66,9 +66,9 @@ fn look_in(bytes: &[u8]) -> Look
 // Looks at a gate of the ledger.
 fn look_at<D: Disk>(disk: &mut D, at: u64) -> Result<Look, DiskFault>
     requires { at ≤ 2 ^ 58 }
-    ensures look { IfOk result (λ look. D.tells → IsLook (take 6 (drop at ((D.state disk.old).files 0))) look) }
+    ensures look { IfOk result (λ look. D.reveals → IsLook (take 6 (drop at ((D.state disk.old).files 0))) look) }
     ensures size { IfOk result IsWithin }
-    ensures reads { OnlyReads D.tells (IsErr result) (D.state disk.old) (D.state disk.new) }
+    ensures reads { OnlyReads D.reveals (IsErr result) (D.state disk.old) (D.state disk.new) }
 {
     let mut front = [0; 6];
     let count = disk.read(0, at, &mut front)?;
@@ -79,9 +79,9 @@ fn look_at<D: Disk>(disk: &mut D, at: u64) -> Result<Look, DiskFault>
 /// is whole where its entry of the copy ends at 2^58 or before. It reads six bytes at each gate.
 pub(crate) fn look_further<D: Disk>(disk: &mut D, end: u64, gate: u64) -> Result<Further, DiskFault>
     requires places { (end ≤ 2 ^ 58) × (gate ≤ 2 ^ 58) }
-    ensures further { IfOk result (λ found. D.tells → (before : ℕ) → gate ≡ copied_end (before + 1) end → IsFurther ((D.state disk.old).files 0) before end found) }
+    ensures further { IfOk result (λ found. D.reveals → (before : ℕ) → gate ≡ copied_end (before + 1) end → IsFurther ((D.state disk.old).files 0) before end found) }
     ensures within { IfOk result (IsOn end) }
-    ensures reads { OnlyReads D.tells (IsErr result) (D.state disk.old) (D.state disk.new) }
+    ensures reads { OnlyReads D.reveals (IsErr result) (D.state disk.old) (D.state disk.new) }
 {
     let mut at = end;
     let mut copy = gate;

@@ -37,22 +37,22 @@ impl<'a, D: Disk> Mirror<'a, D> {
         ensures dies { result ≡ Err StartFault.DiskFault → (self.new.dead ≡ true) × (self.new.on ≡ false) }
         // At Ok copies are on, and both are whole with the pieces of the ledger.
         ensures started { OnOk result ((self.new.on ≡ true) × (self.new.dead ≡ false) × (self.new.own ≡ self.old.own)) }
-        ensures made { OnOk result (D.tells → (pieces : List (List ℕ)) × ArePiecesOf ((D.state self.old.disk.now).files 0) pieces × HasStarted pieces self.new.end self.new.first self.new.second (D.state self.new.disk.now).files) }
-        ensures synced { OnOk result (D.tells → IsSynced (D.state self.new.disk.now)) }
+        ensures made { OnOk result (D.reveals → (pieces : List (List ℕ)) × ArePiecesOf ((D.state self.old.disk.now).files 0) pieces × HasStarted pieces self.new.end self.new.first self.new.second (D.state self.new.disk.now).files) }
+        ensures synced { OnOk result (D.reveals → IsSynced (D.state self.new.disk.now)) }
         // What a stop leaves; no other file changes, and where there is no ledger nothing is written.
-        ensures any_moment { D.tells → self.old.on ≡ false → self.old.dead ≡ false → (pieces : List (List ℕ)) → ArePiecesOf ((D.state self.old.disk.now).files 0) pieces → During (D.state self.old.disk.now) (D.state self.new.disk.now) (λ c. MayBeStarted pieces c) }
-        ensures others { D.tells → KeepsFiles (λ f. f ≤ 64) (D.state self.old.disk.now).files (D.state self.new.disk.now).files }
+        ensures any_moment { D.reveals → self.old.on ≡ false → self.old.dead ≡ false → (pieces : List (List ℕ)) → ArePiecesOf ((D.state self.old.disk.now).files 0) pieces → During (D.state self.old.disk.now) (D.state self.new.disk.now) (λ c. MayBeStarted pieces c) }
+        ensures others { D.reveals → KeepsFiles (λ f. f ≤ 64) (D.state self.old.disk.now).files (D.state self.new.disk.now).files }
         ensures crash { Follows (KeepsFiles (λ f. f ≤ 64)) (D.state self.old.disk.now) (D.state self.new.disk.now) }
-        ensures bare { D.tells → self.old.on ≡ false → NeverEnds ((D.state self.old.disk.now).files 0) → IsErr result × WritesNone D.tells (D.state self.old.disk.now) (D.state self.new.disk.now) }
+        ensures bare { D.reveals → self.old.on ≡ false → NeverEnds ((D.state self.old.disk.now).files 0) → IsErr result × WritesNone D.reveals (D.state self.old.disk.now) (D.state self.new.disk.now) }
         // The Mirror shows nothing that it might not show before, and at Ok the files as they read.
-        ensures shown { KeepsImages (shown D.tells (D.state self.old.disk.now) self.old.disk.ghost_name self.old.on self.old.end self.old.dead self.old.own) (shown D.tells (D.state self.new.disk.now) self.new.disk.ghost_name self.new.on self.new.end self.new.dead self.new.own) }
-        ensures durable { OnOk result (D.tells → IsSynced (shown D.tells (D.state self.new.disk.now) self.new.disk.ghost_name self.new.on self.new.end self.new.dead self.new.own)) }
+        ensures shown { KeepsImages (shown D.reveals (D.state self.old.disk.now) self.old.disk.ghost_name self.old.on self.old.end self.old.dead self.old.own) (shown D.reveals (D.state self.new.disk.now) self.new.disk.ghost_name self.new.on self.new.end self.new.dead self.new.own) }
+        ensures durable { OnOk result (D.reveals → IsSynced (shown D.reveals (D.state self.new.disk.now) self.new.disk.ghost_name self.new.on self.new.end self.new.dead self.new.own)) }
         ensures time { Passes (D.state self.old.disk.now) (D.state self.new.disk.now) }
         ensures earlier { HasEarlier (D.state self.old.disk.now) (D.state self.new.disk.now) }
         // When it fails: each fault is counted once; of a ledger with an end beneath; and none comes where there is space.
         ensures counts { result ≢ Err StartFault.AlreadyOn → IsCounted self.old.own self.new.own (D.state self.old.disk.now) (D.state self.new.disk.now) result }
-        ensures handed { D.tells → self.old.on ≡ false → self.old.dead ≡ false → (last : ℕ) → EndsAt ((D.state self.old.disk.now).files 0) last → (self.new.own ≡ self.old.own) × HasCause (D.state self.old.disk.now).faults (D.state self.new.disk.now).faults result }
-        ensures sure { D.tells → self.old.on ≡ false → self.old.dead ≡ false → (D.state self.old.disk.now).free → FitsStart (D.state self.old.disk.now) → IsOk result × ((D.state self.new.disk.now).faults ≡ (D.state self.old.disk.now).faults) }
+        ensures handed { D.reveals → self.old.on ≡ false → self.old.dead ≡ false → (last : ℕ) → EndsAt ((D.state self.old.disk.now).files 0) last → (self.new.own ≡ self.old.own) × HasCause (D.state self.old.disk.now).faults (D.state self.new.disk.now).faults result }
+        ensures sure { D.reveals → self.old.on ≡ false → self.old.dead ≡ false → (D.state self.old.disk.now).free → FitsStart (D.state self.old.disk.now) → IsOk result × ((D.state self.new.disk.now).faults ≡ (D.state self.old.disk.now).faults) }
         ensures lent { self.new.disk.ghost_name ≡ self.old.disk.ghost_name }
     {
         if self.on {

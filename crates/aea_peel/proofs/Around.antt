@@ -34,26 +34,26 @@ AreAround l marks from waiting =
     → WaitsOrIsSpent l marks waiting e
 
 -- turned marks have those that are not marked
-pub record AreTurned (l : Lattice) (m open' : Marked) : Type 0 where
+pub record AreFlipped (l : Lattice) (m open' : Marked) : Type 0 where
   pub same : m.lattice ≡ l
-  pub turned : open'.lattice ≡ m.lattice
+  pub flipped : open'.lattice ≡ m.lattice
   pub marks : open'.marks ≡ map not m.marks
   pub whole : IsWhole open'
 
-unmarked_open : (l : Lattice) (m open' : Marked) → AreTurned l m open' → (b : BlockId) → HasBlock l b → is_marked l m.marks b ≡ false → get_or open'.marks (number_of l b) false ≡ true
+unmarked_open : (l : Lattice) (m open' : Marked) → AreFlipped l m open' → (b : BlockId) → HasBlock l b → is_marked l m.marks b ≡ false → get_or open'.marks (number_of l b) false ≡ true
 unmarked_open l m open' are b has clear =
     let k = number_of l b in
-    let long : length m.marks ≡ blocks_count l = sym (length-map m.marks not) ∙ ap length (sym are.marks) ∙ are.whole ∙ ap blocks_count (are.turned ∙ are.same) in
+    let long : length m.marks ≡ blocks_count l = sym (length-map m.marks not) ∙ ap length (sym are.marks) ∙ are.whole ∙ ap blocks_count (are.flipped ∙ are.same) in
     let below : k < length m.marks = subst (λ n. k < n) (sym long) (number_below l b has) in
     ap (λ xs. get_or xs k false) are.marks ∙ get_or-map not m.marks k false false below ∙ ap not clear
 
 -- an unmarked block is not among those that are clear
-pub not_clear : (l : Lattice) (m open' : Marked) (from end : ℕ) → AreTurned l m open' → AreClear open' from end → (b : BlockId) → HasBlock l b → is_marked l m.marks b ≡ false
+pub not_clear : (l : Lattice) (m open' : Marked) (from end : ℕ) → AreFlipped l m open' → AreClear open' from end → (b : BlockId) → HasBlock l b → is_marked l m.marks b ≡ false
     → from ≤ number_of l b → number_of l b < end → ⊥
 not_clear l m open' from end are clear b has open_still after below = false≢true (sym (clear (number_of l b) after below) ∙ unmarked_open l m open' are b has open_still)
 
 -- where none is left, each equation waits or is spent
-pub around_all : (l : Lattice) (m open' : Marked) (from : ℕ) (waiting : List EqId) → AreTurned l m open' → AreClear open' from (blocks_count open'.lattice) → AreAround l m.marks from waiting
+pub around_all : (l : Lattice) (m open' : Marked) (from : ℕ) (waiting : List EqId) → AreFlipped l m open' → AreClear open' from (blocks_count open'.lattice) → AreAround l m.marks from waiting
     → (e : EqId) → HasEquation l e → WaitsOrIsSpent l m.marks waiting e
 around_all l m open' from waiting are clear around e has =
     elim (some_fails (is_marked l m.marks) (equation_blocks l e)) [
@@ -63,17 +63,17 @@ around_all l m open' from waiting are clear around e has =
             | inl below ↦ around found.0 inside below found.2 e has found.1
             | inr past ↦
                 absurd (not_clear l m open' from (blocks_count open'.lattice) are clear found.0 inside found.2 past
-                (subst (λ (x : Lattice). number_of l found.0 < blocks_count x) (sym (are.turned ∙ are.same)) (number_below l found.0 inside)))
+                (subst (λ (x : Lattice). number_of l found.0 < blocks_count x) (sym (are.flipped ∙ are.same)) (number_below l found.0 inside)))
           ]
       | inr all ↦ inr (λ b forced. all b forced.contains)
     ]
 
 -- a queue in another order is one
-pub IsQueue-turned : (l : Lattice) (marks : List Bool) (waiting turned : List EqId) → IsPermutation waiting turned → IsQueue l marks waiting → IsQueue l marks turned
-IsQueue-turned l marks waiting turned same queue = record {
-  inside = λ e contains. queue.inside e (Contains-permutation turned waiting e (IsPermutation-sym waiting turned same) contains);
+pub IsQueue-flipped : (l : Lattice) (marks : List Bool) (waiting flipped : List EqId) → IsPermutation waiting flipped → IsQueue l marks waiting → IsQueue l marks flipped
+IsQueue-flipped l marks waiting flipped same queue = record {
+  inside = λ e contains. queue.inside e (Contains-permutation flipped waiting e (IsPermutation-sym waiting flipped same) contains);
   rest = λ e has. elim (queue.rest e has) [
-    | inl waits ↦ inl (Contains-permutation waiting turned e same waits)
+    | inl waits ↦ inl (Contains-permutation waiting flipped e same waits)
     | inr spent ↦ inr spent
   ];
 }

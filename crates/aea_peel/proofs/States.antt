@@ -23,8 +23,8 @@ use Rattle.aea_peel.specs.Queue.{is_marked, IsState, IsSpent}
 
 -- ---- blocks in lists of steps
 
-same_block-turned : (x y : BlockId) → same_block x y ≡ same_block y x
-same_block-turned x y =
+same_block-flipped : (x y : BlockId) → same_block x y ≡ same_block y x
+same_block-flipped x y =
     elim (cases_Bool (same_block x y)) [
       | inl same ↦ same ∙ sym (subst (λ b. same_block y b ≡ true) (sym (same_block-equal x y same)) (same_block-refl y))
       | inr differs ↦
@@ -35,7 +35,7 @@ same_block-turned x y =
 same_block-equivalence : IsEquivalence same_block
 same_block-equivalence = record {
   refl = same_block-refl;
-  symm = same_block-turned;
+  symm = same_block-flipped;
   congr = λ x y z same. ap (λ b. same_block b z) (same_block-equal x y same);
 }
 

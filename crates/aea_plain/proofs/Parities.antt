@@ -46,8 +46,8 @@ sum_of-append w datum (k ∷ ks) ns wide =
     ∙ ap (λ s. xor_bytes s (sum_of w datum ns)) (sym (sum_of-cons w datum k ks wide))
 
 -- a test with one node's result flipped
-abbrev turned : (ℕ → Bool) → ℕ → ℕ → Bool
-turned p j k = cond (j == k) (not (p k)) (p k)
+abbrev flipped : (ℕ → Bool) → ℕ → ℕ → Bool
+flipped p j k = cond (j == k) (not (p k)) (p k)
 
 filter_one : (p : ℕ → Bool) (k : ℕ) (v : Bool) → p k ≡ v → filter p (k ∷ []) ≡ cond v (k ∷ []) []
 filter_one p k true e = rw e
@@ -68,56 +68,56 @@ other_node : (j k : ℕ) → j ≢ k → (j == k) ≡ false
 other_node j k differ = grind (arith, nat_tests)
 
 -- the sum of one node more or less
-one_turned : (w : ℕ) (datum : ℕ → List ℕ) (j : ℕ) (v : Bool) → IsWide w datum → sum_of w datum (cond (not v) (j ∷ []) []) ≡ xor_bytes (datum j) (sum_of w datum (cond v (j ∷ []) []))
-one_turned w datum j true wide =
+one_flipped : (w : ℕ) (datum : ℕ → List ℕ) (j : ℕ) (v : Bool) → IsWide w datum → sum_of w datum (cond (not v) (j ∷ []) []) ≡ xor_bytes (datum j) (sum_of w datum (cond v (j ∷ []) []))
+one_flipped w datum j true wide =
     let long = wide.each j in
     let once : sum_of w datum (j ∷ []) ≡ datum j = xor_bytes-zeros w (datum j) long in
     sym (ap (xor_bytes (datum j)) once
     ∙ sym (ap (λ s. xor_bytes s (datum j)) (xor_bytes-zeros w (datum j) long))
     ∙ xor_bytes-cancel (replicate w 0) (datum j) (length-replicate w 0 ∙ sym long))
-one_turned w datum j false wide = sum_of-cons w datum j [] wide
+one_flipped w datum j false wide = sum_of-cons w datum j [] wide
 
 between : (xs ys zs : List ℕ) → xor_bytes xs (xor_bytes ys zs) ≡ xor_bytes ys (xor_bytes xs zs)
 between xs ys zs = sym (xor_bytes-assoc xs ys zs) ∙ ap (λ s. xor_bytes s zs) (xor_bytes-comm xs ys) ∙ xor_bytes-assoc ys xs zs
 
-turned_here : (p : ℕ → Bool) (j : ℕ) → turned p j j ≡ not (p j)
-turned_here p j = rw (same_node j)
+flipped_here : (p : ℕ → Bool) (j : ℕ) → flipped p j j ≡ not (p j)
+flipped_here p j = rw (same_node j)
 
-turned_elsewhere : (p : ℕ → Bool) (j k : ℕ) → j ≢ k → turned p j k ≡ p k
-turned_elsewhere p j k differ = rw (other_node j k differ)
+flipped_elsewhere : (p : ℕ → Bool) (j k : ℕ) → j ≢ k → flipped p j k ≡ p k
+flipped_elsewhere p j k differ = rw (other_node j k differ)
 
 this_or_before : (j n : ℕ) → j ≤ suc n → (j ≡ suc n) ⊎ (j ≤ n)
 this_or_before j n most = elim (cases_lt n j) [ inl h ↦ inl (omega arith) | inr h ↦ inr h ]
 
-turned_step : (w : ℕ) (datum : ℕ → List ℕ) (p : ℕ → Bool) (j n : ℕ) → IsWide w datum → 1 ≤ j → (j ≡ suc n) ⊎ (j ≤ n)
-    → (j ≤ n → sum_of w datum (filter (turned p j) (nodes_to n)) ≡ xor_bytes (datum j) (sum_of w datum (filter p (nodes_to n))))
-    → xor_bytes (sum_of w datum (filter (turned p j) (nodes_to n))) (sum_of w datum (filter (turned p j) (suc n ∷ [])))
+flipped_step : (w : ℕ) (datum : ℕ → List ℕ) (p : ℕ → Bool) (j n : ℕ) → IsWide w datum → 1 ≤ j → (j ≡ suc n) ⊎ (j ≤ n)
+    → (j ≤ n → sum_of w datum (filter (flipped p j) (nodes_to n)) ≡ xor_bytes (datum j) (sum_of w datum (filter p (nodes_to n))))
+    → xor_bytes (sum_of w datum (filter (flipped p j) (nodes_to n))) (sum_of w datum (filter (flipped p j) (suc n ∷ [])))
     ≡ xor_bytes (datum j) (xor_bytes (sum_of w datum (filter p (nodes_to n))) (sum_of w datum (filter p (suc n ∷ []))))
-turned_step w datum p j n wide first (inl here) before =
-    let last_one : filter (turned p j) (suc n ∷ []) ≡ cond (not (p (suc n))) (suc n ∷ []) [] =
-    filter_one (turned p j) (suc n) (not (p (suc n))) (ap (λ m. turned p m (suc n)) here ∙ turned_here p (suc n)) in
-    let rest : filter (turned p j) (nodes_to n) ≡ filter p (nodes_to n) = filter_alike (turned p j) p n (λ k low high. turned_elsewhere p j k (omega arith)) in
+flipped_step w datum p j n wide first (inl here) before =
+    let last_one : filter (flipped p j) (suc n ∷ []) ≡ cond (not (p (suc n))) (suc n ∷ []) [] =
+    filter_one (flipped p j) (suc n) (not (p (suc n))) (ap (λ m. flipped p m (suc n)) here ∙ flipped_here p (suc n)) in
+    let rest : filter (flipped p j) (nodes_to n) ≡ filter p (nodes_to n) = filter_alike (flipped p j) p n (λ k low high. flipped_elsewhere p j k (omega arith)) in
     let before_it = filter_one p (suc n) (p (suc n)) refl in
-    ap (λ s. xor_bytes (sum_of w datum s) (sum_of w datum (filter (turned p j) (suc n ∷ [])))) rest
+    ap (λ s. xor_bytes (sum_of w datum s) (sum_of w datum (filter (flipped p j) (suc n ∷ [])))) rest
     ∙ ap (λ s. xor_bytes (sum_of w datum (filter p (nodes_to n))) (sum_of w datum s)) last_one
-    ∙ ap (xor_bytes (sum_of w datum (filter p (nodes_to n)))) (one_turned w datum (suc n) (p (suc n)) wide)
+    ∙ ap (xor_bytes (sum_of w datum (filter p (nodes_to n)))) (one_flipped w datum (suc n) (p (suc n)) wide)
     ∙ between (sum_of w datum (filter p (nodes_to n))) (datum (suc n)) (sum_of w datum (cond (p (suc n)) (suc n ∷ []) []))
     ∙ ap (λ m. xor_bytes (datum m) (xor_bytes (sum_of w datum (filter p (nodes_to n))) (sum_of w datum (cond (p (suc n)) (suc n ∷ []) [])))) (sym here)
     ∙ ap (λ s. xor_bytes (datum j) (xor_bytes (sum_of w datum (filter p (nodes_to n))) (sum_of w datum s))) (sym before_it)
-turned_step w datum p j n wide first (inr within) before =
-    let last_one : filter (turned p j) (suc n ∷ []) ≡ filter p (suc n ∷ []) =
-    filter_one (turned p j) (suc n) (p (suc n)) (turned_elsewhere p j (suc n) (omega arith)) ∙ sym (filter_one p (suc n) (p (suc n)) refl) in
-    ap (λ s. xor_bytes (sum_of w datum (filter (turned p j) (nodes_to n))) (sum_of w datum s)) last_one
+flipped_step w datum p j n wide first (inr within) before =
+    let last_one : filter (flipped p j) (suc n ∷ []) ≡ filter p (suc n ∷ []) =
+    filter_one (flipped p j) (suc n) (p (suc n)) (flipped_elsewhere p j (suc n) (omega arith)) ∙ sym (filter_one p (suc n) (p (suc n)) refl) in
+    ap (λ s. xor_bytes (sum_of w datum (filter (flipped p j) (nodes_to n))) (sum_of w datum s)) last_one
     ∙ ap (λ s. xor_bytes s (sum_of w datum (filter p (suc n ∷ [])))) (before within)
     ∙ xor_bytes-assoc (datum j) (sum_of w datum (filter p (nodes_to n))) (sum_of w datum (filter p (suc n ∷ [])))
 
 -- flipping one node's result adds its datum
-pub sum_of-turned : (w : ℕ) (datum : ℕ → List ℕ) (p : ℕ → Bool) (j n : ℕ) → IsWide w datum → 1 ≤ j → j ≤ n → sum_of w datum (filter (turned p j) (nodes_to n)) ≡ xor_bytes (datum j) (sum_of w datum (filter p (nodes_to n)))
-sum_of-turned w datum p j zero wide first last = absurd (omega arith)
-sum_of-turned w datum p j (suc n) wide first last =
-    ap (sum_of w datum) (filter-append (turned p j) (nodes_to n) (suc n ∷ []))
-    ∙ sum_of-append w datum (filter (turned p j) (nodes_to n)) (filter (turned p j) (suc n ∷ [])) wide
-    ∙ turned_step w datum p j n wide first (this_or_before j n last) (λ within. sum_of-turned w datum p j n wide first within)
+pub sum_of-flipped : (w : ℕ) (datum : ℕ → List ℕ) (p : ℕ → Bool) (j n : ℕ) → IsWide w datum → 1 ≤ j → j ≤ n → sum_of w datum (filter (flipped p j) (nodes_to n)) ≡ xor_bytes (datum j) (sum_of w datum (filter p (nodes_to n)))
+sum_of-flipped w datum p j zero wide first last = absurd (omega arith)
+sum_of-flipped w datum p j (suc n) wide first last =
+    ap (sum_of w datum) (filter-append (flipped p j) (nodes_to n) (suc n ∷ []))
+    ∙ sum_of-append w datum (filter (flipped p j) (nodes_to n)) (filter (flipped p j) (suc n ∷ [])) wide
+    ∙ flipped_step w datum p j n wide first (this_or_before j n last) (λ within. sum_of-flipped w datum p j n wide first within)
     ∙ ap (xor_bytes (datum j)) (sym (ap (sum_of w datum) (filter-append p (nodes_to n) (suc n ∷ [])) ∙ sum_of-append w datum (filter p (nodes_to n)) (filter p (suc n ∷ [])) wide))
 
 -- whether a node is in the list an odd number of times
@@ -136,4 +136,4 @@ sum_of-odd w datum (j ∷ nodes) n wide inside =
     let here = inside 0 j (omega arith) in
     sum_of-cons w datum j nodes wide
     ∙ ap (xor_bytes (datum j)) (sum_of-odd w datum nodes n wide (λ k d below. inside (suc k) d (omega arith)))
-    ∙ sym (sum_of-turned w datum (is_odd_in nodes) j n wide here.0 here.1)
+    ∙ sym (sum_of-flipped w datum (is_odd_in nodes) j n wide here.0 here.1)

@@ -1,6 +1,6 @@
 pub mod Lists
 pub mod Numbered
-pub mod Turned
+pub mod Flipped
 pub mod Walking
 pub mod Lining
 pub mod Printing

@@ -53,12 +53,12 @@ fn begin<D: Disk>(alloc: Global, disk: &mut D) -> Result<bool, Fail> {
 
 // The heads by which the next node of the archive is woven, where it has as many classes of parities as its shape says.
 fn heads_of<D: Disk>(alloc: Global, ledger: &Ledger, disk: &mut D) -> Result<Heads, HeadFault>
-    requires this { D.tells → IsThisOne ledger.now ((D.state disk.old).files 0) }
-    requires fixed { D.tells → IsFixed (D.state disk.old) 0 }
+    requires this { D.reveals → IsThisOne ledger.now ((D.state disk.old).files 0) }
+    requires fixed { D.reveals → IsFixed (D.state disk.old) 0 }
     ensures alpha { IfOk result (λ heads. heads.lattice.alpha ≡ ledger.now.shape.alpha) }
     ensures size { IfOk result (λ heads. heads.size ≡ ledger.now.shape.block) }
-    ensures this { OnOk result (D.tells → IsThisOne ledger.now ((D.state disk.new).files 0)) }
-    ensures fixed { OnOk result (D.tells → IsFixed (D.state disk.new) 0) }
+    ensures this { OnOk result (D.reveals → IsThisOne ledger.now ((D.state disk.new).files 0)) }
+    ensures fixed { OnOk result (D.reveals → IsFixed (D.state disk.new) 0) }
 {
     let _shape = ledger.shape();
     load_heads(alloc, ledger, disk)
@@ -74,12 +74,12 @@ fn weave<D: Disk>(
 ) -> Result<bool, PutFault>
     requires alpha { heads.old.lattice.alpha ≡ ledger.now.shape.alpha }
     requires size { heads.old.size ≡ ledger.now.shape.block }
-    requires this { D.tells → IsThisOne ledger.now ((D.state disk.old).files 0) }
-    requires fixed { D.tells → IsFixed (D.state disk.old) 0 }
+    requires this { D.reveals → IsThisOne ledger.now ((D.state disk.old).files 0) }
+    requires fixed { D.reveals → IsFixed (D.state disk.old) 0 }
     ensures alpha { OnOk result (heads.new.lattice.alpha ≡ ledger.now.shape.alpha) }
     ensures size { OnOk result (heads.new.size ≡ ledger.now.shape.block) }
-    ensures this { OnOk result (D.tells → IsThisOne ledger.now ((D.state disk.new).files 0)) }
-    ensures fixed { OnOk result (D.tells → IsFixed (D.state disk.new) 0) }
+    ensures this { OnOk result (D.reveals → IsThisOne ledger.now ((D.state disk.new).files 0)) }
+    ensures fixed { OnOk result (D.reveals → IsFixed (D.state disk.new) 0) }
 {
     let shape = ledger.shape();
     if shape.block() != 16 || heads.next_node() > 1000 {
@@ -100,11 +100,11 @@ fn commit<D: Disk>(
     parts: &[Extent],
 ) -> Result<bool, AppendFault>
     requires live { ledger.old.live ≡ true }
-    requires this { D.tells → IsThisOne ledger.old ((D.state disk.old).files 0) }
-    requires fixed { D.tells → IsFixed (D.state disk.old) 0 }
+    requires this { D.reveals → IsThisOne ledger.old ((D.state disk.old).files 0) }
+    requires fixed { D.reveals → IsFixed (D.state disk.old) 0 }
     ensures live { OnOk result (ledger.new.live ≡ true) }
-    ensures this { OnOk result (D.tells → IsThisOne ledger.new ((D.state disk.new).files 0)) }
-    ensures fixed { OnOk result (D.tells → IsFixed (D.state disk.new) 0) }
+    ensures this { OnOk result (D.reveals → IsThisOne ledger.new ((D.state disk.new).files 0)) }
+    ensures fixed { OnOk result (D.reveals → IsFixed (D.state disk.new) 0) }
 {
     let shape = ledger.shape();
     let nodes = ledger.lattice().n();
@@ -176,8 +176,8 @@ fn commit_both<D: Disk>(
     digests: &[[u8; 32]],
 ) -> Result<Step, Fail>
     requires live { ledger.old.live ≡ true }
-    requires this { D.tells → IsThisOne ledger.old ((D.state disk.old).files 0) }
-    requires fixed { D.tells → IsFixed (D.state disk.old) 0 }
+    requires this { D.reveals → IsThisOne ledger.old ((D.state disk.old).files 0) }
+    requires fixed { D.reveals → IsFixed (D.state disk.old) 0 }
 {
     let Ok(true) = commit(ledger, disk, b"a", A.as_bytes(), digests, &parts_of(3)) else {
         return Ok(Step::Woven);

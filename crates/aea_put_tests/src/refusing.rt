@@ -190,8 +190,8 @@ fn is_at_fault(alloc: Global, ledger: usize, site: usize) -> Result<bool, AllocE
     let mut disk = SureDisk::new(alloc, 4, ledger, site)?;
     let _made = run_over(alloc, LINE, &mut disk, 99)?;
     let left = run_put(alloc, &mut disk, "a", b"abc")?;
-    let is_told = left.is(Status::Disk, "", "fault: disk\n");
-    Ok(is_told && counts(alloc, &mut disk, NO_OBJECT)?)
+    let is_revealed = left.is(Status::Disk, "", "fault: disk\n");
+    Ok(is_revealed && counts(alloc, &mut disk, NO_OBJECT)?)
 }
 
 #[test]

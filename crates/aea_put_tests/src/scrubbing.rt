@@ -64,7 +64,7 @@ fn a_fresh_archive_has_no_block(rt: HostRuntime) -> Result<(), Fail> {
 }
 
 #[test]
-fn a_lost_site_is_told(rt: HostRuntime) -> Result<(), Fail> {
+fn a_lost_site_is_reported(rt: HostRuntime) -> Result<(), Fail> {
     let mut disk = filled(rt.alloc())?;
     assert!(rt; scrubs(rt.alloc(), &mut disk, SOUND)?);
     assert!(rt; shorten(&mut disk, 3, 0)?);
@@ -87,7 +87,7 @@ fn places() -> [(u8, u16, &'static str); 5] {
 }
 
 // Whether this is said where a bit is flipped there.
-fn is_told(alloc: Global, file: u8, place: u16, text: &str) -> Result<bool, Fail> {
+fn is_revealed(alloc: Global, file: u8, place: u16, text: &str) -> Result<bool, Fail> {
     let mut disk = filled(alloc)?;
     let (file, place) = (file.min(64), u64::from(place));
     let mut byte = [0u8; 1];
@@ -97,9 +97,12 @@ fn is_told(alloc: Global, file: u8, place: u16, text: &str) -> Result<bool, Fail
 }
 
 #[test]
-fn a_changed_byte_is_told(rt: HostRuntime) -> Result<(), Fail> {
+fn a_changed_byte_is_reported(rt: HostRuntime) -> Result<(), Fail> {
     for (file, place, text) in places() {
-        assert!(rt; is_told(rt.alloc(), file, place, text)?, "{file} {place}");
+        assert!(rt;
+            is_revealed(rt.alloc(), file, place, text)?,
+            "{file} {place}"
+        );
     }
     Ok(())
 }

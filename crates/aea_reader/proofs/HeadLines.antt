@@ -126,10 +126,10 @@ is_fourth one two three text begins = sym (ap (λ xs. get_or xs 3 []) begins.fir
 
 -- at the beginning
 pub at_first : (input : List ℕ) (ahead : List ℕ) (left : Option (List ℕ)) → ahead ≡ [] → left ≡ Some input → IsAt input 1 [] ahead left
-at_first input ahead left none told = record {
+at_first input ahead left none revealed = record {
   rest = input;
   at = record { before = begins_none; spelling = refl; place = omega arith };
-  stands = record { rest = input; told = told; are = ap (λ xs. xs ++ input) (sym none) };
+  stands = record { rest = input; revealed = revealed; are = ap (λ xs. xs ++ input) (sym none) };
 }
 
 -- a fault at a line of the head is one of the head

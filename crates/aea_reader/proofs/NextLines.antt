@@ -59,7 +59,7 @@ reading_at input h lines v left is =
         spelling = is.spelling;
         place = omega arith;
       };
-      stands = record { rest = is.rest; told = is.told; are = refl };
+      stands = record { rest = is.rest; revealed = is.revealed; are = refl };
     }
 
 -- after the head
@@ -72,7 +72,7 @@ reading_begun input l h ahead left is here = record {
   line = refl;
   least = refl;
   rest = here.stands.rest;
-  told = here.stands.told;
+  revealed = here.stands.revealed;
   spelling = here.at.spelling ∙ ap (λ xs. joined (head_texts h) ++ xs) here.stands.are;
 }
 
@@ -92,7 +92,7 @@ reading_more input h lines v w left now line is has valid lattice number least s
       line = omega (arith, length-append lines (line ∷ []));
       least = least ∙ sym (least_more v.lattice 0 lines line) ∙ ap (λ l. least_after l 0 (lines ++ line ∷ [])) (sym lattice);
       rest = rest;
-      told = has.stands.told;
+      revealed = has.stands.revealed;
       spelling =
           has.at.spelling
           ∙ ap (λ xs. report_bytes h lines ++ xs) (sym (append_assoc (line_text line) newline has.rest))

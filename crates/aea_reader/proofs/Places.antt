@@ -19,20 +19,20 @@ use Rattle.aea_reader.specs.Places.{Stands, IsAt, HasText, IsStopped}
 -- what a source whose bytes are known has left, after those that were taken
 pub record HasLeft (new : Option (List ℕ)) (bytes rest : List ℕ) : Type 0 where
   pub after : List ℕ
-  pub told : new ≡ Some after
+  pub revealed : new ≡ Some after
   pub are : rest ≡ bytes ++ after
 
 left_of : (new : Option (List ℕ)) (rest taken : List ℕ) → Consumes (Some rest) new taken → HasLeft new taken rest
 left_of None rest taken h = absurd h
-left_of (Some after) rest taken h = record { after = after; told = refl; are = h }
+left_of (Some after) rest taken h = record { after = after; revealed = refl; are = h }
 
 -- after what was gathered
 pub has_left : (ahead : List ℕ) (old new : Option (List ℕ)) (bytes rest : List ℕ) → Stands ahead old rest → Gathers ahead old new bytes → HasLeft new bytes rest
 has_left ahead old new bytes rest stands g =
-    let left = left_of new stands.rest g.taken (subst (λ o. Consumes o new g.taken) stands.told g.consumed) in
+    let left = left_of new stands.rest g.taken (subst (λ o. Consumes o new g.taken) stands.revealed g.consumed) in
     record {
       after = left.after;
-      told = left.told;
+      revealed = left.revealed;
       are =
           stands.are
           ∙ ap (λ xs. ahead ++ xs) left.are
@@ -41,7 +41,7 @@ has_left ahead old new bytes rest stands g =
     }
 
 ended : (new : Option (List ℕ)) (after : List ℕ) → new ≡ Some after → IsAtEnd new → after ≡ []
-ended new after told end = subst IsAtEnd told end
+ended new after revealed end = subst IsAtEnd revealed end
 
 -- ---- first lines
 
@@ -84,15 +84,15 @@ text_found input k texts ahead line after old new here g plain short =
       at = at_as input k texts here.rest (line ++ 10 ∷ (after ++ left.after)) (left.are ∙ append_assoc line (10 ∷ after) left.after) here.at;
       plain = plain;
       short = short;
-      stands = record { rest = left.after; told = left.told; are = refl };
+      stands = record { rest = left.after; revealed = left.revealed; are = refl };
     }
 
 -- what is left has no newline
 last_rest : (ahead line : List ℕ) (old new : Option (List ℕ)) (rest : List ℕ) → Stands ahead old rest → Gathers ahead old new line → IsAtEnd new → (rest ≡ line) × (new ≡ Some [])
 last_rest ahead line old new rest stands g end =
     let left = has_left ahead old new line rest stands g in
-    let none : left.after ≡ [] = ended new left.after left.told end in
-    (left.are ∙ ap (λ xs. line ++ xs) none ∙ append-nil line, left.told ∙ ap Some none)
+    let none : left.after ≡ [] = ended new left.after left.revealed end in
+    (left.are ∙ ap (λ xs. line ++ xs) none ∙ append-nil line, left.revealed ∙ ap Some none)
 
 -- nothing is left
 pub none_found : (input : List ℕ) (k : ℕ) (texts : List (List ℕ)) (ahead line : List ℕ) (old new : Option (List ℕ)) → IsAt input k texts ahead old → Gathers ahead old new line → IsAtEnd new
@@ -124,7 +124,7 @@ stopped input k texts ahead line old new here g plain long =
     let at = at_as input k texts here.rest (line ++ left.after) left.are here.at in
     let first = first_line-longer line left.after plain in (
       record { texts = texts; rest = line ++ left.after; at = at; long = omega arith },
-      record { texts = texts; line = line; rest = left.after; at = at; plain = plain; long = long; told = left.told },
+      record { texts = texts; line = line; rest = left.after; at = at; plain = plain; long = long; revealed = left.revealed },
     )
 
 -- a line of a head is missing

@@ -8,7 +8,7 @@ use Rattle.aea_reader.specs.Words.{IsFree}
 -- what was taken and not read yet, and what the source has left, are these bytes together
 pub record Stands (ahead : List ℕ) (left : Option (List ℕ)) (bytes : List ℕ) : Type 0 where
   pub rest : List ℕ
-  pub told : left ≡ Some rest
+  pub revealed : left ≡ Some rest
   pub are : bytes ≡ ahead ++ rest
 
 -- Line k of the input is to be read next, after these lines, with which some report begins.
@@ -33,7 +33,7 @@ pub record IsStopped (input : List ℕ) (k : ℕ) (left : Option (List ℕ)) : T
   pub at : IsAtLine input k texts (line ++ rest)
   pub plain : IsFree 10 line
   pub long : length line ≡ greatest_line + 1
-  pub told : left ≡ Some rest
+  pub revealed : left ≡ Some rest
 
 -- What a fault at line k says of the input: that this line is bad, or too long. A fault of the source and a lack of memory
 -- say nothing of it.

@@ -50,7 +50,7 @@ pub record IsReading (input : List ℕ) (h : Head) (lines : List Line) (v : Read
   pub line : v.line ≡ 5 + length lines
   pub least : v.least ≡ least_after v.lattice 0 lines
   pub rest : List ℕ
-  pub told : left ≡ Some rest
+  pub revealed : left ≡ Some rest
   pub spelling : input ≡ report_bytes h lines ++ (v.ahead ++ rest)
 
 -- What a fault in a head says of the input: that a line of the head is bad or too long. A fault of the source and a lack of

@@ -20,7 +20,7 @@ use Rattle.aea_gauss_words.specs.Matrices.{IsLead, IsReduction}
 use Rattle.aea_fates.specs.Sums.{IsSum}
 use Rattle.aea_readings.specs.Starts.{columns, equation_column, start}
 use Rattle.aea_readings.specs.Readings.{has_none_below, is_lead, IsFree, word_at, nodes_in}
-use Rattle.aea_readings.specs.Small.{unknown_blocks, own_column, small_start, nodes_at, equations_at, TellSmall, SmallRowsTellFates, UnknownAreListed}
+use Rattle.aea_readings.specs.Small.{unknown_blocks, own_column, small_start, nodes_at, equations_at, RevealSmall, SmallRowsRevealFates, UnknownAreListed}
 use Rattle.aea_readings.proofs.Standing.{column_high}
 use Rattle.aea_readings.proofs.Leads.{each-nodes_to, lead_test, test_lead}
 use Rattle.aea_readings.proofs.Rows.{fate_free, fate_with, fate_sum}
@@ -147,8 +147,8 @@ module _ (l : Lattice) (known : BlockId → Bool) (m : ℕ → ℕ → Bool)
       (λ j less.
       sym (ap (big i) (sym (used_own l known j less)) ∙ big_used i (own_column (u l known) (e l known) j) (omega arith)))
 
-  tell : TellSmall l known (us l known) (es l known) m
-  tell = record {
+  reveal : RevealSmall l known (us l known) (es l known) m
+  reveal = record {
     free = λ a less free.
         (let facts = block_facts l known a less in
         let low = used_low l known a less in
@@ -188,10 +188,10 @@ module _ (l : Lattice) (known : BlockId → Bool) (m : ℕ → ℕ → Bool)
   }
 
 -- each reduction of the rows over the used columns shows the fates
-pub small-rows : SmallRowsTellFates
+pub small-rows : SmallRowsRevealFates
 small-rows l known blocks equations m blocks_are equations_are reduction =
-    let P : List BlockId → List EqId → Type 0 = λ bs fs. IsReduction (length fs) (length bs + length fs) (small_start l bs fs) m → TellSmall l known bs fs m in
-    let at : P blocks equations = subst (λ bs. P bs equations) (sym blocks_are) (subst (P (unknown_blocks l known)) (sym equations_are) (λ h. tell l known m h)) in
+    let P : List BlockId → List EqId → Type 0 = λ bs fs. IsReduction (length fs) (length bs + length fs) (small_start l bs fs) m → RevealSmall l known bs fs m in
+    let at : P blocks equations = subst (λ bs. P bs equations) (sym blocks_are) (subst (P (unknown_blocks l known)) (sym equations_are) (λ h. reveal l known m h)) in
     at reduction
 
 -- the blocks that are not known are blocks of the lattice in number order, and fewer than 2^23

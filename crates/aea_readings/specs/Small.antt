@@ -64,7 +64,7 @@ equations_at p (e ∷ equations) =
 -- What reduced rows over the used columns show: a block that leads no row has its own word, one that leads a row with a
 -- further block has the word of the next one, and one that leads a row without a further block has the equations of
 -- that row.
-pub record TellSmall (l : Lattice) (known : BlockId → Bool) (blocks : List BlockId) (equations : List EqId) (m : ℕ → ℕ → Bool) : Type 0 where
+pub record RevealSmall (l : Lattice) (known : BlockId → Bool) (blocks : List BlockId) (equations : List EqId) (m : ℕ → ℕ → Bool) : Type 0 where
   pub free : (a : ℕ) → a < length blocks → IsFree (length equations) (length blocks + length equations) m a
       → IsWord l known (block_in blocks a) (nodes_at (word_at (length equations) m a) blocks)
   pub next : (a f i : ℕ) → a < length blocks → i < length equations → IsLead (length blocks + length equations) (m i) a
@@ -75,9 +75,9 @@ pub record TellSmall (l : Lattice) (known : BlockId → Bool) (blocks : List Blo
       → IsSum l known (block_in blocks a) (equations_at (λ j. m i (own_column (length blocks) (length equations) j)) equations)
 
 -- Each reduction of the rows over the used columns shows the fates.
-abbrev pub SmallRowsTellFates : Type 0
-SmallRowsTellFates =
+abbrev pub SmallRowsRevealFates : Type 0
+SmallRowsRevealFates =
     (l : Lattice) (known : BlockId → Bool) (blocks : List BlockId) (equations : List EqId) (m : ℕ → ℕ → Bool)
     → blocks ≡ unknown_blocks l known → equations ≡ live_equations l known
     → IsReduction (length equations) (length blocks + length equations) (small_start l blocks equations) m
-    → TellSmall l known blocks equations m
+    → RevealSmall l known blocks equations m

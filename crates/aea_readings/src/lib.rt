@@ -1,7 +1,7 @@
 //! How the fates of the blocks that are not known are read off the reduced rows of a lattice's equations.
 //!
 //! Promises to the elimination above that reduced rows, over the columns that are used, show the list of each block
-//! that is not known: by the row that it leads, or by none (`small_rows_tell_fates`, `unknown_are_listed`).
+//! that is not known: by the row that it leads, or by none (`small_rows_reveal_fates`, `unknown_are_listed`).
 //!
 //! The definitions are in `specs/`: `Starts` (the rows of a lattice), `Readings` (what a reduced row shows) and `Small`
 //! (rows over the columns that are used alone, and what they show).
@@ -12,4 +12,4 @@
 
 mod laws;
 
-pub use laws::{small_rows_tell_fates, unknown_are_listed};
+pub use laws::{small_rows_reveal_fates, unknown_are_listed};

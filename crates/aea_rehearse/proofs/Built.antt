@@ -189,17 +189,17 @@ all_woven lengths parts v datas c honest intact =
     }
 
 -- What is there once the object is put.
-pub is_built : CellsHaveLengths → CellsHaveParts → NoneRecordNone → (tells : Type 0) (v w : Opened) (bytes : List ℕ) (rest : Option (List ℕ)) (old new : State) (stored : Stored) → tells → IsRehearsalShape v.shape → AreItsRecords v [] (old.files 0)
-    → HasPut tells v w (codes "rehearsal") (Some bytes) rest old new stored → IsBuilt bytes w new.files
-is_built lengths parts none tells v w bytes rest old new stored told is its put =
+pub is_built : CellsHaveLengths → CellsHaveParts → NoneRecordNone → (reveals : Type 0) (v w : Opened) (bytes : List ℕ) (rest : Option (List ℕ)) (old new : State) (stored : Stored) → reveals → IsRehearsalShape v.shape → AreItsRecords v [] (old.files 0)
+    → HasPut reveals v w (codes "rehearsal") (Some bytes) rest old new stored → IsBuilt bytes w new.files
+is_built lengths parts none reveals v w bytes rest old new stored revealed is its put =
     let o = put.0 in
     let whole = put.1 in
     let h = put.2 in
     let r = h.r in
     let has = h.value [] its.has in
-    let more = h.records_more told [] [] its.has (none v.shape) (lasts_honest v [] old.files its.has) in
-    let honest = (h.honest told [] [] its.has (none v.shape) (none_honest v [] old.files its.has) (none_plain v old.files its.has)).0 in
-    let added = h.added told [] its in
+    let more = h.records_more revealed [] [] its.has (none v.shape) (lasts_honest v [] old.files its.has) in
+    let honest = (h.honest revealed [] [] its.has (none v.shape) (none_honest v [] old.files its.has) (none_plain v old.files its.has)).0 in
+    let added = h.added revealed [] its in
     let grown = h.next.grown in
     let start = new_nodes v its.has in
     let nodes : w.lattice.n ≡ nodes_for v.shape (length o.bytes) = (let n = grown.nodes in let count = h.next.count in omega (arith, n, count, start)) in

@@ -24,11 +24,11 @@ use Rattle.aea_records.specs.Laws.{HasOneReading, IsSomeLedger}
 use Rattle.aea_ledger.specs.Recorded.{IsLatticeOf, AreRecordsOf}
 use Rattle.aea_ledger.specs.Values.{Opened, HasRecords, IsThisOne}
 use Rattle.aea_ledger.specs.Stops.{HasLedger}
-use Rattle.aea_archive.specs.Blocks.{IsIntactBy, TellsSurvivors}
+use Rattle.aea_archive.specs.Blocks.{IsIntactBy, RevealsSurvivors}
 use Rattle.aea_archive.specs.Data.{AreSurvivorsHonest, IsDamagePlain}
 use Rattle.aea_archive.proofs.Records.{one_lattice}
 use Rattle.aea_repair.specs.declared.outcome.Outcome.{Outcome}
-use Rattle.aea_rehearse.specs.Rehearsed.{IsRehearsalShape, turned_cell, woven_payload, is_unaltered, rehearsal_data, IsRehearsed, IsRehearsalRecord, object_bytes}
+use Rattle.aea_rehearse.specs.Rehearsed.{IsRehearsalShape, flipped_cell, woven_payload, is_unaltered, rehearsal_data, IsRehearsed, IsRehearsalRecord, object_bytes}
 use Rattle.aea_rehearse.specs.Rooms.{HasCellsRoom, report_room}
 use Rattle.aea_rehearse.specs.Generator.{state_after, byte_of, bytes_from}
 use Rattle.aea_rehearse.specs.Building.{AreWoven, AreLeft, IsBuilt}
@@ -38,8 +38,8 @@ use Rattle.aea_rehearse.specs.declared.rehearsal.Rehearsal.{Rehearsal}
 use Rattle.aea_rehearse.proofs.Built.{nodes-512}
 use Rattle.aea_rehearse.proofs.Homes.{block_in_shape, cells_willing, rows-short, willing_after}
 use Rattle.aea_rehearse.proofs.ReportRoom.{report-short}
-use Rattle.aea_rehearse.proofs.Struck.{left_by_number, is_struck, struck_tells, struck_honest, struck_plain}
-use Rattle.aea_rehearse.proofs.Turning.{length-turned_cell}
+use Rattle.aea_rehearse.proofs.Struck.{left_by_number, is_struck, struck_reveals, struck_honest, struck_plain}
+use Rattle.aea_rehearse.proofs.Turning.{length-flipped_cell}
 
 -- The altered archive by what was opened of it: the same shape and lattice, and the one record.
 pub record IsAlteredIn (number nodes permille : ℕ) (v : Opened) (stored : Stored) (c : Files) : Type 0 where
@@ -107,7 +107,7 @@ module _ (lengths : CellsHaveLengths) (parts : CellsHaveParts) where
             let n = i.is_lattice.n in
             cells.sites f (site_bytes v.shape v.lattice.n) first (omega (arith, last, count)) (rows-short v.shape v.lattice.n i.is_shape (omega (arith, n, few)));
         known = known;
-        survivors = struck_tells lengths parts v known payload s.files struck i.is_lattice.alpha;
+        survivors = struck_reveals lengths parts v known payload s.files struck i.is_lattice.alpha;
         fits = λ h lines report printed. fits_room nodes room [] v h lines known i.is_shape i.is_lattice few same report printed;
       }
 
@@ -127,7 +127,7 @@ small_outcome lengths parts law number nodes permille c d o a done =
     let i = altered_in law number nodes permille c v a done.this in
     let known = is_unaltered v.shape v.lattice number permille in
     let struck = is_struck v number permille c i.altered in
-    let printed = m.printed known (struck_tells lengths parts v known (woven_payload v.shape v.lattice number) c struck i.is_lattice.alpha) in
+    let printed = m.printed known (struck_reveals lengths parts v known (woven_payload v.shape v.lattice number) c struck i.is_lattice.alpha) in
     let all = printed.counted.damaged in let p = m.numbers.peeled in let s = m.numbers.solved in let l = m.numbers.lost in
     let small = m.report.head.damaged in
     omega (arith, all, p, s, l, small)
@@ -143,11 +143,11 @@ is_rehearsed lengths parts law number nodes permille c d o r a done counts =
     let known = is_unaltered v.shape v.lattice number permille in
     let payload = woven_payload v.shape v.lattice number in
     let struck = is_struck v number permille c i.altered in
-    let tells = struck_tells lengths parts v known payload c struck i.is_lattice.alpha in
+    let reveals = struck_reveals lengths parts v known payload c struck i.is_lattice.alpha in
     let plain = struck_plain lengths parts v known payload c struck in
-    let restores = m.restores known tells in
+    let restores = m.restores known reveals in
     let seal : v.seal ≡ sha256 (spelled v.shape (Object stored ∷ [])) = i.has.seal in
-    let printed = m.printed known tells in
+    let printed = m.printed known reveals in
     let to = λ (b : BlockId) (is : IsIntactBy v.shape stored.digests d b). subst (λ (ds : List (List ℕ)). IsIntactBy v.shape ds d b) (sym i.digests) is in
     let from = λ (b : BlockId) (is : IsIntactBy v.shape v.digests d b). subst (λ (ds : List (List ℕ)). IsIntactBy v.shape ds d b) i.digests is in
     let determined = λ (b : BlockId) (has : HasBlock v.lattice b) (is : Determines v.lattice known b). from b (restores.determined (inl refl) b has is) in
@@ -167,9 +167,9 @@ is_rehearsed lengths parts law number nodes permille c d o r a done counts =
       others = λ b has bad.
           let damaged : known b ≡ false = not_known (known b) (λ is. bad (determined b has (known_determined v.lattice known b has is))) in
           let wide = i.altered.wide b has in
-          m.stays known tells b (turned_cell b (payload b)) (block_in_shape v.shape v.lattice b i.is_lattice.alpha has)
+          m.stays known reveals b (flipped_cell b (payload b)) (block_in_shape v.shape v.lattice b i.is_lattice.alpha has)
           (λ restorable. bad (determined b has restorable.determined))
-          (omega (arith, wide, length-turned_cell lengths b (payload b)))
+          (omega (arith, wide, length-flipped_cell lengths b (payload b)))
           (struck.other_at b has damaged).here;
       head = m.head;
       lines = m.lines;
@@ -181,9 +181,9 @@ is_rehearsed lengths parts law number nodes permille c d o r a done counts =
         solved = counts.solved ∙ m.numbers.solved;
         lost = counts.lost ∙ m.numbers.lost;
       };
-      accepted = λ test told.
+      accepted = λ test revealed.
           subst (λ (xs : List ℕ). Fits v.lattice xs test m.head m.lines) seal
-          (m.fits test (subst (λ (n : ℕ). TellsSurvivors v.shape n v.digests d test) (sym i.is_lattice.n) (subst (λ (ds : List (List ℕ)). TellsSurvivors v.shape nodes ds d test) (sym i.digests) told)));
+          (m.fits test (subst (λ (n : ℕ). RevealsSurvivors v.shape n v.digests d test) (sym i.is_lattice.n) (subst (λ (ds : List (List ℕ)). RevealsSurvivors v.shape nodes ds d test) (sym i.digests) revealed)));
     }
 
 -- the altered archive is a ledger
@@ -224,9 +224,9 @@ is_altered_archive number nodes permille bytes v c d are built same left =
     }
 
 -- what is ready stays so while nothing is written
-pub ready_later : (tells : Type 0) (v : Opened) (old new : State) (room : ℕ) → tells → OnlyReads tells ⊥ old new → IsReady v old room → IsReady v new room
-ready_later tells v old new room told reads ready =
-    let same = reads.contents told in
+pub ready_later : (reveals : Type 0) (v : Opened) (old new : State) (room : ℕ) → reveals → OnlyReads reveals ⊥ old new → IsReady v old room → IsReady v new room
+ready_later reveals v old new room revealed reads ready =
+    let same = reads.contents revealed in
     record {
       records = ready.records;
       datas = ready.datas;
@@ -237,6 +237,6 @@ ready_later tells v old new room told reads ready =
       willing = willing_after old new reads.time ready.willing;
       sites = λ f first last. reads.time.room f (site_bytes v.shape v.lattice.n) (ready.sites f first last);
       known = ready.known;
-      survivors = subst (λ (c : Files). TellsSurvivors v.shape v.lattice.n v.digests c ready.known) (sym same) ready.survivors;
+      survivors = subst (λ (c : Files). RevealsSurvivors v.shape v.lattice.n v.digests c ready.known) (sym same) ready.survivors;
       fits = ready.fits;
     }

@@ -20,7 +20,7 @@ use Rattle.aea_verify.specs.declared.verdict.VerifyFault.{VerifyFault}
 use Rattle.aea_verify.specs.declared.verdict.VerifyFault.TheVariants as fault
 use Rattle.aea_verify.specs.Answers.{IsFree}
 use Rattle.aea_ledger.specs.Values.{Opened}
-use Rattle.aea_archive.specs.Blocks.{recorded_in, IsIntactBy, TellsSurvivors}
+use Rattle.aea_archive.specs.Blocks.{recorded_in, IsIntactBy, RevealsSurvivors}
 
 -- what is in the place of a block's payload
 abbrev payload_here : Opened → Files → BlockId → List ℕ
@@ -49,8 +49,8 @@ payload_found lengths parts v c b intact =
     ap (payload_in v.shape) intact.here.cell ∙ ap (λ (n : ℕ). take n (drop 16 (cell_of b p))) (sym wide) ∙ (parts b p).1
 
 -- it distinguishes the intact blocks
-pub test_tells : CellsHaveLengths → CellsHaveParts → (v : Opened) (c : Files) → TellsSurvivors v.shape v.lattice.n v.digests c (intact_test v c)
-test_tells lengths parts v c b inside = (
+pub test_reveals : CellsHaveLengths → CellsHaveParts → (v : Opened) (c : Files) → RevealsSurvivors v.shape v.lattice.n v.digests c (intact_test v c)
+test_reveals lengths parts v c b inside = (
   λ is. let all = (decided v c b).0 is in record { within = (let below = all.0 in omega (arith, below)); here = record { payload = payload_here v c b; cell = all.1.0; digest = all.1.1 } },
   λ intact.
       let found = payload_found lengths parts v c b intact in

@@ -12,22 +12,22 @@ use Rattle.aea_envelope.specs.Cells.{head_of, block_digest, cell_of}
 use Rattle.aea_envelope.specs.Facts.{CellsHaveLengths}
 use Rattle.aea_disk.specs.Files.{Files}
 use Rattle.aea_shelf.specs.Places.{HasAtHome}
-use Rattle.aea_rehearse.specs.Rehearsed.{turned, turned_cell, keeps_digest}
+use Rattle.aea_rehearse.specs.Rehearsed.{flipped, flipped_cell, keeps_digest}
 
 -- turning keeps the length
-pub length-turned : (xs : List ℕ) → length (turned xs) ≡ length xs
-length-turned [] = refl
-length-turned (x ∷ xs) = refl
+pub length-flipped : (xs : List ℕ) → length (flipped xs) ≡ length xs
+length-flipped [] = refl
+length-flipped (x ∷ xs) = refl
 
 -- a flipped cell is as long as the cell
-pub length-turned_cell : CellsHaveLengths → (b : BlockId) (payload : List ℕ) → length (turned_cell b payload) ≡ length payload + 48
-length-turned_cell lengths b payload =
+pub length-flipped_cell : CellsHaveLengths → (b : BlockId) (payload : List ℕ) → length (flipped_cell b payload) ≡ length payload + 48
+length-flipped_cell lengths b payload =
     let head = (lengths b payload).0 in let digest = (lengths b payload).1 in
-    omega (arith, head, digest, length-append (head_of b ++ turned payload) (block_digest b payload), length-append (head_of b) (turned payload), length-turned payload)
+    omega (arith, head, digest, length-append (head_of b ++ flipped payload) (block_digest b payload), length-append (head_of b) (flipped payload), length-flipped payload)
 
 -- what is done to a buffer with the cell: a bit of its byte 16 is flipped
 pub turn_cell : CellsHaveLengths → (b : BlockId) (payload : List ℕ) → 1 ≤ length payload
-    → set (cell_of b payload) 16 (bit_xor (get_or (cell_of b payload) 16 0) 1) ≡ turned_cell b payload
+    → set (cell_of b payload) 16 (bit_xor (get_or (cell_of b payload) 16 0) 1) ≡ flipped_cell b payload
 turn_cell lengths b [] some = absurd (omega arith)
 turn_cell lengths b (x ∷ xs) some =
     let head = (lengths b (x ∷ xs)).0 in
@@ -42,39 +42,39 @@ turn_cell lengths b (x ∷ xs) some =
     ∙ ap (λ (l : List ℕ). l ++ digest) (set-append_seam (head_of b) x xs (bit_xor x 1))
 
 -- the payload in a flipped cell
-pub turned_payload : CellsHaveLengths → (b : BlockId) (payload : List ℕ) → take (length (turned_cell b payload) - 48) (drop 16 (turned_cell b payload)) ≡ turned payload
-turned_payload lengths b payload =
+pub flipped_payload : CellsHaveLengths → (b : BlockId) (payload : List ℕ) → take (length (flipped_cell b payload) - 48) (drop 16 (flipped_cell b payload)) ≡ flipped payload
+flipped_payload lengths b payload =
     let head = (lengths b payload).0 in
     let digest = block_digest b payload in
-    let rest : drop 16 (turned_cell b payload) ≡ turned payload ++ digest =
-    ap (λ (n : ℕ). drop n (turned_cell b payload)) (sym head)
-    ∙ ap (drop (length (head_of b))) (append_assoc (head_of b) (turned payload) digest)
-    ∙ drop-append_seam (head_of b) (turned payload ++ digest) in
-    let long : length (turned_cell b payload) - 48 ≡ length (turned payload) = omega (arith, length-turned_cell lengths b payload, length-turned payload) in
-    ap (λ (n : ℕ). take n (drop 16 (turned_cell b payload))) long ∙ ap (take (length (turned payload))) rest ∙ take-append_seam (turned payload) digest
+    let rest : drop 16 (flipped_cell b payload) ≡ flipped payload ++ digest =
+    ap (λ (n : ℕ). drop n (flipped_cell b payload)) (sym head)
+    ∙ ap (drop (length (head_of b))) (append_assoc (head_of b) (flipped payload) digest)
+    ∙ drop-append_seam (head_of b) (flipped payload ++ digest) in
+    let long : length (flipped_cell b payload) - 48 ≡ length (flipped payload) = omega (arith, length-flipped_cell lengths b payload, length-flipped payload) in
+    ap (λ (n : ℕ). take n (drop 16 (flipped_cell b payload))) long ∙ ap (take (length (flipped payload))) rest ∙ take-append_seam (flipped payload) digest
 
 -- the digest stays, or it does not
-pub keeps-true : (b : BlockId) (payload recorded found : List ℕ) → block_digest b payload ≡ recorded → found ≡ turned payload → block_digest b found ≡ recorded → keeps_digest b payload ≡ true
+pub keeps-true : (b : BlockId) (payload recorded found : List ℕ) → block_digest b payload ≡ recorded → found ≡ flipped payload → block_digest b found ≡ recorded → keeps_digest b payload ≡ true
 keeps-true b payload recorded found digest is same =
-    (bytes_eq-Decides (block_digest b (turned payload)) (block_digest b payload)).1 (ap (block_digest b) (sym is) ∙ same ∙ sym digest)
+    (bytes_eq-Decides (block_digest b (flipped payload)) (block_digest b payload)).1 (ap (block_digest b) (sym is) ∙ same ∙ sym digest)
 
 not_true : (x : Bool) → (x ≡ true → ⊥) → x ≡ false
 not_true true denied = absurd (denied refl)
 not_true false denied = refl
 
-pub keeps-false : (b : BlockId) (payload recorded found : List ℕ) → block_digest b payload ≡ recorded → found ≡ turned payload → block_digest b found ≢ recorded → keeps_digest b payload ≡ false
+pub keeps-false : (b : BlockId) (payload recorded found : List ℕ) → block_digest b payload ≡ recorded → found ≡ flipped payload → block_digest b found ≢ recorded → keeps_digest b payload ≡ false
 keeps-false b payload recorded found digest is differ =
     not_true (keeps_digest b payload)
-    (λ yes. differ (ap (block_digest b) is ∙ (bytes_eq-Decides (block_digest b (turned payload)) (block_digest b payload)).0 yes ∙ digest))
+    (λ yes. differ (ap (block_digest b) is ∙ (bytes_eq-Decides (block_digest b (flipped payload)) (block_digest b payload)).0 yes ∙ digest))
 
 -- What is at a home where a flipped cell was written, and where none was.
-pub struck_home : (shape : Shape) (b : BlockId) (payload : List ℕ) (c : Files) → keeps_digest b payload ≡ false → HasAtHome shape b (turned_cell b payload) c
-    → HasAtHome shape b (cond (keeps_digest b payload) (cell_of b payload) (turned_cell b payload)) c
-struck_home shape b payload c keeps here = subst (λ (x : Bool). HasAtHome shape b (cond x (cell_of b payload) (turned_cell b payload)) c) (sym keeps) here
+pub struck_home : (shape : Shape) (b : BlockId) (payload : List ℕ) (c : Files) → keeps_digest b payload ≡ false → HasAtHome shape b (flipped_cell b payload) c
+    → HasAtHome shape b (cond (keeps_digest b payload) (cell_of b payload) (flipped_cell b payload)) c
+struck_home shape b payload c keeps here = subst (λ (x : Bool). HasAtHome shape b (cond x (cell_of b payload) (flipped_cell b payload)) c) (sym keeps) here
 
 pub spared_home : (shape : Shape) (b : BlockId) (payload : List ℕ) (c : Files) → keeps_digest b payload ≡ true → HasAtHome shape b (cell_of b payload) c
-    → HasAtHome shape b (cond (keeps_digest b payload) (cell_of b payload) (turned_cell b payload)) c
-spared_home shape b payload c keeps here = subst (λ (x : Bool). HasAtHome shape b (cond x (cell_of b payload) (turned_cell b payload)) c) (sym keeps) here
+    → HasAtHome shape b (cond (keeps_digest b payload) (cell_of b payload) (flipped_cell b payload)) c
+spared_home shape b payload c keeps here = subst (λ (x : Bool). HasAtHome shape b (cond x (cell_of b payload) (flipped_cell b payload)) c) (sym keeps) here
 
 -- what a judgement says by whether it names a digest
 pub judged_differ : (o : Option (List ℕ)) (found want : List ℕ) → IsNone o ↔ (found ≡ want) → is_some o ≡ true → found ≢ want

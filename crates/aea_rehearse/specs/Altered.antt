@@ -17,7 +17,7 @@ use Rattle.aea_records.specs.Format.{Stored, Object, nodes_of}
 use Rattle.aea_ledger.specs.Recorded.{IsLatticeOf, AreRecordsOf}
 use Rattle.aea_ledger.specs.Values.{Opened, IsThisOne}
 use Rattle.aea_ledger.specs.Stops.{HasLedger}
-use Rattle.aea_archive.specs.Blocks.{recorded_in, TellsSurvivors}
+use Rattle.aea_archive.specs.Blocks.{recorded_in, RevealsSurvivors}
 use Rattle.aea_restore.specs.Laws.{IsRestorable}
 use Rattle.aea_restore.specs.Repairs.{IsLeft}
 use Rattle.aea_repair.specs.declared.outcome.Outcome.{Outcome}
@@ -48,15 +48,15 @@ pub record IsAltered (number nodes permille : ℕ) (c : Files) : Type 0 where
 
 -- The opened archive was repaired, with these bytes as its report: for each test of the blocks that were intact before.
 pub record IsMended (v : Opened) (bytes : List ℕ) (old new : Files) (o : Outcome) : Type 0 where
-  pub restores : (known : BlockId → Bool) → TellsSurvivors v.shape v.lattice.n v.digests old known → Restores {T = Outcome} v known old new (Ok o)
-  pub stays : (known : BlockId → Bool) → TellsSurvivors v.shape v.lattice.n v.digests old known → KeepsHomes v.shape (IsLeft (IsRestorable v.lattice known)) old new
+  pub restores : (known : BlockId → Bool) → RevealsSurvivors v.shape v.lattice.n v.digests old known → Restores {T = Outcome} v known old new (Ok o)
+  pub stays : (known : BlockId → Bool) → RevealsSurvivors v.shape v.lattice.n v.digests old known → KeepsHomes v.shape (IsLeft (IsRestorable v.lattice known)) old new
   pub ledger : new 0 ≡ old 0
   pub head : Head
   pub lines : List Line
   pub report : IsReport bytes head lines
-  pub printed : (known : BlockId → Bool) → TellsSurvivors v.shape v.lattice.n v.digests old known → IsPrinted v.lattice known (Some v.seal) head lines
+  pub printed : (known : BlockId → Bool) → RevealsSurvivors v.shape v.lattice.n v.digests old known → IsPrinted v.lattice known (Some v.seal) head lines
   pub numbers : HasNumbersOf head o
-  pub fits : (intact : BlockId → Bool) → TellsSurvivors v.shape v.lattice.n v.digests new intact → Fits v.lattice v.seal intact head lines
+  pub fits : (intact : BlockId → Bool) → RevealsSurvivors v.shape v.lattice.n v.digests new intact → Fits v.lattice v.seal intact head lines
 
 -- The archive was opened and repaired.
 pub record IsRestored (old new : Files) (o : Outcome) : Type 0 where

@@ -15,7 +15,7 @@ use Rattle.aea_ledger.specs.Stops.{HasLedger}
 use Rattle.aea_archive.specs.Blocks.{recorded_in}
 use Rattle.aea_archive.specs.Next.{object_blocks}
 use Rattle.aea_rehearse.specs.Generator.{state_after, strikes}
-use Rattle.aea_rehearse.specs.Rehearsed.{IsRehearsalShape, IsRehearsalRecord, turned_cell, keeps_digest}
+use Rattle.aea_rehearse.specs.Rehearsed.{IsRehearsalShape, IsRehearsalRecord, flipped_cell, keeps_digest}
 
 -- The blocks have these payloads: each of the block size, with the digest that the ledger keeps.
 pub record AreRecordedPayloads (v : Opened) (payload : BlockId → List ℕ) : Type 0 where
@@ -44,7 +44,7 @@ is_hit l x permille payload b = strikes permille (state_after x (number_of l b +
 
 -- what is at its home then
 abbrev pub cell_by : Lattice → ℕ → ℕ → (BlockId → List ℕ) → BlockId → List ℕ
-cell_by l x permille payload b = cond (is_hit l x permille payload b) (turned_cell b (payload b)) (cell_of b (payload b))
+cell_by l x permille payload b = cond (is_hit l x permille payload b) (flipped_cell b (payload b)) (cell_of b (payload b))
 
 -- The blocks with numbers below k were gone through, and the others are as they were woven.
 pub record AreGoneThrough (v : Opened) (x permille k : ℕ) (payload : BlockId → List ℕ) (c : Files) : Type 0 where

@@ -12,7 +12,7 @@ use Rattle.aea_report.specs.Grammar.{IsReport}
 use Rattle.aea_records.specs.Format.{Record}
 use Rattle.aea_ledger.specs.Recorded.{AreRecordsOf}
 use Rattle.aea_ledger.specs.Values.{Opened, HasRecords}
-use Rattle.aea_archive.specs.Blocks.{TellsSurvivors}
+use Rattle.aea_archive.specs.Blocks.{RevealsSurvivors}
 use Rattle.aea_archive.specs.Cells.{HaveSitesRoom}
 use Rattle.aea_archive.specs.Data.{AreSurvivorsHonest, IsDamagePlain}
 use Rattle.aea_rehearse.specs.Rooms.{IsWilling}
@@ -30,7 +30,7 @@ pub record IsReady (v : Opened) (s : State) (room : ℕ) : Type 0 where
   pub willing : IsWilling s
   pub sites : HaveSitesRoom v.shape v.lattice.n s
   pub known : BlockId → Bool
-  pub survivors : TellsSurvivors v.shape v.lattice.n v.digests s.files known
+  pub survivors : RevealsSurvivors v.shape v.lattice.n v.digests s.files known
   pub fits : (h : Head) (lines : List Line) → IsReport (report_bytes h lines) h lines → IsPrinted v.lattice known (Some v.seal) h lines → length (report_bytes h lines) ≤ room
 
 -- The bytes are a report that fits the archive as it is, by each test of its intact blocks.
@@ -38,4 +38,4 @@ pub record IsFitting (v : Opened) (c : Files) (bytes : List ℕ) : Type 0 where
   pub head : Head
   pub lines : List Line
   pub report : IsReport bytes head lines
-  pub fits : (intact : BlockId → Bool) → TellsSurvivors v.shape v.lattice.n v.digests c intact → Fits v.lattice v.seal intact head lines
+  pub fits : (intact : BlockId → Bool) → RevealsSurvivors v.shape v.lattice.n v.digests c intact → Fits v.lattice v.seal intact head lines

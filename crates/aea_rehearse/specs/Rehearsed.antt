@@ -18,7 +18,7 @@ use Rattle.aea_report.specs.Fits.{Fits}
 use Rattle.aea_records.specs.Format.{Stored, Object, spelled}
 use Rattle.aea_ledger.specs.Recorded.{IsLatticeOf, AreRecordsOf}
 use Rattle.aea_ledger.specs.Stops.{HasLedger}
-use Rattle.aea_archive.specs.Blocks.{IsIntactBy, TellsSurvivors}
+use Rattle.aea_archive.specs.Blocks.{IsIntactBy, RevealsSurvivors}
 use Rattle.aea_archive.specs.Next.{object_blocks}
 use Rattle.aea_rehearse.specs.Generator.{state_after, bytes_from, strikes}
 use Rattle.aea_rehearse.specs.declared.rehearsal.Rehearsal.{Rehearsal}
@@ -44,17 +44,17 @@ abbrev pub woven_payload : Shape → Lattice → ℕ → BlockId → List ℕ
 woven_payload shape l number b = value_of l shape.block (rehearsal_data shape l number) b
 
 -- the first byte, by XOR with 1
-abbrev pub turned : List ℕ → List ℕ
-turned [] = []
-turned (x ∷ xs) = bit_xor x 1 ∷ xs
+abbrev pub flipped : List ℕ → List ℕ
+flipped [] = []
+flipped (x ∷ xs) = bit_xor x 1 ∷ xs
 
 -- a block's cell in which a bit of the first byte of the payload is flipped, and the digest is that of the payload before
-abbrev pub turned_cell : BlockId → List ℕ → List ℕ
-turned_cell b payload = head_of b ++ turned payload ++ block_digest b payload
+abbrev pub flipped_cell : BlockId → List ℕ → List ℕ
+flipped_cell b payload = head_of b ++ flipped payload ++ block_digest b payload
 
 -- whether the payload, flipped, has the digest that it has otherwise
 abbrev pub keeps_digest : BlockId → List ℕ → Bool
-keeps_digest b payload = bytes_eq (block_digest b (turned payload)) (block_digest b payload)
+keeps_digest b payload = bytes_eq (block_digest b (flipped payload)) (block_digest b payload)
 
 -- the state by which it is judged whether a block is altered: after the steps for the bytes there is one for each block, in
 -- number order
@@ -73,7 +73,7 @@ is_unaltered shape l number permille b = not (is_altered shape l number permille
 -- what is at the home of a block when the altering is done
 abbrev pub left_cell : Shape → Lattice → ℕ → ℕ → BlockId → List ℕ
 left_cell shape l number permille b =
-    cond (is_altered shape l number permille b) (turned_cell b (woven_payload shape l number b)) (cell_of b (woven_payload shape l number b))
+    cond (is_altered shape l number permille b) (flipped_cell b (woven_payload shape l number b)) (cell_of b (woven_payload shape l number b))
 
 -- The record is the one of the object `rehearsal`, with these bytes.
 pub record IsRehearsalRecord (bytes : List ℕ) (o : Stored) : Type 0 where
@@ -104,11 +104,11 @@ pub record IsRehearsed (number nodes permille : ℕ) (c : Files) (r : Rehearsal)
   pub intact : (b : BlockId) → HasBlock lattice b
       → IsIntactBy shape stored.digests c b ↔ (IsTrue (is_unaltered shape lattice number permille b) ⊎ Determines lattice (is_unaltered shape lattice number permille) b)
   pub others : (b : BlockId) → HasBlock lattice b → (IsIntactBy shape stored.digests c b → ⊥)
-      → HasAtHome shape b (turned_cell b (woven_payload shape lattice number b)) c
+      → HasAtHome shape b (flipped_cell b (woven_payload shape lattice number b)) c
   -- the counts are those of the printed report for the unaltered blocks, with the ledger's seal, and it fits what is left
   pub head : Head
   pub lines : List Line
   pub printed : IsPrinted lattice (is_unaltered shape lattice number permille) (Some (sha256 (spelled shape (Object stored ∷ [])))) head lines
   pub counts : HasCountsOf lattice head r
-  pub accepted : (test : BlockId → Bool) → TellsSurvivors shape nodes stored.digests c test
+  pub accepted : (test : BlockId → Bool) → RevealsSurvivors shape nodes stored.digests c test
       → Fits lattice (sha256 (spelled shape (Object stored ∷ []))) test head lines

@@ -11,7 +11,7 @@ ghost use Rattle.aea_shelf.specs.Places.{cell_size, home_file, home_place, HasAt
 ghost use Rattle.aea_shelf.specs.Writes.{ChangesHome};
 ghost use Rattle.aea_archive.specs.Blocks.{recorded_in, IsIntactBy};
 ghost use Rattle.aea_rehearse.specs.Generator.{next_state, state_after};
-ghost use Rattle.aea_rehearse.specs.Rehearsed.{IsRehearsalShape, turned_cell, keeps_digest};
+ghost use Rattle.aea_rehearse.specs.Rehearsed.{IsRehearsalShape, flipped_cell, keeps_digest};
 ghost use Rattle.aea_rehearse.specs.Rooms.{IsWilling, HasCellsRoom};
 ghost use Rattle.aea_rehearse.specs.Building.{AreRecordedPayloads, AreWoven, AreGoneThrough, AreLeft};
 
@@ -19,7 +19,7 @@ use crate::generator::Generator;
 use aea_archive::{read_block, recorded};
 use aea_disk::Disk;
 use aea_envelope::{cells_have_lengths, cells_have_parts};
-use aea_lattice::{BlockId, numbers_tell_blocks};
+use aea_lattice::{BlockId, numbers_reveal_blocks};
 use aea_ledger::Ledger;
 use aea_place::home;
 use aea_shelf::{Cell, cells_are_apart, homes_are_in_rows, homes_are_on_its_sites, judge};
@@ -29,13 +29,13 @@ const CELL: usize = 560;
 
 // Reads the cell of a block, which is intact.
 fn read_intact<D: Disk>(disk: &mut D, ledger: &Ledger, b: BlockId, cell: &mut [u8])
-    requires tells { D.tells }
+    requires reveals { D.reveals }
     requires willing { IsWilling (D.state disk.old) }
     requires block { HasBlock ledger.now.lattice b }
     requires buffer { length cell.old ≡ cell_size ledger.now.shape }
     requires intact { IsIntactBy ledger.now.shape ledger.now.digests (D.state disk.old).files b }
     ensures cell { (payload : List ℕ) → length payload ≡ ledger.now.shape.block → HasAtHome ledger.now.shape b (cell_of b payload) (D.state disk.old).files → cell.new ≡ cell_of b payload }
-    ensures reads { OnlyReads D.tells ⊥ (D.state disk.old) (D.state disk.new) }
+    ensures reads { OnlyReads D.reveals ⊥ (D.state disk.old) (D.state disk.new) }
 {
     cells_have_lengths();
     match read_block(disk, ledger, b, cell) {
@@ -47,7 +47,7 @@ fn read_intact<D: Disk>(disk: &mut D, ledger: &Ledger, b: BlockId, cell: &mut [u
 
 // Writes the bytes of a cell at the home of a block.
 fn write_home<D: Disk>(disk: &mut D, ledger: &Ledger, b: BlockId, cell: &[u8])
-    requires tells { D.tells }
+    requires reveals { D.reveals }
     requires shape { IsRehearsalShape ledger.now.shape }
     requires block { HasBlock ledger.now.lattice b }
     requires cell { length cell.now ≡ cell_size ledger.now.shape }
@@ -67,16 +67,16 @@ fn write_home<D: Disk>(disk: &mut D, ledger: &Ledger, b: BlockId, cell: &[u8])
 
 // Flips a bit of the first byte of a block's payload on the disk, unless the payload would keep its digest.
 fn alter_block<D: Disk>(disk: &mut D, ledger: &Ledger, b: BlockId, cell: &mut [u8])
-    requires tells { D.tells }
+    requires reveals { D.reveals }
     requires shape { IsRehearsalShape ledger.now.shape }
     requires few { ledger.now.lattice.n ≤ 2000 }
     requires room { HasCellsRoom (D.state disk.old) }
     requires block { HasBlock ledger.now.lattice b }
     requires buffer { length cell.old ≡ cell_size ledger.now.shape }
     requires intact { IsIntactBy ledger.now.shape ledger.now.digests (D.state disk.old).files b }
-    ensures turned { (payload : List ℕ) → length payload ≡ ledger.now.shape.block → block_digest b payload ≡ recorded_in ledger.now.shape ledger.now.digests b
+    ensures flipped { (payload : List ℕ) → length payload ≡ ledger.now.shape.block → block_digest b payload ≡ recorded_in ledger.now.shape ledger.now.digests b
         → HasAtHome ledger.now.shape b (cell_of b payload) (D.state disk.old).files
-        → HasAtHome ledger.now.shape b (cond (keeps_digest b payload) (cell_of b payload) (turned_cell b payload)) (D.state disk.new).files }
+        → HasAtHome ledger.now.shape b (cond (keeps_digest b payload) (cell_of b payload) (flipped_cell b payload)) (D.state disk.new).files }
     ensures step { ChangesHome ledger.now.shape b (D.state disk.old).files (D.state disk.new).files }
     ensures time { Passes (D.state disk.old) (D.state disk.new) }
     ensures steady { (D.state disk.new).faults ≡ (D.state disk.old).faults }
@@ -101,7 +101,7 @@ fn alter_next<D: Disk>(
     k: u32,
     cell: &mut [u8],
 )
-    requires tells { D.tells }
+    requires reveals { D.reveals }
     requires shape { IsRehearsalShape ledger.now.shape }
     requires few { ledger.now.lattice.n ≤ 2000 }
     requires room { HasCellsRoom (D.state disk.old) }
@@ -118,7 +118,7 @@ fn alter_next<D: Disk>(
     cells_have_lengths();
     cells_are_apart();
     homes_are_in_rows();
-    numbers_tell_blocks();
+    numbers_reveal_blocks();
     let lattice = ledger.lattice();
     let b = lattice.block(k);
     if generator.strike(permille) {
@@ -133,7 +133,7 @@ pub(crate) fn alter<D: Disk>(
     generator: &mut Generator,
     permille: u32,
 )
-    requires tells { D.tells }
+    requires reveals { D.reveals }
     requires shape { IsRehearsalShape ledger.now.shape }
     requires few { ledger.now.lattice.n ≤ 2000 }
     requires room { HasCellsRoom (D.state disk.old) }

@@ -41,7 +41,7 @@ pub fn rehearsal_shape() -> Shape
 
 /// Makes an archive without objects of this shape on a disk whose ledger is empty.
 pub fn create<D: Disk>(disk: &mut D, shape: &Shape)
-    requires tells { D.tells }
+    requires reveals { D.reveals }
     requires empty { (D.state disk.old).files 0 ≡ [] }
     requires willing { IsWilling (D.state disk.old) }
     requires room { HasRoomTo (D.state disk.old) 0 18 }
@@ -58,13 +58,13 @@ pub fn create<D: Disk>(disk: &mut D, shape: &Shape)
 
 /// Opens the archive, which is one.
 pub fn open<D: Disk>(alloc: Global, disk: &mut D) -> Result<Ledger, AllocError>
-    requires tells { D.tells }
+    requires reveals { D.reveals }
     requires archive { IsSomeLedger ((D.state disk.old).files 0) }
     requires willing { IsWilling (D.state disk.old) }
     ensures this { IfOk result (λ v. IsThisOne v ((D.state disk.old).files 0)) }
     ensures live { IfOk result (λ v. v.live ≡ true) }
     ensures synced { IsSynced (D.state disk.new) }
-    ensures reads { OnlyReads D.tells ⊥ (D.state disk.old) (D.state disk.new) }
+    ensures reads { OnlyReads D.reveals ⊥ (D.state disk.old) (D.state disk.new) }
 {
     match open_ledger(alloc, disk) {
         Ok(ledger) => Ok(ledger),
@@ -82,7 +82,7 @@ fn store<D: Disk>(
     disk: &mut D,
     bytes: &[u8],
 ) -> Result<(), AllocError>
-    requires tells { D.tells }
+    requires reveals { D.reveals }
     requires live { ledger.old.live ≡ true }
     requires none { AreItsRecords ledger.old [] ((D.state disk.old).files 0) }
     requires fixed { IsFixed (D.state disk.old) 0 }
@@ -116,7 +116,7 @@ pub(crate) fn build<D: Disk>(
     disk: &mut D,
     bytes: &[u8],
 ) -> Result<Ledger, AllocError>
-    requires tells { D.tells }
+    requires reveals { D.reveals }
     requires empty { (D.state disk.old).files 0 ≡ [] }
     requires few { length bytes.now ≤ 2000 * 512 }
     requires room { (shape : Shape) → IsRehearsalShape shape → HasRehearsalRoom (nodes_for shape (length bytes.now)) (D.state disk.old) }

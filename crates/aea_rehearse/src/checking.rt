@@ -9,7 +9,7 @@ ghost use Rattle.aea_report.specs.declared.line.Line.{Line};
 ghost use Rattle.aea_report.specs.Fits.{Fits};
 ghost use Rattle.aea_report.specs.Grammar.{IsReport};
 ghost use Rattle.aea_report.specs.Laws.{AreReport};
-ghost use Rattle.aea_archive.specs.Blocks.{TellsSurvivors};
+ghost use Rattle.aea_archive.specs.Blocks.{RevealsSurvivors};
 ghost use Rattle.aea_verify.specs.declared.verdict.Verdict.TheVariants as verdicts;
 ghost use Rattle.aea_lattice.specs.Data.{IsBytes};
 ghost use Rattle.aea_records.specs.TableLaws.{AreBytes};
@@ -47,7 +47,7 @@ pub fn mend<D: Disk>(
     disk: &mut D,
     report: &mut SureSink,
 ) -> Result<Outcome, AllocError>
-    requires tells { D.tells }
+    requires reveals { D.reveals }
     requires ready { IsReady ledger.now (D.state disk.old) report.old.room }
     requires empty { report.old.bytes.items ≡ [] }
     ensures mended { IfOk result (IsMended ledger.now report.new.bytes.items (D.state disk.old).files (D.state disk.new).files) }
@@ -73,12 +73,12 @@ fn judge_report<D: Disk>(
     disk: &mut D,
     report: &[u8],
 ) -> Result<Verdict, AllocError>
-    requires tells { D.tells }
+    requires reveals { D.reveals }
     requires willing { IsWilling (D.state disk.old) }
     requires report { AreReport report.now }
-    ensures accepted { IfOk result (λ verdict. (intact : BlockId → Bool) (h : Head) (lines : List Line) → TellsSurvivors ledger.now.shape ledger.now.lattice.n ledger.now.digests (D.state disk.old).files intact
+    ensures accepted { IfOk result (λ verdict. (intact : BlockId → Bool) (h : Head) (lines : List Line) → RevealsSurvivors ledger.now.shape ledger.now.lattice.n ledger.now.digests (D.state disk.old).files intact
         → IsReport report.now h lines → (verdict ≡ verdicts.Accepted) ↔ Fits ledger.now.lattice ledger.now.seal intact h lines) }
-    ensures reads { OnlyReads D.tells ⊥ (D.state disk.old) (D.state disk.new) }
+    ensures reads { OnlyReads D.reveals ⊥ (D.state disk.old) (D.state disk.new) }
 {
     let mut source = SureSource::new(report);
     match verify(alloc, ledger, disk, &mut source) {
@@ -98,10 +98,10 @@ pub(crate) fn check<D: Disk>(
     disk: &mut D,
     report: &[u8],
 ) -> Result<(), AllocError>
-    requires tells { D.tells }
+    requires reveals { D.reveals }
     requires willing { IsWilling (D.state disk.old) }
     requires fits { IsFitting ledger.now (D.state disk.old).files report.now }
-    ensures reads { OnlyReads D.tells ⊥ (D.state disk.old) (D.state disk.new) }
+    ensures reads { OnlyReads D.reveals ⊥ (D.state disk.old) (D.state disk.new) }
 {
     cells_have_lengths();
     cells_have_parts();

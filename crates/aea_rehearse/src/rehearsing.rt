@@ -41,7 +41,7 @@ fn damage<D: Disk>(
     nodes: u32,
     permille: u32,
 ) -> Result<(), AllocError>
-    requires tells { D.tells }
+    requires reveals { D.reveals }
     requires few { nodes ≤ 2000 }
     requires report { _report.now.room ≡ report_room nodes }
     requires empty { (D.state disk.old).files 0 ≡ [] }
@@ -63,7 +63,7 @@ fn restore<D: Disk>(
     disk: &mut D,
     report: &mut SureSink,
 ) -> Result<Outcome, AllocError>
-    requires tells { D.tells }
+    requires reveals { D.reveals }
     requires archive { IsSomeLedger ((D.state disk.old).files 0) }
     requires ready { (v : Opened) → IsThisOne v ((D.state disk.old).files 0) → IsReady v (D.state disk.old) report.old.room }
     requires willing { IsWilling (D.state disk.old) }
@@ -100,7 +100,7 @@ fn rehearse_on<D: Disk>(
     nodes: u32,
     permille: u32,
 ) -> Result<Rehearsal, AllocError>
-    requires tells { D.tells }
+    requires reveals { D.reveals }
     requires few { nodes ≤ 2000 }
     requires empty { (D.state disk.old).files 0 ≡ [] }
     requires room { HasRehearsalRoom nodes (D.state disk.old) }

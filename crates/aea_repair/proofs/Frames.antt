@@ -10,7 +10,7 @@ use Rattle.aea_archive.specs.Blocks.{recorded_in, IsHeldBy}
 use Rattle.aea_archive.proofs.Writes.{cells_read, cells_held}
 
 -- A block that was held is so at each moment of the calls and after them.
-pub held_read : HomesAreOnItsSites → (tells fault : Type 0) (v : Opened) (old new : State) (b : BlockId) → tells → IsBlockOf v.shape b → OnlyReads tells fault old new → IsHeldBy v.shape v.digests old b
+pub held_read : HomesAreOnItsSites → (reveals fault : Type 0) (v : Opened) (old new : State) (b : BlockId) → reveals → IsBlockOf v.shape b → OnlyReads reveals fault old new → IsHeldBy v.shape v.digests old b
     → AtEachMoment old new (IsHeldIn v.shape b (recorded_in v.shape v.digests b)) × IsHeldBy v.shape v.digests new b
-held_read sites tells fault v old new b told fits reads held =
-    cells_held tells fault v (λ d. Unit {0}) old new b told fits tt (cells_read sites tells fault fault v.shape v.lattice.n (λ d. Unit {0}) old new (λ is. is) (λ is. is) reads) held
+held_read sites reveals fault v old new b revealed fits reads held =
+    cells_held reveals fault v (λ d. Unit {0}) old new b revealed fits tt (cells_read sites reveals fault fault v.shape v.lattice.n (λ d. Unit {0}) old new (λ is. is) (λ is. is) reads) held

@@ -14,7 +14,7 @@ use Rattle.aea_gauss.specs.Fates.{AreFates, IsFate}
 use Rattle.aea_plan.specs.declared.plan.Plan.{Plan}
 use Rattle.aea_plan.specs.Plans.{IsPlanOf, IsSound}
 use Rattle.aea_plan.proofs.Lists.{filter-fails}
-use Rattle.aea_plan.proofs.Turned.{all-marked}
+use Rattle.aea_plan.proofs.Flipped.{all-marked}
 use Rattle.aea_restore.specs.Laws.{AreOfPlan}
 
 -- nothing passes a test that each block fails

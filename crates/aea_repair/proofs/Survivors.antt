@@ -13,7 +13,7 @@ use Rattle.aea_disk.specs.State.{State}
 use Rattle.aea_view.specs.Marked.{Marked, AreMarks, is_marked}
 use Rattle.aea_ledger.specs.Recorded.{IsLatticeOf}
 use Rattle.aea_ledger.specs.Values.{Opened}
-use Rattle.aea_archive.specs.Blocks.{IsBlockIn, IsHeldBy, TellsSurvivors}
+use Rattle.aea_archive.specs.Blocks.{IsBlockIn, IsHeldBy, RevealsSurvivors}
 use Rattle.aea_restore.specs.Laws.{IsRestorable}
 use Rattle.aea_restore.specs.Drawn.{IsClash}
 use Rattle.aea_restore.specs.Repairs.{IsLeft}
@@ -44,7 +44,7 @@ abbrev pub AreInside : Opened → Type 0
 AreInside v = (b : BlockId) → HasBlock v.lattice b → IsBlockIn v.shape v.lattice.n b
 
 -- two tests that distinguish the survivors agree
-pub tests_agree : (v : Opened) (c : Files) (known test : BlockId → Bool) → AreInside v → TellsSurvivors v.shape v.lattice.n v.digests c known → TellsSurvivors v.shape v.lattice.n v.digests c test
+pub tests_agree : (v : Opened) (c : Files) (known test : BlockId → Bool) → AreInside v → RevealsSurvivors v.shape v.lattice.n v.digests c known → RevealsSurvivors v.shape v.lattice.n v.digests c test
     → (b : BlockId) → HasBlock v.lattice b → known b ≡ test b
 tests_agree v c known test inside first second b has =
     let one = first b (inside b has) in
@@ -52,17 +52,17 @@ tests_agree v c known test inside first second b has =
     same_truth (known b) (test b) (λ is. two.1 (one.0 is)) (λ is. one.1 (two.0 is))
 
 -- marks that distinguish the survivors are those of each test that does
-pub marks_agree : (v : Opened) (c : Files) (m : Marked) (test : BlockId → Bool) → m.lattice ≡ v.lattice → AreInside v → TellsSurvivors v.shape v.lattice.n v.digests c (is_marked m) → TellsSurvivors v.shape v.lattice.n v.digests c test
+pub marks_agree : (v : Opened) (c : Files) (m : Marked) (test : BlockId → Bool) → m.lattice ≡ v.lattice → AreInside v → RevealsSurvivors v.shape v.lattice.n v.digests c (is_marked m) → RevealsSurvivors v.shape v.lattice.n v.digests c test
     → AreMarks m test
-marks_agree v c m test same inside marked tells b has = tests_agree v c (is_marked m) test inside marked tells b (subst (λ (l : Lattice). HasBlock l b) same has)
+marks_agree v c m test same inside marked reveals b has = tests_agree v c (is_marked m) test inside marked reveals b (subst (λ (l : Lattice). HasBlock l b) same has)
 
 -- a known block is determined
 pub known_determined : (l : Lattice) (known : BlockId → Bool) (b : BlockId) → HasBlock l b → IsTrue (known b) → Determines l known b
 known_determined l known b has is w xs ys is_xs is_ys agree = agree b has is
 
 -- a clash for known blocks is one for others that have these
-pub clash_as : (v : Opened) (known test : BlockId → Bool) (c : Files) (b : BlockId) (told computed : List ℕ) → ((d : BlockId) → HasBlock v.lattice d → known d ≡ test d) → IsClash v known c b told computed → IsClash v test c b told computed
-clash_as v known test c b told computed same clash = record {
+pub clash_as : (v : Opened) (known test : BlockId → Bool) (c : Files) (b : BlockId) (revealed computed : List ℕ) → ((d : BlockId) → HasBlock v.lattice d → known d ≡ test d) → IsClash v known c b revealed computed → IsClash v test c b revealed computed
+clash_as v known test c b revealed computed same clash = record {
   other = clash.other;
   payload = clash.payload;
   drawn = record {
@@ -75,6 +75,6 @@ clash_as v known test c b told computed same clash = record {
 }
 
 -- a block that is held was known, and so is not restored
-pub held_left : (v : Opened) (known : BlockId → Bool) (s : State) (b : BlockId) → AreInside v → TellsSurvivors v.shape v.lattice.n v.digests s.files known → HasBlock v.lattice b → IsHeldBy v.shape v.digests s b
+pub held_left : (v : Opened) (known : BlockId → Bool) (s : State) (b : BlockId) → AreInside v → RevealsSurvivors v.shape v.lattice.n v.digests s.files known → HasBlock v.lattice b → IsHeldBy v.shape v.digests s b
     → IsLeft (IsRestorable v.lattice known) b
-held_left v known s b inside tell has held is = true≢false (sym ((tell b (inside b has)).1 held.intact) ∙ is.damaged)
+held_left v known s b inside reveal has held is = true≢false (sym ((reveal b (inside b has)).1 held.intact) ∙ is.damaged)

@@ -21,14 +21,14 @@ use Rattle.aea_repair.specs.declared.fault.RepairFault.TheVariants.{Clash, DiskF
 
 -- the fault of a repair whose writing stage has this one
 abbrev pub fault_of : RestoreFault → RepairFault
-fault_of (stage.Clash b told computed) = Clash b told computed
+fault_of (stage.Clash b revealed computed) = Clash b revealed computed
 fault_of stage.DiskFault = DiskFault
 
 -- What each fault says of the files before and after it: after a clash each restorable block is intact or as before; after a
 -- fault of the disk so is each but the one whose write failed; where the output failed all is restored; and without memory
 -- nothing was written.
 abbrev pub LeavesAt : Opened → (BlockId → Type 0) → Files → Files → RepairFault → Type 0
-LeavesAt v mends old new (Clash b told computed) = IsPartlyRepaired v mends old new
+LeavesAt v mends old new (Clash b revealed computed) = IsPartlyRepaired v mends old new
 LeavesAt v mends old new DiskFault = IsStopped v mends old new
 LeavesAt v mends old new WriteFault = IsRepaired v mends old new
 LeavesAt v mends old new NoMemory = new ≡ old
@@ -55,10 +55,10 @@ pub record Restores {T : Type 0} (v : Opened) (known : BlockId → Bool) (old ne
       → (b : BlockId) → HasBlock v.lattice b → Determines v.lattice known b → payload_at v.shape new b ≡ value_of v.lattice v.shape.block datas b
   -- A clash is one of a block that could be restored: a sum of known blocks, which is this block in every lattice, has another
   -- digest than the ledger keeps.
-  pub clash : (b : BlockId) (told computed : List ℕ) → result ≡ Err (Clash b told computed) → IsRestorable v.lattice known b × IsClash v known old b told computed
+  pub clash : (b : BlockId) (revealed computed : List ℕ) → result ≡ Err (Clash b revealed computed) → IsRestorable v.lattice known b × IsClash v known old b revealed computed
 
 -- Of such a call, with the disk before and after it: that, and at every moment, in every image, the homes of all other
 -- blocks, and each file but those of the sites.
-pub record Repairs {T : Type 0} (tells : Type 0) (v : Opened) (known : BlockId → Bool) (old new : State) (result : Result T RepairFault) : Type 0 where
+pub record Repairs {T : Type 0} (reveals : Type 0) (v : Opened) (known : BlockId → Bool) (old new : State) (result : Result T RepairFault) : Type 0 where
   pub restores : Restores v known old.files new.files result
-  pub alone : WritesBlocks tells v (IsLeft (IsRestorable v.lattice known)) (result ≡ Err DiskFault) old new
+  pub alone : WritesBlocks reveals v (IsLeft (IsRestorable v.lattice known)) (result ≡ Err DiskFault) old new

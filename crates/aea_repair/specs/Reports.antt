@@ -10,18 +10,18 @@ use Rattle.aea_report.specs.Format.{report_bytes}
 use Rattle.aea_report.specs.Printed.{IsPrinted}
 use Rattle.aea_report.specs.Fits.{Fits}
 use Rattle.aea_ledger.specs.Values.{Opened}
-use Rattle.aea_archive.specs.Blocks.{TellsSurvivors}
+use Rattle.aea_archive.specs.Blocks.{RevealsSurvivors}
 use Rattle.aea_archive.specs.Data.{IsDamagePlain}
 use Rattle.aea_repair.specs.declared.outcome.Outcome.{Outcome}
 use Rattle.aea_repair.specs.declared.fault.RepairFault.{RepairFault}
 
 -- The printed report for some known blocks of the archive, with the ledger's seal. Where the disk's contents are known, these
 -- are the blocks that are intact, by whichever test.
-pub record IsReportOf (tells : Type 0) (v : Opened) (c : Files) (h : Head) (lines : List Line) : Type 0 where
+pub record IsReportOf (reveals : Type 0) (v : Opened) (c : Files) (h : Head) (lines : List Line) : Type 0 where
   pub known : BlockId → Bool
-  pub survivors : tells → TellsSurvivors v.shape v.lattice.n v.digests c known
+  pub survivors : reveals → RevealsSurvivors v.shape v.lattice.n v.digests c known
   pub printed : IsPrinted v.lattice known (Some v.seal) h lines
-  pub each : tells → (test : BlockId → Bool) → TellsSurvivors v.shape v.lattice.n v.digests c test → IsPrinted v.lattice test (Some v.seal) h lines
+  pub each : reveals → (test : BlockId → Bool) → RevealsSurvivors v.shape v.lattice.n v.digests c test → IsPrinted v.lattice test (Some v.seal) h lines
 
 -- the outcome has the numbers of the report's head
 pub record HasNumbersOf (h : Head) (o : Outcome) : Type 0 where
@@ -31,11 +31,11 @@ pub record HasNumbersOf (h : Head) (o : Outcome) : Type 0 where
 
 -- The report for the blocks that were intact before was printed, or, where the output failed, a first part of it; and where
 -- the damage was plain, it fits the disk as it is after.
-pub record HasReported (tells : Type 0) (v : Opened) (before after : Files) (old new : SinkState) (result : Result Outcome RepairFault) : Type 0 where
+pub record HasReported (reveals : Type 0) (v : Opened) (before after : Files) (old new : SinkState) (result : Result Outcome RepairFault) : Type 0 where
   pub head : Head
   pub lines : List Line
-  pub report : IsReportOf tells v before head lines
+  pub report : IsReportOf reveals v before head lines
   pub prints : Prints old [] new [] result (report_bytes head lines)
   pub numbers : IfOk result (HasNumbersOf head)
-  pub fits : tells → IsDamagePlain v.shape v.lattice v.digests before
-      → (intact : BlockId → Bool) → TellsSurvivors v.shape v.lattice.n v.digests after intact → Fits v.lattice v.seal intact head lines
+  pub fits : reveals → IsDamagePlain v.shape v.lattice v.digests before
+      → (intact : BlockId → Bool) → RevealsSurvivors v.shape v.lattice.n v.digests after intact → Fits v.lattice v.seal intact head lines

@@ -12,7 +12,7 @@ ghost use Rattle.aea_shelf.specs.Intact.{IsHeldIn};
 ghost use Rattle.aea_records.specs.Format.{Record};
 ghost use Rattle.aea_ledger.specs.Recorded.{AreRecordsOf};
 ghost use Rattle.aea_ledger.specs.Values.{HasRecords};
-ghost use Rattle.aea_archive.specs.Blocks.{recorded_in, IsHeldBy, TellsSurvivors};
+ghost use Rattle.aea_archive.specs.Blocks.{recorded_in, IsHeldBy, RevealsSurvivors};
 ghost use Rattle.aea_archive.specs.Data.{AreSurvivorsHonest};
 ghost use Rattle.aea_report.specs.declared.head.Head.{Head};
 ghost use Rattle.aea_report.specs.declared.line.Line.{Line};
@@ -78,44 +78,44 @@ pub fn repair<D: Disk, O: Sink>(
     out: &mut O,
 ) -> Result<Outcome, RepairFault>
     // What holds after each result, and what was restored.
-    ensures repairs { D.tells → (known : BlockId → Bool) → TellsSurvivors ledger.now.shape ledger.now.lattice.n ledger.now.digests (D.state disk.old).files known
-        → Repairs D.tells ledger.now known (D.state disk.old) (D.state disk.new) result }
-    ensures durable { IsWritten result → D.tells → IsSynced (D.state disk.new) }
+    ensures repairs { D.reveals → (known : BlockId → Bool) → RevealsSurvivors ledger.now.shape ledger.now.lattice.n ledger.now.digests (D.state disk.old).files known
+        → Repairs D.reveals ledger.now known (D.state disk.old) (D.state disk.new) result }
+    ensures durable { IsWritten result → D.reveals → IsSynced (D.state disk.new) }
 
     // At every moment, in every image: the ledger, and the blocks that were held.
     ensures ledger { IsFixed (D.state disk.old) 0 → During (D.state disk.old) (D.state disk.new) (λ c. c 0 ≡ (D.state disk.old).files 0) }
-    ensures held { D.tells → (b : BlockId) → HasBlock ledger.now.lattice b → IsHeldBy ledger.now.shape ledger.now.digests (D.state disk.old) b
+    ensures held { D.reveals → (b : BlockId) → HasBlock ledger.now.lattice b → IsHeldBy ledger.now.shape ledger.now.digests (D.state disk.old) b
         → AtEachMoment (D.state disk.old) (D.state disk.new) (IsHeldIn ledger.now.shape b (recorded_in ledger.now.shape ledger.now.digests b)) × IsHeldBy ledger.now.shape ledger.now.digests (D.state disk.new) b }
 
     // What was printed.
-    ensures reports { IsWritten result → HasReported D.tells ledger.now (D.state disk.old).files (D.state disk.new).files (O.state out.old) (O.state out.new) result }
+    ensures reports { IsWritten result → HasReported D.reveals ledger.now (D.state disk.old).files (D.state disk.new).files (O.state out.old) (O.state out.new) result }
     ensures flushed { OnOk result (IsFlushed (O.state out.new)) }
     ensures unused { IsErr result → result ≢ Err RepairFault.WriteFault → out.new ≡ out.old }
 
     // A clash is one of two digests that differ, the first of them the ledger's, the other that of a payload; and where the
     // intact blocks are honest for a data list that the ledger records, there is none.
-    ensures clash { (b : BlockId) (told computed : List ℕ) → result ≡ Err (RepairFault.Clash b told computed) → IsOtherDigest ledger.now b told computed }
-    ensures no_clash { D.tells → (records : List Record) (datas : List (List ℕ)) → HasRecords ledger.now records → AreRecordsOf ledger.now.shape records datas
-        → AreSurvivorsHonest ledger.now.shape ledger.now.lattice ledger.now.digests datas (D.state disk.old).files → (b : BlockId) (told computed : List ℕ) → result ≢ Err (RepairFault.Clash b told computed) }
+    ensures clash { (b : BlockId) (revealed computed : List ℕ) → result ≡ Err (RepairFault.Clash b revealed computed) → IsOtherDigest ledger.now b revealed computed }
+    ensures no_clash { D.reveals → (records : List Record) (datas : List (List ℕ)) → HasRecords ledger.now records → AreRecordsOf ledger.now.shape records datas
+        → AreSurvivorsHonest ledger.now.shape ledger.now.lattice ledger.now.digests datas (D.state disk.old).files → (b : BlockId) (revealed computed : List ℕ) → result ≢ Err (RepairFault.Clash b revealed computed) }
 
     // Where the intact blocks are honest and no count of faults rises, it is done, unless memory runs out.
-    ensures complete { D.tells → (records : List Record) (datas : List (List ℕ)) → HasRecords ledger.now records → AreRecordsOf ledger.now.shape records datas
+    ensures complete { D.reveals → (records : List Record) (datas : List (List ℕ)) → HasRecords ledger.now records → AreRecordsOf ledger.now.shape records datas
         → AreSurvivorsHonest ledger.now.shape ledger.now.lattice ledger.now.digests datas (D.state disk.old).files
         → (Rose (D.state disk.old).faults (D.state disk.new).faults → ⊥) → (Rose (O.state out.old).faults (O.state out.new).faults → ⊥)
         → IsOk result ⊎ (result ≡ Err RepairFault.NoMemory) }
 
     // Memory runs out only before the first write.
-    ensures memory { result ≡ Err RepairFault.NoMemory → OnlyReads D.tells ⊥ (D.state disk.old) (D.state disk.new) }
+    ensures memory { result ≡ Err RepairFault.NoMemory → OnlyReads D.reveals ⊥ (D.state disk.old) (D.state disk.new) }
 
     // Over any disk only cells of the archive are written; when the disk is at fault.
-    ensures writes { WritesBlocks D.tells ledger.now (IsLeft (HasBlock ledger.now.lattice)) (result ≡ Err RepairFault.DiskFault) (D.state disk.old) (D.state disk.new) }
+    ensures writes { WritesBlocks D.reveals ledger.now (IsLeft (HasBlock ledger.now.lattice)) (result ≡ Err RepairFault.DiskFault) (D.state disk.old) (D.state disk.new) }
 
     // When the output is at fault.
     ensures out_kept { (O.state out.old).faults ≤ (O.state out.new).faults }
     ensures out_cause { result ≡ Err RepairFault.WriteFault → Rose (O.state out.old).faults (O.state out.new).faults }
     ensures out_still { result ≢ Err RepairFault.WriteFault → (O.state out.new).faults ≡ (O.state out.old).faults }
-    ensures in_room { D.tells → (room : ℕ) (known : BlockId → Bool) (h : Head) (lines : List Line) → (O.state out.old).room ≡ Some room
-        → TellsSurvivors ledger.now.shape ledger.now.lattice.n ledger.now.digests (D.state disk.old).files known → IsPrinted ledger.now.lattice known (Some ledger.now.seal) h lines → length (report_bytes h lines) ≤ room
+    ensures in_room { D.reveals → (room : ℕ) (known : BlockId → Bool) (h : Head) (lines : List Line) → (O.state out.old).room ≡ Some room
+        → RevealsSurvivors ledger.now.shape ledger.now.lattice.n ledger.now.digests (D.state disk.old).files known → IsPrinted ledger.now.lattice known (Some ledger.now.seal) h lines → length (report_bytes h lines) ≤ room
         → (result ≢ Err RepairFault.WriteFault) × ((O.state out.new).faults ≡ (O.state out.old).faults) }
 {
     printed_are_one();

@@ -11,7 +11,7 @@ ghost use Rattle.aea_view.specs.Marked.{AreMarks, is_marked};
 ghost use Rattle.aea_records.specs.Format.{Record};
 ghost use Rattle.aea_ledger.specs.Recorded.{AreRecordsOf};
 ghost use Rattle.aea_ledger.specs.Values.{HasRecords};
-ghost use Rattle.aea_archive.specs.Blocks.{recorded_in, IsHeldBy, TellsSurvivors};
+ghost use Rattle.aea_archive.specs.Blocks.{recorded_in, IsHeldBy, RevealsSurvivors};
 ghost use Rattle.aea_archive.specs.Data.{AreSurvivorsHonest};
 ghost use Rattle.aea_plan.specs.Plans.{IsSound, HasRoom, head_by};
 ghost use Rattle.aea_plan.specs.Verdicts.{lines_by};
@@ -74,16 +74,16 @@ fn restore_planned<D: Disk>(
     requires sum { length buffers.old.sum.items ≡ ledger.now.shape.block }
     requires read { length buffers.old.read.items ≡ cell_size ledger.now.shape }
     requires write { length buffers.old.write.items ≡ cell_size ledger.now.shape }
-    ensures repairs { D.tells → TellsSurvivors ledger.now.shape ledger.now.lattice.n ledger.now.digests (D.state disk.old).files (is_marked marks.old)
-        → (known : BlockId → Bool) → TellsSurvivors ledger.now.shape ledger.now.lattice.n ledger.now.digests (D.state disk.old).files known
-        → Repairs D.tells ledger.now known (D.state disk.old) (D.state disk.new) result }
-    ensures durable { OnOk result (D.tells → IsSynced (D.state disk.new)) }
-    ensures clash { (b : BlockId) (told computed : List ℕ) → result ≡ Err (RepairFault.Clash b told computed) → IsOtherDigest ledger.now b told computed }
-    ensures no_clash { D.tells → TellsSurvivors ledger.now.shape ledger.now.lattice.n ledger.now.digests (D.state disk.old).files (is_marked marks.old)
+    ensures repairs { D.reveals → RevealsSurvivors ledger.now.shape ledger.now.lattice.n ledger.now.digests (D.state disk.old).files (is_marked marks.old)
+        → (known : BlockId → Bool) → RevealsSurvivors ledger.now.shape ledger.now.lattice.n ledger.now.digests (D.state disk.old).files known
+        → Repairs D.reveals ledger.now known (D.state disk.old) (D.state disk.new) result }
+    ensures durable { OnOk result (D.reveals → IsSynced (D.state disk.new)) }
+    ensures clash { (b : BlockId) (revealed computed : List ℕ) → result ≡ Err (RepairFault.Clash b revealed computed) → IsOtherDigest ledger.now b revealed computed }
+    ensures no_clash { D.reveals → RevealsSurvivors ledger.now.shape ledger.now.lattice.n ledger.now.digests (D.state disk.old).files (is_marked marks.old)
         → (records : List Record) (datas : List (List ℕ)) → HasRecords ledger.now records → AreRecordsOf ledger.now.shape records datas
-        → AreSurvivorsHonest ledger.now.shape ledger.now.lattice ledger.now.digests datas (D.state disk.old).files → (b : BlockId) (told computed : List ℕ) → result ≢ Err (RepairFault.Clash b told computed) }
+        → AreSurvivorsHonest ledger.now.shape ledger.now.lattice ledger.now.digests datas (D.state disk.old).files → (b : BlockId) (revealed computed : List ℕ) → result ≢ Err (RepairFault.Clash b revealed computed) }
     ensures faults { IfErr result (λ f. (f ≢ RepairFault.NoMemory) × (f ≢ RepairFault.WriteFault)) }
-    ensures writes { WritesBlocks D.tells ledger.now (IsLeft (HasBlock ledger.now.lattice)) (result ≡ Err RepairFault.DiskFault) (D.state disk.old) (D.state disk.new) }
+    ensures writes { WritesBlocks D.reveals ledger.now (IsLeft (HasBlock ledger.now.lattice)) (result ≡ Err RepairFault.DiskFault) (D.state disk.old) (D.state disk.new) }
 {
     plain_damage_stays();
     let _lattice = ledger.lattice();
@@ -108,22 +108,22 @@ pub(crate) fn restore_archive<D: Disk>(
     ledger: &Ledger,
     disk: &mut D,
 ) -> Result<Done, RepairFault>
-    ensures repairs { D.tells → (known : BlockId → Bool) → TellsSurvivors ledger.now.shape ledger.now.lattice.n ledger.now.digests (D.state disk.old).files known
-        → Repairs D.tells ledger.now known (D.state disk.old) (D.state disk.new) result }
-    ensures durable { OnOk result (D.tells → IsSynced (D.state disk.new)) }
-    ensures held { D.tells → (b : BlockId) → HasBlock ledger.now.lattice b → IsHeldBy ledger.now.shape ledger.now.digests (D.state disk.old) b
+    ensures repairs { D.reveals → (known : BlockId → Bool) → RevealsSurvivors ledger.now.shape ledger.now.lattice.n ledger.now.digests (D.state disk.old).files known
+        → Repairs D.reveals ledger.now known (D.state disk.old) (D.state disk.new) result }
+    ensures durable { OnOk result (D.reveals → IsSynced (D.state disk.new)) }
+    ensures held { D.reveals → (b : BlockId) → HasBlock ledger.now.lattice b → IsHeldBy ledger.now.shape ledger.now.digests (D.state disk.old) b
         → AtEachMoment (D.state disk.old) (D.state disk.new) (IsHeldIn ledger.now.shape b (recorded_in ledger.now.shape ledger.now.digests b)) × IsHeldBy ledger.now.shape ledger.now.digests (D.state disk.new) b }
-    ensures clash { (b : BlockId) (told computed : List ℕ) → result ≡ Err (RepairFault.Clash b told computed) → IsOtherDigest ledger.now b told computed }
-    ensures no_clash { D.tells → (records : List Record) (datas : List (List ℕ)) → HasRecords ledger.now records → AreRecordsOf ledger.now.shape records datas
-        → AreSurvivorsHonest ledger.now.shape ledger.now.lattice ledger.now.digests datas (D.state disk.old).files → (b : BlockId) (told computed : List ℕ) → result ≢ Err (RepairFault.Clash b told computed) }
+    ensures clash { (b : BlockId) (revealed computed : List ℕ) → result ≡ Err (RepairFault.Clash b revealed computed) → IsOtherDigest ledger.now b revealed computed }
+    ensures no_clash { D.reveals → (records : List Record) (datas : List (List ℕ)) → HasRecords ledger.now records → AreRecordsOf ledger.now.shape records datas
+        → AreSurvivorsHonest ledger.now.shape ledger.now.lattice ledger.now.digests datas (D.state disk.old).files → (b : BlockId) (revealed computed : List ℕ) → result ≢ Err (RepairFault.Clash b revealed computed) }
     ensures faults { IfErr result (λ f. f ≢ RepairFault.WriteFault) }
-    ensures memory { result ≡ Err RepairFault.NoMemory → OnlyReads D.tells ⊥ (D.state disk.old) (D.state disk.new) }
-    ensures writes { WritesBlocks D.tells ledger.now (IsLeft (HasBlock ledger.now.lattice)) (result ≡ Err RepairFault.DiskFault) (D.state disk.old) (D.state disk.new) }
+    ensures memory { result ≡ Err RepairFault.NoMemory → OnlyReads D.reveals ⊥ (D.state disk.old) (D.state disk.new) }
+    ensures writes { WritesBlocks D.reveals ledger.now (IsLeft (HasBlock ledger.now.lattice)) (result ≡ Err RepairFault.DiskFault) (D.state disk.old) (D.state disk.new) }
 
     // What is to be printed.
     ensures sound { IfOk result (λ d. IsSound d.plan) }
     ensures room { IfOk result (λ d. HasRoom d.plan (vec_capacity d.text)) }
-    ensures report { IfOk result (λ d. IsReportOf D.tells ledger.now (D.state disk.old).files (head_by (Some ledger.now.seal) d.plan) (lines_by d.plan.verdicts)) }
+    ensures report { IfOk result (λ d. IsReportOf D.reveals ledger.now (D.state disk.old).files (head_by (Some ledger.now.seal) d.plan) (lines_by d.plan.verdicts)) }
 {
     homes_are_on_its_sites();
     let _lattice = ledger.lattice();

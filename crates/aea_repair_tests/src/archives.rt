@@ -67,9 +67,9 @@ pub fn repairs<D: Disk>(
 ) -> Result<bool, Fail> {
     let report = report_of(alloc, disk, numbers, lines)?;
     let left = run_over(alloc, "repair", disk, 1 << 17)?;
-    let is_told = left.is(status, report.as_str(), "");
+    let is_revealed = left.is(status, report.as_str(), "");
     let is_all = left.out.flushed == report.len() && left.unread == 6;
-    Ok(is_told && is_all && has_bytes(alloc, disk, files)?)
+    Ok(is_revealed && is_all && has_bytes(alloc, disk, files)?)
 }
 
 /// Runs `repair` over an output and errors of these capacities, where this call of the output fails, counted from 1; at 0 none does.

@@ -28,10 +28,10 @@ fn is_clash(alloc: Global, line: &str, room: usize) -> Result<bool, Fail> {
     let mut disk = dishonest(alloc)?;
     let stands = all_bytes(alloc, &mut disk)?;
     let left = run_repair(alloc, &mut disk, 999, 0, room)?;
-    let told = line.as_bytes().get(..room.min(157)).ok_or("a short line")?;
-    let is_told = left.status == Status::Clash && left.err.bytes() == told;
+    let revealed = line.as_bytes().get(..room.min(157)).ok_or("a short line")?;
+    let is_revealed = left.status == Status::Clash && left.err.bytes() == revealed;
     let is_silent = left.out.bytes().is_empty() && left.unread == 6;
-    Ok(is_told && is_silent && has_bytes(alloc, &mut disk, stands.as_slice())?)
+    Ok(is_revealed && is_silent && has_bytes(alloc, &mut disk, stands.as_slice())?)
 }
 
 #[test]
@@ -62,8 +62,8 @@ fn a_clash_goes_before_a_lost_block_and_a_failing_output(rt: HostRuntime) -> Res
     let alloc = rt.alloc();
     let mut disk = dishonest_and_lost(alloc)?;
     let left = run_repair(alloc, &mut disk, 999, 1, 200)?;
-    let is_told = left.err.bytes().starts_with(b"clash d1 recorded ");
-    assert!(rt; left.status == Status::Clash && is_told && left.out.bytes().is_empty());
+    let is_revealed = left.err.bytes().starts_with(b"clash d1 recorded ");
+    assert!(rt; left.status == Status::Clash && is_revealed && left.out.bytes().is_empty());
     Ok(())
 }
 
@@ -107,18 +107,18 @@ fn is_left(alloc: Global, byte: usize, err: &str) -> Result<bool, Fail> {
     let mut disk = flipping(alloc, byte)?;
     let damaged = all_bytes(alloc, &mut disk.inner)?;
     let left = run_repair(alloc, &mut disk, 999, 0, 200)?;
-    let is_told = left.status == Status::Clash && left.err.bytes() == err.as_bytes();
+    let is_revealed = left.status == Status::Clash && left.err.bytes() == err.as_bytes();
     let is_silent = left.out.bytes().is_empty();
-    Ok(is_told && is_silent && has_bytes(alloc, &mut disk.inner, damaged.as_slice())?)
+    Ok(is_revealed && is_silent && has_bytes(alloc, &mut disk.inner, damaged.as_slice())?)
 }
 
 #[test]
 fn a_survivor_that_changes_under_way_is_a_clash(rt: HostRuntime) -> Result<(), Fail> {
     let alloc = rt.alloc();
     let recorded = digest_of(alloc, 1, 1, Y)?;
-    let mut turned = *Y;
-    turned[2] ^= 1;
-    let computed = digest_of(alloc, 1, 1, &turned)?;
+    let mut flipped = *Y;
+    flipped[2] ^= 1;
+    let computed = digest_of(alloc, 1, 1, &flipped)?;
     let line = clash_line(alloc, "h1", &recorded, &computed)?;
     assert!(rt; is_left(alloc, 18, line.as_str())?);
     Ok(())

@@ -16,7 +16,7 @@ const STORED: &str =
 #[derive(Clone, Copy)]
 struct Case {
     cuts: &'static [(u8, u64)],
-    turned: &'static [(u8, u64)],
+    flipped: &'static [(u8, u64)],
     scrubbed: &'static str,
     lines: &'static str,
 }
@@ -24,55 +24,55 @@ struct Case {
 const CASES: &[Case] = &[
     Case {
         cuts: &[],
-        turned: &[],
+        flipped: &[],
         scrubbed: "total 4 damaged 0\n",
         lines: "counts 0 0 0 0\n",
     },
     Case {
         cuts: &[(1, 0)],
-        turned: &[],
+        flipped: &[],
         scrubbed: "damaged d1\ntotal 4 damaged 1\n",
         lines: "counts 1 1 0 0\npeeled d1\n",
     },
     Case {
         cuts: &[(1, 111)],
-        turned: &[],
+        flipped: &[],
         scrubbed: "damaged d1\ntotal 4 damaged 1\n",
         lines: "counts 1 1 0 0\npeeled d1\n",
     },
     Case {
         cuts: &[],
-        turned: &[(3, 16)],
+        flipped: &[(3, 16)],
         scrubbed: "damaged r1\ntotal 4 damaged 1\n",
         lines: "counts 1 1 0 0\npeeled r1\n",
     },
     Case {
         cuts: &[],
-        turned: &[(2, 0), (4, 111)],
+        flipped: &[(2, 0), (4, 111)],
         scrubbed: "damaged h1\ndamaged l1\ntotal 4 damaged 2\n",
         lines: "counts 2 2 0 0\npeeled h1\npeeled l1\n",
     },
     Case {
         cuts: &[(1, 0), (2, 5)],
-        turned: &[(4, 8)],
+        flipped: &[(4, 8)],
         scrubbed: "damaged d1\ndamaged h1\ndamaged l1\ntotal 4 damaged 3\n",
         lines: "counts 3 3 0 0\npeeled d1\npeeled h1\npeeled l1\n",
     },
     Case {
         cuts: &[(2, 0), (3, 0), (4, 0)],
-        turned: &[],
+        flipped: &[],
         scrubbed: "damaged h1\ndamaged r1\ndamaged l1\ntotal 4 damaged 3\n",
         lines: "counts 3 3 0 0\npeeled h1\npeeled r1\npeeled l1\n",
     },
     Case {
         cuts: &[(1, 0), (2, 0), (3, 0), (4, 0)],
-        turned: &[],
+        flipped: &[],
         scrubbed: "damaged d1\ndamaged h1\ndamaged r1\ndamaged l1\ntotal 4 damaged 4\n",
         lines: "counts 4 0 0 4\nlost d1 by 1\nlost h1 by 1\nlost r1 by 1\nlost l1 by 1\n",
     },
     Case {
         cuts: &[(1, 50)],
-        turned: &[(2, 16), (3, 79), (4, 80)],
+        flipped: &[(2, 16), (3, 79), (4, 80)],
         scrubbed: "damaged d1\ndamaged h1\ndamaged r1\ndamaged l1\ntotal 4 damaged 4\n",
         lines: "counts 4 0 0 4\nlost d1 by 1\nlost h1 by 1\nlost r1 by 1\nlost l1 by 1\n",
     },
@@ -89,7 +89,7 @@ fn damaged(alloc: Global, case: &Case) -> Result<SureDisk, Fail> {
     for (file, to) in case.cuts {
         shorten(&mut disk, *file, *to)?;
     }
-    for (file, at) in case.turned {
+    for (file, at) in case.flipped {
         spoil(&mut disk, *file, *at)?;
     }
     Ok(disk)
@@ -103,7 +103,7 @@ fn is_repaired(alloc: Global, case: &Case, whole: &[Vec<u8>]) -> Result<bool, Fa
     let scrubbed = run_over(alloc, "scrub", &mut disk, 99)?;
     let is_scrubbed = scrubbed.out.bytes() == case.scrubbed.as_bytes();
     let is_lost = case.lines.contains("lost");
-    let is_told = if is_lost {
+    let is_revealed = if is_lost {
         let files = before.as_slice();
         repairs(
             alloc,
@@ -121,11 +121,11 @@ fn is_repaired(alloc: Global, case: &Case, whole: &[Vec<u8>]) -> Result<bool, Fa
     } else {
         b"abc".as_slice()
     };
-    Ok(is_scrubbed && is_told && gets(alloc, &mut disk, "a", got)?)
+    Ok(is_scrubbed && is_revealed && gets(alloc, &mut disk, "a", got)?)
 }
 
 #[test]
-fn four_blocks_are_restored_or_told_lost(rt: HostRuntime) -> Result<(), Fail> {
+fn four_blocks_are_restored_or_reported_lost(rt: HostRuntime) -> Result<(), Fail> {
     let alloc = rt.alloc();
     let whole = all_bytes(alloc, &mut archive_of_four(alloc, b"abc")?)?;
     for case in cases() {
@@ -215,7 +215,7 @@ fn lost_node(alloc: Global) -> Result<SureDisk, Fail> {
 }
 
 // Whether a repair says of an archive with these numbers that blocks are lost, and leaves the files as they are.
-fn tells_lost<D: Disk>(
+fn reveals_lost<D: Disk>(
     alloc: Global,
     disk: &mut D,
     numbers: &str,
@@ -253,11 +253,11 @@ fn lost_blocks_stay_lost_before_a_fence(rt: HostRuntime) -> Result<(), Fail> {
     let alloc = rt.alloc();
     let lost = "counts 2 0 0 2\nlost d1 by 1\nlost h1 by 1\n";
     let mut disk = lost_node(alloc)?;
-    assert!(rt; tells_lost(alloc, &mut disk, "1 1 0 1", lost)?);
+    assert!(rt; reveals_lost(alloc, &mut disk, "1 1 0 1", lost)?);
     assert!(rt; disk.len(1) == Ok(0));
     assert!(rt; goes_on(alloc, &mut disk)?);
     // the codeword of node 1 ends at the fence, so that the second object reveals nothing of the first
-    assert!(rt; tells_lost(alloc, &mut disk, "1 1 0 2", lost)?);
+    assert!(rt; reveals_lost(alloc, &mut disk, "1 1 0 2", lost)?);
     // and what is damaged of the second one is restored without it
     let whole = all_bytes(alloc, &mut disk)?;
     spoil_cell(&mut disk, 1, 64, 2, 16)?;

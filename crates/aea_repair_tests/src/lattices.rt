@@ -50,7 +50,7 @@ fn is_site_peeled(alloc: Global, file: u8, site: u32, first: &str) -> Result<boo
     let whole = all_bytes(alloc, &mut disk)?;
     shorten(&mut disk, file, 0)?;
     let (lines, whole) = (lines.as_str(), whole.as_slice());
-    let is_told = repairs(alloc, &mut disk, "3 2 5 40", lines, Status::Done, whole)?;
+    let is_revealed = repairs(alloc, &mut disk, "3 2 5 40", lines, Status::Done, whole)?;
     let is_sound = ends(
         alloc,
         &mut disk,
@@ -60,7 +60,7 @@ fn is_site_peeled(alloc: Global, file: u8, site: u32, first: &str) -> Result<boo
         "",
     )?;
     let is_got = gets(alloc, &mut disk, "a", bytes.as_slice())?;
-    Ok(lines.starts_with(first) && is_told && is_sound && is_got)
+    Ok(lines.starts_with(first) && is_revealed && is_sound && is_got)
 }
 
 #[test]
@@ -102,7 +102,7 @@ fn nineteen_but(alloc: Global, others: &[u32]) -> Result<SureDisk, Fail> {
 }
 
 #[test]
-fn what_is_solved_and_what_is_lost_is_told(rt: HostRuntime) -> Result<(), Fail> {
+fn what_is_solved_and_what_is_lost_is_reported(rt: HostRuntime) -> Result<(), Fail> {
     let alloc = rt.alloc();
     let mut disk = nineteen_but(alloc, &[])?;
     // h3, d5 and r5 are solved
@@ -186,16 +186,16 @@ fn is_cut(
 ) -> Result<bool, Fail> {
     let (call, least, most) = call;
     let left = run_repair(alloc, &mut archive.disk, 1 << 15, call, 64)?;
-    let (status, told) = if call < 5 {
+    let (status, revealed) = if call < 5 {
         (Status::Output, "fault: output\n")
     } else {
         (Status::Damage, "")
     };
-    let is_told = left.status == status && left.err.bytes() == told.as_bytes();
+    let is_revealed = left.status == status && left.err.bytes() == revealed.as_bytes();
     let printed = left.out.bytes();
     let is_so_long = least <= printed.len() && printed.len() <= most;
     let is_first = archive.report.as_bytes().starts_with(printed);
-    Ok(is_told && is_so_long && is_first && has_bytes(alloc, &mut archive.disk, files)?)
+    Ok(is_revealed && is_so_long && is_first && has_bytes(alloc, &mut archive.disk, files)?)
 }
 
 #[test]

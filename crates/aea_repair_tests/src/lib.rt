@@ -5,8 +5,6 @@
 #[cfg(test)]
 mod archives;
 #[cfg(test)]
-mod chance;
-#[cfg(test)]
 mod clashes;
 #[cfg(test)]
 mod examples;
@@ -18,5 +16,7 @@ mod lines;
 mod objects;
 #[cfg(test)]
 mod plain;
+#[cfg(test)]
+mod random;
 #[cfg(test)]
 mod statuses;

@@ -39,7 +39,7 @@ fn is_site_peeled(alloc: Global, disk: &mut SureDisk) -> Result<bool, Fail> {
     let lines = lines_of_site(alloc, &lattice, 1)?;
     let lines = lines.as_str();
     let is_counted = lines.starts_with("counts 2817 2817 0 0\n");
-    let is_told = repairs(
+    let is_revealed = repairs(
         alloc,
         disk,
         "3 2 5 2817",
@@ -47,7 +47,7 @@ fn is_site_peeled(alloc: Global, disk: &mut SureDisk) -> Result<bool, Fail> {
         Status::Done,
         whole.as_slice(),
     )?;
-    Ok(is_counted && is_told)
+    Ok(is_counted && is_revealed)
 }
 
 #[test]

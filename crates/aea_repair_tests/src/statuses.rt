@@ -70,8 +70,8 @@ fn with_bad_ledger(alloc: Global, end: usize, place: u8, value: u8) -> Result<Su
 fn is_refused<D: Disk>(alloc: Global, disk: &mut D, line: &str) -> Result<bool, Fail> {
     let stands = all_bytes(alloc, disk)?;
     let left = run_over(alloc, "repair", disk, 999)?;
-    let is_told = left.is(Status::Refused, "", line) && left.unread == 6;
-    Ok(is_told && has_bytes(alloc, disk, stands.as_slice())?)
+    let is_revealed = left.is(Status::Refused, "", line) && left.unread == 6;
+    Ok(is_revealed && has_bytes(alloc, disk, stands.as_slice())?)
 }
 
 #[test]

@@ -16,7 +16,7 @@ use Rattle.aea_lattice.proofs.Derivations.{reached-known}
 use Rattle.aea_report.specs.declared.line.Line.{Line}
 use Rattle.aea_report.specs.declared.line.Line.TheVariants.{Peeled, Solved, Lost}
 use Rattle.aea_report.specs.Format.{block_in}
-use Rattle.aea_report.specs.Fits.{IsTold}
+use Rattle.aea_report.specs.Fits.{IsRevealed}
 use Rattle.aea_report.specs.Printed.{IsLineOf}
 use Rattle.aea_report.specs.Laws.{PrintedReportsFit}
 
@@ -37,11 +37,11 @@ lines-inside inside l known lines blocks =
     (All-same (HasBlock l) (map block_in lines) (filter (λ b. not (known b)) (blocks_of l)) blocks
     (All-filter (λ b. not (known b)) (HasBlock l) (blocks_of l) (inside l)))
 
-told_line : ReachedAreDetermined → WordsMissDetermined → (l : Lattice) (known intact : BlockId → Bool) → ((b : BlockId) → HasBlock l b → IsTrue (intact b) ↔ Determines l known b)
-    → (line : Line) → HasBlock l (block_in line) → IsLineOf l known line → IsTold l intact line
-told_line reached miss l known intact exactly (Peeled b) has fate = (exactly b has).1 (reached l known b has fate)
-told_line reached miss l known intact exactly (Solved b) has fate = (exactly b has).1 fate.0
-told_line reached miss l known intact exactly (Lost b nodes) has fate =
+revealed_line : ReachedAreDetermined → WordsMissDetermined → (l : Lattice) (known intact : BlockId → Bool) → ((b : BlockId) → HasBlock l b → IsTrue (intact b) ↔ Determines l known b)
+    → (line : Line) → HasBlock l (block_in line) → IsLineOf l known line → IsRevealed l intact line
+revealed_line reached miss l known intact exactly (Peeled b) has fate = (exactly b has).1 (reached l known b has fate)
+revealed_line reached miss l known intact exactly (Solved b) has fate = (exactly b has).1 fate.0
+revealed_line reached miss l known intact exactly (Lost b nodes) has fate =
     let word = fate.1.chosen.1 in
     record {
       damaged = false_from_ne_true (intact b) (λ t. fate.0 ((exactly b has).0 t));
@@ -62,7 +62,7 @@ printed-fit inside passing reached miss l known intact seal h lines printed exac
       (false_from_ne_true (known b) (λ t. false≢true (sym damaged ∙ (exactly b has).1 (reached l known b has (reached-known l known b t))))) in
       subst (λ blocks. Contains blocks b) (sym printed.blocks)
       (contains_among (filter (λ d. not (known d)) (blocks_of l)) b ((passing l (λ d. not (known d)) b).1 (has, unknown)));
-  told =
-      λ k d lt. told_line reached miss l known intact exactly (get_or lines k d) (lines-inside inside l known lines printed.blocks k d lt) (printed.each k d lt);
+  revealed =
+      λ k d lt. revealed_line reached miss l known intact exactly (get_or lines k d) (lines-inside inside l known lines printed.blocks k d lt) (printed.each k d lt);
   counted = printed.counted;
 }

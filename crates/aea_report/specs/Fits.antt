@@ -44,10 +44,10 @@ pub record ShowLost (l : Lattice) (intact : BlockId → Bool) (b : BlockId) (nod
   pub misses : Misses l intact (has_node nodes)
 
 -- A line is true: a restored block is intact, and of a lost one its nodes show that it is.
-abbrev pub IsTold : Lattice → (BlockId → Bool) → Line → Type 0
-IsTold l intact (Peeled b) = intact b ≡ true
-IsTold l intact (Solved b) = intact b ≡ true
-IsTold l intact (Lost b nodes) = ShowLost l intact b nodes
+abbrev pub IsRevealed : Lattice → (BlockId → Bool) → Line → Type 0
+IsRevealed l intact (Peeled b) = intact b ≡ true
+IsRevealed l intact (Solved b) = intact b ≡ true
+IsRevealed l intact (Lost b nodes) = ShowLost l intact b nodes
 
 -- The report is one of an archive with this lattice and seal: each damaged block has a line, each line is true, and
 -- the counts are those of the lines.
@@ -58,5 +58,5 @@ pub record Fits (l : Lattice) (seal : List ℕ) (intact : BlockId → Bool) (h :
   pub n : h.n ≡ l.n
   pub seal_is : h.seal ≡ Some seal
   pub whole : (b : BlockId) → HasBlock l b → intact b ≡ false → Contains (map block_in lines) b
-  pub told : All (IsTold l intact) lines
+  pub revealed : All (IsRevealed l intact) lines
   pub counted : AreCounted h lines

@@ -40,11 +40,11 @@ added_stays v ready after old mid new b es start sum has gives zeros same added 
     writes known first (added_drawn v known ready first old b es start sum has gives zeros added all) (drawn_same v known ready first old mid same all)
 
 -- and another digest of it is a clash
-pub added_clash : (v : Opened) (known ready : BlockId → Bool) (first old : Files) (b d : BlockId) (es : List EqId) (start sum told computed : List ℕ) → HasBlock v.lattice b → Give v.lattice ready b es → start ≡ replicate v.shape.block 0
+pub added_clash : (v : Opened) (known ready : BlockId → Bool) (first old : Files) (b d : BlockId) (es : List EqId) (start sum revealed computed : List ℕ) → HasBlock v.lattice b → Give v.lattice ready b es → start ≡ replicate v.shape.block 0
     → (AreAllIntact v ready old → sum ≡ added_up v.shape old start (other_blocks v.lattice ready b es)) → AreDrawn v known ready first old
-    → d ≡ b → IsOtherDigest v b told computed → computed ≡ block_digest b sum → (d ≡ b) × IsClash v known first d told computed
-added_clash v known ready first old b d es start sum told computed has gives zeros added all same other is = (
+    → d ≡ b → IsOtherDigest v b revealed computed → computed ≡ block_digest b sum → (d ≡ b) × IsClash v known first d revealed computed
+added_clash v known ready first old b d es start sum revealed computed has gives zeros added all same other is = (
   same,
-  subst (λ (a : BlockId). IsClash v known first a told computed) (sym same)
+  subst (λ (a : BlockId). IsClash v known first a revealed computed) (sym same)
       (record { other = other; payload = sum; drawn = added_drawn v known ready first old b es start sum has gives zeros added all; computed_is = is }),
 )

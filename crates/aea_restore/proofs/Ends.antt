@@ -18,7 +18,7 @@ use Rattle.aea_view.specs.Marked.{Marked, is_marked}
 use Rattle.aea_records.specs.Format.{Record, nodes_of, fences_of, digests_of}
 use Rattle.aea_ledger.specs.Recorded.{AreRecordsOf}
 use Rattle.aea_ledger.specs.Values.{Opened, HasRecords}
-use Rattle.aea_archive.specs.Blocks.{IsBlockIn, recorded_in, IsHeldBy, TellsSurvivors}
+use Rattle.aea_archive.specs.Blocks.{IsBlockIn, recorded_in, IsHeldBy, RevealsSurvivors}
 use Rattle.aea_archive.specs.Data.{AreSurvivorsHonest, AreSomeHonest}
 use Rattle.aea_archive.proofs.Records.{one_lattice}
 use Rattle.aea_restore.specs.declared.fault.RestoreFault.{RestoreFault}
@@ -30,8 +30,8 @@ use Rattle.aea_restore.proofs.Drawing.{honest_drawn}
 use Rattle.aea_restore.proofs.Ways.{ends_some, ends_torn}
 
 -- the blocks of a test that distinguishes the survivors
-pub all_intact : (v : Opened) (c : Files) (known : BlockId → Bool) → ((b : BlockId) → HasBlock v.lattice b → IsBlockIn v.shape v.lattice.n b) → TellsSurvivors v.shape v.lattice.n v.digests c known → AreAllIntact v known c
-all_intact v c known inside tell b has is = (tell b (inside b has)).0 is
+pub all_intact : (v : Opened) (c : Files) (known : BlockId → Bool) → ((b : BlockId) → HasBlock v.lattice b → IsBlockIn v.shape v.lattice.n b) → RevealsSurvivors v.shape v.lattice.n v.digests c known → AreAllIntact v known c
+all_intact v c known inside reveal b has is = (reveal b (inside b has)).0 is
 
 -- ---- recorded data
 
@@ -69,11 +69,11 @@ honest_of v known ready first now records datas has are honest all b inside is i
     (λ d d_has known_d. honest d d_has (all.known_intact d d_has known_d)) (all.drawn b inside is)
 
 -- and there is no clash
-pub never_clash : (v : Opened) (known : BlockId → Bool) (first : Files) (records : List Record) (datas : List (List ℕ)) (b : BlockId) (told computed : List ℕ) → HasRecords v records → AreRecordsOf v.shape records datas
-    → AreSurvivorsHonest v.shape v.lattice v.digests datas first → AreAllIntact v known first → IsClash v known first b told computed → ⊥
-never_clash v known first records datas b told computed has are honest sound clash =
+pub never_clash : (v : Opened) (known : BlockId → Bool) (first : Files) (records : List Record) (datas : List (List ℕ)) (b : BlockId) (revealed computed : List ℕ) → HasRecords v records → AreRecordsOf v.shape records datas
+    → AreSurvivorsHonest v.shape v.lattice v.digests datas first → AreAllIntact v known first → IsClash v known first b revealed computed → ⊥
+never_clash v known first records datas b revealed computed has are honest sound clash =
     let value = honest_drawn v known first datas b clash.payload (data_of v records datas has are) (λ d d_has known_d. honest d d_has (sound d d_has known_d)) clash.drawn in
-    clash.other.differ (clash.computed_is ∙ ap (block_digest b) value ∙ sym (recorded_value v records datas b has are clash.other.block) ∙ sym clash.other.told_is)
+    clash.other.differ (clash.computed_is ∙ ap (block_digest b) value ∙ sym (recorded_value v records datas b has are clash.other.block) ∙ sym clash.other.revealed_is)
 
 -- ---- what each result leaves
 
@@ -82,7 +82,7 @@ pub left_fault : (v : Opened) (mends : BlockId → Type 0) (known ready : BlockI
     → ((b : BlockId) → mends b → HasBlock v.lattice b) → ((b : BlockId) → mends b → known b ≡ false) → ((b : BlockId) → IsDone v known ready b → mends b)
     → (fault : RestoreFault) → (fault ≢ DiskFault → IsUnderWay v known ready first now) → (fault ≡ DiskFault → (torn : BlockId) × mends torn × IsTorn v known ready torn first now)
     → Leaves v mends first now (Err fault)
-left_fault v mends known ready first now fits inside fresh only (Clash b told computed) way torn = ends_some v mends known ready first now fits inside fresh only (way (λ is. cc))
+left_fault v mends known ready first now fits inside fresh only (Clash b revealed computed) way torn = ends_some v mends known ready first now fits inside fresh only (way (λ is. cc))
 left_fault v mends known ready first now fits inside fresh only DiskFault way torn =
     let is = torn refl in inr (is.0, ends_torn v mends known ready first now fits inside fresh only is.0 is.1 is.2)
 
@@ -94,5 +94,5 @@ only_given v mends old new some b done =
 -- ---- blocks that were held
 
 -- a block that was held was known, and so is not restored
-pub held_left : (v : Opened) (mends : BlockId → Type 0) (old : State) (known : BlockId → Bool) (b : BlockId) → ((d : BlockId) → HasBlock v.lattice d → IsBlockIn v.shape v.lattice.n d) → TellsSurvivors v.shape v.lattice.n v.digests old.files known → ((d : BlockId) → mends d → known d ≡ false) → HasBlock v.lattice b → IsHeldBy v.shape v.digests old b → IsLeft mends b
-held_left v mends old known b inside tell fresh has held is = true≢false (sym ((tell b (inside b has)).1 held.intact) ∙ fresh b is)
+pub held_left : (v : Opened) (mends : BlockId → Type 0) (old : State) (known : BlockId → Bool) (b : BlockId) → ((d : BlockId) → HasBlock v.lattice d → IsBlockIn v.shape v.lattice.n d) → RevealsSurvivors v.shape v.lattice.n v.digests old.files known → ((d : BlockId) → mends d → known d ≡ false) → HasBlock v.lattice b → IsHeldBy v.shape v.digests old b → IsLeft mends b
+held_left v mends old known b inside reveal fresh has held is = true≢false (sym ((reveal b (inside b has)).1 held.intact) ∙ fresh b is)

@@ -84,34 +84,34 @@ payload_size : (shape : Shape) (cell : List ℕ) → length cell ≡ cell_size s
 payload_size shape cell size = omega (arith, size, length-take shape.block (drop 16 cell), length-drop 16 cell)
 
 -- what was read of a home
-pub read_home : (tells : Type 0) (v : Opened) (c : Files) (b : BlockId) (cell : List ℕ) → length cell ≡ cell_size v.shape → (tells → take (length (home_bytes v.shape b c)) cell ≡ home_bytes v.shape b c)
-    → IsReadAt tells v c b (payload_in v.shape cell)
-read_home tells v c b cell size begins = record { size = payload_size v.shape cell size; begins = λ told. read_begins v.shape b c cell (begins told) }
+pub read_home : (reveals : Type 0) (v : Opened) (c : Files) (b : BlockId) (cell : List ℕ) → length cell ≡ cell_size v.shape → (reveals → take (length (home_bytes v.shape b c)) cell ≡ home_bytes v.shape b c)
+    → IsReadAt reveals v c b (payload_in v.shape cell)
+read_home reveals v c b cell size begins = record { size = payload_size v.shape cell size; begins = λ revealed. read_begins v.shape b c cell (begins revealed) }
 
 -- and by the digest of the payload in it
-pub read_judged : (tells : Type 0) (v : Opened) (c : Files) (b : BlockId) (cell : List ℕ) → length cell ≡ cell_size v.shape → (tells → take (length (home_bytes v.shape b c)) cell ≡ home_bytes v.shape b c)
-    → block_digest b (payload_in v.shape cell) ≡ recorded_in v.shape v.digests b → IsJudged tells v c b (payload_in v.shape cell)
-read_judged tells v c b cell size begins digest = record { home = read_home tells v c b cell size begins; digest = digest }
+pub read_judged : (reveals : Type 0) (v : Opened) (c : Files) (b : BlockId) (cell : List ℕ) → length cell ≡ cell_size v.shape → (reveals → take (length (home_bytes v.shape b c)) cell ≡ home_bytes v.shape b c)
+    → block_digest b (payload_in v.shape cell) ≡ recorded_in v.shape v.digests b → IsJudged reveals v c b (payload_in v.shape cell)
+read_judged reveals v c b cell size begins digest = record { home = read_home reveals v c b cell size begins; digest = digest }
 
 -- another digest of it
-pub read_other : (v : Opened) (b : BlockId) (cell told computed : List ℕ) → HasBlock v.lattice b → length cell ≡ cell_size v.shape
-    → told ≡ recorded_in v.shape v.digests b → computed ≡ block_digest b (payload_in v.shape cell) → computed ≢ told → IsOtherDigest v b told computed
-read_other v b cell told computed has size told_is is differ = record {
+pub read_other : (v : Opened) (b : BlockId) (cell revealed computed : List ℕ) → HasBlock v.lattice b → length cell ≡ cell_size v.shape
+    → revealed ≡ recorded_in v.shape v.digests b → computed ≡ block_digest b (payload_in v.shape cell) → computed ≢ revealed → IsOtherDigest v b revealed computed
+read_other v b cell revealed computed has size revealed_is is differ = record {
   block = has;
-  told_is = told_is;
+  revealed_is = revealed_is;
   payload = payload_in v.shape cell;
   size = payload_size v.shape cell size;
   computed_is = is;
   differ = differ;
 }
 
-pub read_clash : (tells : Type 0) (v : Opened) (c : Files) (b : BlockId) (cell told computed : List ℕ) → HasBlock v.lattice b → length cell ≡ cell_size v.shape → (tells → take (length (home_bytes v.shape b c)) cell ≡ home_bytes v.shape b c)
-    → (tells → IsIntactBy v.shape v.digests c b → ⊥) → told ≡ recorded_in v.shape v.digests b → computed ≡ block_digest b (payload_in v.shape cell) → computed ≢ told → IsReadClash tells v c b told computed
-read_clash tells v c b cell told computed has size begins damaged told_is is differ = record {
-  other = read_other v b cell told computed has size told_is is differ;
+pub read_clash : (reveals : Type 0) (v : Opened) (c : Files) (b : BlockId) (cell revealed computed : List ℕ) → HasBlock v.lattice b → length cell ≡ cell_size v.shape → (reveals → take (length (home_bytes v.shape b c)) cell ≡ home_bytes v.shape b c)
+    → (reveals → IsIntactBy v.shape v.digests c b → ⊥) → revealed ≡ recorded_in v.shape v.digests b → computed ≡ block_digest b (payload_in v.shape cell) → computed ≢ revealed → IsReadClash reveals v c b revealed computed
+read_clash reveals v c b cell revealed computed has size begins damaged revealed_is is differ = record {
+  other = read_other v b cell revealed computed has size revealed_is is differ;
   damaged = damaged;
   payload = payload_in v.shape cell;
-  home = read_home tells v c b cell size begins;
+  home = read_home reveals v c b cell size begins;
   computed_is = is;
 }
 
@@ -120,42 +120,42 @@ pub digest_between : (v : Opened) (b : BlockId) (cell : List ℕ) → length cel
 digest_between v b cell size = let e : length cell - 48 ≡ v.shape.block = omega (arith, size) in ap (λ (n : ℕ). block_digest b (take n (drop 16 cell))) e
 
 -- what is read of an intact block is its payload
-pub read_intact : (tells : Type 0) (v : Opened) (c : Files) (b : BlockId) (payload : List ℕ) → tells → IsIntactBy v.shape v.digests c b → IsReadAt tells v c b payload → payload ≡ payload_at v.shape c b
-read_intact tells v c b payload told intact is =
+pub read_intact : (reveals : Type 0) (v : Opened) (c : Files) (b : BlockId) (payload : List ℕ) → reveals → IsIntactBy v.shape v.digests c b → IsReadAt reveals v c b payload → payload ≡ payload_at v.shape c b
+read_intact reveals v c b payload revealed intact is =
     let wide = payload_wide v.shape b (recorded_in v.shape v.digests b) c intact in
-    sym (take-length payload) ∙ ap (λ (n : ℕ). take n payload) (is.size ∙ sym wide) ∙ is.begins told
+    sym (take-length payload) ∙ ap (λ (n : ℕ). take n payload) (is.size ∙ sym wide) ∙ is.begins revealed
 
 -- it was read as well of other files that are the same
-read_moved : (tells : Type 0) (v : Opened) (c d : Files) (b : BlockId) (payload : List ℕ) → (tells → d ≡ c) → IsReadAt tells v d b payload → IsReadAt tells v c b payload
-read_moved tells v c d b payload same is = record {
+read_moved : (reveals : Type 0) (v : Opened) (c d : Files) (b : BlockId) (payload : List ℕ) → (reveals → d ≡ c) → IsReadAt reveals v d b payload → IsReadAt reveals v c b payload
+read_moved reveals v c d b payload same is = record {
   size = is.size;
-  begins = λ told. subst (λ (f : Files). take (length (payload_at v.shape f b)) payload ≡ payload_at v.shape f b) (same told) (is.begins told);
+  begins = λ revealed. subst (λ (f : Files). take (length (payload_at v.shape f b)) payload ≡ payload_at v.shape f b) (same revealed) (is.begins revealed);
 }
 
 -- ---- sums
 
 -- of no block
-pub judged_none : (tells : Type 0) (v : Opened) (c : Files) (s : List ℕ) → IsJudgedSum tells v c s [] s
-judged_none tells v c s = record { readings = []; blocks_are = refl; judged = All-nil (λ (r : Reading). IsJudged tells v c r.block r.payload); sum_is = refl }
+pub judged_none : (reveals : Type 0) (v : Opened) (c : Files) (s : List ℕ) → IsJudgedSum reveals v c s [] s
+judged_none reveals v c s = record { readings = []; blocks_are = refl; judged = All-nil (λ (r : Reading). IsJudged reveals v c r.block r.payload); sum_is = refl }
 
 -- of one
-pub judged_one : (tells : Type 0) (v : Opened) (c : Files) (b : BlockId) (s payload sum : List ℕ) → IsJudged tells v c b payload → sum ≡ xor_bytes s payload → IsJudgedSum tells v c s (b ∷ []) sum
-judged_one tells v c b s payload sum is added = record {
+pub judged_one : (reveals : Type 0) (v : Opened) (c : Files) (b : BlockId) (s payload sum : List ℕ) → IsJudged reveals v c b payload → sum ≡ xor_bytes s payload → IsJudgedSum reveals v c s (b ∷ []) sum
+judged_one reveals v c b s payload sum is added = record {
   readings = record { block = b; payload = payload } ∷ [];
   blocks_are = refl;
-  judged = All-cons (λ (r : Reading). IsJudged tells v c r.block r.payload) (record { block = b; payload = payload }) [] is (All-nil (λ (r : Reading). IsJudged tells v c r.block r.payload));
+  judged = All-cons (λ (r : Reading). IsJudged reveals v c r.block r.payload) (record { block = b; payload = payload }) [] is (All-nil (λ (r : Reading). IsJudged reveals v c r.block r.payload));
   sum_is = added;
 }
 
 -- of two lists of blocks, one after the other
-pub judged_both : (tells : Type 0) (v : Opened) (c : Files) (s mid sum : List ℕ) (xs ys : List BlockId) → IsJudgedSum tells v c s xs mid → IsJudgedSum tells v c mid ys sum → IsJudgedSum tells v c s (xs ++ ys) sum
-judged_both tells v c s mid sum xs ys early late =
+pub judged_both : (reveals : Type 0) (v : Opened) (c : Files) (s mid sum : List ℕ) (xs ys : List BlockId) → IsJudgedSum reveals v c s xs mid → IsJudgedSum reveals v c mid ys sum → IsJudgedSum reveals v c s (xs ++ ys) sum
+judged_both reveals v c s mid sum xs ys early late =
     record {
       readings = early.readings ++ late.readings;
       blocks_are = map-append (λ (r : Reading). r.block) early.readings late.readings
           ∙ ap (λ (bs : List BlockId). bs ++ map (λ (r : Reading). r.block) late.readings) early.blocks_are
           ∙ ap (λ (bs : List BlockId). xs ++ bs) late.blocks_are;
-      judged = All-append (λ (r : Reading). IsJudged tells v c r.block r.payload) early.readings late.readings early.judged late.judged;
+      judged = All-append (λ (r : Reading). IsJudged reveals v c r.block r.payload) early.readings late.readings early.judged late.judged;
       sum_is = late.sum_is
           ∙ ap (λ (z : List ℕ). fold xor_bytes z (map (λ (r : Reading). r.payload) late.readings)) early.sum_is
           ∙ sym (fold-append xor_bytes s (map (λ (r : Reading). r.payload) early.readings) (map (λ (r : Reading). r.payload) late.readings))
@@ -163,18 +163,18 @@ judged_both tells v c s mid sum xs ys early late =
     }
 
 -- the same of other files, where the contents are known to be the same
-judgings_moved : (tells : Type 0) (v : Opened) (c d : Files) (rs : List Reading) → (tells → d ≡ c) → All (λ (r : Reading). IsJudged tells v d r.block r.payload) rs → All (λ (r : Reading). IsJudged tells v c r.block r.payload) rs
-judgings_moved tells v c d rs same judged k r below = let one = judged k r below in record { home = read_moved tells v c d _ _ same one.home; digest = one.digest }
+judgings_moved : (reveals : Type 0) (v : Opened) (c d : Files) (rs : List Reading) → (reveals → d ≡ c) → All (λ (r : Reading). IsJudged reveals v d r.block r.payload) rs → All (λ (r : Reading). IsJudged reveals v c r.block r.payload) rs
+judgings_moved reveals v c d rs same judged k r below = let one = judged k r below in record { home = read_moved reveals v c d _ _ same one.home; digest = one.digest }
 
-pub judged_moved : (tells : Type 0) (v : Opened) (c d : Files) (s sum : List ℕ) (blocks : List BlockId) → (tells → d ≡ c) → IsJudgedSum tells v d s blocks sum → IsJudgedSum tells v c s blocks sum
-judged_moved tells v c d s sum blocks same is = record { readings = is.readings; blocks_are = is.blocks_are; judged = judgings_moved tells v c d is.readings same is.judged; sum_is = is.sum_is }
+pub judged_moved : (reveals : Type 0) (v : Opened) (c d : Files) (s sum : List ℕ) (blocks : List BlockId) → (reveals → d ≡ c) → IsJudgedSum reveals v d s blocks sum → IsJudgedSum reveals v c s blocks sum
+judged_moved reveals v c d s sum blocks same is = record { readings = is.readings; blocks_are = is.blocks_are; judged = judgings_moved reveals v c d is.readings same is.judged; sum_is = is.sum_is }
 
-pub clash_moved : (tells : Type 0) (v : Opened) (c d : Files) (b : BlockId) (told computed : List ℕ) → (tells → d ≡ c) → IsReadClash tells v d b told computed → IsReadClash tells v c b told computed
-clash_moved tells v c d b told computed same is = record {
+pub clash_moved : (reveals : Type 0) (v : Opened) (c d : Files) (b : BlockId) (revealed computed : List ℕ) → (reveals → d ≡ c) → IsReadClash reveals v d b revealed computed → IsReadClash reveals v c b revealed computed
+clash_moved reveals v c d b revealed computed same is = record {
   other = is.other;
-  damaged = λ tell intact. is.damaged tell (subst (λ (f : Files). IsIntactBy v.shape v.digests f b) (sym (same tell)) intact);
+  damaged = λ reveal intact. is.damaged reveal (subst (λ (f : Files). IsIntactBy v.shape v.digests f b) (sym (same reveal)) intact);
   payload = is.payload;
-  home = read_moved tells v c d b is.payload same is.home;
+  home = read_moved reveals v c d b is.payload same is.home;
   computed_is = is.computed_is;
 }
 
@@ -186,9 +186,9 @@ pub picked_none : (p : BlockId → Bool) (x : BlockId) → p x ≡ false → fil
 picked_none p x is = rw is refl
 
 -- of the picked ones of two lists
-pub judged_picked : (tells : Type 0) (v : Opened) (c : Files) (p : BlockId → Bool) (s mid sum : List ℕ) (xs ys : List BlockId) → IsJudgedSum tells v c s (filter p xs) mid → IsJudgedSum tells v c mid (filter p ys) sum → IsJudgedSum tells v c s (filter p (xs ++ ys)) sum
-judged_picked tells v c p s mid sum xs ys early late =
-    subst (λ (bs : List BlockId). IsJudgedSum tells v c s bs sum) (sym (filter-append p xs ys)) (judged_both tells v c s mid sum (filter p xs) (filter p ys) early late)
+pub judged_picked : (reveals : Type 0) (v : Opened) (c : Files) (p : BlockId → Bool) (s mid sum : List ℕ) (xs ys : List BlockId) → IsJudgedSum reveals v c s (filter p xs) mid → IsJudgedSum reveals v c mid (filter p ys) sum → IsJudgedSum reveals v c s (filter p (xs ++ ys)) sum
+judged_picked reveals v c p s mid sum xs ys early late =
+    subst (λ (bs : List BlockId). IsJudgedSum reveals v c s bs sum) (sym (filter-append p xs ys)) (judged_both reveals v c s mid sum (filter p xs) (filter p ys) early late)
 
 joined : (xs : List BlockId) (y z : BlockId) → (xs ++ y ∷ []) ++ z ∷ [] ≡ xs ++ y ∷ z ∷ []
 joined [] y z = refl
@@ -198,29 +198,29 @@ joined (x ∷ xs) y z = ap (λ ws. x ∷ ws) (joined xs y z)
 blocks_listed : (l : Lattice) (e : EqId) (q : Equation) → blocks_in q ≡ equation_blocks l e → (option_to_list q.input ++ q.datum ∷ []) ++ q.output ∷ [] ≡ flat_map (equation_blocks l) (e ∷ [])
 blocks_listed l e q listed = joined (option_to_list q.input) q.datum q.output ∙ listed ∙ sym (append-nil (equation_blocks l e))
 
-pub judged_equation : (tells : Type 0) (v : Opened) (c : Files) (p : BlockId → Bool) (b : BlockId) (e : EqId) (q : Equation) (s0 s1 s2 s3 : List ℕ) → blocks_in q ≡ equation_blocks v.lattice e
-    → IsJudgedSum tells v c s0 (filter (is_other p b) (option_to_list q.input)) s1
-    → IsJudgedSum tells v c s1 (filter (is_other p b) (q.datum ∷ [])) s2
-    → IsJudgedSum tells v c s2 (filter (is_other p b) (q.output ∷ [])) s3
-    → IsJudgedSum tells v c s0 (other_blocks v.lattice p b (e ∷ [])) s3
-judged_equation tells v c p b e q s0 s1 s2 s3 listed first second third =
-    subst (λ (bs : List BlockId). IsJudgedSum tells v c s0 (filter (is_other p b) bs) s3) (blocks_listed v.lattice e q listed)
-    (judged_picked tells v c (is_other p b) s0 s2 s3 (option_to_list q.input ++ q.datum ∷ []) (q.output ∷ [])
-    (judged_picked tells v c (is_other p b) s0 s1 s2 (option_to_list q.input) (q.datum ∷ []) first second) third)
+pub judged_equation : (reveals : Type 0) (v : Opened) (c : Files) (p : BlockId → Bool) (b : BlockId) (e : EqId) (q : Equation) (s0 s1 s2 s3 : List ℕ) → blocks_in q ≡ equation_blocks v.lattice e
+    → IsJudgedSum reveals v c s0 (filter (is_other p b) (option_to_list q.input)) s1
+    → IsJudgedSum reveals v c s1 (filter (is_other p b) (q.datum ∷ [])) s2
+    → IsJudgedSum reveals v c s2 (filter (is_other p b) (q.output ∷ [])) s3
+    → IsJudgedSum reveals v c s0 (other_blocks v.lattice p b (e ∷ [])) s3
+judged_equation reveals v c p b e q s0 s1 s2 s3 listed first second third =
+    subst (λ (bs : List BlockId). IsJudgedSum reveals v c s0 (filter (is_other p b) bs) s3) (blocks_listed v.lattice e q listed)
+    (judged_picked reveals v c (is_other p b) s0 s2 s3 (option_to_list q.input ++ q.datum ∷ []) (q.output ∷ [])
+    (judged_picked reveals v c (is_other p b) s0 s1 s2 (option_to_list q.input) (q.datum ∷ []) first second) third)
 
 -- no equation
-pub judged_start : (tells : Type 0) (v : Opened) (c : Files) (p : BlockId → Bool) (b : BlockId) (es : List EqId) (s : List ℕ) → IsJudgedSum tells v c s (other_blocks v.lattice p b (take 0 es)) s
-judged_start tells v c p b [] s = judged_none tells v c s
-judged_start tells v c p b (e ∷ es) s = judged_none tells v c s
+pub judged_start : (reveals : Type 0) (v : Opened) (c : Files) (p : BlockId → Bool) (b : BlockId) (es : List EqId) (s : List ℕ) → IsJudgedSum reveals v c s (other_blocks v.lattice p b (take 0 es)) s
+judged_start reveals v c p b [] s = judged_none reveals v c s
+judged_start reveals v c p b (e ∷ es) s = judged_none reveals v c s
 
 -- one equation more
-pub judged_next : (tells : Type 0) (v : Opened) (c : Files) (p : BlockId → Bool) (b : BlockId) (es : List EqId) (e : EqId) (k : ℕ) (s0 s1 s2 : List ℕ) → slice_get es k ≡ Some e
-    → IsJudgedSum tells v c s0 (other_blocks v.lattice p b (take k es)) s1 → IsJudgedSum tells v c s1 (other_blocks v.lattice p b (e ∷ [])) s2
-    → IsJudgedSum tells v c s0 (other_blocks v.lattice p b (take (k + 1) es)) s2
-judged_next tells v c p b es e k s0 s1 s2 is before next =
-    subst (λ (xs : List EqId). IsJudgedSum tells v c s0 (other_blocks v.lattice p b xs) s2) (sym (take_more es e k is))
-    (subst (λ (bs : List BlockId). IsJudgedSum tells v c s0 (filter (is_other p b) bs) s2) (sym (flat_map-append (equation_blocks v.lattice) (take k es) (e ∷ [])))
-    (judged_picked tells v c (is_other p b) s0 s1 s2 (flat_map (equation_blocks v.lattice) (take k es)) (flat_map (equation_blocks v.lattice) (e ∷ [])) before next))
+pub judged_next : (reveals : Type 0) (v : Opened) (c : Files) (p : BlockId → Bool) (b : BlockId) (es : List EqId) (e : EqId) (k : ℕ) (s0 s1 s2 : List ℕ) → slice_get es k ≡ Some e
+    → IsJudgedSum reveals v c s0 (other_blocks v.lattice p b (take k es)) s1 → IsJudgedSum reveals v c s1 (other_blocks v.lattice p b (e ∷ [])) s2
+    → IsJudgedSum reveals v c s0 (other_blocks v.lattice p b (take (k + 1) es)) s2
+judged_next reveals v c p b es e k s0 s1 s2 is before next =
+    subst (λ (xs : List EqId). IsJudgedSum reveals v c s0 (other_blocks v.lattice p b xs) s2) (sym (take_more es e k is))
+    (subst (λ (bs : List BlockId). IsJudgedSum reveals v c s0 (filter (is_other p b) bs) s2) (sym (flat_map-append (equation_blocks v.lattice) (take k es) (e ∷ [])))
+    (judged_picked reveals v c (is_other p b) s0 s1 s2 (flat_map (equation_blocks v.lattice) (take k es)) (flat_map (equation_blocks v.lattice) (e ∷ [])) before next))
 
 -- ---- blocks among those that are read
 
@@ -265,79 +265,79 @@ among_next l p b (f ∷ es) e (suc k) d is here =
 
 -- ---- where what can be read is intact
 
-payloads_same : (tells : Type 0) (v : Opened) (c : Files) (rs : List Reading) → tells → All (λ (r : Reading). IsJudged tells v c r.block r.payload) rs → All (IsIntactBy v.shape v.digests c) (map (λ (r : Reading). r.block) rs)
+payloads_same : (reveals : Type 0) (v : Opened) (c : Files) (rs : List Reading) → reveals → All (λ (r : Reading). IsJudged reveals v c r.block r.payload) rs → All (IsIntactBy v.shape v.digests c) (map (λ (r : Reading). r.block) rs)
     → map (λ (r : Reading). r.payload) rs ≡ map (payload_at v.shape c) (map (λ (r : Reading). r.block) rs)
-payloads_same tells v c [] told judged intact = refl
-payloads_same tells v c (r ∷ rs) told judged intact =
-    let one = All-head (λ (q : Reading). IsJudged tells v c q.block q.payload) r rs judged in
+payloads_same reveals v c [] revealed judged intact = refl
+payloads_same reveals v c (r ∷ rs) revealed judged intact =
+    let one = All-head (λ (q : Reading). IsJudged reveals v c q.block q.payload) r rs judged in
     let sound = All-head (IsIntactBy v.shape v.digests c) r.block (map (λ (q : Reading). q.block) rs) intact in
-    ap (λ z. z ∷ map (λ (q : Reading). q.payload) rs) (read_intact tells v c r.block r.payload told sound one.home)
+    ap (λ z. z ∷ map (λ (q : Reading). q.payload) rs) (read_intact reveals v c r.block r.payload revealed sound one.home)
     ∙ ap (λ zs. payload_at v.shape c r.block ∷ zs)
-    (payloads_same tells v c rs told (All-tail (λ (q : Reading). IsJudged tells v c q.block q.payload) r rs judged) (All-tail (IsIntactBy v.shape v.digests c) r.block (map (λ (q : Reading). q.block) rs) intact))
+    (payloads_same reveals v c rs revealed (All-tail (λ (q : Reading). IsJudged reveals v c q.block q.payload) r rs judged) (All-tail (IsIntactBy v.shape v.digests c) r.block (map (λ (q : Reading). q.block) rs) intact))
 
 -- the payloads that are read of intact blocks are those at their homes
-pub judged_homes : (tells : Type 0) (v : Opened) (c : Files) (start sum : List ℕ) (blocks : List BlockId) → tells → All (IsIntactBy v.shape v.digests c) blocks → IsJudgedSum tells v c start blocks sum → sum ≡ added_up v.shape c start blocks
-judged_homes tells v c start sum blocks told intact is =
+pub judged_homes : (reveals : Type 0) (v : Opened) (c : Files) (start sum : List ℕ) (blocks : List BlockId) → reveals → All (IsIntactBy v.shape v.digests c) blocks → IsJudgedSum reveals v c start blocks sum → sum ≡ added_up v.shape c start blocks
+judged_homes reveals v c start sum blocks revealed intact is =
     is.sum_is
     ∙ ap (fold xor_bytes start)
-    (payloads_same tells v c is.readings told is.judged (subst (All (IsIntactBy v.shape v.digests c)) (sym is.blocks_are) intact)
+    (payloads_same reveals v c is.readings revealed is.judged (subst (All (IsIntactBy v.shape v.digests c)) (sym is.blocks_are) intact)
     ∙ ap (λ (bs : List BlockId). map (payload_at v.shape c) bs) is.blocks_are)
 
 -- and none of them is a clash
-pub homes_never : (tells : Type 0) (v : Opened) (c : Files) (blocks : List BlockId) (d : BlockId) (kept computed : List ℕ) → tells → All (IsIntactBy v.shape v.digests c) blocks → IsReadClashIn tells v c blocks d kept computed → ⊥
-homes_never tells v c blocks d kept computed told intact is =
-    is.1.damaged told (among-each (IsIntactBy v.shape v.digests c) blocks d (All-Each (IsIntactBy v.shape v.digests c) blocks intact) is.0)
+pub homes_never : (reveals : Type 0) (v : Opened) (c : Files) (blocks : List BlockId) (d : BlockId) (kept computed : List ℕ) → reveals → All (IsIntactBy v.shape v.digests c) blocks → IsReadClashIn reveals v c blocks d kept computed → ⊥
+homes_never reveals v c blocks d kept computed revealed intact is =
+    is.1.damaged revealed (among-each (IsIntactBy v.shape v.digests c) blocks d (All-Each (IsIntactBy v.shape v.digests c) blocks intact) is.0)
 
 -- where what is had is intact, the other blocks of equations that give a block are
 others_intact : (v : Opened) (ready : BlockId → Bool) (c : Files) (b : BlockId) (es : List EqId) → HasBlock v.lattice b → Give v.lattice ready b es → AreAllIntact v ready c → All (IsIntactBy v.shape v.digests c) (other_blocks v.lattice ready b es)
 others_intact v ready c b es has gives sound k d lt = let one = others_ready v.lattice ready b es has gives k d lt in sound _ one.0 one.1
 
 -- so the payloads that are read for the block are those at the homes
-pub judged_added : (tells : Type 0) (v : Opened) (ready : BlockId → Bool) (c : Files) (b : BlockId) (es : List EqId) (start sum : List ℕ) → tells → HasBlock v.lattice b → Give v.lattice ready b es
-    → IsJudgedSum tells v c start (other_blocks v.lattice ready b es) sum → AreAllIntact v ready c → sum ≡ added_up v.shape c start (other_blocks v.lattice ready b es)
-judged_added tells v ready c b es start sum told has gives is sound =
-    judged_homes tells v c start sum (other_blocks v.lattice ready b es) told (others_intact v ready c b es has gives sound) is
+pub judged_added : (reveals : Type 0) (v : Opened) (ready : BlockId → Bool) (c : Files) (b : BlockId) (es : List EqId) (start sum : List ℕ) → reveals → HasBlock v.lattice b → Give v.lattice ready b es
+    → IsJudgedSum reveals v c start (other_blocks v.lattice ready b es) sum → AreAllIntact v ready c → sum ≡ added_up v.shape c start (other_blocks v.lattice ready b es)
+judged_added reveals v ready c b es start sum revealed has gives is sound =
+    judged_homes reveals v c start sum (other_blocks v.lattice ready b es) revealed (others_intact v ready c b es has gives sound) is
 
 -- and none of them is a clash
-pub read_never : (tells : Type 0) (v : Opened) (ready : BlockId → Bool) (c : Files) (b d : BlockId) (es : List EqId) (kept computed : List ℕ) → tells → HasBlock v.lattice b → Give v.lattice ready b es
-    → IsReadClashIn tells v c (other_blocks v.lattice ready b es) d kept computed → AreAllIntact v ready c → ⊥
-read_never tells v ready c b d es kept computed told has gives is sound =
-    homes_never tells v c (other_blocks v.lattice ready b es) d kept computed told (others_intact v ready c b es has gives sound) is
+pub read_never : (reveals : Type 0) (v : Opened) (ready : BlockId → Bool) (c : Files) (b d : BlockId) (es : List EqId) (kept computed : List ℕ) → reveals → HasBlock v.lattice b → Give v.lattice ready b es
+    → IsReadClashIn reveals v c (other_blocks v.lattice ready b es) d kept computed → AreAllIntact v ready c → ⊥
+read_never reveals v ready c b d es kept computed revealed has gives is sound =
+    homes_never reveals v c (other_blocks v.lattice ready b es) d kept computed revealed (others_intact v ready c b es has gives sound) is
 
 -- ---- a block that is computed
 
 -- its payload has the digest that is kept
-pub computed_one : (tells : Type 0) (v : Opened) (c : Files) (ready : BlockId → Bool) (b : BlockId) (es : List EqId) (start sum : List ℕ) → start ≡ replicate v.shape.block 0 → IsJudgedSum tells v c start (other_blocks v.lattice ready b es) sum
-    → block_digest b sum ≡ recorded_in v.shape v.digests b → IsComputed tells v c ready b es
-computed_one tells v c ready b es start sum zeros is digest = record {
+pub computed_one : (reveals : Type 0) (v : Opened) (c : Files) (ready : BlockId → Bool) (b : BlockId) (es : List EqId) (start sum : List ℕ) → start ≡ replicate v.shape.block 0 → IsJudgedSum reveals v c start (other_blocks v.lattice ready b es) sum
+    → block_digest b sum ≡ recorded_in v.shape v.digests b → IsComputed reveals v c ready b es
+computed_one reveals v c ready b es start sum zeros is digest = record {
   payload = sum;
-  sum = subst (λ (s : List ℕ). IsJudgedSum tells v c s (other_blocks v.lattice ready b es) sum) zeros is;
+  sum = subst (λ (s : List ℕ). IsJudgedSum reveals v c s (other_blocks v.lattice ready b es) sum) zeros is;
   digest = digest;
 }
 
 -- and it has another one
-pub computed_clash : (tells : Type 0) (v : Opened) (c : Files) (ready : BlockId → Bool) (b : BlockId) (es : List EqId) (start sum told computed : List ℕ) → start ≡ replicate v.shape.block 0 → IsJudgedSum tells v c start (other_blocks v.lattice ready b es) sum
-    → IsOtherDigest v b told computed → computed ≡ block_digest b sum → IsComputedClash tells v c ready b es told computed
-computed_clash tells v c ready b es start sum told computed zeros is other computed_is = record {
+pub computed_clash : (reveals : Type 0) (v : Opened) (c : Files) (ready : BlockId → Bool) (b : BlockId) (es : List EqId) (start sum revealed computed : List ℕ) → start ≡ replicate v.shape.block 0 → IsJudgedSum reveals v c start (other_blocks v.lattice ready b es) sum
+    → IsOtherDigest v b revealed computed → computed ≡ block_digest b sum → IsComputedClash reveals v c ready b es revealed computed
+computed_clash reveals v c ready b es start sum revealed computed zeros is other computed_is = record {
   other = other;
   payload = sum;
-  sum = subst (λ (s : List ℕ). IsJudgedSum tells v c s (other_blocks v.lattice ready b es) sum) zeros is;
+  sum = subst (λ (s : List ℕ). IsJudgedSum reveals v c s (other_blocks v.lattice ready b es) sum) zeros is;
   computed_is = computed_is;
 }
 
 -- ---- what was read, in the files at first
 
 -- one of the blocks that were read, and its payload
-reading_of : (tells : Type 0) (v : Opened) (c : Files) (rs : List Reading) (d : BlockId) → All (λ (r : Reading). IsJudged tells v c r.block r.payload) rs → IsTrue (is_among (map (λ (r : Reading). r.block) rs) d) → (payload : List ℕ) × IsJudged tells v c d payload
-reading_of tells v c [] d judged is = absurd (false≢true is)
-reading_of tells v c (r ∷ rs) d judged is = elim (or_cases (same_block d r.block) (is_among (map (λ (q : Reading). q.block) rs) d) is) [
-  | inl here ↦ (r.payload, subst (λ (a : BlockId). IsJudged tells v c a r.payload) (sym (same_block-equal d r.block here)) (All-head (λ (q : Reading). IsJudged tells v c q.block q.payload) r rs judged))
-  | inr later ↦ reading_of tells v c rs d (All-tail (λ (q : Reading). IsJudged tells v c q.block q.payload) r rs judged) later
+reading_of : (reveals : Type 0) (v : Opened) (c : Files) (rs : List Reading) (d : BlockId) → All (λ (r : Reading). IsJudged reveals v c r.block r.payload) rs → IsTrue (is_among (map (λ (r : Reading). r.block) rs) d) → (payload : List ℕ) × IsJudged reveals v c d payload
+reading_of reveals v c [] d judged is = absurd (false≢true is)
+reading_of reveals v c (r ∷ rs) d judged is = elim (or_cases (same_block d r.block) (is_among (map (λ (q : Reading). q.block) rs) d) is) [
+  | inl here ↦ (r.payload, subst (λ (a : BlockId). IsJudged reveals v c a r.payload) (sym (same_block-equal d r.block here)) (All-head (λ (q : Reading). IsJudged reveals v c q.block q.payload) r rs judged))
+  | inr later ↦ reading_of reveals v c rs d (All-tail (λ (q : Reading). IsJudged reveals v c q.block q.payload) r rs judged) later
 ]
 
 -- What was read of a block that was known, begins with what was at its home at first.
-judged_first : (tells : Type 0) (v : Opened) (known ready : BlockId → Bool) (first now : Files) (d : BlockId) (payload : List ℕ) → tells → IsBlockOf v.shape d → IsTrue (known d) → IsUnderWay v known ready first now → IsJudged tells v now d payload → IsJudged tells v first d payload
-judged_first tells v known ready first now d payload told fits is way judged =
+judged_first : (reveals : Type 0) (v : Opened) (known ready : BlockId → Bool) (first now : Files) (d : BlockId) (payload : List ℕ) → reveals → IsBlockOf v.shape d → IsTrue (known d) → IsUnderWay v known ready first now → IsJudged reveals v now d payload → IsJudged reveals v first d payload
+judged_first reveals v known ready first now d payload revealed fits is way judged =
     let short : length (home_bytes v.shape d first) ≤ cell_size v.shape = omega (arith, length-take (cell_size v.shape) (drop (home_place v.shape d) (first (home_file v.shape d)))) in
     let here : take (length (home_bytes v.shape d first)) (drop (home_place v.shape d) (now (home_file v.shape d))) ≡ home_bytes v.shape d first =
     way.homes d (home_bytes v.shape d first) fits (λ done. true≢false (sym is ∙ done.fresh)) short (front_length (cell_size v.shape) (drop (home_place v.shape d) (first (home_file v.shape d)))) in
@@ -347,14 +347,14 @@ judged_first tells v known ready first now d payload told fits is way judged =
     record {
       home = record {
         size = judged.home.size;
-        begins = λ also. begins_after (payload_at v.shape first d) (payload_at v.shape now d) payload (read_begins v.shape d first (home_bytes v.shape d now) grown) (judged.home.begins told);
+        begins = λ also. begins_after (payload_at v.shape first d) (payload_at v.shape now d) payload (read_begins v.shape d first (home_bytes v.shape d now) grown) (judged.home.begins revealed);
       };
       digest = judged.digest;
     }
 
 -- A known block that was read for another one had at first a payload with its digest.
-pub read_first : (tells : Type 0) (v : Opened) (known ready : BlockId → Bool) (first now : Files) (b d : BlockId) (es : List EqId) → tells → IsBlockOf v.shape d → IsTrue (known d) → IsUnderWay v known ready first now → IsComputed tells v now ready b es
-    → IsTrue (is_among (other_blocks v.lattice ready b es) d) → (payload : List ℕ) × IsJudged tells v first d payload
-read_first tells v known ready first now b d es told fits is way computed among =
-    let one = reading_of tells v now computed.sum.readings d computed.sum.judged (ap (λ (bs : List BlockId). is_among bs d) computed.sum.blocks_are ∙ among) in
-    (one.0, judged_first tells v known ready first now d one.0 told fits is way one.1)
+pub read_first : (reveals : Type 0) (v : Opened) (known ready : BlockId → Bool) (first now : Files) (b d : BlockId) (es : List EqId) → reveals → IsBlockOf v.shape d → IsTrue (known d) → IsUnderWay v known ready first now → IsComputed reveals v now ready b es
+    → IsTrue (is_among (other_blocks v.lattice ready b es) d) → (payload : List ℕ) × IsJudged reveals v first d payload
+read_first reveals v known ready first now b d es revealed fits is way computed among =
+    let one = reading_of reveals v now computed.sum.readings d computed.sum.judged (ap (λ (bs : List BlockId). is_among bs d) computed.sum.blocks_are ∙ among) in
+    (one.0, judged_first reveals v known ready first now d one.0 revealed fits is way one.1)

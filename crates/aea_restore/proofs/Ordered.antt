@@ -57,50 +57,50 @@ way_alike v known p q first now same way =
       written = λ b done. way.written b (from b done);
     }
 
-computed_alike : (tells : Type 0) (v : Opened) (c : Files) (p q : BlockId → Bool) (b : BlockId) (es : List EqId) → All (HasEquation v.lattice) es → ((d : BlockId) → HasBlock v.lattice d → p d ≡ q d) → IsComputed tells v c p b es → IsComputed tells v c q b es
-computed_alike tells v c p q b es valid same is = record {
+computed_alike : (reveals : Type 0) (v : Opened) (c : Files) (p q : BlockId → Bool) (b : BlockId) (es : List EqId) → All (HasEquation v.lattice) es → ((d : BlockId) → HasBlock v.lattice d → p d ≡ q d) → IsComputed reveals v c p b es → IsComputed reveals v c q b es
+computed_alike reveals v c p q b es valid same is = record {
   payload = is.payload;
-  sum = subst (λ (bs : List BlockId). IsJudgedSum tells v c (replicate v.shape.block 0) bs is.payload) (others_alike v.lattice p q b es valid same) is.sum;
+  sum = subst (λ (bs : List BlockId). IsJudgedSum reveals v c (replicate v.shape.block 0) bs is.payload) (others_alike v.lattice p q b es valid same) is.sum;
   digest = is.digest;
 }
 
-found_alike : (tells : Type 0) (v : Opened) (c : Files) (p q : BlockId → Bool) (b d : BlockId) (es : List EqId) (told computed : List ℕ) → All (HasEquation v.lattice) es → ((a : BlockId) → HasBlock v.lattice a → p a ≡ q a)
-    → IsFound tells v c p b es d told computed → IsFound tells v c q b es d told computed
-found_alike tells v c p q b d es told computed valid same is = elim is [
-  | inl read ↦ inl (subst (λ (bs : List BlockId). IsReadClashIn tells v c bs d told computed) (others_alike v.lattice p q b es valid same) read)
+found_alike : (reveals : Type 0) (v : Opened) (c : Files) (p q : BlockId → Bool) (b d : BlockId) (es : List EqId) (revealed computed : List ℕ) → All (HasEquation v.lattice) es → ((a : BlockId) → HasBlock v.lattice a → p a ≡ q a)
+    → IsFound reveals v c p b es d revealed computed → IsFound reveals v c q b es d revealed computed
+found_alike reveals v c p q b d es revealed computed valid same is = elim is [
+  | inl read ↦ inl (subst (λ (bs : List BlockId). IsReadClashIn reveals v c bs d revealed computed) (others_alike v.lattice p q b es valid same) read)
   | inr own ↦
       inr (
         own.0,
         record {
           other = own.1.other;
           payload = own.1.payload;
-          sum = subst (λ (bs : List BlockId). IsJudgedSum tells v c (replicate v.shape.block 0) bs own.1.payload) (others_alike v.lattice p q b es valid same) own.1.sum;
+          sum = subst (λ (bs : List BlockId). IsJudgedSum reveals v c (replicate v.shape.block 0) bs own.1.payload) (others_alike v.lattice p q b es valid same) own.1.sum;
           computed_is = own.1.computed_is;
         },
       )
 ]
 
-restored_alike : (tells : Type 0) (v : Opened) (known p q : BlockId → Bool) (first : Files) (b : BlockId) (es : List EqId) → All (HasEquation v.lattice) es → ((d : BlockId) → HasBlock v.lattice d → p d ≡ q d)
-    → IsRestoredFrom tells v known p first b es → IsRestoredFrom tells v known q first b es
-restored_alike tells v known p q first b es valid same is = record {
+restored_alike : (reveals : Type 0) (v : Opened) (known p q : BlockId → Bool) (first : Files) (b : BlockId) (es : List EqId) → All (HasEquation v.lattice) es → ((d : BlockId) → HasBlock v.lattice d → p d ≡ q d)
+    → IsRestoredFrom reveals v known p first b es → IsRestoredFrom reveals v known q first b es
+restored_alike reveals v known p q first b es valid same is = record {
   now = is.now;
-  way = λ told. way_alike v known p q first is.now same (is.way told);
-  computed = computed_alike tells v is.now p q b es valid same is.computed;
+  way = λ revealed. way_alike v known p q first is.now same (is.way revealed);
+  computed = computed_alike reveals v is.now p q b es valid same is.computed;
 }
 
 -- ---- one sum after another
 
 -- none yet
-pub each_none : (tells : Type 0) (v : Opened) (known marked : BlockId → Bool) (first : Files) (all : List Fate) → AreRestoredFrom tells v known marked first all 0
-each_none tells v known marked first all k b es below at fresh = absurd (omega (arith, below))
+pub each_none : (reveals : Type 0) (v : Opened) (known marked : BlockId → Bool) (first : Files) (all : List Fate) → AreRestoredFrom reveals v known marked first all 0
+each_none reveals v known marked first all k b es below at fresh = absurd (omega (arith, below))
 
 -- one more
-pub each_next : (tells : Type 0) (v : Opened) (known marked ready : BlockId → Bool) (first now : Files) (all : List Fate) (k : ℕ) (item : Fate) → slice_get all k ≡ Some item
+pub each_next : (reveals : Type 0) (v : Opened) (known marked ready : BlockId → Bool) (first now : Files) (all : List Fate) (k : ℕ) (item : Fate) → slice_get all k ≡ Some item
     → ((d : BlockId) → HasBlock v.lattice d → ready d ≡ is_had_by marked all k d)
     → ((b : BlockId) (es : List EqId) → item ≡ Sum b es → IsOfLattice v.lattice b es)
-    → ((b : BlockId) (es : List EqId) → item ≡ Sum b es → ready b ≡ false → IsComputed tells v now ready b es)
-    → (tells → IsUnderWay v known ready first now) → AreRestoredFrom tells v known marked first all k → AreRestoredFrom tells v known marked first all (k + 1)
-each_next tells v known marked ready first now all k item is same can computes way so_far j b es below at fresh = elim (cases_lt j k) [
+    → ((b : BlockId) (es : List EqId) → item ≡ Sum b es → ready b ≡ false → IsComputed reveals v now ready b es)
+    → (reveals → IsUnderWay v known ready first now) → AreRestoredFrom reveals v known marked first all k → AreRestoredFrom reveals v known marked first all (k + 1)
+each_next reveals v known marked ready first now all k item is same can computes way so_far j b es below at fresh = elim (cases_lt j k) [
   | inl before ↦ so_far j b es before at fresh
   | inr past ↦
       (let same_k : j ≡ k = omega (arith, below, past) in
@@ -108,31 +108,31 @@ each_next tells v known marked ready first now all k item is same can computes w
       let one : item ≡ Sum b es = cc in
       let of_lattice = can b es one in
       let unmarked : ready b ≡ false = same b of_lattice.0 ∙ subst (λ (n : ℕ). is_had_by marked all n b ≡ false) same_k fresh in
-      subst (λ (n : ℕ). IsRestoredFrom tells v known (is_had_by marked all n) first b es) (sym same_k)
-      (restored_alike tells v known ready (is_had_by marked all k) first b es of_lattice.1 same (record { now = now; way = way; computed = computes b es one unmarked })))
+      subst (λ (n : ℕ). IsRestoredFrom reveals v known (is_had_by marked all n) first b es) (sym same_k)
+      (restored_alike reveals v known ready (is_had_by marked all k) first b es of_lattice.1 same (record { now = now; way = way; computed = computes b es one unmarked })))
 ]
 
 -- a clash at the next one
-pub clash_next : (tells : Type 0) (v : Opened) (known marked ready : BlockId → Bool) (first now : Files) (all : List Fate) (k : ℕ) (b d : BlockId) (es : List EqId) (told computed : List ℕ) → slice_get all k ≡ Some (Sum b es)
-    → ((a : BlockId) → HasBlock v.lattice a → ready a ≡ is_had_by marked all k a) → IsOfLattice v.lattice b es → ready b ≡ false → IsFound tells v now ready b es d told computed
-    → (tells → IsUnderWay v known ready first now) → ClashesAt tells v known marked first all k d told computed
-clash_next tells v known marked ready first now all k b d es told computed is same of_lattice unmarked found way = record {
+pub clash_next : (reveals : Type 0) (v : Opened) (known marked ready : BlockId → Bool) (first now : Files) (all : List Fate) (k : ℕ) (b d : BlockId) (es : List EqId) (revealed computed : List ℕ) → slice_get all k ≡ Some (Sum b es)
+    → ((a : BlockId) → HasBlock v.lattice a → ready a ≡ is_had_by marked all k a) → IsOfLattice v.lattice b es → ready b ≡ false → IsFound reveals v now ready b es d revealed computed
+    → (reveals → IsUnderWay v known ready first now) → ClashesAt reveals v known marked first all k d revealed computed
+clash_next reveals v known marked ready first now all k b d es revealed computed is same of_lattice unmarked found way = record {
   block = b;
   equations = es;
   next = is;
   fresh = sym (same b of_lattice.0) ∙ unmarked;
   now = now;
-  way = λ told. way_alike v known ready (is_had_by marked all k) first now same (way told);
-  found = found_alike tells v now ready (is_had_by marked all k) b d es told computed of_lattice.1 same found;
+  way = λ revealed. way_alike v known ready (is_had_by marked all k) first now same (way revealed);
+  found = found_alike reveals v now ready (is_had_by marked all k) b d es revealed computed of_lattice.1 same found;
 }
 
 -- ---- what holds at the end
 
 -- after the last one
-pub order_end : (tells : Type 0) (v : Opened) (known marked after : BlockId → Bool) (first : Files) (all : List Fate) (result : Answer) (k : ℕ) → length all ≤ k
-    → ((d : BlockId) → HasBlock v.lattice d → after d ≡ is_had_by marked all k d) → AreRestoredFrom tells v known marked first all k → ((d : BlockId) (told computed : List ℕ) → result ≡ Err (Clash d told computed) → ⊥)
-    → GoInOrder tells v known marked after first all result
-order_end tells v known marked after first all result k past marks each fine = record {
+pub order_end : (reveals : Type 0) (v : Opened) (known marked after : BlockId → Bool) (first : Files) (all : List Fate) (result : Answer) (k : ℕ) → length all ≤ k
+    → ((d : BlockId) → HasBlock v.lattice d → after d ≡ is_had_by marked all k d) → AreRestoredFrom reveals v known marked first all k → ((d : BlockId) (revealed computed : List ℕ) → result ≡ Err (Clash d revealed computed) → ⊥)
+    → GoInOrder reveals v known marked after first all result
+order_end reveals v known marked after first all result k past marks each fine = record {
   count = length all;
   most = omega arith;
   whole = λ ok. refl;
@@ -142,10 +142,10 @@ order_end tells v known marked after first all result k past marks each fine = r
 }
 
 -- where one of them failed
-pub order_stop : (tells : Type 0) (v : Opened) (known marked after : BlockId → Bool) (first : Files) (all : List Fate) (result : Answer) (k : ℕ) → k ≤ length all → (IsOk result → ⊥)
-    → ((d : BlockId) → HasBlock v.lattice d → after d ≡ is_had_by marked all k d) → AreRestoredFrom tells v known marked first all k
-    → ((d : BlockId) (told computed : List ℕ) → result ≡ Err (Clash d told computed) → ClashesAt tells v known marked first all k d told computed) → GoInOrder tells v known marked after first all result
-order_stop tells v known marked after first all result k most bad marks each clash = record {
+pub order_stop : (reveals : Type 0) (v : Opened) (known marked after : BlockId → Bool) (first : Files) (all : List Fate) (result : Answer) (k : ℕ) → k ≤ length all → (IsOk result → ⊥)
+    → ((d : BlockId) → HasBlock v.lattice d → after d ≡ is_had_by marked all k d) → AreRestoredFrom reveals v known marked first all k
+    → ((d : BlockId) (revealed computed : List ℕ) → result ≡ Err (Clash d revealed computed) → ClashesAt reveals v known marked first all k d revealed computed) → GoInOrder reveals v known marked after first all result
+order_stop reveals v known marked after first all result k most bad marks each clash = record {
   count = k;
   most = most;
   whole = λ ok. absurd (bad ok);
@@ -155,9 +155,9 @@ order_stop tells v known marked after first all result k most bad marks each cla
 }
 
 -- another result of the same calls, which is no clash
-pub order_as : (tells : Type 0) (v : Opened) (known marked after : BlockId → Bool) (first : Files) (all : List Fate) (result other : Answer) → (IsOk other → IsOk result) → ((d : BlockId) (told computed : List ℕ) → other ≡ Err (Clash d told computed) → ⊥)
-    → GoInOrder tells v known marked after first all result → GoInOrder tells v known marked after first all other
-order_as tells v known marked after first all result other so fine is = record {
+pub order_as : (reveals : Type 0) (v : Opened) (known marked after : BlockId → Bool) (first : Files) (all : List Fate) (result other : Answer) → (IsOk other → IsOk result) → ((d : BlockId) (revealed computed : List ℕ) → other ≡ Err (Clash d revealed computed) → ⊥)
+    → GoInOrder reveals v known marked after first all result → GoInOrder reveals v known marked after first all other
+order_as reveals v known marked after first all result other so fine is = record {
   count = is.count;
   most = is.most;
   whole = λ ok. is.whole (so ok);
@@ -167,12 +167,12 @@ order_as tells v known marked after first all result other so fine is = record {
 }
 
 -- Where all was carried out, what was known and read had its digest at first.
-pub order_judged : (tells : Type 0) (v : Opened) (marked after : BlockId → Bool) (first : Files) (all : List Fate) (result : Answer) → tells → IsOk result → ((d : BlockId) → HasBlock v.lattice d → IsBlockOf v.shape d)
-    → GoInOrder tells v marked marked after first all result → AreReadJudged tells v marked first all
-order_judged tells v marked after first all result told ok fits is k b d es at fresh has known among =
+pub order_judged : (reveals : Type 0) (v : Opened) (marked after : BlockId → Bool) (first : Files) (all : List Fate) (result : Answer) → reveals → IsOk result → ((d : BlockId) → HasBlock v.lattice d → IsBlockOf v.shape d)
+    → GoInOrder reveals v marked marked after first all result → AreReadJudged reveals v marked first all
+order_judged reveals v marked after first all result revealed ok fits is k b d es at fresh has known among =
     let below : k < is.count = (let whole = is.whole ok in let within = slice_get_within all k (Sum b es) at in omega (arith, whole, within)) in
     let from = is.each k b es below at fresh in
-    read_first tells v marked (is_had_by marked all k) first from.now b d es told (fits d has) known (from.way told) from.computed among
+    read_first reveals v marked (is_had_by marked all k) first from.now b d es revealed (fits d has) known (from.way revealed) from.computed among
 
 -- ---- two lists
 
@@ -192,24 +192,24 @@ had_late marked mid xs ys j d is =
     ∙ ap (λ (bs : List BlockId). marked d || is_among bs d) (sym (flat_map-append block_summed xs (take j ys)))
     ∙ ap (λ (fs : List Fate). marked d || is_among (blocks_summed fs) d) (sym (take-append-add xs ys j))
 
-each_early : (tells : Type 0) (v : Opened) (known marked : BlockId → Bool) (first : Files) (xs ys : List Fate) (count k : ℕ) (b : BlockId) (es : List EqId) → AreRestoredFrom tells v known marked first xs count → k < count → k < length xs
-    → slice_get (xs ++ ys) k ≡ Some (Sum b es) → is_had_by marked (xs ++ ys) k b ≡ false → IsRestoredFrom tells v known (is_had_by marked (xs ++ ys) k) first b es
-each_early tells v known marked first xs ys count k b es each below inside at fresh =
+each_early : (reveals : Type 0) (v : Opened) (known marked : BlockId → Bool) (first : Files) (xs ys : List Fate) (count k : ℕ) (b : BlockId) (es : List EqId) → AreRestoredFrom reveals v known marked first xs count → k < count → k < length xs
+    → slice_get (xs ++ ys) k ≡ Some (Sum b es) → is_had_by marked (xs ++ ys) k b ≡ false → IsRestoredFrom reveals v known (is_had_by marked (xs ++ ys) k) first b es
+each_early reveals v known marked first xs ys count k b es each below inside at fresh =
     let same = had_early marked xs ys k (omega (arith, inside)) in
-    subst (λ (had : BlockId → Bool). IsRestoredFrom tells v known had first b es) (sym same)
+    subst (λ (had : BlockId → Bool). IsRestoredFrom reveals v known had first b es) (sym same)
     (each k b es below (sym (slice_early xs ys k inside) ∙ at) (sym (ap (λ (had : BlockId → Bool). had b) same) ∙ fresh))
 
 -- the first list alone was begun
-pub order_early : (tells : Type 0) (v : Opened) (known marked after : BlockId → Bool) (first : Files) (xs ys : List Fate) (result : Answer) → (IsOk result → ⊥) → GoInOrder tells v known marked after first xs result
-    → GoInOrder tells v known marked after first (xs ++ ys) result
-order_early tells v known marked after first xs ys result bad is =
+pub order_early : (reveals : Type 0) (v : Opened) (known marked after : BlockId → Bool) (first : Files) (xs ys : List Fate) (result : Answer) → (IsOk result → ⊥) → GoInOrder reveals v known marked after first xs result
+    → GoInOrder reveals v known marked after first (xs ++ ys) result
+order_early reveals v known marked after first xs ys result bad is =
     let same = had_early marked xs ys is.count is.most in
     record {
       count = is.count;
       most = omega (arith, is.most, length-append xs ys);
       whole = λ ok. absurd (bad ok);
       marks = λ d has. is.marks d has ∙ sym (ap (λ (had : BlockId → Bool). had d) same);
-      each = λ k b es below at fresh. each_early tells v known marked first xs ys is.count k b es is.each below (let most = is.most in omega (arith, below, most)) at fresh;
+      each = λ k b es below at fresh. each_early reveals v known marked first xs ys is.count k b es is.each below (let most = is.most in omega (arith, below, most)) at fresh;
       clash = λ d kept computed e.
           let at = is.clash d kept computed e in
           record {
@@ -218,16 +218,16 @@ order_early tells v known marked after first xs ys result bad is =
             next = slice_get-append_left xs ys is.count (Sum at.block at.equations) at.next;
             fresh = ap (λ (had : BlockId → Bool). had at.block) same ∙ at.fresh;
             now = at.now;
-            way = λ told. subst (λ (had : BlockId → Bool). IsUnderWay v known had first at.now) (sym same) (at.way told);
-            found = subst (λ (had : BlockId → Bool). IsFound tells v at.now had at.block at.equations d kept computed) (sym same) at.found;
+            way = λ revealed. subst (λ (had : BlockId → Bool). IsUnderWay v known had first at.now) (sym same) (at.way revealed);
+            found = subst (λ (had : BlockId → Bool). IsFound reveals v at.now had at.block at.equations d kept computed) (sym same) at.found;
           };
     }
 
 -- both were, the first to its end
-pub order_both : (tells : Type 0) (v : Opened) (known marked mid after : BlockId → Bool) (first : Files) (xs ys : List Fate) (early_result result : Answer) → IsOk early_result
+pub order_both : (reveals : Type 0) (v : Opened) (known marked mid after : BlockId → Bool) (first : Files) (xs ys : List Fate) (early_result result : Answer) → IsOk early_result
     → ((j : ℕ) (b : BlockId) (es : List EqId) → slice_get ys j ≡ Some (Sum b es) → IsOfLattice v.lattice b es)
-    → GoInOrder tells v known marked mid first xs early_result → GoInOrder tells v known mid after first ys result → GoInOrder tells v known marked after first (xs ++ ys) result
-order_both tells v known marked mid after first xs ys early_result result ok can early late =
+    → GoInOrder reveals v known marked mid first xs early_result → GoInOrder reveals v known mid after first ys result → GoInOrder reveals v known marked after first (xs ++ ys) result
+order_both reveals v known marked mid after first xs ys early_result result ok can early late =
     let whole = early.whole ok in
     let later : (j : ℕ) (d : BlockId) → HasBlock v.lattice d → is_had_by mid ys j d ≡ is_had_by marked (xs ++ ys) (length xs + j) d =
     λ j d has. had_late marked mid xs ys j d (early.marks d has ∙ ap (λ (n : ℕ). is_had_by marked xs n d) whole) in
@@ -238,14 +238,14 @@ order_both tells v known marked mid after first xs ys early_result result ok can
       marks = λ d has. late.marks d has ∙ later late.count d has;
       each = λ k b es below at fresh.
           elim (cases_lt k (length xs)) [
-            | inl inside ↦ each_early tells v known marked first xs ys early.count k b es early.each (omega (arith, inside, whole)) inside at fresh
+            | inl inside ↦ each_early reveals v known marked first xs ys early.count k b es early.each (omega (arith, inside, whole)) inside at fresh
             | inr past ↦
                 (let sum : length xs + (k - length xs) ≡ k = omega (arith, past) in
                 let at_j : slice_get ys (k - length xs) ≡ Some (Sum b es) = sym (slice_get-append_right xs ys (k - length xs)) ∙ subst (λ (n : ℕ). slice_get (xs ++ ys) n ≡ Some (Sum b es)) (sym sum) at in
                 let of_lattice = can (k - length xs) b es at_j in
                 let fresh_j : is_had_by mid ys (k - length xs) b ≡ false = later (k - length xs) b of_lattice.0 ∙ subst (λ (n : ℕ). is_had_by marked (xs ++ ys) n b ≡ false) (sym sum) fresh in
-                subst (λ (n : ℕ). IsRestoredFrom tells v known (is_had_by marked (xs ++ ys) n) first b es) sum
-                (restored_alike tells v known (is_had_by mid ys (k - length xs)) (is_had_by marked (xs ++ ys) (length xs + (k - length xs))) first b es of_lattice.1 (later (k - length xs))
+                subst (λ (n : ℕ). IsRestoredFrom reveals v known (is_had_by marked (xs ++ ys) n) first b es) sum
+                (restored_alike reveals v known (is_had_by mid ys (k - length xs)) (is_had_by marked (xs ++ ys) (length xs + (k - length xs))) first b es of_lattice.1 (later (k - length xs))
                 (late.each (k - length xs) b es (omega (arith, below, past)) at_j fresh_j)))
           ];
       clash = λ d kept computed e.
@@ -257,8 +257,8 @@ order_both tells v known marked mid after first xs ys early_result result ok can
             next = slice_get-append_right xs ys late.count ∙ at.next;
             fresh = sym (later late.count at.block of_lattice.0) ∙ at.fresh;
             now = at.now;
-            way = λ told. way_alike v known (is_had_by mid ys late.count) (is_had_by marked (xs ++ ys) (length xs + late.count)) first at.now (later late.count) (at.way told);
-            found = found_alike tells v at.now (is_had_by mid ys late.count) (is_had_by marked (xs ++ ys) (length xs + late.count)) at.block d at.equations kept computed of_lattice.1 (later late.count) at.found;
+            way = λ revealed. way_alike v known (is_had_by mid ys late.count) (is_had_by marked (xs ++ ys) (length xs + late.count)) first at.now (later late.count) (at.way revealed);
+            found = found_alike reveals v at.now (is_had_by mid ys late.count) (is_had_by marked (xs ++ ys) (length xs + late.count)) at.block d at.equations kept computed of_lattice.1 (later late.count) at.found;
           };
     }
 

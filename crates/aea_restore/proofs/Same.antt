@@ -35,7 +35,7 @@ module _ (mends others : BlockId → Type 0) (to : (b : BlockId) → mends b →
   -- what each result says of the files
   pub leaves_same : (v : Opened) (old new : Files) (result : Answer) → Leaves v mends old new result → Leaves v others old new result
   leaves_same v old new (Ok done) is = repaired_same v old new is
-  leaves_same v old new (Err (Clash b told computed)) is = partly_same v old new is
+  leaves_same v old new (Err (Clash b revealed computed)) is = partly_same v old new is
   leaves_same v old new (Err DiskFault) is = elim is [
     | inl partly ↦ inl (partly_same v old new partly)
     | inr torn ↦ inr (torn.0, torn_same v torn.0 old new torn.1)
@@ -47,5 +47,5 @@ module _ (mends others : BlockId → Type 0) (to : (b : BlockId) → mends b →
   marks_same l old new (Err fault) is = some_more l mends others old new to is
 
   -- what is written
-  pub writes_same : (tells fault : Type 0) (v : Opened) (old new : State) → WritesBlocks tells v (IsLeft mends) fault old new → WritesBlocks tells v (IsLeft others) fault old new
-  writes_same tells fault v old new writes = cells_less_as tells fault fault v.shape v.lattice.n (IsLeft mends) (IsLeft others) old new (λ a left one. left (to a one)) (λ is. is) (λ is. is) writes
+  pub writes_same : (reveals fault : Type 0) (v : Opened) (old new : State) → WritesBlocks reveals v (IsLeft mends) fault old new → WritesBlocks reveals v (IsLeft others) fault old new
+  writes_same reveals fault v old new writes = cells_less_as reveals fault fault v.shape v.lattice.n (IsLeft mends) (IsLeft others) old new (λ a left one. left (to a one)) (λ is. is) (λ is. is) writes

@@ -94,12 +94,12 @@ way_more v known ready more first mid now b fits has unready adds homes padded i
       written = λ a done.
           elim (cases_Bool (same_block a b)) [
             | inl here ↦ subst (IsIntactBy v.shape v.digests now) (sym (same_block-equal a b here)) intact
-            | inr told ↦
+            | inr revealed ↦
                 elim (or_cases (ready a) (same_block a b) (sym (adds a done.block) ∙ done.now)) [
                   | inl was ↦
-                      keeps_intact v.shape (λ d. d ≢ b) mid now homes a (recorded_in v.shape v.digests a) (fits a done.block) (apart a b told)
+                      keeps_intact v.shape (λ d. d ≢ b) mid now homes a (recorded_in v.shape v.digests a) (fits a done.block) (apart a b revealed)
                       (way.written a (record { block = done.block; now = was; fresh = done.fresh }))
-                  | inr here ↦ absurd (true≢false (sym here ∙ told))
+                  | inr here ↦ absurd (true≢false (sym here ∙ revealed))
                 ]
           ];
     }

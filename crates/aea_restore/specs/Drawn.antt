@@ -45,18 +45,18 @@ added_up shape c start blocks = fold xor_bytes start (map (payload_at shape c) b
 
 -- Two digests of a block of the lattice differ: the one that the ledger keeps of it, and that of another payload, which has the
 -- bytes of a block.
-pub record IsOtherDigest (v : Opened) (b : BlockId) (told computed : List ℕ) : Type 0 where
+pub record IsOtherDigest (v : Opened) (b : BlockId) (revealed computed : List ℕ) : Type 0 where
   pub block : HasBlock v.lattice b
-  pub told_is : told ≡ recorded_in v.shape v.digests b
+  pub revealed_is : revealed ≡ recorded_in v.shape v.digests b
   pub payload : List ℕ
   pub size : length payload ≡ v.shape.block
   pub computed_is : computed ≡ block_digest b payload
-  pub differ : computed ≢ told
+  pub differ : computed ≢ revealed
 
 -- Two digests of a block that is to be restored differ: the one that the ledger keeps of it, and that of a payload which
 -- is drawn from the known blocks.
-pub record IsClash (v : Opened) (known : BlockId → Bool) (c : Files) (b : BlockId) (told computed : List ℕ) : Type 0 where
-  pub other : IsOtherDigest v b told computed
+pub record IsClash (v : Opened) (known : BlockId → Bool) (c : Files) (b : BlockId) (revealed computed : List ℕ) : Type 0 where
+  pub other : IsOtherDigest v b revealed computed
   pub payload : List ℕ
   pub drawn : IsDrawn v known c b payload
   pub computed_is : computed ≡ block_digest b payload

@@ -31,43 +31,43 @@ is_had_by marked all k b = marked b || is_among (blocks_summed (take k all)) b
 -- The block was restored when these blocks could be read: each payload that was read for it was judged, and so was the one that
 -- was computed. Where the disk's contents are known, that is so in the files as they were then, with all that had been restored
 -- before, and all else as at first.
-pub record IsRestoredFrom (tells : Type 0) (v : Opened) (known ready : BlockId → Bool) (first : Files) (b : BlockId) (equations : List EqId) : Type 0 where
+pub record IsRestoredFrom (reveals : Type 0) (v : Opened) (known ready : BlockId → Bool) (first : Files) (b : BlockId) (equations : List EqId) : Type 0 where
   pub now : Files
-  pub way : tells → IsUnderWay v known ready first now
-  pub computed : IsComputed tells v now ready b equations
+  pub way : reveals → IsUnderWay v known ready first now
+  pub computed : IsComputed reveals v now ready b equations
 
 -- Each of the first `count` sums whose block is not had before it restored this block from the blocks that are had then.
 abbrev pub AreRestoredFrom : Type 0 → Opened → (BlockId → Bool) → (BlockId → Bool) → Files → List Fate → ℕ → Type 0
-AreRestoredFrom tells v known marked first all count =
+AreRestoredFrom reveals v known marked first all count =
     (k : ℕ) (b : BlockId) (equations : List EqId) → k < count → slice_get all k ≡ Some (Sum b equations) → is_had_by marked all k b ≡ false
-    → IsRestoredFrom tells v known (is_had_by marked all k) first b equations
+    → IsRestoredFrom reveals v known (is_had_by marked all k) first b equations
 
 -- The clash came at the next sum after the first `count`, while its block was computed from the blocks that were had then. A
 -- block that was read and is found so was marked at first, since what was restored before is intact.
-pub record ClashesAt (tells : Type 0) (v : Opened) (known marked : BlockId → Bool) (first : Files) (all : List Fate) (count : ℕ) (d : BlockId) (told computed : List ℕ) : Type 0 where
+pub record ClashesAt (reveals : Type 0) (v : Opened) (known marked : BlockId → Bool) (first : Files) (all : List Fate) (count : ℕ) (d : BlockId) (revealed computed : List ℕ) : Type 0 where
   pub block : BlockId
   pub equations : List EqId
   pub next : slice_get all count ≡ Some (Sum block equations)
   pub fresh : is_had_by marked all count block ≡ false
   pub now : Files
-  pub way : tells → IsUnderWay v known (is_had_by marked all count) first now
-  pub found : IsFound tells v now (is_had_by marked all count) block equations d told computed
+  pub way : reveals → IsUnderWay v known (is_had_by marked all count) first now
+  pub found : IsFound reveals v now (is_had_by marked all count) block equations d revealed computed
 
 -- “In order”: the first `count` of the sums were carried out, one after the other, all where the result is Ok. What is marked
 -- then is what was marked and what they give; each of their blocks was computed from judged payloads; and a clash is one that
 -- came at the next of them.
-pub record GoInOrder (tells : Type 0) (v : Opened) (known marked after : BlockId → Bool) (first : Files) (all : List Fate) (result : Answer) : Type 0 where
+pub record GoInOrder (reveals : Type 0) (v : Opened) (known marked after : BlockId → Bool) (first : Files) (all : List Fate) (result : Answer) : Type 0 where
   pub count : ℕ
   pub most : count ≤ length all
   pub whole : IsOk result → count ≡ length all
   pub marks : (d : BlockId) → HasBlock v.lattice d → after d ≡ is_had_by marked all count d
-  pub each : AreRestoredFrom tells v known marked first all count
-  pub clash : (d : BlockId) (told computed : List ℕ) → result ≡ Err (Clash d told computed) → ClashesAt tells v known marked first all count d told computed
+  pub each : AreRestoredFrom reveals v known marked first all count
+  pub clash : (d : BlockId) (revealed computed : List ℕ) → result ≡ Err (Clash d revealed computed) → ClashesAt reveals v known marked first all count d revealed computed
 
 -- “What is read is judged before it is used”: each block that was marked at first, and that stands beside the block of a sum
 -- which was carried out, had at first a payload with the digest that the ledger keeps of it.
 abbrev pub AreReadJudged : Type 0 → Opened → (BlockId → Bool) → Files → List Fate → Type 0
-AreReadJudged tells v marked first all =
+AreReadJudged reveals v marked first all =
     (k : ℕ) (b d : BlockId) (equations : List EqId) → slice_get all k ≡ Some (Sum b equations) → is_had_by marked all k b ≡ false
     → HasBlock v.lattice d → IsTrue (marked d) → IsTrue (is_among (other_blocks v.lattice (is_had_by marked all k) b equations) d)
-    → (payload : List ℕ) × IsJudged tells v first d payload
+    → (payload : List ℕ) × IsJudged reveals v first d payload

@@ -25,7 +25,7 @@ IsLeft mends b = mends b → ⊥
 
 -- cells of the archive's nodes were written, none of these blocks
 abbrev pub WritesBlocks : Type 0 → Opened → (BlockId → Type 0) → Type 0 → State → State → Type 0
-WritesBlocks tells v keep fault old new = WritesCells tells v.shape v.lattice.n keep fault old new
+WritesBlocks reveals v keep fault old new = WritesCells reveals v.shape v.lattice.n keep fault old new
 
 -- What holds when all is written: each block that is restored is intact, and each that is left alone reads as before,
 -- with zeros past the end of its file, where the file may have grown.
@@ -58,7 +58,7 @@ IsStopped v mends old new = IsPartlyRepaired v mends old new ⊎ ((torn : BlockI
 -- what each result says of the files before and after it
 abbrev pub Leaves : Opened → (BlockId → Type 0) → Files → Files → Answer → Type 0
 Leaves v mends old new (Ok done) = IsRepaired v mends old new
-Leaves v mends old new (Err (Clash b told computed)) = IsPartlyRepaired v mends old new
+Leaves v mends old new (Err (Clash b revealed computed)) = IsPartlyRepaired v mends old new
 Leaves v mends old new (Err DiskFault) = IsStopped v mends old new
 
 -- What marks have more than others: those stay, and what is marked newly is restored.

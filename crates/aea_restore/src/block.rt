@@ -48,12 +48,12 @@ fn write_block<D: Disk>(
     ensures lattice { marks.new.lattice ≡ ledger.now.lattice }
     ensures done { OnOk result (AddsBlock ledger.now.lattice b (is_marked marks.old) (is_marked marks.new)) }
     ensures same { IsErr result → marks.new ≡ marks.old }
-    ensures way { result ≢ Err RestoreFault.DiskFault → D.tells → GoesOn ledger.now (is_marked marks.old) (is_marked marks.new) (D.state disk.old).files (D.state disk.new).files }
-    ensures torn { result ≡ Err RestoreFault.DiskFault → D.tells → IsTornAfter ledger.now (λ a. a ≡ b) (is_marked marks.old) (is_marked marks.new) (D.state disk.old).files (D.state disk.new).files }
-    ensures drawn { D.tells → (known : BlockId → Bool) (first : Files) → IsDrawn ledger.now known first b sum.now → AreDrawn ledger.now known (is_marked marks.old) first (D.state disk.old).files → AreDrawn ledger.now known (is_marked marks.new) first (D.state disk.new).files }
+    ensures way { result ≢ Err RestoreFault.DiskFault → D.reveals → GoesOn ledger.now (is_marked marks.old) (is_marked marks.new) (D.state disk.old).files (D.state disk.new).files }
+    ensures torn { result ≡ Err RestoreFault.DiskFault → D.reveals → IsTornAfter ledger.now (λ a. a ≡ b) (is_marked marks.old) (is_marked marks.new) (D.state disk.old).files (D.state disk.new).files }
+    ensures drawn { D.reveals → (known : BlockId → Bool) (first : Files) → IsDrawn ledger.now known first b sum.now → AreDrawn ledger.now known (is_marked marks.old) first (D.state disk.old).files → AreDrawn ledger.now known (is_marked marks.new) first (D.state disk.new).files }
     ensures digest { OnOk result (block_digest b sum.now ≡ recorded_in ledger.now.shape ledger.now.digests b) }
-    ensures clash { (d : BlockId) (told computed : List ℕ) → result ≡ Err (RestoreFault.Clash d told computed) → (d ≡ b) × (IsOtherDigest ledger.now b told computed × (computed ≡ block_digest b sum.now)) }
-    ensures writes { WritesBlocks D.tells ledger.now (λ a. a ≢ b) (result ≡ Err RestoreFault.DiskFault) (D.state disk.old) (D.state disk.new) }
+    ensures clash { (d : BlockId) (revealed computed : List ℕ) → result ≡ Err (RestoreFault.Clash d revealed computed) → (d ≡ b) × (IsOtherDigest ledger.now b revealed computed × (computed ≡ block_digest b sum.now)) }
+    ensures writes { WritesBlocks D.reveals ledger.now (λ a. a ≢ b) (result ≡ Err RestoreFault.DiskFault) (D.state disk.old) (D.state disk.new) }
 {
     let lattice = ledger.lattice();
     match write_payload(ledger, disk, b, sum, write) {
@@ -85,14 +85,14 @@ pub(crate) fn restore_step<D: Disk>(
     ensures lattice { marks.new.lattice ≡ ledger.now.lattice }
     ensures done { OnOk result (AddsBlock ledger.now.lattice step.block (is_marked marks.old) (is_marked marks.new)) }
     ensures same { IsErr result → marks.new ≡ marks.old }
-    ensures way { result ≢ Err RestoreFault.DiskFault → D.tells → GoesOn ledger.now (is_marked marks.old) (is_marked marks.new) (D.state disk.old).files (D.state disk.new).files }
-    ensures torn { result ≡ Err RestoreFault.DiskFault → D.tells → IsTornAfter ledger.now (λ a. a ≡ step.block) (is_marked marks.old) (is_marked marks.new) (D.state disk.old).files (D.state disk.new).files }
-    ensures drawn { D.tells → StaysDrawn ledger.now (is_marked marks.old) (is_marked marks.new) (D.state disk.old).files (D.state disk.new).files }
-    ensures judged { OnOk result (is_marked marks.old step.block ≡ false → IsComputed D.tells ledger.now (D.state disk.old).files (is_marked marks.old) step.block (step.by ∷ [])) }
-    ensures found { (d : BlockId) (told computed : List ℕ) → result ≡ Err (RestoreFault.Clash d told computed) → (is_marked marks.old step.block ≡ false) × IsFound D.tells ledger.now (D.state disk.old).files (is_marked marks.old) step.block (step.by ∷ []) d told computed }
-    ensures other { (d : BlockId) (told computed : List ℕ) → result ≡ Err (RestoreFault.Clash d told computed) → IsOtherDigest ledger.now d told computed }
-    ensures clash { (d : BlockId) (told computed : List ℕ) → result ≡ Err (RestoreFault.Clash d told computed) → D.tells → (known : BlockId → Bool) (first : Files) → AreDrawn ledger.now known (is_marked marks.old) first (D.state disk.old).files → (d ≡ step.block) × IsClash ledger.now known first d told computed }
-    ensures writes { WritesBlocks D.tells ledger.now (λ a. a ≢ step.block) (result ≡ Err RestoreFault.DiskFault) (D.state disk.old) (D.state disk.new) }
+    ensures way { result ≢ Err RestoreFault.DiskFault → D.reveals → GoesOn ledger.now (is_marked marks.old) (is_marked marks.new) (D.state disk.old).files (D.state disk.new).files }
+    ensures torn { result ≡ Err RestoreFault.DiskFault → D.reveals → IsTornAfter ledger.now (λ a. a ≡ step.block) (is_marked marks.old) (is_marked marks.new) (D.state disk.old).files (D.state disk.new).files }
+    ensures drawn { D.reveals → StaysDrawn ledger.now (is_marked marks.old) (is_marked marks.new) (D.state disk.old).files (D.state disk.new).files }
+    ensures judged { OnOk result (is_marked marks.old step.block ≡ false → IsComputed D.reveals ledger.now (D.state disk.old).files (is_marked marks.old) step.block (step.by ∷ [])) }
+    ensures found { (d : BlockId) (revealed computed : List ℕ) → result ≡ Err (RestoreFault.Clash d revealed computed) → (is_marked marks.old step.block ≡ false) × IsFound D.reveals ledger.now (D.state disk.old).files (is_marked marks.old) step.block (step.by ∷ []) d revealed computed }
+    ensures other { (d : BlockId) (revealed computed : List ℕ) → result ≡ Err (RestoreFault.Clash d revealed computed) → IsOtherDigest ledger.now d revealed computed }
+    ensures clash { (d : BlockId) (revealed computed : List ℕ) → result ≡ Err (RestoreFault.Clash d revealed computed) → D.reveals → (known : BlockId → Bool) (first : Files) → AreDrawn ledger.now known (is_marked marks.old) first (D.state disk.old).files → (d ≡ step.block) × IsClash ledger.now known first d revealed computed }
+    ensures writes { WritesBlocks D.reveals ledger.now (λ a. a ≢ step.block) (result ≡ Err RestoreFault.DiskFault) (D.state disk.old) (D.state disk.new) }
 {
     homes_are_on_its_sites();
     let _lattice = ledger.lattice();
@@ -128,14 +128,14 @@ pub(crate) fn restore_sum<D: Disk>(
     ensures lattice { marks.new.lattice ≡ ledger.now.lattice }
     ensures done { OnOk result (AddsBlock ledger.now.lattice b (is_marked marks.old) (is_marked marks.new)) }
     ensures same { IsErr result → marks.new ≡ marks.old }
-    ensures way { result ≢ Err RestoreFault.DiskFault → D.tells → GoesOn ledger.now (is_marked marks.old) (is_marked marks.new) (D.state disk.old).files (D.state disk.new).files }
-    ensures torn { result ≡ Err RestoreFault.DiskFault → D.tells → IsTornAfter ledger.now (λ a. a ≡ b) (is_marked marks.old) (is_marked marks.new) (D.state disk.old).files (D.state disk.new).files }
-    ensures drawn { D.tells → StaysDrawn ledger.now (is_marked marks.old) (is_marked marks.new) (D.state disk.old).files (D.state disk.new).files }
-    ensures judged { OnOk result (is_marked marks.old b ≡ false → IsComputed D.tells ledger.now (D.state disk.old).files (is_marked marks.old) b (equations.now)) }
-    ensures found { (d : BlockId) (told computed : List ℕ) → result ≡ Err (RestoreFault.Clash d told computed) → (is_marked marks.old b ≡ false) × IsFound D.tells ledger.now (D.state disk.old).files (is_marked marks.old) b (equations.now) d told computed }
-    ensures other { (d : BlockId) (told computed : List ℕ) → result ≡ Err (RestoreFault.Clash d told computed) → IsOtherDigest ledger.now d told computed }
-    ensures clash { (d : BlockId) (told computed : List ℕ) → result ≡ Err (RestoreFault.Clash d told computed) → D.tells → (known : BlockId → Bool) (first : Files) → AreDrawn ledger.now known (is_marked marks.old) first (D.state disk.old).files → (d ≡ b) × IsClash ledger.now known first d told computed }
-    ensures writes { WritesBlocks D.tells ledger.now (λ a. a ≢ b) (result ≡ Err RestoreFault.DiskFault) (D.state disk.old) (D.state disk.new) }
+    ensures way { result ≢ Err RestoreFault.DiskFault → D.reveals → GoesOn ledger.now (is_marked marks.old) (is_marked marks.new) (D.state disk.old).files (D.state disk.new).files }
+    ensures torn { result ≡ Err RestoreFault.DiskFault → D.reveals → IsTornAfter ledger.now (λ a. a ≡ b) (is_marked marks.old) (is_marked marks.new) (D.state disk.old).files (D.state disk.new).files }
+    ensures drawn { D.reveals → StaysDrawn ledger.now (is_marked marks.old) (is_marked marks.new) (D.state disk.old).files (D.state disk.new).files }
+    ensures judged { OnOk result (is_marked marks.old b ≡ false → IsComputed D.reveals ledger.now (D.state disk.old).files (is_marked marks.old) b (equations.now)) }
+    ensures found { (d : BlockId) (revealed computed : List ℕ) → result ≡ Err (RestoreFault.Clash d revealed computed) → (is_marked marks.old b ≡ false) × IsFound D.reveals ledger.now (D.state disk.old).files (is_marked marks.old) b (equations.now) d revealed computed }
+    ensures other { (d : BlockId) (revealed computed : List ℕ) → result ≡ Err (RestoreFault.Clash d revealed computed) → IsOtherDigest ledger.now d revealed computed }
+    ensures clash { (d : BlockId) (revealed computed : List ℕ) → result ≡ Err (RestoreFault.Clash d revealed computed) → D.reveals → (known : BlockId → Bool) (first : Files) → AreDrawn ledger.now known (is_marked marks.old) first (D.state disk.old).files → (d ≡ b) × IsClash ledger.now known first d revealed computed }
+    ensures writes { WritesBlocks D.reveals ledger.now (λ a. a ≢ b) (result ≡ Err RestoreFault.DiskFault) (D.state disk.old) (D.state disk.new) }
 {
     homes_are_on_its_sites();
     let _lattice = ledger.lattice();

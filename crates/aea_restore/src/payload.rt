@@ -36,11 +36,11 @@ pub fn read_payload<D: Disk>(
 ) -> Result<(), RestoreFault>
     requires block { HasBlock ledger.now.lattice b }
     requires buffer { length read.old ≡ cell_size ledger.now.shape }
-    ensures judged { OnOk result (IsJudged D.tells ledger.now (D.state disk.old).files b (payload_in ledger.now.shape read.new)) }
-    ensures intact { OnOk result (D.tells → IsIntactBy ledger.now.shape ledger.now.digests (D.state disk.old).files b → payload_in ledger.now.shape read.new ≡ payload_at ledger.now.shape (D.state disk.old).files b) }
-    ensures clash { (d : BlockId) (told computed : List ℕ) → result ≡ Err (RestoreFault.Clash d told computed) → IsOtherDigest ledger.now d told computed }
-    ensures found { (d : BlockId) (told computed : List ℕ) → result ≡ Err (RestoreFault.Clash d told computed) → (d ≡ b) × IsReadClash D.tells ledger.now (D.state disk.old).files d told computed }
-    ensures reads { OnlyReads D.tells (result ≡ Err RestoreFault.DiskFault) (D.state disk.old) (D.state disk.new) }
+    ensures judged { OnOk result (IsJudged D.reveals ledger.now (D.state disk.old).files b (payload_in ledger.now.shape read.new)) }
+    ensures intact { OnOk result (D.reveals → IsIntactBy ledger.now.shape ledger.now.digests (D.state disk.old).files b → payload_in ledger.now.shape read.new ≡ payload_at ledger.now.shape (D.state disk.old).files b) }
+    ensures clash { (d : BlockId) (revealed computed : List ℕ) → result ≡ Err (RestoreFault.Clash d revealed computed) → IsOtherDigest ledger.now d revealed computed }
+    ensures found { (d : BlockId) (revealed computed : List ℕ) → result ≡ Err (RestoreFault.Clash d revealed computed) → (d ≡ b) × IsReadClash D.reveals ledger.now (D.state disk.old).files d revealed computed }
+    ensures reads { OnlyReads D.reveals (result ≡ Err RestoreFault.DiskFault) (D.state disk.old) (D.state disk.new) }
 {
     let want = recorded(ledger, b);
     match read_block(disk, ledger, b, read) {
@@ -80,15 +80,15 @@ pub(crate) fn write_payload<D: Disk>(
     requires block { HasBlock ledger.now.lattice b }
     requires sum { length sum.now ≡ ledger.now.shape.block }
     requires buffer { length write.old ≡ cell_size ledger.now.shape }
-    ensures intact { OnOk result (D.tells → IsIntactBy ledger.now.shape ledger.now.digests (D.state disk.new).files b) }
+    ensures intact { OnOk result (D.reveals → IsIntactBy ledger.now.shape ledger.now.digests (D.state disk.new).files b) }
     ensures digest { OnOk result (block_digest b sum.now ≡ recorded_in ledger.now.shape ledger.now.digests b) }
-    ensures payload { OnOk result (D.tells → payload_at ledger.now.shape (D.state disk.new).files b ≡ sum.now) }
-    ensures clash { (d : BlockId) (told computed : List ℕ) → result ≡ Err (RestoreFault.Clash d told computed) → (d ≡ b) × (IsOtherDigest ledger.now b told computed × (computed ≡ block_digest b sum.now)) }
+    ensures payload { OnOk result (D.reveals → payload_at ledger.now.shape (D.state disk.new).files b ≡ sum.now) }
+    ensures clash { (d : BlockId) (revealed computed : List ℕ) → result ≡ Err (RestoreFault.Clash d revealed computed) → (d ≡ b) × (IsOtherDigest ledger.now b revealed computed × (computed ≡ block_digest b sum.now)) }
     // A clash comes before the write.
-    ensures before { IsErr result → result ≢ Err RestoreFault.DiskFault → D.tells → (D.state disk.new).files ≡ (D.state disk.old).files }
-    ensures padded { OnOk result (D.tells → KeepsPadded ledger.now.shape (λ a. a ≢ b) (D.state disk.old).files (D.state disk.new).files) }
-    ensures elsewhere { D.tells → KeepsPadded ledger.now.shape (λ a. home_file ledger.now.shape a ≢ home_file ledger.now.shape b) (D.state disk.old).files (D.state disk.new).files }
-    ensures writes { WritesBlocks D.tells ledger.now (λ a. a ≢ b) (result ≡ Err RestoreFault.DiskFault) (D.state disk.old) (D.state disk.new) }
+    ensures before { IsErr result → result ≢ Err RestoreFault.DiskFault → D.reveals → (D.state disk.new).files ≡ (D.state disk.old).files }
+    ensures padded { OnOk result (D.reveals → KeepsPadded ledger.now.shape (λ a. a ≢ b) (D.state disk.old).files (D.state disk.new).files) }
+    ensures elsewhere { D.reveals → KeepsPadded ledger.now.shape (λ a. home_file ledger.now.shape a ≢ home_file ledger.now.shape b) (D.state disk.old).files (D.state disk.new).files }
+    ensures writes { WritesBlocks D.reveals ledger.now (λ a. a ≢ b) (result ≡ Err RestoreFault.DiskFault) (D.state disk.old) (D.state disk.new) }
 {
     cells_have_lengths();
     cells_have_parts();

@@ -14,7 +14,7 @@ ghost use Rattle.aea_gauss.specs.declared.fates.Fate.TheVariants.{Sum};
 ghost use Rattle.aea_records.specs.Format.{Record};
 ghost use Rattle.aea_ledger.specs.Recorded.{AreRecordsOf};
 ghost use Rattle.aea_ledger.specs.Values.{HasRecords};
-ghost use Rattle.aea_archive.specs.Blocks.{recorded_in, IsIntactBy, IsHeldBy, TellsSurvivors};
+ghost use Rattle.aea_archive.specs.Blocks.{recorded_in, IsIntactBy, IsHeldBy, RevealsSurvivors};
 ghost use Rattle.aea_archive.specs.Data.{AreSurvivorsHonest, AreSomeHonest};
 ghost use Rattle.aea_restore.specs.Given.{block_summed, blocks_summed, is_given, IsGiven, CanSum, CanBeRestored};
 ghost use Rattle.aea_restore.specs.Drawn.{IsOtherDigest, IsClash};
@@ -51,14 +51,14 @@ fn restore_fate<D: Disk>(
     ensures lattice { marks.new.lattice ≡ ledger.now.lattice }
     ensures done { OnOk result ((d : BlockId) → HasBlock ledger.now.lattice d → is_marked marks.new d ≡ (is_marked marks.old d || is_among (block_summed fate.now) d)) }
     ensures same { IsErr result → marks.new ≡ marks.old }
-    ensures way { result ≢ Err RestoreFault.DiskFault → D.tells → GoesOn ledger.now (is_marked marks.old) (is_marked marks.new) (D.state disk.old).files (D.state disk.new).files }
-    ensures torn { result ≡ Err RestoreFault.DiskFault → D.tells → IsTornAfter ledger.now (λ d. IsTrue (is_among (block_summed fate.now) d)) (is_marked marks.old) (is_marked marks.new) (D.state disk.old).files (D.state disk.new).files }
-    ensures drawn { D.tells → StaysDrawn ledger.now (is_marked marks.old) (is_marked marks.new) (D.state disk.old).files (D.state disk.new).files }
-    ensures judged { OnOk result ((b : BlockId) (equations : List EqId) → fate.now ≡ Sum b equations → is_marked marks.old b ≡ false → IsComputed D.tells ledger.now (D.state disk.old).files (is_marked marks.old) b equations) }
-    ensures found { (d : BlockId) (told computed : List ℕ) → result ≡ Err (RestoreFault.Clash d told computed) → (b : BlockId) × (equations : List EqId) × (fate.now ≡ Sum b equations) × (is_marked marks.old b ≡ false) × IsFound D.tells ledger.now (D.state disk.old).files (is_marked marks.old) b equations d told computed }
-    ensures other { (d : BlockId) (told computed : List ℕ) → result ≡ Err (RestoreFault.Clash d told computed) → IsOtherDigest ledger.now d told computed }
-    ensures clash { (d : BlockId) (told computed : List ℕ) → result ≡ Err (RestoreFault.Clash d told computed) → D.tells → (known : BlockId → Bool) (first : Files) → AreDrawn ledger.now known (is_marked marks.old) first (D.state disk.old).files → IsTrue (is_among (block_summed fate.now) d) × IsClash ledger.now known first d told computed }
-    ensures writes { WritesBlocks D.tells ledger.now (IsLeft (λ d. IsTrue (is_among (block_summed fate.now) d))) (result ≡ Err RestoreFault.DiskFault) (D.state disk.old) (D.state disk.new) }
+    ensures way { result ≢ Err RestoreFault.DiskFault → D.reveals → GoesOn ledger.now (is_marked marks.old) (is_marked marks.new) (D.state disk.old).files (D.state disk.new).files }
+    ensures torn { result ≡ Err RestoreFault.DiskFault → D.reveals → IsTornAfter ledger.now (λ d. IsTrue (is_among (block_summed fate.now) d)) (is_marked marks.old) (is_marked marks.new) (D.state disk.old).files (D.state disk.new).files }
+    ensures drawn { D.reveals → StaysDrawn ledger.now (is_marked marks.old) (is_marked marks.new) (D.state disk.old).files (D.state disk.new).files }
+    ensures judged { OnOk result ((b : BlockId) (equations : List EqId) → fate.now ≡ Sum b equations → is_marked marks.old b ≡ false → IsComputed D.reveals ledger.now (D.state disk.old).files (is_marked marks.old) b equations) }
+    ensures found { (d : BlockId) (revealed computed : List ℕ) → result ≡ Err (RestoreFault.Clash d revealed computed) → (b : BlockId) × (equations : List EqId) × (fate.now ≡ Sum b equations) × (is_marked marks.old b ≡ false) × IsFound D.reveals ledger.now (D.state disk.old).files (is_marked marks.old) b equations d revealed computed }
+    ensures other { (d : BlockId) (revealed computed : List ℕ) → result ≡ Err (RestoreFault.Clash d revealed computed) → IsOtherDigest ledger.now d revealed computed }
+    ensures clash { (d : BlockId) (revealed computed : List ℕ) → result ≡ Err (RestoreFault.Clash d revealed computed) → D.reveals → (known : BlockId → Bool) (first : Files) → AreDrawn ledger.now known (is_marked marks.old) first (D.state disk.old).files → IsTrue (is_among (block_summed fate.now) d) × IsClash ledger.now known first d revealed computed }
+    ensures writes { WritesBlocks D.reveals ledger.now (IsLeft (λ d. IsTrue (is_among (block_summed fate.now) d))) (result ≡ Err RestoreFault.DiskFault) (D.state disk.old) (D.state disk.new) }
 {
     homes_are_on_its_sites();
     match fate {
@@ -87,13 +87,13 @@ fn restore_sums<D: Disk>(
     ensures lattice { marks.new.lattice ≡ ledger.now.lattice }
     ensures done { OnOk result ((d : BlockId) → HasBlock ledger.now.lattice d → is_marked marks.new d ≡ (is_marked marks.old d || is_among (blocks_summed fates.now) d)) }
     ensures some { MarksSome ledger.now.lattice (λ d. IsTrue (is_among (blocks_summed fates.now) d)) marks.old marks.new }
-    ensures way { result ≢ Err RestoreFault.DiskFault → D.tells → GoesOn ledger.now (is_marked marks.old) (is_marked marks.new) (D.state disk.old).files (D.state disk.new).files }
-    ensures torn { result ≡ Err RestoreFault.DiskFault → D.tells → IsTornAfter ledger.now (λ d. IsTrue (is_among (blocks_summed fates.now) d)) (is_marked marks.old) (is_marked marks.new) (D.state disk.old).files (D.state disk.new).files }
-    ensures drawn { D.tells → StaysDrawn ledger.now (is_marked marks.old) (is_marked marks.new) (D.state disk.old).files (D.state disk.new).files }
-    ensures order { (known : BlockId → Bool) (first : Files) → (D.tells → IsUnderWay ledger.now known (is_marked marks.old) first (D.state disk.old).files) → GoInOrder D.tells ledger.now known (is_marked marks.old) (is_marked marks.new) first fates.now result }
-    ensures other { (d : BlockId) (told computed : List ℕ) → result ≡ Err (RestoreFault.Clash d told computed) → IsOtherDigest ledger.now d told computed }
-    ensures clash { (d : BlockId) (told computed : List ℕ) → result ≡ Err (RestoreFault.Clash d told computed) → D.tells → (known : BlockId → Bool) (first : Files) → AreDrawn ledger.now known (is_marked marks.old) first (D.state disk.old).files → IsTrue (is_among (blocks_summed fates.now) d) × IsClash ledger.now known first d told computed }
-    ensures writes { WritesBlocks D.tells ledger.now (IsLeft (λ d. IsTrue (is_among (blocks_summed fates.now) d))) (result ≡ Err RestoreFault.DiskFault) (D.state disk.old) (D.state disk.new) }
+    ensures way { result ≢ Err RestoreFault.DiskFault → D.reveals → GoesOn ledger.now (is_marked marks.old) (is_marked marks.new) (D.state disk.old).files (D.state disk.new).files }
+    ensures torn { result ≡ Err RestoreFault.DiskFault → D.reveals → IsTornAfter ledger.now (λ d. IsTrue (is_among (blocks_summed fates.now) d)) (is_marked marks.old) (is_marked marks.new) (D.state disk.old).files (D.state disk.new).files }
+    ensures drawn { D.reveals → StaysDrawn ledger.now (is_marked marks.old) (is_marked marks.new) (D.state disk.old).files (D.state disk.new).files }
+    ensures order { (known : BlockId → Bool) (first : Files) → (D.reveals → IsUnderWay ledger.now known (is_marked marks.old) first (D.state disk.old).files) → GoInOrder D.reveals ledger.now known (is_marked marks.old) (is_marked marks.new) first fates.now result }
+    ensures other { (d : BlockId) (revealed computed : List ℕ) → result ≡ Err (RestoreFault.Clash d revealed computed) → IsOtherDigest ledger.now d revealed computed }
+    ensures clash { (d : BlockId) (revealed computed : List ℕ) → result ≡ Err (RestoreFault.Clash d revealed computed) → D.reveals → (known : BlockId → Bool) (first : Files) → AreDrawn ledger.now known (is_marked marks.old) first (D.state disk.old).files → IsTrue (is_among (blocks_summed fates.now) d) × IsClash ledger.now known first d revealed computed }
+    ensures writes { WritesBlocks D.reveals ledger.now (IsLeft (λ d. IsTrue (is_among (blocks_summed fates.now) d))) (result ≡ Err RestoreFault.DiskFault) (D.state disk.old) (D.state disk.new) }
 {
     homes_are_on_its_sites();
     for k in 0..fates.len() {
@@ -127,13 +127,13 @@ fn restore_all<D: Disk>(
     ensures lattice { marks.new.lattice ≡ ledger.now.lattice }
     ensures done { OnOk result ((d : BlockId) → HasBlock ledger.now.lattice d → is_marked marks.new d ≡ (is_marked marks.old d || is_given steps.now fates.now d)) }
     ensures some { MarksSome ledger.now.lattice (IsGiven steps.now fates.now) marks.old marks.new }
-    ensures way { result ≢ Err RestoreFault.DiskFault → D.tells → GoesOn ledger.now (is_marked marks.old) (is_marked marks.new) (D.state disk.old).files (D.state disk.new).files }
-    ensures torn { result ≡ Err RestoreFault.DiskFault → D.tells → IsTornAfter ledger.now (IsGiven steps.now fates.now) (is_marked marks.old) (is_marked marks.new) (D.state disk.old).files (D.state disk.new).files }
-    ensures drawn { D.tells → StaysDrawn ledger.now (is_marked marks.old) (is_marked marks.new) (D.state disk.old).files (D.state disk.new).files }
-    ensures order { (known : BlockId → Bool) (first : Files) → (D.tells → IsUnderWay ledger.now known (is_marked marks.old) first (D.state disk.old).files) → GoInOrder D.tells ledger.now known (is_marked marks.old) (is_marked marks.new) first (all_sums steps.now fates.now) result }
-    ensures other { (d : BlockId) (told computed : List ℕ) → result ≡ Err (RestoreFault.Clash d told computed) → IsOtherDigest ledger.now d told computed }
-    ensures clash { (d : BlockId) (told computed : List ℕ) → result ≡ Err (RestoreFault.Clash d told computed) → D.tells → (known : BlockId → Bool) (first : Files) → AreDrawn ledger.now known (is_marked marks.old) first (D.state disk.old).files → IsGiven steps.now fates.now d × IsClash ledger.now known first d told computed }
-    ensures writes { WritesBlocks D.tells ledger.now (IsLeft (IsGiven steps.now fates.now)) (result ≡ Err RestoreFault.DiskFault) (D.state disk.old) (D.state disk.new) }
+    ensures way { result ≢ Err RestoreFault.DiskFault → D.reveals → GoesOn ledger.now (is_marked marks.old) (is_marked marks.new) (D.state disk.old).files (D.state disk.new).files }
+    ensures torn { result ≡ Err RestoreFault.DiskFault → D.reveals → IsTornAfter ledger.now (IsGiven steps.now fates.now) (is_marked marks.old) (is_marked marks.new) (D.state disk.old).files (D.state disk.new).files }
+    ensures drawn { D.reveals → StaysDrawn ledger.now (is_marked marks.old) (is_marked marks.new) (D.state disk.old).files (D.state disk.new).files }
+    ensures order { (known : BlockId → Bool) (first : Files) → (D.reveals → IsUnderWay ledger.now known (is_marked marks.old) first (D.state disk.old).files) → GoInOrder D.reveals ledger.now known (is_marked marks.old) (is_marked marks.new) first (all_sums steps.now fates.now) result }
+    ensures other { (d : BlockId) (revealed computed : List ℕ) → result ≡ Err (RestoreFault.Clash d revealed computed) → IsOtherDigest ledger.now d revealed computed }
+    ensures clash { (d : BlockId) (revealed computed : List ℕ) → result ≡ Err (RestoreFault.Clash d revealed computed) → D.reveals → (known : BlockId → Bool) (first : Files) → AreDrawn ledger.now known (is_marked marks.old) first (D.state disk.old).files → IsGiven steps.now fates.now d × IsClash ledger.now known first d revealed computed }
+    ensures writes { WritesBlocks D.reveals ledger.now (IsLeft (IsGiven steps.now fates.now)) (result ≡ Err RestoreFault.DiskFault) (D.state disk.old) (D.state disk.new) }
 {
     match restore_steps(ledger, disk, marks, steps, sum, read, write) {
         Ok(()) => (),
@@ -163,12 +163,12 @@ pub fn restore<D: Disk>(
     requires write { length write.old ≡ cell_size ledger.now.shape }
 
     // What holds after each result: of the blocks that are given, and of those that are left alone.
-    ensures left { D.tells → Leaves ledger.now (IsGiven steps.now fates.now) (D.state disk.old).files (D.state disk.new).files result }
-    ensures durable { OnOk result (D.tells → IsSynced (D.state disk.new)) }
+    ensures left { D.reveals → Leaves ledger.now (IsGiven steps.now fates.now) (D.state disk.old).files (D.state disk.new).files result }
+    ensures durable { OnOk result (D.reveals → IsSynced (D.state disk.new)) }
 
     // At every moment, in every image: the homes of all blocks that are left alone, and each file but those of the sites.
     // When the disk is at fault.
-    ensures writes { WritesBlocks D.tells ledger.now (IsLeft (IsGiven steps.now fates.now)) (result ≡ Err RestoreFault.DiskFault) (D.state disk.old) (D.state disk.new) }
+    ensures writes { WritesBlocks D.reveals ledger.now (IsLeft (IsGiven steps.now fates.now)) (result ≡ Err RestoreFault.DiskFault) (D.state disk.old) (D.state disk.new) }
     ensures ledger { IsFixed (D.state disk.old) 0 → During (D.state disk.old) (D.state disk.new) (λ c. c 0 ≡ (D.state disk.old).files 0) }
 
     ensures marks { MarksMore ledger.now.lattice (IsGiven steps.now fates.now) marks.old marks.new result }
@@ -178,27 +178,27 @@ pub fn restore<D: Disk>(
     // out, all where it is Ok. Each of their blocks was computed from payloads that were read and judged, those at their homes
     // in the files as they were then, where the contents are known; and a clash came at the next of them, of a block that was
     // read for it or of its own block. So each block that was marked at first and was read had its payload at first.
-    ensures order { GoInOrder D.tells ledger.now (is_marked marks.old) (is_marked marks.old) (is_marked marks.new) (D.state disk.old).files (all_sums steps.now fates.now) result }
-    ensures judged { OnOk result (D.tells → AreReadJudged D.tells ledger.now (is_marked marks.old) (D.state disk.old).files (all_sums steps.now fates.now)) }
-    ensures way { result ≢ Err RestoreFault.DiskFault → D.tells → IsUnderWay ledger.now (is_marked marks.old) (is_marked marks.new) (D.state disk.old).files (D.state disk.new).files }
+    ensures order { GoInOrder D.reveals ledger.now (is_marked marks.old) (is_marked marks.old) (is_marked marks.new) (D.state disk.old).files (all_sums steps.now fates.now) result }
+    ensures judged { OnOk result (D.reveals → AreReadJudged D.reveals ledger.now (is_marked marks.old) (D.state disk.old).files (all_sums steps.now fates.now)) }
+    ensures way { result ≢ Err RestoreFault.DiskFault → D.reveals → IsUnderWay ledger.now (is_marked marks.old) (is_marked marks.new) (D.state disk.old).files (D.state disk.new).files }
 
     // Over any disk, a clash is one of two digests that differ, the first of them the ledger's, the other that of a payload.
-    ensures clash { (d : BlockId) (told computed : List ℕ) → result ≡ Err (RestoreFault.Clash d told computed) → IsOtherDigest ledger.now d told computed }
+    ensures clash { (d : BlockId) (revealed computed : List ℕ) → result ≡ Err (RestoreFault.Clash d revealed computed) → IsOtherDigest ledger.now d revealed computed }
 
     // Where the blocks that are marked at first are exactly the intact ones: a clash is one of a block that is given, of which
     // the survivors' sum has another digest; each block that is then marked is intact; and one that was held is so at each
     // moment and afterwards.
-    ensures computed { D.tells → TellsSurvivors ledger.now.shape ledger.now.lattice.n ledger.now.digests (D.state disk.old).files (is_marked marks.old) → (d : BlockId) (told computed : List ℕ) → result ≡ Err (RestoreFault.Clash d told computed) → IsGiven steps.now fates.now d × IsClash ledger.now (is_marked marks.old) (D.state disk.old).files d told computed }
-    ensures marked { D.tells → TellsSurvivors ledger.now.shape ledger.now.lattice.n ledger.now.digests (D.state disk.old).files (is_marked marks.old) → (b : BlockId) → HasBlock ledger.now.lattice b → IsTrue (is_marked marks.new b) → IsIntactBy ledger.now.shape ledger.now.digests (D.state disk.new).files b }
-    ensures held { D.tells → TellsSurvivors ledger.now.shape ledger.now.lattice.n ledger.now.digests (D.state disk.old).files (is_marked marks.old) → (b : BlockId) → HasBlock ledger.now.lattice b → IsHeldBy ledger.now.shape ledger.now.digests (D.state disk.old) b
+    ensures computed { D.reveals → RevealsSurvivors ledger.now.shape ledger.now.lattice.n ledger.now.digests (D.state disk.old).files (is_marked marks.old) → (d : BlockId) (revealed computed : List ℕ) → result ≡ Err (RestoreFault.Clash d revealed computed) → IsGiven steps.now fates.now d × IsClash ledger.now (is_marked marks.old) (D.state disk.old).files d revealed computed }
+    ensures marked { D.reveals → RevealsSurvivors ledger.now.shape ledger.now.lattice.n ledger.now.digests (D.state disk.old).files (is_marked marks.old) → (b : BlockId) → HasBlock ledger.now.lattice b → IsTrue (is_marked marks.new b) → IsIntactBy ledger.now.shape ledger.now.digests (D.state disk.new).files b }
+    ensures held { D.reveals → RevealsSurvivors ledger.now.shape ledger.now.lattice.n ledger.now.digests (D.state disk.old).files (is_marked marks.old) → (b : BlockId) → HasBlock ledger.now.lattice b → IsHeldBy ledger.now.shape ledger.now.digests (D.state disk.old) b
         → AtEachMoment (D.state disk.old) (D.state disk.new) (IsHeldIn ledger.now.shape b (recorded_in ledger.now.shape ledger.now.digests b)) × IsHeldBy ledger.now.shape ledger.now.digests (D.state disk.new) b }
 
     // Where these survivors are honest for a data list that the ledger records, there is no clash, and each block that is
     // then marked has the payload of that list's lattice.
-    ensures honest { D.tells → TellsSurvivors ledger.now.shape ledger.now.lattice.n ledger.now.digests (D.state disk.old).files (is_marked marks.old) → (records : List Record) (datas : List (List ℕ)) → HasRecords ledger.now records → AreRecordsOf ledger.now.shape records datas
+    ensures honest { D.reveals → RevealsSurvivors ledger.now.shape ledger.now.lattice.n ledger.now.digests (D.state disk.old).files (is_marked marks.old) → (records : List Record) (datas : List (List ℕ)) → HasRecords ledger.now records → AreRecordsOf ledger.now.shape records datas
         → AreSurvivorsHonest ledger.now.shape ledger.now.lattice ledger.now.digests datas (D.state disk.old).files → AreSomeHonest (is_marked marks.new) ledger.now.shape ledger.now.lattice ledger.now.digests datas (D.state disk.new).files }
-    ensures no_clash { D.tells → TellsSurvivors ledger.now.shape ledger.now.lattice.n ledger.now.digests (D.state disk.old).files (is_marked marks.old) → (records : List Record) (datas : List (List ℕ)) → HasRecords ledger.now records → AreRecordsOf ledger.now.shape records datas
-        → AreSurvivorsHonest ledger.now.shape ledger.now.lattice ledger.now.digests datas (D.state disk.old).files → (d : BlockId) (told computed : List ℕ) → result ≢ Err (RestoreFault.Clash d told computed) }
+    ensures no_clash { D.reveals → RevealsSurvivors ledger.now.shape ledger.now.lattice.n ledger.now.digests (D.state disk.old).files (is_marked marks.old) → (records : List Record) (datas : List (List ℕ)) → HasRecords ledger.now records → AreRecordsOf ledger.now.shape records datas
+        → AreSurvivorsHonest ledger.now.shape ledger.now.lattice ledger.now.digests datas (D.state disk.old).files → (d : BlockId) (revealed computed : List ℕ) → result ≢ Err (RestoreFault.Clash d revealed computed) }
 {
     homes_are_on_its_sites();
     let _lattice = ledger.lattice();

@@ -39,13 +39,13 @@ pub(crate) fn restore_steps<D: Disk>(
     ensures lattice { marks.new.lattice ≡ ledger.now.lattice }
     ensures done { OnOk result ((d : BlockId) → HasBlock ledger.now.lattice d → is_marked marks.new d ≡ is_had (is_marked marks.old) steps.now d) }
     ensures some { MarksSome ledger.now.lattice (λ d. IsTrue (is_among (blocks_given steps.now) d)) marks.old marks.new }
-    ensures way { result ≢ Err RestoreFault.DiskFault → D.tells → GoesOn ledger.now (is_marked marks.old) (is_marked marks.new) (D.state disk.old).files (D.state disk.new).files }
-    ensures torn { result ≡ Err RestoreFault.DiskFault → D.tells → IsTornAfter ledger.now (λ d. IsTrue (is_among (blocks_given steps.now) d)) (is_marked marks.old) (is_marked marks.new) (D.state disk.old).files (D.state disk.new).files }
-    ensures drawn { D.tells → StaysDrawn ledger.now (is_marked marks.old) (is_marked marks.new) (D.state disk.old).files (D.state disk.new).files }
-    ensures order { (known : BlockId → Bool) (first : Files) → (D.tells → IsUnderWay ledger.now known (is_marked marks.old) first (D.state disk.old).files) → GoInOrder D.tells ledger.now known (is_marked marks.old) (is_marked marks.new) first (map sum_of steps.now) result }
-    ensures other { (d : BlockId) (told computed : List ℕ) → result ≡ Err (RestoreFault.Clash d told computed) → IsOtherDigest ledger.now d told computed }
-    ensures clash { (d : BlockId) (told computed : List ℕ) → result ≡ Err (RestoreFault.Clash d told computed) → D.tells → (known : BlockId → Bool) (first : Files) → AreDrawn ledger.now known (is_marked marks.old) first (D.state disk.old).files → IsTrue (is_among (blocks_given steps.now) d) × IsClash ledger.now known first d told computed }
-    ensures writes { WritesBlocks D.tells ledger.now (IsLeft (λ d. IsTrue (is_among (blocks_given steps.now) d))) (result ≡ Err RestoreFault.DiskFault) (D.state disk.old) (D.state disk.new) }
+    ensures way { result ≢ Err RestoreFault.DiskFault → D.reveals → GoesOn ledger.now (is_marked marks.old) (is_marked marks.new) (D.state disk.old).files (D.state disk.new).files }
+    ensures torn { result ≡ Err RestoreFault.DiskFault → D.reveals → IsTornAfter ledger.now (λ d. IsTrue (is_among (blocks_given steps.now) d)) (is_marked marks.old) (is_marked marks.new) (D.state disk.old).files (D.state disk.new).files }
+    ensures drawn { D.reveals → StaysDrawn ledger.now (is_marked marks.old) (is_marked marks.new) (D.state disk.old).files (D.state disk.new).files }
+    ensures order { (known : BlockId → Bool) (first : Files) → (D.reveals → IsUnderWay ledger.now known (is_marked marks.old) first (D.state disk.old).files) → GoInOrder D.reveals ledger.now known (is_marked marks.old) (is_marked marks.new) first (map sum_of steps.now) result }
+    ensures other { (d : BlockId) (revealed computed : List ℕ) → result ≡ Err (RestoreFault.Clash d revealed computed) → IsOtherDigest ledger.now d revealed computed }
+    ensures clash { (d : BlockId) (revealed computed : List ℕ) → result ≡ Err (RestoreFault.Clash d revealed computed) → D.reveals → (known : BlockId → Bool) (first : Files) → AreDrawn ledger.now known (is_marked marks.old) first (D.state disk.old).files → IsTrue (is_among (blocks_given steps.now) d) × IsClash ledger.now known first d revealed computed }
+    ensures writes { WritesBlocks D.reveals ledger.now (IsLeft (λ d. IsTrue (is_among (blocks_given steps.now) d))) (result ≡ Err RestoreFault.DiskFault) (D.state disk.old) (D.state disk.new) }
 {
     for k in 0..steps.len() {
         let Some(step) = steps.get(k) else {

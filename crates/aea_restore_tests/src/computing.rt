@@ -183,7 +183,7 @@ fn first_block(class: Class) -> BlockId {
 }
 
 // Whether the datum is computed, and then, where its parity is flipped once it was scanned, the answer is a clash of that.
-fn is_parity_told(alloc: Global, disk: &mut SureDisk, payload: &[u8; 16]) -> bool {
+fn is_parity_revealed(alloc: Global, disk: &mut SureDisk, payload: &[u8; 16]) -> bool {
     let mut sum = [0; 16];
     let datum = Ok(first_block(Class::Datum));
     if !gives(alloc, disk, None, &mut sum, datum) || sum != *payload {
@@ -204,12 +204,12 @@ fn is_parity_told(alloc: Global, disk: &mut SureDisk, payload: &[u8; 16]) -> boo
 fn a_summand_that_changes_is_a_clash(rt: HostRuntime) -> Result<(), Fail> {
     let payload = [77; 16];
     let mut disk = damaged_archive(rt.alloc(), &SMALL, &payload, &[0]).ok_or("no archive")?;
-    assert!(rt; is_parity_told(rt.alloc(), &mut disk, &payload));
+    assert!(rt; is_parity_revealed(rt.alloc(), &mut disk, &payload));
     Ok(())
 }
 
 // Whether the answer is a clash of the datum where the ledger has another digest of it.
-fn is_datum_told(alloc: Global, disk: &mut SureDisk, payload: &[u8; 16]) -> bool {
+fn is_datum_revealed(alloc: Global, disk: &mut SureDisk, payload: &[u8; 16]) -> bool {
     if !spoil_digest(disk) || !spoil_blocks(disk, &SMALL, &[0]) {
         return false;
     }
@@ -229,7 +229,7 @@ fn is_datum_told(alloc: Global, disk: &mut SureDisk, payload: &[u8; 16]) -> bool
 fn a_sum_with_another_digest_is_a_clash(rt: HostRuntime) -> Result<(), Fail> {
     let payload = [77; 16];
     let mut disk = archive(rt.alloc(), &SMALL, &payload).ok_or("no archive")?;
-    assert!(rt; is_datum_told(rt.alloc(), &mut disk, &payload));
+    assert!(rt; is_datum_revealed(rt.alloc(), &mut disk, &payload));
     Ok(())
 }
 

@@ -36,7 +36,7 @@ fn repairs<D: Disk>(
 }
 
 // Whether the archive with these numbers is repaired to this outcome, and these lines are printed in its report.
-fn tells<D: Disk>(
+fn reveals<D: Disk>(
     alloc: Global,
     disk: &mut D,
     numbers: &str,
@@ -95,8 +95,8 @@ fn is_site_peeled(
         solved: 0,
         lost: 0,
     };
-    let is_told = tells(alloc, disk, "3 2 5 40", lines, outcome)?;
-    Ok(is_lost && is_told && damaged(alloc, disk) == Some(0) && same_files(disk, whole))
+    let is_revealed = reveals(alloc, disk, "3 2 5 40", lines, outcome)?;
+    Ok(is_lost && is_revealed && damaged(alloc, disk) == Some(0) && same_files(disk, whole))
 }
 
 #[test]
@@ -118,14 +118,14 @@ fn is_put_later(alloc: Global, disk: &mut SureDisk, block: BlockId) -> Result<bo
     };
     let fault = Err(PutFault::HeadDamaged { block });
     let is_refused = puts(alloc, disk, b"two", b"abc", fault);
-    let is_told = tells(
+    let is_revealed = reveals(
         alloc,
         disk,
         "3 2 5 1",
         "counts 1 1 0 0\npeeled r1\n",
         outcome,
     )?;
-    Ok(is_refused && is_told && puts(alloc, disk, b"two", b"abc", Ok(())))
+    Ok(is_refused && is_revealed && puts(alloc, disk, b"two", b"abc", Ok(())))
 }
 
 #[test]
@@ -140,14 +140,14 @@ fn a_damaged_head_is_repaired_before_the_next_put(rt: HostRuntime) -> Result<(),
 }
 
 #[test]
-fn what_is_solved_and_lost_is_told(rt: HostRuntime) -> Result<(), Fail> {
+fn what_is_solved_and_lost_is_reported(rt: HostRuntime) -> Result<(), Fail> {
     let mut disk = damaged_archive(rt.alloc(), &WOVEN, &BYTES, &NINETEEN).ok_or("no archive")?;
     let outcome = Outcome {
         peeled: 0,
         solved: 3,
         lost: 16,
     };
-    assert!(rt; tells(rt.alloc(), &mut disk, "2 2 2 11", TWO_CODEWORDS, outcome)?);
+    assert!(rt; reveals(rt.alloc(), &mut disk, "2 2 2 11", TWO_CODEWORDS, outcome)?);
     assert!(rt; damaged(rt.alloc(), &mut disk) == Some(16));
     Ok(())
 }
@@ -305,8 +305,8 @@ fn is_restored_unsaid(
     let report = report_of(alloc, disk, "2 2 2 11", "counts 1 1 0 0\npeeled d1\n")?;
     let printed = if is_printed { report.as_bytes() } else { b"" };
     let fault = Err(RepairFault::WriteFault);
-    let is_told = repairs(alloc, disk, &[call], fault, printed);
-    Ok(is_told && is_whole(alloc, disk))
+    let is_revealed = repairs(alloc, disk, &[call], fault, printed);
+    Ok(is_revealed && is_whole(alloc, disk))
 }
 
 #[test]

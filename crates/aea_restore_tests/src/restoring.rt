@@ -33,8 +33,8 @@ struct Planned {
 fn copy(alloc: Global, marks: &Marks) -> Result<Marks, AllocError>
     ensures { IfOk result (λ m. m ≡ marks.now) }
 {
-    let turned = marks.complement(alloc)?;
-    let back = turned.complement(alloc)?;
+    let flipped = marks.complement(alloc)?;
+    let back = flipped.complement(alloc)?;
     Ok(back)
 }
 
@@ -192,7 +192,7 @@ fn clashes(alloc: Global, disk: &mut SureDisk, want: RestoreFault) -> bool {
 }
 
 // Whether the answer is a clash of that parity, nothing is written, and with both damaged both are restored.
-fn is_told_of_parity(alloc: Global, disk: &mut SureDisk) -> bool {
+fn is_revealed_of_parity(alloc: Global, disk: &mut SureDisk) -> bool {
     let parity = BlockId {
         node: 1,
         class: Class::Horiz,
@@ -213,13 +213,13 @@ fn is_told_of_parity(alloc: Global, disk: &mut SureDisk) -> bool {
 fn a_survivor_that_changes_is_a_clash(rt: HostRuntime) -> Result<(), Fail> {
     let bytes = &BYTES.as_bytes()[..48];
     let mut disk = damaged_archive(rt.alloc(), &SMALL, bytes, &[0]).ok_or("no archive")?;
-    assert!(rt; is_told_of_parity(rt.alloc(), &mut disk));
+    assert!(rt; is_revealed_of_parity(rt.alloc(), &mut disk));
     Ok(())
 }
 
 // Whether the answer is a clash of the first datum, which has this payload, where the ledger has another digest of it, and the block
 // stays damaged. The digests of the datum and of its parity come before the gate that ends the ledger.
-fn is_told_of_datum(alloc: Global, disk: &mut SureDisk, payload: &[u8; 16]) -> bool {
+fn is_revealed_of_datum(alloc: Global, disk: &mut SureDisk, payload: &[u8; 16]) -> bool {
     let block = BlockId {
         node: 1,
         class: Class::Datum,
@@ -242,7 +242,7 @@ fn is_told_of_datum(alloc: Global, disk: &mut SureDisk, payload: &[u8; 16]) -> b
 fn a_sum_with_another_digest_is_a_clash(rt: HostRuntime) -> Result<(), Fail> {
     let payload = [77; 16];
     let mut disk = archive(rt.alloc(), &SMALL, &payload).ok_or("no archive")?;
-    assert!(rt; is_told_of_datum(rt.alloc(), &mut disk, &payload));
+    assert!(rt; is_revealed_of_datum(rt.alloc(), &mut disk, &payload));
     Ok(())
 }
 

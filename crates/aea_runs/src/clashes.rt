@@ -39,8 +39,8 @@ pub fn clash_line(
     recorded: &[u8; 32],
     computed: &[u8; 32],
 ) -> Result<String, Fail> {
-    let told = digits_of(alloc, recorded)?;
+    let revealed = digits_of(alloc, recorded)?;
     let found = digits_of(alloc, computed)?;
-    let line = format!(in alloc; "clash {block} recorded {told} computed {found}\n")?;
+    let line = format!(in alloc; "clash {block} recorded {revealed} computed {found}\n")?;
     Ok(line)
 }

@@ -1,23 +1,23 @@
 //! Runs of the program over streams and disks in memory, and what is compared with what they leave, for the tests.
 #![tactic(auto)]
 
-mod chance;
 mod clashes;
 mod failing;
 mod files;
 mod pages;
 mod parts;
+mod random;
 mod slow;
 
 use aea_cli::{Status, run, run_surely};
 use aea_disk::{Disk, SureDisk};
 use aea_io::{SureSink, SureSource};
-pub use chance::step;
 pub use clashes::{FIRST_DIGEST, cell_of, clash_line, digest_of};
 pub use failing::{Ended, Faults, NONE, run_failing};
 pub use files::{all_bytes, has_bytes};
 pub use pages::{PAGE, archive_of_pages, bytes_of_pages};
 pub use parts::share_parts;
+pub use random::step;
 pub use slow::run_slowly;
 use std::alloc::{AllocError, Global};
 use std::str::{self, Utf8Error};

@@ -21,8 +21,8 @@ fn add_parts<D: Disk>(
     parts: &[Extent],
 ) -> Result<bool, AppendFault>
     requires live { ledger.old.live ≡ true }
-    requires this { D.tells → IsThisOne ledger.old ((D.state disk.old).files 0) }
-    requires fixed { D.tells → IsFixed (D.state disk.old) 0 }
+    requires this { D.reveals → IsThisOne ledger.old ((D.state disk.old).files 0) }
+    requires fixed { D.reveals → IsFixed (D.state disk.old) 0 }
 {
     let shape = ledger.shape();
     let nodes = ledger.lattice().n();

@@ -11,7 +11,7 @@ use Rattle.aea_view.specs.Marked.{Marked, is_marked}
 use Rattle.aea_disk.specs.Files.{Files}
 use Rattle.aea_ledger.specs.Values.{Opened}
 use Rattle.aea_ledger.specs.Recorded.{IsLatticeOf}
-use Rattle.aea_archive.specs.Blocks.{IsIntactBy, TellsSurvivors}
+use Rattle.aea_archive.specs.Blocks.{IsIntactBy, RevealsSurvivors}
 use Rattle.aea_scrub.specs.Scans.{AreIntact, AreIntactTo}
 
 -- no block was looked at yet
@@ -50,7 +50,7 @@ pub marked_all : (v : Opened) (c : Files) (m : Marked) (k : ℕ) → blocks_coun
 marked_all v c m k end to b has = to b has (omega (arith, number_below v.lattice b has, end))
 
 -- marks of the intact blocks distinguish the survivors
-pub marks_tell : (v : Opened) (l : Lattice) (c : Files) (m : Marked) → l ≡ v.lattice → IsLatticeOf v.shape l.n l.fences l
-    → AreIntact v c m → TellsSurvivors v.shape v.lattice.n v.digests c (is_marked m)
-marks_tell v l c m same of_shape are b block =
+pub marks_reveal : (v : Opened) (l : Lattice) (c : Files) (m : Marked) → l ≡ v.lattice → IsLatticeOf v.shape l.n l.fences l
+    → AreIntact v c m → RevealsSurvivors v.shape v.lattice.n v.digests c (is_marked m)
+marks_reveal v l c m same of_shape are b block =
     are b (record { first = omega (arith, block.after); last = block.most; used = omega (arith, block.used, of_shape.alpha, ap (λ (x : Lattice). x.alpha) same) })

@@ -5,7 +5,7 @@ ghost use Rattle.aea_lattice.specs.Blocks.{HasBlock};
 ghost use Rattle.aea_view.specs.Marked.{IsWhole, is_marked};
 ghost use Rattle.aea_disk.specs.Frames.{OnlyReads};
 ghost use Rattle.aea_shelf.specs.Places.{cell_size};
-ghost use Rattle.aea_archive.specs.Blocks.{IsIntactBy, TellsSurvivors};
+ghost use Rattle.aea_archive.specs.Blocks.{IsIntactBy, RevealsSurvivors};
 ghost use Rattle.aea_scrub.specs.Scans.{AreIntact};
 
 use aea_archive::{cell_buffer, is_block_intact};
@@ -34,9 +34,9 @@ fn mark_all<D: Disk>(
     requires whole { IsWhole marks.old }
     requires buffer { length cell.old ≡ cell_size ledger.now.shape }
     ensures lattice { marks.new.lattice ≡ ledger.now.lattice }
-    ensures intact { OnOk result (D.tells → AreIntact ledger.now (D.state disk.old).files marks.new) }
-    ensures survivors { OnOk result (D.tells → TellsSurvivors ledger.now.shape ledger.now.lattice.n ledger.now.digests (D.state disk.old).files (is_marked marks.new)) }
-    ensures reads { OnlyReads D.tells (IsErr result) (D.state disk.old) (D.state disk.new) }
+    ensures intact { OnOk result (D.reveals → AreIntact ledger.now (D.state disk.old).files marks.new) }
+    ensures survivors { OnOk result (D.reveals → RevealsSurvivors ledger.now.shape ledger.now.lattice.n ledger.now.digests (D.state disk.old).files (is_marked marks.new)) }
+    ensures reads { OnlyReads D.reveals (IsErr result) (D.state disk.old) (D.state disk.new) }
 {
     let lattice = ledger.lattice();
     let count = lattice.blocks();
@@ -59,11 +59,11 @@ fn mark_all<D: Disk>(
 /// first read. Nothing is written.
 pub fn scan<D: Disk>(alloc: Global, ledger: &Ledger, disk: &mut D) -> Result<Marks, ScanFault>
     ensures lattice { IfOk result (λ m. m.lattice ≡ ledger.now.lattice) }
-    ensures intact { IfOk result (λ m. D.tells → AreIntact ledger.now (D.state disk.old).files m) }
-    ensures survivors { IfOk result (λ m. D.tells → TellsSurvivors ledger.now.shape ledger.now.lattice.n ledger.now.digests (D.state disk.old).files (is_marked m)) }
+    ensures intact { IfOk result (λ m. D.reveals → AreIntact ledger.now (D.state disk.old).files m) }
+    ensures survivors { IfOk result (λ m. D.reveals → RevealsSurvivors ledger.now.shape ledger.now.lattice.n ledger.now.digests (D.state disk.old).files (is_marked m)) }
 
     ensures memory { result ≡ Err ScanFault.NoMemory → disk.new ≡ disk.old }
-    ensures reads { OnlyReads D.tells (result ≡ Err ScanFault.DiskFault) (D.state disk.old) (D.state disk.new) }
+    ensures reads { OnlyReads D.reveals (result ≡ Err ScanFault.DiskFault) (D.state disk.old) (D.state disk.new) }
 {
     let Ok(mut marks) = Marks::new(alloc, &ledger.lattice()) else {
         return Err(ScanFault::NoMemory);

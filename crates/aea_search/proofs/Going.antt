@@ -13,7 +13,7 @@ use Rattle.aea_disk.specs.Frames.{OnlyReads}
 use Rattle.aea_disk.proofs.Frames.{reads_none, reads_both}
 use Rattle.aea_ledger.specs.Recorded.{IsLatticeOf}
 use Rattle.aea_ledger.specs.Values.{Opened}
-use Rattle.aea_archive.specs.Blocks.{IsBlockIn, IsIntactBy, TellsSurvivors}
+use Rattle.aea_archive.specs.Blocks.{IsBlockIn, IsIntactBy, RevealsSurvivors}
 use Rattle.aea_search.specs.declared.searching.SearchFault.{SearchFault}
 use Rattle.aea_search.specs.declared.searching.SearchFault.TheVariants.{DiskFault, NoMemory}
 use Rattle.aea_search.specs.Searches.{Searched, IsSearch, IsNew, IsMarkedToo, Begins, Passes, Goes, Looks, IsRightBy}
@@ -22,30 +22,30 @@ use Rattle.aea_search.proofs.Keeping.{same_or_other, still}
 -- ---- one stretch after another
 
 -- a search that did nothing
-pub goes_none : (tells : Type 0) (v : Opened) (c : Files) (s : Searched) → Goes tells v c s s
-goes_none tells v c s = record {
+pub goes_none : (reveals : Type 0) (v : Opened) (c : Files) (s : Searched) → Goes reveals v c s s
+goes_none reveals v c s = record {
   same = refl;
   read = λ b has is. is;
   kept = λ b has is. refl;
-  told = λ tell b has before after. absurd (false≢true (sym before ∙ after));
+  revealed = λ reveal b has before after. absurd (false≢true (sym before ∙ after));
 }
 
 -- a search that went on twice, over the same files
-pub goes_both : (tells : Type 0) (v : Opened) (c d : Files) (a b s : Searched) → (tells → d ≡ c) → Goes tells v c a b → Goes tells v d b s → Goes tells v c a s
-goes_both tells v c d a b s same first then = record {
+pub goes_both : (reveals : Type 0) (v : Opened) (c d : Files) (a b s : Searched) → (reveals → d ≡ c) → Goes reveals v c a b → Goes reveals v d b s → Goes reveals v c a s
+goes_both reveals v c d a b s same first then = record {
   same = then.same ∙ first.same;
   read = λ x has is. then.read x has (first.read x has is);
   kept = λ x has is. then.kept x has (first.read x has is) ∙ first.kept x has is;
-  told = λ tell x has before after. elim (cases_Bool (is_marked b.read x)) [
-    | inl already ↦ subst (λ u. (u ≡ false) ↔ IsIntactBy v.shape v.digests c x) (sym (then.kept x has already)) (first.told tell x has before already)
-    | inr later ↦ subst (λ (f : Files). (is_marked s.unknown x ≡ false) ↔ IsIntactBy v.shape v.digests f x) (same tell) (then.told tell x has later after)
+  revealed = λ reveal x has before after. elim (cases_Bool (is_marked b.read x)) [
+    | inl already ↦ subst (λ u. (u ≡ false) ↔ IsIntactBy v.shape v.digests c x) (sym (then.kept x has already)) (first.revealed reveal x has before already)
+    | inr later ↦ subst (λ (f : Files). (is_marked s.unknown x ≡ false) ↔ IsIntactBy v.shape v.digests f x) (same reveal) (then.revealed reveal x has later after)
   ];
 }
 
 -- the disk was read, and nothing else
-pub looks_still : (tells fault : Type 0) (v : Opened) (s : Searched) (x y : State) → OnlyReads tells fault x y → Looks tells fault v s s x y
-looks_still tells fault v s x y reads = record {
-  goes = goes_none tells v x.files s;
+pub looks_still : (reveals fault : Type 0) (v : Opened) (s : Searched) (x y : State) → OnlyReads reveals fault x y → Looks reveals fault v s s x y
+looks_still reveals fault v s x y reads = record {
+  goes = goes_none reveals v x.files s;
   more = [];
   waits = sym (append-nil s.waiting);
   few = omega arith;
@@ -53,8 +53,8 @@ looks_still tells fault v s x y reads = record {
 }
 
 -- no look
-pub looks_none : (tells fault : Type 0) (v : Opened) (s : Searched) (t : State) → (fault → ⊥) → Looks tells fault v s s t t
-looks_none tells fault v s t fine = looks_still tells fault v s t t (reads_none tells fault t fine)
+pub looks_none : (reveals fault : Type 0) (v : Opened) (s : Searched) (t : State) → (fault → ⊥) → Looks reveals fault v s s t t
+looks_none reveals fault v s t fine = looks_still reveals fault v s t t (reads_none reveals fault t fine)
 
 -- the disk failed
 abbrev pub IsDiskFault : Result (Unit {0}) SearchFault → Type 0
@@ -68,28 +68,28 @@ pub memory_no_fault : IsDiskFault (Err NoMemory) → ⊥
 memory_no_fault is = cc
 
 -- some looks, and then others
-pub looks_both : (tells first second : Type 0) (v : Opened) (a b s : Searched) (x y z : State) → (first → ⊥) → Looks tells first v a b x y → Looks tells second v b s y z → Looks tells second v a s x z
-looks_both tells first second v a b s x y z fine one two = record {
-  goes = goes_both tells v x.files y.files a b s one.reads.contents one.goes two.goes;
+pub looks_both : (reveals first second : Type 0) (v : Opened) (a b s : Searched) (x y z : State) → (first → ⊥) → Looks reveals first v a b x y → Looks reveals second v b s y z → Looks reveals second v a s x z
+looks_both reveals first second v a b s x y z fine one two = record {
+  goes = goes_both reveals v x.files y.files a b s one.reads.contents one.goes two.goes;
   more = one.more ++ two.more;
   waits = two.waits ∙ ap (λ ws. ws ++ two.more) one.waits ∙ append_assoc a.waiting one.more two.more;
   few = omega (arith, one.few, two.few);
-  reads = reads_both tells first second x y z fine one.reads two.reads;
+  reads = reads_both reveals first second x y z fine one.reads two.reads;
 }
 
 -- some looks without a fault, and then others
-pub looks_then : (tells second : Type 0) (v : Opened) (a b s : Searched) (x y z : State) → Looks tells (IsDiskFault (Ok tt)) v a b x y → Looks tells second v b s y z
-    → Looks tells second v a s x z
-looks_then tells second v a b s x y z one two = looks_both tells (IsDiskFault (Ok tt)) second v a b s x y z ok_no_fault one two
+pub looks_then : (reveals second : Type 0) (v : Opened) (a b s : Searched) (x y z : State) → Looks reveals (IsDiskFault (Ok tt)) v a b x y → Looks reveals second v b s y z
+    → Looks reveals second v a s x z
+looks_then reveals second v a b s x y z one two = looks_both reveals (IsDiskFault (Ok tt)) second v a b s x y z ok_no_fault one two
 
 -- what is left of a search is another list of those that wait
-pub goes_as : (tells : Type 0) (v : Opened) (c : Files) (s t u : Searched) → u.read ≡ t.read → u.unknown ≡ t.unknown → Goes tells v c s t → Goes tells v c s u
-goes_as tells v c s t u read unknown goes = record {
+pub goes_as : (reveals : Type 0) (v : Opened) (c : Files) (s t u : Searched) → u.read ≡ t.read → u.unknown ≡ t.unknown → Goes reveals v c s t → Goes reveals v c s u
+goes_as reveals v c s t u read unknown goes = record {
   same = ap (λ (m : Marked). m.lattice) read ∙ goes.same;
   read = λ b has is. ap (λ m. is_marked m b) read ∙ goes.read b has is;
   kept = λ b has is. ap (λ m. is_marked m b) unknown ∙ goes.kept b has is;
-  told = λ tell b has before after.
-      subst (λ m. (is_marked m b ≡ false) ↔ IsIntactBy v.shape v.digests c b) (sym unknown) (goes.told tell b has before (sym (ap (λ m. is_marked m b) read) ∙ after));
+  revealed = λ reveal b has before after.
+      subst (λ m. (is_marked m b ≡ false) ↔ IsIntactBy v.shape v.digests c b) (sym unknown) (goes.revealed reveal b has before (sym (ap (λ m. is_marked m b) read) ∙ after));
 }
 
 -- ---- one look
@@ -109,9 +109,9 @@ read_one s t b too d has before after =
     ]
 
 -- it was damaged
-pub looks_begins : (tells fault : Type 0) (v : Opened) (s t : Searched) (x y : State) (b : BlockId) (intact : Bool) → s.read.lattice ≡ v.lattice → is_marked s.read b ≡ false
-    → intact ≡ false → (tells → IsTrue intact ↔ IsIntactBy v.shape v.digests x.files b) → Begins s t b → OnlyReads tells fault x y → Looks tells fault v s t x y
-looks_begins tells fault v s t x y b intact same unread bad says begins reads =
+pub looks_begins : (reveals fault : Type 0) (v : Opened) (s t : Searched) (x y : State) (b : BlockId) (intact : Bool) → s.read.lattice ≡ v.lattice → is_marked s.read b ≡ false
+    → intact ≡ false → (reveals → IsTrue intact ↔ IsIntactBy v.shape v.digests x.files b) → Begins s t b → OnlyReads reveals fault x y → Looks reveals fault v s t x y
+looks_begins reveals fault v s t x y b intact same unread bad says begins reads =
     let inside : (d : BlockId) → HasBlock v.lattice d → HasBlock s.read.lattice d = λ d has. subst (λ (l : Lattice). HasBlock l d) (sym same) has in
     record {
       goes = record {
@@ -119,10 +119,10 @@ looks_begins tells fault v s t x y b intact same unread bad says begins reads =
         read = λ d has is. still s.read.lattice s.read t.read b begins.read d (inside d has) is;
         kept = λ d has is.
             begins.unknown.others d (inside d has) (λ equal. false≢true (sym unread ∙ ap (is_marked s.read) (sym equal) ∙ is));
-        told = λ tell d has before after.
+        revealed = λ reveal d has before after.
             let is : d ≡ b = read_one s t b begins.read d (inside d has) before after in
             subst (λ z. (is_marked t.unknown z ≡ false) ↔ IsIntactBy v.shape v.digests x.files z) (sym is)
-            (unknown_not_false (is_marked t.unknown b) intact (IsIntactBy v.shape v.digests x.files b) begins.unknown.here bad (says tell));
+            (unknown_not_false (is_marked t.unknown b) intact (IsIntactBy v.shape v.digests x.files b) begins.unknown.here bad (says reveal));
       };
       more = b ∷ [];
       waits = begins.waiting;
@@ -131,9 +131,9 @@ looks_begins tells fault v s t x y b intact same unread bad says begins reads =
     }
 
 -- it was intact
-pub looks_skips : (tells fault : Type 0) (v : Opened) (s t : Searched) (x y : State) (b : BlockId) (intact : Bool) → s.read.lattice ≡ v.lattice → HasBlock v.lattice b → IsSearch s
-    → is_marked s.read b ≡ false → intact ≡ true → (tells → IsTrue intact ↔ IsIntactBy v.shape v.digests x.files b) → Passes s t b → OnlyReads tells fault x y → Looks tells fault v s t x y
-looks_skips tells fault v s t x y b intact same has_b holds unread good says passes reads =
+pub looks_skips : (reveals fault : Type 0) (v : Opened) (s t : Searched) (x y : State) (b : BlockId) (intact : Bool) → s.read.lattice ≡ v.lattice → HasBlock v.lattice b → IsSearch s
+    → is_marked s.read b ≡ false → intact ≡ true → (reveals → IsTrue intact ↔ IsIntactBy v.shape v.digests x.files b) → Passes s t b → OnlyReads reveals fault x y → Looks reveals fault v s t x y
+looks_skips reveals fault v s t x y b intact same has_b holds unread good says passes reads =
     let inside : (d : BlockId) → HasBlock v.lattice d → HasBlock s.read.lattice d = λ d has. subst (λ (l : Lattice). HasBlock l d) (sym same) has in
     let closed : is_marked t.unknown b ≡ false =
     ap (λ m. is_marked m b) passes.unknown ∙ false_from_ne_true (is_marked s.unknown b) (λ is. false≢true (sym unread ∙ holds.within b (inside b has_b) is)) in
@@ -142,10 +142,10 @@ looks_skips tells fault v s t x y b intact same has_b holds unread good says pas
         same = passes.read.same;
         read = λ d has is. still s.read.lattice s.read t.read b passes.read d (inside d has) is;
         kept = λ d has is. ap (λ m. is_marked m d) passes.unknown;
-        told = λ tell d has before after.
+        revealed = λ reveal d has before after.
             let is : d ≡ b = read_one s t b passes.read d (inside d has) before after in
             subst (λ z. (is_marked t.unknown z ≡ false) ↔ IsIntactBy v.shape v.digests x.files z) (sym is)
-            (closed_false (is_marked t.unknown b) intact (IsIntactBy v.shape v.digests x.files b) closed good (says tell));
+            (closed_false (is_marked t.unknown b) intact (IsIntactBy v.shape v.digests x.files b) closed good (says reveal));
       };
       more = [];
       waits = passes.waiting ∙ sym (append-nil s.waiting);
@@ -180,12 +180,12 @@ right_begins l known s t b same unknown right begins d has read =
 
 -- Where the contents of the disk are known, a test that is right about what was read stays right where the search goes on, if
 -- of the blocks that were not read exactly the intact ones pass it.
-pub right_later : (tells : Type 0) (v : Opened) (c : Files) (s t : Searched) (known : BlockId → Bool) → tells → Goes tells v c s t → IsRightBy v.lattice known s
+pub right_later : (reveals : Type 0) (v : Opened) (c : Files) (s t : Searched) (known : BlockId → Bool) → reveals → Goes reveals v c s t → IsRightBy v.lattice known s
     → ((b : BlockId) → HasBlock v.lattice b → is_marked s.read b ≡ false → IsTrue (known b) ↔ IsIntactBy v.shape v.digests c b) → IsRightBy v.lattice known t
-right_later tells v c s t known tell goes right knows b has read =
+right_later reveals v c s t known reveal goes right knows b has read =
     elim (cases_Bool (is_marked s.read b)) [
       | inl before ↦ goes.kept b has before ∙ right b has before
-      | inr unread ↦ other_truth (is_marked t.unknown b) (known b) (IsIntactBy v.shape v.digests c b) (goes.told tell b has unread read) (knows b has unread)
+      | inr unread ↦ other_truth (is_marked t.unknown b) (known b) (IsIntactBy v.shape v.digests c b) (goes.revealed reveal b has unread read) (knows b has unread)
     ]
 
 -- a block of the ledger's lattice is one of the archive
@@ -197,10 +197,10 @@ in_archive v l same of_shape b has = record {
 }
 
 -- So a test that distinguishes the intact blocks is right about what a search has read that had read nothing before.
-pub survivors_right : (tells : Type 0) (v : Opened) (c : Files) (s t : Searched) (known : BlockId → Bool) → tells → IsNew v.lattice s → Goes tells v c s t
-    → ((b : BlockId) → HasBlock v.lattice b → IsBlockIn v.shape v.lattice.n b) → TellsSurvivors v.shape v.lattice.n v.digests c known → IsRightBy v.lattice known t
-survivors_right tells v c s t known tell none goes inside survivors =
-    right_later tells v c s t known tell goes (right_new v.lattice known s none) (λ b has unread. survivors b (inside b has))
+pub survivors_right : (reveals : Type 0) (v : Opened) (c : Files) (s t : Searched) (known : BlockId → Bool) → reveals → IsNew v.lattice s → Goes reveals v c s t
+    → ((b : BlockId) → HasBlock v.lattice b → IsBlockIn v.shape v.lattice.n b) → RevealsSurvivors v.shape v.lattice.n v.digests c known → IsRightBy v.lattice known t
+survivors_right reveals v c s t known reveal none goes inside survivors =
+    right_later reveals v c s t known reveal goes (right_new v.lattice known s none) (λ b has unread. survivors b (inside b has))
 
 -- The blocks that were read and are not unknown, and of the others those that pass a test.
 abbrev pub as_read : Searched → (BlockId → Bool) → BlockId → Bool

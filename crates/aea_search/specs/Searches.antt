@@ -56,11 +56,11 @@ pub record IsSearch (s : Searched) : Type 0 where
 
 -- What a search that goes on leaves: what was read stays read, and unknown or not as it was. Where the contents of the disk are
 -- known, each block that was read meanwhile is unknown exactly where it is not intact.
-pub record Goes (tells : Type 0) (v : Opened) (c : Files) (old new : Searched) : Type 0 where
+pub record Goes (reveals : Type 0) (v : Opened) (c : Files) (old new : Searched) : Type 0 where
   pub same : new.read.lattice ≡ old.read.lattice
   pub read : (b : BlockId) → HasBlock v.lattice b → is_marked old.read b ≡ true → is_marked new.read b ≡ true
   pub kept : (b : BlockId) → HasBlock v.lattice b → is_marked old.read b ≡ true → is_marked new.unknown b ≡ is_marked old.unknown b
-  pub told : tells → (b : BlockId) → HasBlock v.lattice b → is_marked old.read b ≡ false → is_marked new.read b ≡ true
+  pub revealed : reveals → (b : BlockId) → HasBlock v.lattice b → is_marked old.read b ≡ false → is_marked new.read b ≡ true
       → (is_marked new.unknown b ≡ false) ↔ IsIntactBy v.shape v.digests c b
 
 -- of the blocks of the lattice these marks have this one too, and otherwise those that the others have
@@ -94,9 +94,9 @@ pub record IsFirst (s : Searched) (b : BlockId) : Type 0 where
 
 -- Blocks that were looked at: the search goes on, and of those that wait no one was gone around. Each that waits now takes a
 -- place among those that waited and the blocks that were not read. The disk was only read.
-pub record Looks (tells fault : Type 0) (v : Opened) (old new : Searched) (before after : State) : Type 0 where
-  pub goes : Goes tells v before.files old new
+pub record Looks (reveals fault : Type 0) (v : Opened) (old new : Searched) (before after : State) : Type 0 where
+  pub goes : Goes reveals v before.files old new
   pub more : List BlockId
   pub waits : new.waiting ≡ old.waiting ++ more
   pub few : length new.waiting + unmarked new.read ≤ length old.waiting + unmarked old.read
-  pub reads : OnlyReads tells fault before after
+  pub reads : OnlyReads reveals fault before after

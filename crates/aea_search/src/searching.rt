@@ -112,7 +112,7 @@ impl Search {
         requires buffer { length cell.old ≡ cell_size ledger.now.shape }
         ensures read { OnOk result (is_marked self.new.read b ≡ true) }
         ensures err { OnErr result (self.new ≡ self.old) }
-        ensures looks { Looks D.tells (result ≡ Err SearchFault.DiskFault) ledger.now self.old self.new (D.state disk.old) (D.state disk.new) }
+        ensures looks { Looks D.reveals (result ≡ Err SearchFault.DiskFault) ledger.now self.old self.new (D.state disk.old) (D.state disk.new) }
     {
         if self.read.get(b) {
             return Ok(());

@@ -29,7 +29,7 @@ impl Search {
         requires input { ForSome input (HasBlock ledger.now.lattice) }
         requires buffer { length cell.old ≡ cell_size ledger.now.shape }
         ensures read { OnOk result (ForSome input (λ g. is_marked self.new.read g ≡ true)) }
-        ensures looks { Looks D.tells (result ≡ Err SearchFault.DiskFault) ledger.now self.old self.new (D.state disk.old) (D.state disk.new) }
+        ensures looks { Looks D.reveals (result ≡ Err SearchFault.DiskFault) ledger.now self.old self.new (D.state disk.old) (D.state disk.new) }
     {
         match input {
             Some(g) => self.look(ledger, disk, g, cell),
@@ -49,7 +49,7 @@ impl Search {
         requires equation { HasEquation ledger.now.lattice e }
         requires buffer { length cell.old ≡ cell_size ledger.now.shape }
         ensures read { OnOk result (IsAllRead ledger.now.lattice self.new.read e) }
-        ensures looks { Looks D.tells (result ≡ Err SearchFault.DiskFault) ledger.now self.old self.new (D.state disk.old) (D.state disk.new) }
+        ensures looks { Looks D.reveals (result ≡ Err SearchFault.DiskFault) ledger.now self.old self.new (D.state disk.old) (D.state disk.new) }
     {
         let q = ledger.lattice().equation(e);
         match self.look(ledger, disk, q.datum, cell) {
@@ -77,7 +77,7 @@ impl Search {
         requires parity { 1 ≤ class_number class }
         requires buffer { length cell.old ≡ cell_size ledger.now.shape }
         ensures read { OnOk result (HasParity ledger.now.lattice class → IsAllRead ledger.now.lattice self.new.read (equation_of node class)) }
-        ensures looks { Looks D.tells (result ≡ Err SearchFault.DiskFault) ledger.now self.old self.new (D.state disk.old) (D.state disk.new) }
+        ensures looks { Looks D.reveals (result ≡ Err SearchFault.DiskFault) ledger.now self.old self.new (D.state disk.old) (D.state disk.new) }
     {
         if class as u8 <= ledger.lattice().alpha() {
             return self.look_blocks(ledger, disk, EqId { node, class }, cell);
@@ -97,7 +97,7 @@ impl Search {
         requires node { HasNode ledger.now.lattice node }
         requires buffer { length cell.old ≡ cell_size ledger.now.shape }
         ensures read { OnOk result ((e : EqId) → HasEquation ledger.now.lattice e → e.node ≡ node → IsAllRead ledger.now.lattice self.new.read e) }
-        ensures looks { Looks D.tells (result ≡ Err SearchFault.DiskFault) ledger.now self.old self.new (D.state disk.old) (D.state disk.new) }
+        ensures looks { Looks D.reveals (result ≡ Err SearchFault.DiskFault) ledger.now self.old self.new (D.state disk.old) (D.state disk.new) }
     {
         match self.look_class(ledger, disk, node, Class::Horiz, cell) {
             Ok(()) => (),
@@ -124,7 +124,7 @@ impl Search {
         requires class { HasParity ledger.now.lattice class }
         requires buffer { length cell.old ≡ cell_size ledger.now.shape }
         ensures around { OnOk result (IsGoneAround ledger.now.lattice self.new.read (block_of node class)) }
-        ensures looks { Looks D.tells (result ≡ Err SearchFault.DiskFault) ledger.now self.old self.new (D.state disk.old) (D.state disk.new) }
+        ensures looks { Looks D.reveals (result ≡ Err SearchFault.DiskFault) ledger.now self.old self.new (D.state disk.old) (D.state disk.new) }
     {
         match self.look_class(ledger, disk, node, class, cell) {
             Ok(()) => (),
@@ -148,7 +148,7 @@ impl Search {
         requires block { HasBlock ledger.now.lattice b }
         requires buffer { length cell.old ≡ cell_size ledger.now.shape }
         ensures around { OnOk result (IsGoneAround ledger.now.lattice self.new.read b) }
-        ensures looks { Looks D.tells (result ≡ Err SearchFault.DiskFault) ledger.now self.old self.new (D.state disk.old) (D.state disk.new) }
+        ensures looks { Looks D.reveals (result ≡ Err SearchFault.DiskFault) ledger.now self.old self.new (D.state disk.old) (D.state disk.new) }
     {
         match b.class {
             Class::Datum => self.look_node(ledger, disk, b.node, cell),
@@ -169,8 +169,8 @@ impl Search {
         requires same { self.old.read.lattice ≡ ledger.now.lattice }
         requires buffer { length cell.old ≡ cell_size ledger.now.shape }
         ensures done { OnOk result (self.new.waiting ≡ []) }
-        ensures goes { Goes D.tells ledger.now (D.state disk.old).files self.old self.new }
-        ensures reads { OnlyReads D.tells (result ≡ Err SearchFault.DiskFault) (D.state disk.old) (D.state disk.new) }
+        ensures goes { Goes D.reveals ledger.now (D.state disk.old).files self.old self.new }
+        ensures reads { OnlyReads D.reveals (result ≡ Err SearchFault.DiskFault) (D.state disk.old) (D.state disk.new) }
     {
         while let Some(b) = self.first() {
             match self.look_around(ledger, disk, b, cell) {

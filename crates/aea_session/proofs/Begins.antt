@@ -102,16 +102,16 @@ data_of_records v records datas has are = record {
 }
 
 -- It stands for this list where the ledger records it and the last parities are honest for it.
-pub begins_standing : (tells : Type 0) (w : Work) (files : Files) → w.digests.items ≡ []
-    → (tells → (datas : List (List ℕ)) → IsDataList w.ledger.lattice w.ledger.shape.block datas → AreLastsHonest w.ledger.shape w.ledger.lattice w.ledger.digests datas files
+pub begins_standing : (reveals : Type 0) (w : Work) (files : Files) → w.digests.items ≡ []
+    → (reveals → (datas : List (List ℕ)) → IsDataList w.ledger.lattice w.ledger.shape.block datas → AreLastsHonest w.ledger.shape w.ledger.lattice w.ledger.digests datas files
     → IsWovenOf w.ledger.shape w.ledger.lattice w.heads datas [] [])
-    → tells → (records : List Record) (datas : List (List ℕ)) → HasRecords w.ledger records → AreRecordsOf w.ledger.shape records datas
+    → reveals → (records : List Record) (datas : List (List ℕ)) → HasRecords w.ledger records → AreRecordsOf w.ledger.shape records datas
     → AreLastsHonest w.ledger.shape w.ledger.lattice w.ledger.digests datas files → StandsFor w (begun datas w.ledger.objects)
-begins_standing tells w files none values told records datas has are honest = record {
+begins_standing reveals w files none values revealed records datas has are honest = record {
   records = records;
   has = has;
   recorded = are;
-  woven = subst (IsWovenOf w.ledger.shape w.ledger.lattice w.heads datas []) (sym none) (values told datas (data_of_records w.ledger records datas has are) honest);
+  woven = subst (IsWovenOf w.ledger.shape w.ledger.lattice w.heads datas []) (sym none) (values revealed datas (data_of_records w.ledger records datas has are) honest);
 }
 
 -- ---- whose disk it is
@@ -126,7 +126,7 @@ begins_its_own w old new lattice none same this = record {
   ledger = subst (λ (c : Files). IsThisOne w.ledger (c 0)) (sym same) this;
   cells =
       subst (λ (l : Lattice). AreIntactOn (Unit {0}) w.ledger.shape w.ledger.lattice.n l.n w.digests.items new) (sym lattice)
-      (record { long = ap length none ∙ no_more w.ledger.lattice.n (1 + w.ledger.shape.alpha); each = λ told b on. absurd (none_on w.ledger.shape w.ledger.lattice.n b on) });
+      (record { long = ap length none ∙ no_more w.ledger.lattice.n (1 + w.ledger.shape.alpha); each = λ revealed b on. absurd (none_on w.ledger.shape w.ledger.lattice.n b on) });
 }
 
 -- ---- why it is not begun

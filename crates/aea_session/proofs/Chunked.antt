@@ -217,7 +217,7 @@ decided_over counted v m slot s bytes nodes limit size keeps inside was nodes_is
 
 -- ---- the step of the session
 
-module _ (tells : Type 0) (v w : Work) (m : Machine) (slot : ℕ) (bytes : List ℕ) (old new : Files) (keeps : KeepsMachine v m) (t : TakesChunk v.ledger.shape m slot bytes) (a : AddsChunk tells v w slot bytes old new) where
+module _ (reveals : Type 0) (v w : Work) (m : Machine) (slot : ℕ) (bytes : List ℕ) (old new : Files) (keeps : KeepsMachine v m) (t : TakesChunk v.ledger.shape m slot bytes) (a : AddsChunk reveals v w slot bytes old new) where
   abbrev shape : Shape
   shape = v.ledger.shape
 
@@ -326,12 +326,12 @@ module _ (tells : Type 0) (v w : Work) (m : Machine) (slot : ℕ) (bytes : List 
 -- ---- the disk
 
 -- it is the session's after a chunk that left the ledger's file
-pub chunk_this : (tells : Type 0) (v w : Work) (slot : ℕ) (bytes : List ℕ) (old new : Files) → AddsChunk tells v w slot bytes old new → w.ledger ≡ v.ledger → v.ledger.lattice.n ≤ v.heads.lattice.n → tells
+pub chunk_this : (reveals : Type 0) (v w : Work) (slot : ℕ) (bytes : List ℕ) (old new : Files) → AddsChunk reveals v w slot bytes old new → w.ledger ≡ v.ledger → v.ledger.lattice.n ≤ v.heads.lattice.n → reveals
     → new 0 ≡ old 0 → IsTheSessions v old → IsTheSessions w new
-chunk_this tells v w slot bytes old new a same before told file this =
+chunk_this reveals v w slot bytes old new a same before revealed file this =
     let intact = a.gathers.intact v.ledger.lattice.n before (record { long = this.cells.long; each = λ _ b on. this.cells.each tt b on }) in
     subst (λ (x : Work). IsTheSessions x new) (let e : (let x : Work = record w { ledger = v.ledger } in x) ≡ w = ap (λ (l : Opened). record w { ledger = l }) (sym same) in e)
     (record {
       ledger = subst (IsThisOne v.ledger) (sym file) this.ledger;
-      cells = record { long = intact.long; each = λ _ b on. intact.each told b on };
+      cells = record { long = intact.long; each = λ _ b on. intact.each revealed b on };
     })

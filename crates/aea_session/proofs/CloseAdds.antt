@@ -59,27 +59,27 @@ leaves_cells v c d step =
     (is_old v.ledger.shape v.heads.lattice.n) (λ f past. inr past) step
 
 abbrev pub Cells : Type 0 → Type 0 → Work → State → State → Type 0
-Cells tells fault v old mid = WritesCells tells v.ledger.shape raised_limit (λ a. a.node ≢ v.heads.lattice.n + 1) fault old mid
+Cells reveals fault v old mid = WritesCells reveals v.ledger.shape raised_limit (λ a. a.node ≢ v.heads.lattice.n + 1) fault old mid
 
 -- where nothing but these is written
-pub cells_wider : (tells fault : Type 0) (v : Work) (slot : ℕ) (old mid : State) → Cells tells fault v old mid → OnlyWrites tells (IsReady old) (HasCloseRoom v slot old) fault (Leaves v) old mid
-cells_wider tells fault v slot old mid writes =
-    writes_wider tells (IsReady old) (FitsRows v.ledger.shape raised_limit old) (IsReady old) (HasCloseRoom v slot old) fault
+pub cells_wider : (reveals fault : Type 0) (v : Work) (slot : ℕ) (old mid : State) → Cells reveals fault v old mid → OnlyWrites reveals (IsReady old) (HasCloseRoom v slot old) fault (Leaves v) old mid
+cells_wider reveals fault v slot old mid writes =
+    writes_wider reveals (IsReady old) (FitsRows v.ledger.shape raised_limit old) (IsReady old) (HasCloseRoom v slot old) fault
     (ChangesArchive v.ledger.shape raised_limit (λ a. a.node ≢ v.heads.lattice.n + 1) (IsNoSite v.ledger.shape)) (Leaves v) old mid
     (leaves_cells v) (λ _ is. is) (λ _ room. record { sites = room.sites; sync = room.sync }) writes
 
 -- and where the ledger's file is written after them
-pub both_write : (tells first second : Type 0) (v : Work) (slot end : ℕ) (old mid new : State) → (first → ⊥) → Cells tells first v old mid
-    → OnlyWrites tells (IsReady mid) (FitsAdding mid 1 end) second (ChangesOnly 0) mid new → (tells → HasCloseRoom v slot old → FitsAdding old 1 end)
-    → OnlyWrites tells (IsReady old) (HasCloseRoom v slot old) second (Leaves v) old new
-both_write tells first second v slot end old mid new fine cells commit room =
-    writes_both tells (IsReady old) (IsReady old) (IsReady mid) (HasCloseRoom v slot old) (FitsRows v.ledger.shape raised_limit old) (FitsAdding mid 1 end) first second
+pub both_write : (reveals first second : Type 0) (v : Work) (slot end : ℕ) (old mid new : State) → (first → ⊥) → Cells reveals first v old mid
+    → OnlyWrites reveals (IsReady mid) (FitsAdding mid 1 end) second (ChangesOnly 0) mid new → (reveals → HasCloseRoom v slot old → FitsAdding old 1 end)
+    → OnlyWrites reveals (IsReady old) (HasCloseRoom v slot old) second (Leaves v) old new
+both_write reveals first second v slot end old mid new fine cells commit room =
+    writes_both reveals (IsReady old) (IsReady old) (IsReady mid) (HasCloseRoom v slot old) (FitsRows v.ledger.shape raised_limit old) (FitsAdding mid 1 end) first second
     (ChangesArchive v.ledger.shape raised_limit (λ a. a.node ≢ v.heads.lattice.n + 1) (IsNoSite v.ledger.shape)) (ChangesOnly 0) (Leaves v) old mid new fine
     (leaves_cells v)
     (λ c d e step only. changes_both v.ledger.shape raised_limit (IsBlockIn v.ledger.shape v.heads.lattice.n) (IsBesides v.ledger.shape) c d e (leaves_cells v c d step)
     (changes_ledger v.ledger.shape raised_limit (IsBlockIn v.ledger.shape v.heads.lattice.n) d e only))
     (λ _ is. is) (λ _ is step goes. ready_same old mid (step.stay 0 (inl refl)) goes is)
-    (λ _ has. record { sites = has.sites; sync = has.sync }) (λ told has step time. adding_later old mid 1 end (step.stay 0 (inl refl)) time (room told has)) cells commit
+    (λ _ has. record { sites = has.sites; sync = has.sync }) (λ revealed has step time. adding_later old mid 1 end (step.stay 0 (inl refl)) time (room revealed has)) cells commit
 
 -- the homes of the blocks so far, with zeros past the ends
 pub padded_cells : (v : Work) (old mid : Files) → KeepsPadded v.ledger.shape (λ a. a.node ≢ v.heads.lattice.n + 1) old mid → KeepsPadded v.ledger.shape (IsBlockIn v.ledger.shape v.heads.lattice.n) old mid
@@ -93,50 +93,50 @@ padded_commit v old mid new padded only =
 -- ---- the ledger
 
 -- cells leave its file
-pub leaves_ledger : (tells fault : Type 0) → tells → (v : Work) (old mid : State) → IsFixed old 0 → Cells tells fault v old mid → LeavesLedger old mid
-leaves_ledger tells fault told v old mid fixed writes = record {
-  images = file_kept tells (IsReady old) (FitsRows v.ledger.shape raised_limit old) fault v.ledger.shape raised_limit (λ a. a.node ≢ v.heads.lattice.n + 1) (IsNoSite v.ledger.shape) old mid 0 (inl refl) writes fixed;
-  reads = (writes.contents told).stay 0 (inl refl);
+pub leaves_ledger : (reveals fault : Type 0) → reveals → (v : Work) (old mid : State) → IsFixed old 0 → Cells reveals fault v old mid → LeavesLedger old mid
+leaves_ledger reveals fault revealed v old mid fixed writes = record {
+  images = file_kept reveals (IsReady old) (FitsRows v.ledger.shape raised_limit old) fault v.ledger.shape raised_limit (λ a. a.node ≢ v.heads.lattice.n + 1) (IsNoSite v.ledger.shape) old mid 0 (inl refl) writes fixed;
+  reads = (writes.contents revealed).stay 0 (inl refl);
 }
 
 -- and a commit that was not made leaves the images
-pub leaves_commit : (tells first : Type 0) → tells → (v : Work) (old mid new : State) → IsFixed old 0 → Cells tells first v old mid → Passes mid new → KeepsImages mid new → new.files ≡ mid.files → LeavesLedger old new
-leaves_commit tells first told v old mid new fixed writes time kept same =
-    let leaves = leaves_ledger tells first told v old mid fixed writes in
+pub leaves_commit : (reveals first : Type 0) → reveals → (v : Work) (old mid new : State) → IsFixed old 0 → Cells reveals first v old mid → Passes mid new → KeepsImages mid new → new.files ≡ mid.files → LeavesLedger old new
+leaves_commit reveals first revealed v old mid new fixed writes time kept same =
+    let leaves = leaves_ledger reveals first revealed v old mid fixed writes in
     record {
       images = during_then_kept old mid new (λ d. d 0 ≡ old.files 0) writes.time time kept leaves.images;
       reads = ap (λ (f : Files). f 0) same ∙ leaves.reads;
     }
 
 -- nothing was added
-pub adds_none : HasOneReading → (tells fault : Type 0) → tells → (v : Work) (m : Machine) (old mid : State) → IsFixed old 0 → Cells tells fault v old mid → AddsCloses v m [] [] old mid
-adds_none one tells fault told v m old mid fixed writes = adds_nothing_more one v m old mid writes.earlier (leaves_ledger tells fault told v old mid fixed writes)
+pub adds_none : HasOneReading → (reveals fault : Type 0) → reveals → (v : Work) (m : Machine) (old mid : State) → IsFixed old 0 → Cells reveals fault v old mid → AddsCloses v m [] [] old mid
+adds_none one reveals fault revealed v m old mid fixed writes = adds_nothing_more one v m old mid writes.earlier (leaves_ledger reveals fault revealed v old mid fixed writes)
 
 -- its records are those of the file after the cells
-its_later : (tells fault : Type 0) → tells → (v : Work) (records : List Record) (old mid : State) → Cells tells fault v old mid → AreItsRecords v.ledger records (old.files 0) → AreItsRecords v.ledger records (mid.files 0)
-its_later tells fault told v records old mid cells its = subst (λ (l : List ℕ). AreItsRecords v.ledger records l) (sym ((cells.contents told).stay 0 (inl refl))) its
+its_later : (reveals fault : Type 0) → reveals → (v : Work) (records : List Record) (old mid : State) → Cells reveals fault v old mid → AreItsRecords v.ledger records (old.files 0) → AreItsRecords v.ledger records (mid.files 0)
+its_later reveals fault revealed v records old mid cells its = subst (λ (l : List ℕ). AreItsRecords v.ledger records l) (sym ((cells.contents revealed).stay 0 (inl refl))) its
 
 -- a commit after cells that leave the ledger's file adds its record over all
-adds_close : HasOneReading → (tells first second taken fits : Type 0) → tells → (v : Work) (records : List Record) (r : Record) (payload : BlockId → List ℕ) (old mid new : State) → AreItsRecords v.ledger records (old.files 0) → IsFixed old 0
-    → Cells tells first v old mid → OnlyWrites tells taken fits second (ChangesOnly 0) mid new
+adds_close : HasOneReading → (reveals first second taken fits : Type 0) → reveals → (v : Work) (records : List Record) (r : Record) (payload : BlockId → List ℕ) (old mid new : State) → AreItsRecords v.ledger records (old.files 0) → IsFixed old 0
+    → Cells reveals first v old mid → OnlyWrites reveals taken fits second (ChangesOnly 0) mid new
     → Adds v.ledger.shape records (r ∷ []) payload mid new → Adds v.ledger.shape records (r ∷ []) payload old new
-adds_close one tells first second taken fits told v records r payload old mid new its fixed cells commit late =
-    let leaves = leaves_ledger tells first told v old mid fixed cells in
+adds_close one reveals first second taken fits revealed v records r payload old mid new its fixed cells commit late =
+    let leaves = leaves_ledger reveals first revealed v old mid fixed cells in
     let ledger = has_ledger v.ledger records (old.files 0) its in
-    adds_later one tells v.ledger.shape records (r ∷ []) payload old mid new cells.time commit.time cells.earlier
+    adds_later one reveals v.ledger.shape records (r ∷ []) payload old mid new cells.time commit.time cells.earlier
     (during_more old mid (λ c. c 0 ≡ old.files 0) (λ c. HasLedger v.ledger.shape records (c 0)) (λ c same. subst (HasLedger v.ledger.shape records) (sym same) ledger) leaves.images)
     (subst (HasLedger v.ledger.shape records) (sym leaves.reads) ledger)
-    (shelf_others tells v.ledger.shape (IsBlockIn v.ledger.shape (nodes_of records)) 0 mid new (λ a block. no_home_in_ledger v.ledger.shape a) (writes_others tells taken fits second (ChangesOnly 0) 0 mid new (λ c d step f other. step f other) commit))
+    (shelf_others reveals v.ledger.shape (IsBlockIn v.ledger.shape (nodes_of records)) 0 mid new (λ a block. no_home_in_ledger v.ledger.shape a) (writes_others reveals taken fits second (ChangesOnly 0) 0 mid new (λ c d step f other. step f other) commit))
     late
 
 -- a close that was made, of what is closed by another name
 pub closed_as : (v w : Work) (m : Machine) (one two : List Closing) (old new : State) → two ≡ one → HasClosed v w m one old new → HasClosed v w m two old new
 closed_as v w m one two old new same has = subst (λ (closings : List Closing). HasClosed v w m closings old new) (sym same) has
 
-module _ (lengths : CellsHaveLengths) (parts : CellsHaveParts) (one : HasOneReading) (next_law : ClosedAreNext) (more_law : PartsRecordMore) (tells first second taken fits : Type 0) (told : tells)
-    (v : Work) (m : Machine) (u : Upload) (t : Slot) (k : Woven) (es : List (List ℕ)) (old mid new : State) (ready : Readied tells v m u t k es mid.files)
+module _ (lengths : CellsHaveLengths) (parts : CellsHaveParts) (one : HasOneReading) (next_law : ClosedAreNext) (more_law : PartsRecordMore) (reveals first second taken fits : Type 0) (revealed : reveals)
+    (v : Work) (m : Machine) (u : Upload) (t : Slot) (k : Woven) (es : List (List ℕ)) (old mid new : State) (ready : Readied reveals v m u t k es mid.files)
     (digest : List ℕ) (hashed : digest ≡ sha256 u.bytes) (count : ℕ) (counted : count ≡ length (more_of v.ledger.shape m u))
-    (fixed : IsFixed old 0) (cells : Cells tells first v old mid) (commit : OnlyWrites tells taken fits second (ChangesOnly 0) mid new)
+    (fixed : IsFixed old 0) (cells : Cells reveals first v old mid) (commit : OnlyWrites reveals taken fits second (ChangesOnly 0) mid new)
     (commit_adds : (records : List Record) (payload : BlockId → List ℕ) → AreItsRecords v.ledger records (mid.files 0) → AreAtHome v.ledger.shape v.ledger.lattice.n (v.ledger.lattice.n + count) payload mid.files
     → Adds v.ledger.shape records (joined_by v.ledger t digest count es ∷ []) payload mid new)
     (commit_long : length (new.files 0) ≤ max (length (mid.files 0)) (v.ledger.end + length (entry (joined_by v.ledger t digest count es)) + 1)) where
@@ -154,19 +154,19 @@ module _ (lengths : CellsHaveLengths) (parts : CellsHaveParts) (one : HasOneRead
     are = (
       k.lattice,
       stored_by v.ledger t digest count es,
-      joined_is tells v m u t k es mid.files ready digest hashed count counted,
-      next_closed tells v m u t k es mid.files ready digest hashed count counted (payload_at v.ledger.shape mid.files) (digests_are lengths parts tells v.ledger.shape v.ledger.lattice.n k.lattice.n es mid.files told ready.intact),
+      joined_is reveals v m u t k es mid.files ready digest hashed count counted,
+      next_closed reveals v m u t k es mid.files ready digest hashed count counted (payload_at v.ledger.shape mid.files) (digests_are lengths parts reveals v.ledger.shape v.ledger.lattice.n k.lattice.n es mid.files revealed ready.intact),
       refl,
     );
-    wide = wides_are lengths parts tells v.ledger.shape v.ledger.lattice.n k.lattice.n es mid.files told ready.intact;
+    wide = wides_are lengths parts reveals v.ledger.shape v.ledger.lattice.n k.lattice.n es mid.files revealed ready.intact;
     adds = λ records its.
-        adds_close one tells first second taken fits told v records r (payload_at v.ledger.shape mid.files) old mid new its fixed cells commit
-        (commit_adds records (payload_at v.ledger.shape mid.files) (its_later tells first told v records old mid cells its)
-        (subst (λ (n : ℕ). AreAtHome v.ledger.shape v.ledger.lattice.n n (payload_at v.ledger.shape mid.files) mid.files) last_is (homes_are lengths parts tells v.ledger.shape v.ledger.lattice.n k.lattice.n es mid.files told ready.intact)));
+        adds_close one reveals first second taken fits revealed v records r (payload_at v.ledger.shape mid.files) old mid new its fixed cells commit
+        (commit_adds records (payload_at v.ledger.shape mid.files) (its_later reveals first revealed v records old mid cells its)
+        (subst (λ (n : ℕ). AreAtHome v.ledger.shape v.ledger.lattice.n n (payload_at v.ledger.shape mid.files) mid.files) last_is (homes_are lengths parts reveals v.ledger.shape v.ledger.lattice.n k.lattice.n es mid.files revealed ready.intact)));
     more = λ records has recorded woven valid.
         subst (λ (ds : List (List ℕ)). AreRecordsOf v.ledger.shape (records ++ r ∷ []) (m.datas ++ ds)) (sym (append-nil (more_of v.ledger.shape m u)))
-        (more_recorded tells v m u t k es mid.files ready digest hashed count counted next_law more_law records has recorded woven valid);
-    long = (let same = ap length ((cells.contents told).stay 0 (inl refl)) in
+        (more_recorded reveals v m u t k es mid.files ready digest hashed count counted next_law more_law records has recorded woven valid);
+    long = (let same = ap length ((cells.contents revealed).stay 0 (inl refl)) in
         let sum : sum_by (λ (q : Record). length (entry q)) (r ∷ []) ≡ length (entry r) = omega arith in omega (arith, same, commit_long, sum));
   }
 
@@ -182,9 +182,9 @@ module _ (lengths : CellsHaveLengths) (parts : CellsHaveParts) (one : HasOneRead
       added = λ records its.
           let has = its.has in
           let now = value records has in
-          let after_n = nodes_to tells v m u t k es mid.files ready digest hashed count counted w.ledger same records has now in
+          let after_n = nodes_to reveals v m u t k es mid.files ready digest hashed count counted w.ledger same records has now in
           record {
-            ledger = appended records (its_later tells first told v records old mid cells its);
+            ledger = appended records (its_later reveals first revealed v records old mid cells its);
             synced = synced;
             blocks = λ b on.
                 let here : IsBlockOn v.ledger.shape v.ledger.lattice.n k.lattice.n b = record {
@@ -193,9 +193,9 @@ module _ (lengths : CellsHaveLengths) (parts : CellsHaveParts) (one : HasOneRead
                   used = on.used;
                 } in
                 let long : length (digests_of records) ≡ v.ledger.lattice.n * (1 + v.ledger.shape.alpha) = counts v.ledger.shape records has.valid ∙ ap (λ (n : ℕ). n * (1 + v.ledger.shape.alpha)) (sym has.lattice.n) in
-                subst (λ (ds : List (List ℕ)). IsHeldBy v.ledger.shape ds new b) (sym (digests_to tells v m u t k es mid.files ready digest hashed count counted w.ledger same records has now))
-                (held_are lengths parts tells v.ledger.shape v.ledger.lattice.n k.lattice.n es mid.files told ready.intact (digests_of records) new long (commit.contents told) synced b here);
+                subst (λ (ds : List (List ℕ)). IsHeldBy v.ledger.shape ds new b) (sym (digests_to reveals v m u t k es mid.files ready digest hashed count counted w.ledger same records has now))
+                (held_are lengths parts reveals v.ledger.shape v.ledger.lattice.n k.lattice.n es mid.files revealed ready.intact (digests_of records) new long (commit.contents revealed) synced b here);
           };
       value = value;
-      exactly = exactly ∙ ap (λ (l : List ℕ). committed l v.ledger.end (body r ++ 0 ∷ [])) ((cells.contents told).stay 0 (inl refl));
+      exactly = exactly ∙ ap (λ (l : List ℕ). committed l v.ledger.end (body r ++ 0 ∷ [])) ((cells.contents revealed).stay 0 (inl refl));
     }

@@ -40,15 +40,15 @@ intact_stands lengths parts shape b recorded c intact =
       wide = ap length is ∙ long;
     }
 
-module _ (lengths : CellsHaveLengths) (parts : CellsHaveParts) (tells : Type 0) (shape : Shape) (before last : ℕ) (digests : List (List ℕ)) (c : Files) (told : tells) (are : AreIntactOn tells shape before last digests c) where
+module _ (lengths : CellsHaveLengths) (parts : CellsHaveParts) (reveals : Type 0) (shape : Shape) (before last : ℕ) (digests : List (List ℕ)) (c : Files) (revealed : reveals) (are : AreIntactOn reveals shape before last digests c) where
   pub homes_are : AreAtHome shape before last (payload_at shape c) c
-  homes_are b on = (intact_stands lengths parts shape b _ c (are.each told b on)).cell
+  homes_are b on = (intact_stands lengths parts shape b _ c (are.each revealed b on)).cell
 
   pub wides_are : AreBlocksWide shape before last (payload_at shape c)
-  wides_are b on = (intact_stands lengths parts shape b _ c (are.each told b on)).wide
+  wides_are b on = (intact_stands lengths parts shape b _ c (are.each revealed b on)).wide
 
   pub digests_are : AreDigestsOn shape before last (payload_at shape c) digests
-  digests_are = record { long = are.long; each = λ b on. sym (intact_stands lengths parts shape b _ c (are.each told b on)).digest }
+  digests_are = record { long = are.long; each = λ b on. sym (intact_stands lengths parts shape b _ c (are.each revealed b on)).digest }
 
   -- and after a commit that is synced they are held, by their digests after those that the ledger had
   pub held_are : (olds : List (List ℕ)) (new : State) → length olds ≡ before * (1 + shape.alpha) → ChangesOnly 0 c new.files → IsSynced new → (b : BlockId) → IsBlockOn shape before last b → IsHeldBy shape (olds ++ digests) new b
@@ -60,4 +60,4 @@ module _ (lengths : CellsHaveLengths) (parts : CellsHaveParts) (tells : Type 0) 
       ∙ ap (λ (n : ℕ). get_or digests (number_in shape b - n) []) long in
       synced_held shape b (recorded_in shape (olds ++ digests) b) new synced
       (intact_same shape b (recorded_in shape (olds ++ digests) b) c new.files (only (home_file shape b) (no_home_in_ledger shape b))
-      (subst (λ (d : List ℕ). IsIntact shape b d c) (sym is) (are.each told b on)))
+      (subst (λ (d : List ℕ). IsIntact shape b d c) (sym is) (are.each revealed b on)))

@@ -61,7 +61,7 @@ kept_set shape datas ss us slot within also all i =
           (subst (λ (o : Option Upload). IsKept shape datas (slice_index_or ss i None) o) (sym (get_or-set_other us slot i None None other)) (all i))
     ]
 
-module _ (tells : Type 0) (v : Work) (m : Machine) (slot : ℕ) (u : Upload) (t : Slot) (k : Woven) (es : List (List ℕ)) (mid : Files) (ready : Readied tells v m u t k es mid)
+module _ (reveals : Type 0) (v : Work) (m : Machine) (slot : ℕ) (u : Upload) (t : Slot) (k : Woven) (es : List (List ℕ)) (mid : Files) (ready : Readied reveals v m u t k es mid)
     (digest : List ℕ) (hashed : digest ≡ sha256 u.bytes) (count : ℕ) (counted : count ≡ length (more_of v.ledger.shape m u))
     (kept : KeepsMachine v m) (may : MayClose v slot) (there : in_slot m slot ≡ Some u)
     (w : Work) (same : w.ledger.shape ≡ v.ledger.shape) (some : HasSomeRecords v.ledger)
@@ -83,7 +83,7 @@ module _ (tells : Type 0) (v : Work) (m : Machine) (slot : ℕ) (u : Upload) (t 
   new = value records has
 
   lattice_is : k.lattice ≡ w.ledger.lattice
-  lattice_is = lattice_to tells v m u t k es mid ready digest hashed count counted w.ledger same records has new
+  lattice_is = lattice_to reveals v m u t k es mid ready digest hashed count counted w.ledger same records has new
 
   step_is : step shape m (Close slot) ≡ record { state = next; answer = Closed (length (closed_nodes shape m u)) (length u.bytes) (sha256 u.bytes) }
   step_is = step-made shape m slot u may.below there (λ e. may.few (ap (λ (o : Objects). len o) (sym kept.objects) ∙ e)) ready.fits
@@ -102,13 +102,13 @@ module _ (tells : Type 0) (v : Work) (m : Machine) (slot : ℕ) (u : Upload) (t 
   long_after : length next.datas ≡ w.ledger.lattice.n
   long_after =
       ap length datas_is ∙ length-append m.datas (more_of shape m u)
-      ∙ (let n = nodes_to tells v m u t k es mid ready digest hashed count counted w.ledger same records has new in omega (arith, n, counted, kept.datas))
+      ∙ (let n = nodes_to reveals v m u t k es mid ready digest hashed count counted w.ledger same records has new in omega (arith, n, counted, kept.datas))
 
   keeps_commit : KeepsMore → ClosedArePlaced → NamesStayOwn → LimitsStay → KeepsMachine w next
   keeps_commit more placed names limits = record {
     objects = ap (λ (o : Objects). insert o u.name (placed_by u.bytes (closed_nodes shape m u))) kept.objects
-        ∙ sym (objects_to tells v m u t k es mid ready digest hashed count counted w.ledger same records has new placed);
-    raised = raised_to tells v m u t k es mid ready digest hashed count counted w.ledger same records has new ∙ kept.raised;
+        ∙ sym (objects_to reveals v m u t k es mid ready digest hashed count counted w.ledger same records has new placed);
+    raised = raised_to reveals v m u t k es mid ready digest hashed count counted w.ledger same records has new ∙ kept.raised;
     datas = long_after;
     grown = grown_after;
     size = ap (λ (h : Woven). h.size) heads ∙ ready.size ∙ ap (λ (s : Shape). s.block) (sym same);
@@ -151,7 +151,7 @@ module _ (tells : Type 0) (v : Work) (m : Machine) (slot : ℕ) (u : Upload) (t 
       let now = value stands.records stands.has in
       let valid : AreRecords shape (stands.records ++ joined_by v.ledger t digest count es ∷ []) =
       subst (λ (s : Shape). AreRecords s (stands.records ++ joined_by v.ledger t digest count es ∷ [])) same now.valid in
-      let recorded = more_recorded tells v m u t k es mid ready digest hashed count counted next_law law stands.records stands.has stands.recorded stands.woven valid in
+      let recorded = more_recorded reveals v m u t k es mid ready digest hashed count counted next_law law stands.records stands.has stands.recorded stands.woven valid in
       subst (λ (s : Step). StandsFor w s.state) (sym step_is)
       (record {
         records = stands.records ++ joined_by v.ledger t digest count es ∷ [];
@@ -179,6 +179,6 @@ module _ (tells : Type 0) (v : Work) (m : Machine) (slot : ℕ) (u : Upload) (t 
     cells = subst (λ (ds : List (List ℕ)). AreIntactOn (Unit {0}) w.ledger.shape w.ledger.lattice.n w.heads.lattice.n ds c) (sym digests)
         (record {
           long = none_times (1 + w.ledger.shape.alpha) ∙ ap (λ (n : ℕ). n * (1 + w.ledger.shape.alpha)) (let g = grown_after.nodes in let e : 0 ≡ w.heads.lattice.n - w.ledger.lattice.n = omega (arith, g) in e);
-          each = λ told b on. absurd (let g = grown_after.nodes in let a = on.after in let l = on.most in omega (arith, g, a, l));
+          each = λ revealed b on. absurd (let g = grown_after.nodes in let a = on.after in let l = on.most in omega (arith, g, a, l));
         });
   }

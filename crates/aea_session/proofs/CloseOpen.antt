@@ -64,10 +64,10 @@ fits_for v slot s may there some =
     may.fits (subst (λ (x : Slot). 1 ≤ x.have) same some)
 
 -- what is known when its rest is woven
-pub ready_of : LastIsTheMachines → FilledAreCounted → (tells : Type 0) (v : Work) (m : Machine) (slot : ℕ) (s t : Slot) (k : Woven) (es : List (List ℕ)) (old mid : Files) → (kept : KeepsMachine v m) → (tells → IsTheSessions v old)
-    → MayClose v slot → (there : slice_index_or v.slots slot None ≡ Some s) → Finishes tells v.ledger.shape v.heads k s t v.digests.items es old mid → (o : Opened v m slot s) → Readied tells v m o.upload t k es mid
-ready_of last counted tells v m slot s t k es old mid kept this may there f o =
-    readied last counted tells v m slot o.upload s t k es old mid kept this (fits_for v slot s may there) o.keeps f
+pub ready_of : LastIsTheMachines → FilledAreCounted → (reveals : Type 0) (v : Work) (m : Machine) (slot : ℕ) (s t : Slot) (k : Woven) (es : List (List ℕ)) (old mid : Files) → (kept : KeepsMachine v m) → (reveals → IsTheSessions v old)
+    → MayClose v slot → (there : slice_index_or v.slots slot None ≡ Some s) → Finishes reveals v.ledger.shape v.heads k s t v.digests.items es old mid → (o : Opened v m slot s) → Readied reveals v m o.upload t k es mid
+ready_of last counted reveals v m slot s t k es old mid kept this may there f o =
+    readied last counted reveals v m slot o.upload s t k es old mid kept this (fits_for v slot s may there) o.keeps f
 
 -- parts of an object have as many nodes as its length takes, and no more than there are
 pub parts_count : (shape : Shape) (size nodes : ℕ) (parts : List Extent) → IsTrue (are_parts shape size nodes parts) → sum_by (λ e. e.count) parts ≡ nodes_for shape size
@@ -78,7 +78,7 @@ parts_few shape size nodes parts are =
     let few = few_nodes 0 nodes parts (and_parts (are_apart 0 nodes parts) (sum_by (λ (e : Extent). e.count) parts == nodes_for shape size) are).0 in
     omega (arith, few, parts_count shape size nodes parts are)
 
-module _ (tells : Type 0) (v : Work) (m : Machine) (slot : ℕ) (s t : Slot) (k : Woven) (es : List (List ℕ)) (mid : Files) (kept : KeepsMachine v m) (o : Opened v m slot s) (ready : Readied tells v m o.upload t k es mid) where
+module _ (reveals : Type 0) (v : Work) (m : Machine) (slot : ℕ) (s t : Slot) (k : Woven) (es : List (List ℕ)) (mid : Files) (kept : KeepsMachine v m) (o : Opened v m slot s) (ready : Readied reveals v m o.upload t k es mid) where
   abbrev shape : Shape
   shape = v.ledger.shape
 
@@ -132,12 +132,12 @@ module _ (tells : Type 0) (v : Work) (m : Machine) (slot : ℕ) (s t : Slot) (k 
       e
 
 -- the space for the close has that for its record, whichever state of the machine it was asked of
-pub room_is : LastIsTheMachines → FilledAreCounted → (tells : Type 0) (v : Work) (slot : ℕ) (s t : Slot) (k : Woven) (es : List (List ℕ)) (old : State) (mid : Files) → (tells → IsTheSessions v old.files) → MayClose v slot
-    → slice_index_or v.slots slot None ≡ Some s → Finishes tells v.ledger.shape v.heads k s t v.digests.items es old.files mid → (long : ℕ) → long ≡ 60 + length t.name + 8 * length t.parts.items + 32 * length es
+pub room_is : LastIsTheMachines → FilledAreCounted → (reveals : Type 0) (v : Work) (slot : ℕ) (s t : Slot) (k : Woven) (es : List (List ℕ)) (old : State) (mid : Files) → (reveals → IsTheSessions v old.files) → MayClose v slot
+    → slice_index_or v.slots slot None ≡ Some s → Finishes reveals v.ledger.shape v.heads k s t v.digests.items es old.files mid → (long : ℕ) → long ≡ 60 + length t.name + 8 * length t.parts.items + 32 * length es
     → HasCloseRoom v slot old → FitsAdding old 1 (v.ledger.end + long)
-room_is last counted tells v slot s t k es old mid this may there f long size room =
+room_is last counted reveals v slot s t k es old mid this may there f long size room =
     let m : Machine = room.machine in
     let o = opened_of v m slot s room.keeps there in
-    let ready = ready_of last counted tells v m slot s t k es old.files mid room.keeps this may there f o in
-    subst (λ (n : ℕ). FitsAdding old 1 (v.ledger.end + n)) (entry_is tells v m slot s t k es mid room.keeps o ready long size)
-    (room.ledger (the_closing v.ledger.shape m o.upload) (closing_is tells v m slot s t k es mid room.keeps o ready may))
+    let ready = ready_of last counted reveals v m slot s t k es old.files mid room.keeps this may there f o in
+    subst (λ (n : ℕ). FitsAdding old 1 (v.ledger.end + n)) (entry_is reveals v m slot s t k es mid room.keeps o ready long size)
+    (room.ledger (the_closing v.ledger.shape m o.upload) (closing_is reveals v m slot s t k es mid room.keeps o ready may))

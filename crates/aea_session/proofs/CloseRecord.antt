@@ -45,7 +45,7 @@ stored_by v t digest count es = next_stored v t.name t.length digest count es
 abbrev pub joined_by : Opened → Slot → List ℕ → ℕ → List (List ℕ) → Record
 joined_by v t digest count es = Joined (stored_by v t digest count es) t.parts.items
 
-module _ (tells : Type 0) (v : Work) (m : Machine) (u : Upload) (t : Slot) (k : Woven) (es : List (List ℕ)) (mid : Files) (ready : Readied tells v m u t k es mid)
+module _ (reveals : Type 0) (v : Work) (m : Machine) (u : Upload) (t : Slot) (k : Woven) (es : List (List ℕ)) (mid : Files) (ready : Readied reveals v m u t k es mid)
     (digest : List ℕ) (hashed : digest ≡ sha256 u.bytes) (count : ℕ) (counted : count ≡ length (more_of v.ledger.shape m u)) where
   abbrev stored : Stored
   stored = stored_by v.ledger t digest count es

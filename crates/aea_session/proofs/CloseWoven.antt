@@ -37,7 +37,7 @@ abbrev pub more_of : Shape → Machine → Upload → List (List ℕ)
 more_of shape m u = m.woven ++ last_block shape u
 
 -- The rest is woven: X followed by W and the last block, the slot with all of the upload in blocks, and the heads and digests.
-pub record Readied (tells : Type 0) (v : Work) (m : Machine) (u : Upload) (t : Slot) (k : Woven) (es : List (List ℕ)) (mid : Files) : Type 0 where
+pub record Readied (reveals : Type 0) (v : Work) (m : Machine) (u : Upload) (t : Slot) (k : Woven) (es : List (List ℕ)) (mid : Files) : Type 0 where
   pub zeros : ℕ
   pub few : zeros < v.ledger.shape.block
   pub closes : Closes (m.datas ++ more_of v.ledger.shape m u) u (closed_nodes v.ledger.shape m u) zeros t
@@ -47,7 +47,7 @@ pub record Readied (tells : Type 0) (v : Work) (m : Machine) (u : Upload) (t : S
   pub fits : nodes_now m + length (last_block v.ledger.shape u) ≤ raised_limit
   pub long : length es ≡ length (more_of v.ledger.shape m u) * (1 + v.ledger.shape.alpha)
   pub values : IsWovenOf v.ledger.shape v.ledger.lattice v.heads m.datas m.woven v.digests.items → IsWovenOf v.ledger.shape v.ledger.lattice k m.datas (more_of v.ledger.shape m u) es
-  pub intact : AreIntactOn tells v.ledger.shape v.ledger.lattice.n k.lattice.n es mid
+  pub intact : AreIntactOn reveals v.ledger.shape v.ledger.lattice.n k.lattice.n es mid
 
 -- a rest takes one node, and none takes none
 pub rest_none : (shape : Shape) (have : ℕ) → have < shape.block → have ≡ 0 → nodes_for shape have ≡ 0
@@ -60,9 +60,9 @@ rest_one shape have less some =
     let sum : have + shape.block - 1 ≡ 1 * shape.block + (have - 1) = omega (arith, some, less) in
     ap (λ (n : ℕ). n / shape.block) sum ∙ div-mul-add 1 shape.block (have - 1) (omega (arith, less))
 
-module _ (last : LastIsTheMachines) (counted : FilledAreCounted) (tells : Type 0) (v : Work) (m : Machine) (slot : ℕ) (u : Upload) (s t : Slot) (k : Woven) (es : List (List ℕ)) (old mid : Files)
-    (kept : KeepsMachine v m) (this : tells → IsTheSessions v old) (fits : 1 ≤ s.have → v.heads.lattice.n + 1 ≤ raised_limit)
-    (keeps : Keeps v.ledger.shape (m.datas ++ m.woven) s u) (f : Finishes tells v.ledger.shape v.heads k s t v.digests.items es old mid) where
+module _ (last : LastIsTheMachines) (counted : FilledAreCounted) (reveals : Type 0) (v : Work) (m : Machine) (slot : ℕ) (u : Upload) (s t : Slot) (k : Woven) (es : List (List ℕ)) (old mid : Files)
+    (kept : KeepsMachine v m) (this : reveals → IsTheSessions v old) (fits : 1 ≤ s.have → v.heads.lattice.n + 1 ≤ raised_limit)
+    (keeps : Keeps v.ledger.shape (m.datas ++ m.woven) s u) (f : Finishes reveals v.ledger.shape v.heads k s t v.digests.items es old mid) where
   abbrev shape : Shape
   shape = v.ledger.shape
 
@@ -93,7 +93,7 @@ module _ (last : LastIsTheMachines) (counted : FilledAreCounted) (tells : Type 0
       (λ some. omega (arith, count, rest_one shape s.have keeps.less (let e : 1 ≤ s.have = omega (arith, some) in e), fits (let e : 1 ≤ s.have = omega (arith, some) in e), now))
       (cases_lt s.have 1)
 
-  pub readied : Readied tells v m u t k es mid
+  pub readied : Readied reveals v m u t k es mid
   readied =
       let is = filled_is in
       let assoc : before ++ last_block shape u ≡ m.datas ++ more_of shape m u = append_assoc m.datas m.woven (last_block shape u) in
@@ -103,7 +103,7 @@ module _ (last : LastIsTheMachines) (counted : FilledAreCounted) (tells : Type 0
       let n_new : k.lattice.n ≡ v.ledger.lattice.n + length (more_of shape m u) = (let g = f.grown.nodes in omega (arith, g, n_old, filled_long, long)) in
       let ds_long : length v.digests.items ≡ (v.heads.lattice.n - v.ledger.lattice.n) * (1 + shape.alpha) =
       kept.digests ∙ ap (λ (n : ℕ). n * (1 + shape.alpha)) (let e : length m.woven ≡ v.heads.lattice.n - v.ledger.lattice.n = omega (arith, n_old) in e) in
-      let was : AreIntactOn tells shape v.ledger.lattice.n v.heads.lattice.n v.digests.items old = record { long = ds_long; each = λ told b on. (this told).cells.each tt b on } in
+      let was : AreIntactOn reveals shape v.ledger.lattice.n v.heads.lattice.n v.digests.items old = record { long = ds_long; each = λ revealed b on. (this revealed).cells.each tt b on } in
       let intact_now = f.intact v.ledger.lattice.n (omega (arith, n_old)) was in
       record {
         zeros = f.zeros;

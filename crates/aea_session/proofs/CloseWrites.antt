@@ -34,30 +34,30 @@ pub joined_as : (v : Ledger) (t : Slot) (digest : List ℕ) (count : ℕ) (es : 
 joined_as v t digest count es named same are = λ i. Joined (next_stored v (named i) t.length digest count (same i)) (are i)
 
 -- The machine has an upload in the slot, and this is what is known of it once its rest is woven.
-pub record Prepared (tells : Type 0) (v : Work) (m : Machine) (slot : ℕ) (s t : Slot) (k : Woven) (es : List (List ℕ)) (mid : Files) : Type 0 where
+pub record Prepared (reveals : Type 0) (v : Work) (m : Machine) (slot : ℕ) (s t : Slot) (k : Woven) (es : List (List ℕ)) (mid : Files) : Type 0 where
   pub o : Opened v m slot s
-  pub ready : Readied tells v m o.upload t k es mid
+  pub ready : Readied reveals v m o.upload t k es mid
 
-pub prepared : LastIsTheMachines → FilledAreCounted → (tells : Type 0) (v : Work) (m : Machine) (slot : ℕ) (s t : Slot) (k : Woven) (es : List (List ℕ)) (old mid : Files) (shape : Shape) → shape ≡ v.ledger.shape
-    → KeepsMachine v m → (tells → IsTheSessions v old) → MayClose v slot → slice_index_or v.slots slot None ≡ Some s → Finishes tells shape v.heads k s t v.digests.items es old mid → Prepared tells v m slot s t k es mid
-prepared last counted tells v m slot s t k es old mid shape same kept this may there f =
+pub prepared : LastIsTheMachines → FilledAreCounted → (reveals : Type 0) (v : Work) (m : Machine) (slot : ℕ) (s t : Slot) (k : Woven) (es : List (List ℕ)) (old mid : Files) (shape : Shape) → shape ≡ v.ledger.shape
+    → KeepsMachine v m → (reveals → IsTheSessions v old) → MayClose v slot → slice_index_or v.slots slot None ≡ Some s → Finishes reveals shape v.heads k s t v.digests.items es old mid → Prepared reveals v m slot s t k es mid
+prepared last counted reveals v m slot s t k es old mid shape same kept this may there f =
     let o = opened_of v m slot s kept there in
-    record { o = o; ready = ready_of last counted tells v m slot s t k es old mid kept this may there (subst (λ (x : Shape). Finishes tells x v.heads k s t v.digests.items es old mid) same f) o }
+    record { o = o; ready = ready_of last counted reveals v m slot s t k es old mid kept this may there (subst (λ (x : Shape). Finishes reveals x v.heads k s t v.digests.items es old mid) same f) o }
 
 -- cells of its last block are written, and then its record
-pub close_writes : LastIsTheMachines → FilledAreCounted → (tells first second : Type 0) (v : Work) (m : Machine) (slot : ℕ) (s t : Slot) (k : Woven) (es : List (List ℕ)) (old mid new : State) (shape : Shape)
-    (name digest : List ℕ) (digests : List (List ℕ)) (parts : List Extent) (count : ℕ) → shape ≡ v.ledger.shape → KeepsMachine v m → (tells → IsTheSessions v old.files) → MayClose v slot
-    → slice_index_or v.slots slot None ≡ Some s → Finishes tells shape v.heads k s t v.digests.items es old.files mid.files → ((bytes : List ℕ) → Holds256 t.hasher bytes → digest ≡ sha256 bytes)
+pub close_writes : LastIsTheMachines → FilledAreCounted → (reveals first second : Type 0) (v : Work) (m : Machine) (slot : ℕ) (s t : Slot) (k : Woven) (es : List (List ℕ)) (old mid new : State) (shape : Shape)
+    (name digest : List ℕ) (digests : List (List ℕ)) (parts : List Extent) (count : ℕ) → shape ≡ v.ledger.shape → KeepsMachine v m → (reveals → IsTheSessions v old.files) → MayClose v slot
+    → slice_index_or v.slots slot None ≡ Some s → Finishes reveals shape v.heads k s t v.digests.items es old.files mid.files → ((bytes : List ℕ) → Holds256 t.hasher bytes → digest ≡ sha256 bytes)
     → name ≡ t.name → digests ≡ es → parts ≡ t.parts.items
     → (length digest ≡ 32 → length (entry (Joined (next_stored v.ledger name t.length digest count digests) parts)) ≡ 60 + length name + 8 * length parts + 32 * length digests)
-    → (first → ⊥) → WritesCells tells shape raised_limit (λ a. a.node ≢ v.heads.lattice.n + 1) first old mid
-    → OnlyWrites tells (IsReady mid) (FitsAdding mid 1 (v.ledger.end + length (entry (Joined (next_stored v.ledger name t.length digest count digests) parts)))) second (ChangesOnly 0) mid new
-    → OnlyWrites tells (IsReady old) (HasCloseRoom v slot old) second (Leaves v) old new
-close_writes last counted tells first second v m slot s t k es old mid new shape name digest digests parts count same kept this may there finishes hash named same_digests are size fine cells commit =
-    let f : Finishes tells v.ledger.shape v.heads k s t v.digests.items es old.files mid.files = subst (λ (x : Shape). Finishes tells x v.heads k s t v.digests.items es old.files mid.files) same finishes in
-    let p = prepared last counted tells v m slot s t k es old.files mid.files shape same kept this may there finishes in
+    → (first → ⊥) → WritesCells reveals shape raised_limit (λ a. a.node ≢ v.heads.lattice.n + 1) first old mid
+    → OnlyWrites reveals (IsReady mid) (FitsAdding mid 1 (v.ledger.end + length (entry (Joined (next_stored v.ledger name t.length digest count digests) parts)))) second (ChangesOnly 0) mid new
+    → OnlyWrites reveals (IsReady old) (HasCloseRoom v slot old) second (Leaves v) old new
+close_writes last counted reveals first second v m slot s t k es old mid new shape name digest digests parts count same kept this may there finishes hash named same_digests are size fine cells commit =
+    let f : Finishes reveals v.ledger.shape v.heads k s t v.digests.items es old.files mid.files = subst (λ (x : Shape). Finishes reveals x v.heads k s t v.digests.items es old.files mid.files) same finishes in
+    let p = prepared last counted reveals v m slot s t k es old.files mid.files shape same kept this may there finishes in
     let long = length (entry (Joined (next_stored v.ledger name t.length digest count digests) parts)) in
     let hashed = ap length (hash p.o.upload.bytes p.ready.closes.hash) ∙ length-sha256 p.o.upload.bytes in
     let sized : long ≡ 60 + length t.name + 8 * length t.parts.items + 32 * length es = size hashed ∙ (λ i. 60 + length (named i) + 8 * length (are i) + 32 * length (same_digests i)) in
-    both_write tells first second v slot (v.ledger.end + long) old mid new fine (subst (λ (x : Shape). WritesCells tells x raised_limit (λ a. a.node ≢ v.heads.lattice.n + 1) first old mid) same cells) commit
-    (λ told room. room_is last counted tells v slot s t k es old mid.files this may there f long sized room)
+    both_write reveals first second v slot (v.ledger.end + long) old mid new fine (subst (λ (x : Shape). WritesCells reveals x raised_limit (λ a. a.node ≢ v.heads.lattice.n + 1) first old mid) same cells) commit
+    (λ revealed room. room_is last counted reveals v slot s t k es old mid.files this may there f long sized room)

@@ -26,67 +26,67 @@ use Rattle.aea_session.proofs.Taking.{adds_none, refused_closes, leaves_same, le
 
 -- the close of an upload writes so
 abbrev Writes : Type 0 → Type 0 → Work → ℕ → State → State → Type 0
-Writes tells fault v slot old new =
-    OnlyWrites tells (IsReady old) (HasCloseRoom v slot old) fault
+Writes reveals fault v slot old new =
+    OnlyWrites reveals (IsReady old) (HasCloseRoom v slot old) fault
     (ChangesArchive v.ledger.shape raised_limit (IsBlockIn v.ledger.shape v.heads.lattice.n) (IsBesides v.ledger.shape)) old new
 
 -- and leaves the blocks so far so
 abbrev Pads : Type 0 → Type 0 → Work → State → State → Type 0
-Pads tells fault v old new = (fault → ⊥) → tells → KeepsPadded v.ledger.shape (IsBlockIn v.ledger.shape v.heads.lattice.n) old.files new.files
+Pads reveals fault v old new = (fault → ⊥) → reveals → KeepsPadded v.ledger.shape (IsBlockIn v.ledger.shape v.heads.lattice.n) old.files new.files
 
 -- a close that was made: its record was added
-leaves_made : (tells : Type 0) (v w : Work) (slot : ℕ) (old new : State) (fault : Type 0)
-    → (tells → (m : Machine) → KeepsMachine v m → HasClosed v w m (closing_in v.ledger.shape m (Close slot)) old new)
-    → Writes tells fault v slot old new → Pads tells fault v old new → Leaves tells v w (Close slot) old new (Unit {0}) fault ⊥
-leaves_made tells v w slot old new fault closed writes padded = record {
-  ledger = λ told m kept. let has = closed told m kept in inr (has.r, has.adds);
-  closed = λ _ told m c kept is. subst (λ (closings : List Closing). HasClosed v w m closings old new) is (closed told m kept);
+leaves_made : (reveals : Type 0) (v w : Work) (slot : ℕ) (old new : State) (fault : Type 0)
+    → (reveals → (m : Machine) → KeepsMachine v m → HasClosed v w m (closing_in v.ledger.shape m (Close slot)) old new)
+    → Writes reveals fault v slot old new → Pads reveals fault v old new → Leaves reveals v w (Close slot) old new (Unit {0}) fault ⊥
+leaves_made reveals v w slot old new fault closed writes padded = record {
+  ledger = λ revealed m kept. let has = closed revealed m kept in inr (has.r, has.adds);
+  closed = λ _ revealed m c kept is. subst (λ (closings : List Closing). HasClosed v w m closings old new) is (closed revealed m kept);
   quiet = λ none. absurd none;
   writes = writes;
   padded = padded;
 }
 
-module _ {D : Type 0} (one : HasOneReading) (tells : Type 0) (state : D → State) (v w : Work) (message : Message) (slot : ℕ) (kind : message ≡ Close slot) (d e : D) (fixed : tells → IsFixed (state d) 0) where
+module _ {D : Type 0} (one : HasOneReading) (reveals : Type 0) (state : D → State) (v w : Work) (message : Message) (slot : ℕ) (kind : message ≡ Close slot) (d e : D) (fixed : reveals → IsFixed (state d) 0) where
   -- one that was answered, with an object or a refusal
   module _ (closed : Result Stored Refusal) (refused : (refusal : Refusal) → closed ≡ Err refusal → (w ≡ v) × (e ≡ d)) where
     pub leaves_answered : (fault : Type 0) → (fault → ⊥) → MakesStep closed_by v w (Close slot) closed
-        → ((stored : Stored) → closed ≡ Ok stored → tells → (m : Machine) → KeepsMachine v m → HasClosed v w m (closing_in v.ledger.shape m (Close slot)) (state d) (state e))
-        → Writes tells fault v slot (state d) (state e) → Pads tells fault v (state d) (state e) → Leaves tells v w message (state d) (state e) (Unit {0}) fault ⊥
+        → ((stored : Stored) → closed ≡ Ok stored → reveals → (m : Machine) → KeepsMachine v m → HasClosed v w m (closing_in v.ledger.shape m (Close slot)) (state d) (state e))
+        → Writes reveals fault v slot (state d) (state e) → Pads reveals fault v (state d) (state e) → Leaves reveals v w message (state d) (state e) (Unit {0}) fault ⊥
     leaves_answered fault fine makes made writes padded =
-        subst (λ (a : Message). Leaves tells v w a (state d) (state e) (Unit {0}) fault ⊥) (sym kind)
+        subst (λ (a : Message). Leaves reveals v w a (state d) (state e) (Unit {0}) fault ⊥) (sym kind)
         (cases closed refl)
       where
-        cases : (c : Result Stored Refusal) → closed ≡ c → Leaves tells v w (Close slot) (state d) (state e) (Unit {0}) fault ⊥
-        cases (Ok stored) is = leaves_made tells v w slot (state d) (state e) fault (made stored is) writes padded
+        cases : (c : Result Stored Refusal) → closed ≡ c → Leaves reveals v w (Close slot) (state d) (state e) (Unit {0}) fault ⊥
+        cases (Ok stored) is = leaves_made reveals v w slot (state d) (state e) fault (made stored is) writes padded
         cases (Err p) is =
-            subst (λ (x : D). Leaves tells v w (Close slot) (state d) (state x) (Unit {0}) fault ⊥) (sym (refused p is).1)
-            (leaves_as tells v w (Close slot) (state d) (state d) (Unit {0}) ⊥ ⊥ (Unit {0}) fault ⊥ (λ u. u) (λ bad. fine bad) (λ none. absurd none) (λ none. none)
-            (leaves_same one tells v w (Close slot) (state d) (refused_closes v w slot p (subst (MakesStep closed_by v w (Close slot)) is makes)) fixed (Unit {0}) ⊥))
+            subst (λ (x : D). Leaves reveals v w (Close slot) (state d) (state x) (Unit {0}) fault ⊥) (sym (refused p is).1)
+            (leaves_as reveals v w (Close slot) (state d) (state d) (Unit {0}) ⊥ ⊥ (Unit {0}) fault ⊥ (λ u. u) (λ bad. fine bad) (λ none. absurd none) (λ none. none)
+            (leaves_same one reveals v w (Close slot) (state d) (refused_closes v w slot p (subst (MakesStep closed_by v w (Close slot)) is makes)) fixed (Unit {0}) ⊥))
 
     -- and nothing is pending on the ledger
-    pub fixed_answered : ((stored : Stored) → closed ≡ Ok stored → tells → IsSynced (state e)) → tells → IsFixed (state e) 0
-    fixed_answered synced told = cases closed refl
+    pub fixed_answered : ((stored : Stored) → closed ≡ Ok stored → reveals → IsSynced (state e)) → reveals → IsFixed (state e) 0
+    fixed_answered synced revealed = cases closed refl
       where
         cases : (c : Result Stored Refusal) → closed ≡ c → IsFixed (state e) 0
-        cases (Ok stored) is = synced_fixed (state e) 0 (synced stored is told)
-        cases (Err p) is = subst (λ (x : D). IsFixed (state x) 0) (sym (refused p is).1) (fixed told)
+        cases (Ok stored) is = synced_fixed (state e) 0 (synced stored is revealed)
+        cases (Err p) is = subst (λ (x : D). IsFixed (state x) 0) (sym (refused p is).1) (fixed revealed)
 
   -- one that failed: the ledger is as it was, or, where the disk failed, it may have the record
   pub leaves_failed : {T : Type 0} (result : Result T StepFault) (met : StepFault) → result ≡ Err met
-      → (result ≡ Err DiskFault → tells → (m : Machine) → KeepsMachine v m → MayHaveClosed v m (closing_in v.ledger.shape m (Close slot)) (state d) (state e))
-      → (result ≡ Err NoMemory → tells → LeavesLedger (state d) (state e))
-      → Writes tells (result ≡ Err DiskFault) v slot (state d) (state e) → Pads tells (result ≡ Err DiskFault) v (state d) (state e)
-      → Leaves tells v w message (state d) (state e) ⊥ (result ≡ Err DiskFault) (result ≡ Err NoMemory)
+      → (result ≡ Err DiskFault → reveals → (m : Machine) → KeepsMachine v m → MayHaveClosed v m (closing_in v.ledger.shape m (Close slot)) (state d) (state e))
+      → (result ≡ Err NoMemory → reveals → LeavesLedger (state d) (state e))
+      → Writes reveals (result ≡ Err DiskFault) v slot (state d) (state e) → Pads reveals (result ≡ Err DiskFault) v (state d) (state e)
+      → Leaves reveals v w message (state d) (state e) ⊥ (result ≡ Err DiskFault) (result ≡ Err NoMemory)
   leaves_failed result met is stopped quiet writes padded =
-      subst (λ (a : Message). Leaves tells v w a (state d) (state e) ⊥ (result ≡ Err DiskFault) (result ≡ Err NoMemory)) (sym kind)
+      subst (λ (a : Message). Leaves reveals v w a (state d) (state e) ⊥ (result ≡ Err DiskFault) (result ≡ Err NoMemory)) (sym kind)
       record {
-        ledger = λ told m kept. ledger met is told m kept;
+        ledger = λ revealed m kept. ledger met is revealed m kept;
         closed = λ none. absurd none;
         quiet = quiet;
         writes = writes;
         padded = padded;
       }
     where
-      ledger : (fault : StepFault) → result ≡ Err fault → tells → (m : Machine) → KeepsMachine v m → MayHaveClosed v m (closing_in v.ledger.shape m (Close slot)) (state d) (state e)
-      ledger DiskFault now told m kept = stopped now told m kept
-      ledger NoMemory now told m kept = inl (adds_none one v m (state d) (state e) writes.earlier (quiet now told))
+      ledger : (fault : StepFault) → result ≡ Err fault → reveals → (m : Machine) → KeepsMachine v m → MayHaveClosed v m (closing_in v.ledger.shape m (Close slot)) (state d) (state e)
+      ledger DiskFault now revealed m kept = stopped now revealed m kept
+      ledger NoMemory now revealed m kept = inl (adds_none one v m (state d) (state e) writes.earlier (quiet now revealed))

@@ -38,8 +38,8 @@ module _ (shape : Shape) (n m : ℕ) (digests more : List (List ℕ)) (long : le
       let place = place_of (1 + shape.alpha) n b.node (class_number b.class) on.after in
       let inside : (b.node - 1 - n) * (1 + shape.alpha) + class_number b.class < (1 + shape.alpha) * (m - n) =
       mul-add-lt (b.node - 1 - n) (1 + shape.alpha) (class_number b.class) (m - n) (let after = on.after in let most = on.most in omega (arith, after, most)) (let used = on.used in omega (arith, used)) in
-      let turned : (1 + shape.alpha) * (m - n) ≡ (m - n) * (1 + shape.alpha) = mul_comm (1 + shape.alpha) (m - n) in
-      get_or_append_left digests more [] (number_in shape b - n * (1 + shape.alpha)) (omega (arith, place, inside, turned, long))
+      let flipped : (1 + shape.alpha) * (m - n) ≡ (m - n) * (1 + shape.alpha) = mul_comm (1 + shape.alpha) (m - n) in
+      get_or_append_left digests more [] (number_in shape b - n * (1 + shape.alpha)) (omega (arith, place, inside, flipped, long))
 
   -- the digest of a block of the new nodes
   pub digest-late : n ≤ m → (b : BlockId) → m < b.node → get_or (digests ++ more) (number_in shape b - n * (1 + shape.alpha)) [] ≡ get_or more (number_in shape b - m * (1 + shape.alpha)) []
@@ -69,10 +69,10 @@ none_digests shape n payload = record {
 }
 
 -- nor a block that is to be intact
-none_intact : (tells : Type 0) (shape : Shape) (n : ℕ) (c : Files) → AreIntactOn tells shape n n [] c
-none_intact tells shape n c = record {
+none_intact : (reveals : Type 0) (shape : Shape) (n : ℕ) (c : Files) → AreIntactOn reveals shape n n [] c
+none_intact reveals shape n c = record {
   long = (let z : n - n ≡ 0 = omega arith in let e : 0 * (1 + shape.alpha) ≡ 0 = omega arith in sym (ap (λ (k : ℕ). k * (1 + shape.alpha)) z ∙ e));
-  each = λ told b on. absurd (let after = on.after in let most = on.most in omega (arith, after, most));
+  each = λ revealed b on. absurd (let after = on.after in let most = on.most in omega (arith, after, most));
 }
 
 -- heads that go on from a data list, and then from all of it
@@ -122,35 +122,35 @@ woven_both longer shape l v w datas woven filled digests more alpha one two =
     }
 
 -- blocks that are intact, and those of new nodes
-intact_both : (tells : Type 0) (shape : Shape) (before mid last : ℕ) (digests more : List (List ℕ)) (old new : Files) → before ≤ mid → mid ≤ last
-    → (tells → (b : BlockId) (digest : List ℕ) → IsBlockOn shape before mid b → IsIntact shape b digest old → IsIntact shape b digest new)
-    → AreIntactOn tells shape before mid digests old → AreIntactOn tells shape mid last more new → AreIntactOn tells shape before last (digests ++ more) new
-intact_both tells shape before mid last digests more old new within later stays one two = record {
+intact_both : (reveals : Type 0) (shape : Shape) (before mid last : ℕ) (digests more : List (List ℕ)) (old new : Files) → before ≤ mid → mid ≤ last
+    → (reveals → (b : BlockId) (digest : List ℕ) → IsBlockOn shape before mid b → IsIntact shape b digest old → IsIntact shape b digest new)
+    → AreIntactOn reveals shape before mid digests old → AreIntactOn reveals shape mid last more new → AreIntactOn reveals shape before last (digests ++ more) new
+intact_both reveals shape before mid last digests more old new within later stays one two = record {
   long = longs before mid last (1 + shape.alpha) digests more within later one.long two.long;
-  each = λ told b on. ⊎_elim
+  each = λ revealed b on. ⊎_elim
       (λ gt.
       subst (λ (d : List ℕ). IsIntact shape b d new) (sym (digest-late shape before mid digests more one.long within b gt))
-      (two.each told b (record { after = gt; most = on.most; used = on.used })))
+      (two.each revealed b (record { after = gt; most = on.most; used = on.used })))
       (λ le.
       let here : IsBlockOn shape before mid b = record { after = on.after; most = le; used = on.used } in
       subst (λ (d : List ℕ). IsIntact shape b d new) (sym (digest-early shape before mid digests more one.long b here))
-      (stays told b _ here (one.each told b here)))
+      (stays revealed b _ here (one.each revealed b here)))
       (cases_lt mid b.node);
 }
 
 -- ---- bytes that join an upload
 
-module _ (tells : Type 0) (shape : Shape) (bytes : List ℕ) (v w : Woven) (s t : Slot) (digests fresh : List (List ℕ)) (old new : Files) (g : Gathers tells shape bytes v w s t [] fresh old new) where
+module _ (reveals : Type 0) (shape : Shape) (bytes : List ℕ) (v w : Woven) (s t : Slot) (digests fresh : List (List ℕ)) (old new : Files) (g : Gathers reveals shape bytes v w s t [] fresh old new) where
   -- the new nodes have as many digests as blocks
   pub fresh-counted : length (digests ++ fresh) ≡ length digests + (w.lattice.n - v.lattice.n) * (1 + shape.alpha)
   fresh-counted =
-      let long : length fresh ≡ (w.lattice.n - v.lattice.n) * (1 + shape.alpha) = (g.intact v.lattice.n (omega arith) (none_intact tells shape v.lattice.n old)).long in
+      let long : length fresh ≡ (w.lattice.n - v.lattice.n) * (1 + shape.alpha) = (g.intact v.lattice.n (omega arith) (none_intact reveals shape v.lattice.n old)).long in
       omega (arith, length-append digests fresh, long)
 
   -- with their digests after the others, as if they had been put there
   pub fresh-gathers : LongerDataKeepValues → v.lattice.alpha ≡ shape.alpha
-      → (tells → (b : BlockId) (digest : List ℕ) → IsBlockOn shape 0 v.lattice.n b → IsIntact shape b digest old → IsIntact shape b digest new)
-      → Gathers tells shape bytes v w s t digests (digests ++ fresh) old new
+      → (reveals → (b : BlockId) (digest : List ℕ) → IsBlockOn shape 0 v.lattice.n b → IsIntact shape b digest old → IsIntact shape b digest new)
+      → Gathers reveals shape bytes v w s t digests (digests ++ fresh) old new
   fresh-gathers longer alpha stays = record {
     filled = g.filled;
     wide = g.wide;
@@ -160,8 +160,8 @@ module _ (tells : Type 0) (shape : Shape) (bytes : List ℕ) (v w : Woven) (s t 
     room = g.room;
     values = λ l datas woven is. woven_both longer shape l v w datas woven g.filled digests fresh alpha is
         (g.values v.lattice (datas ++ woven) [] (again shape l v datas woven digests is));
-    intact = λ before within are. intact_both tells shape before v.lattice.n w.lattice.n digests fresh old new within (let n = g.grown.nodes in omega (arith, n))
-        (λ told b digest on intact. stays told b digest (record { after = (let a = on.after in omega (arith, a)); most = on.most; used = on.used }) intact)
-        are (g.intact v.lattice.n (omega arith) (none_intact tells shape v.lattice.n old));
+    intact = λ before within are. intact_both reveals shape before v.lattice.n w.lattice.n digests fresh old new within (let n = g.grown.nodes in omega (arith, n))
+        (λ revealed b digest on intact. stays revealed b digest (record { after = (let a = on.after in omega (arith, a)); most = on.most; used = on.used }) intact)
+        are (g.intact v.lattice.n (omega arith) (none_intact reveals shape v.lattice.n old));
     keeps = g.keeps;
   }

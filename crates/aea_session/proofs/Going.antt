@@ -30,11 +30,11 @@ goes_then u v w cs ds records first rest = record {
   has = subst (HasRecords w) (append_assoc records first.added rest.added) rest.has;
 }
 
-module _ (tells : Type 0) {D : Type 0} (state : D → State) where
+module _ (reveals : Type 0) {D : Type 0} (state : D → State) where
   -- Messages that were taken one after the other leave a ledger with the records of their closes. For a crate above that serves a
   -- stream
   pub served_goes : (m : Machine) (v w : Work) (d e : D) (messages : List Message) (bytes : List ℕ) (records : List Record) → KeepsMachine v m → HasRecords v.ledger records
-      → HasServed tells state m v d messages bytes w e → GoesOn v.ledger w.ledger (closings_of v.ledger.shape m messages) records
+      → HasServed reveals state m v d messages bytes w e → GoesOn v.ledger w.ledger (closings_of v.ledger.shape m messages) records
   served_goes m v w d e [] bytes records keeps has served = goes_none v.ledger w.ledger records (subst (λ (x : Work). HasRecords x.ledger records) (sym served.0) has)
   served_goes m v w d e (message ∷ messages) bytes records keeps has served =
       let u : Work = served.0 in

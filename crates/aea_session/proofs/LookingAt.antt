@@ -58,7 +58,7 @@ module _ (has : BlockId → List ℕ → Type 0) (blocks : List BlockId) (most :
         part = subst (λ (l : List ℕ). AppendsPart a.written b.written l) none (printed_part prints);
         kept = prints.cause.kept;
         cause = λ _. prints.cause.rose;
-        fits = λ room told enough. absurd (false≢true (prints.fits room told (subst (λ (l : List ℕ). length l ≤ room) (sym none) enough)));
+        fits = λ room revealed enough. absurd (false≢true (prints.fits room revealed (subst (λ (l : List ℕ). length l ≤ room) (sym none) enough)));
       }
 
   module _ {T E : Type 0} {v : T} (a b d : SinkState) (first : Prints {E = E} a [] b [] (Ok v) head) where
@@ -82,8 +82,8 @@ module _ (has : BlockId → List ℕ → Type 0) (blocks : List BlockId) (most :
           part = AppendsPart-then a.written b.written d.written head text (printed_all first) cut.part;
           kept = let k = cut.kept in omega (arith, k, still);
           cause = λ is. subst (λ (n : ℕ). Rose n d.faults) still (cut.cause is);
-          fits = λ room told enough.
-              let left = first.left room told (omega (arith, long, enough)) in
+          fits = λ room revealed enough.
+              let left = first.left room revealed (omega (arith, long, enough)) in
               let sum = left.2 in
               let then = cut.fits left.0 left.1 (omega (arith, long, enough, sum)) in
               (then.0, then.1 ∙ still);
@@ -92,27 +92,27 @@ module _ (has : BlockId → List ℕ → Type 0) (blocks : List BlockId) (most :
 -- ---- the reply
 
 -- what was found among the data blocks of what is under a name, where an object is
-found_at : (tells : Type 0) (v : Opened) (c : Files) (o : Option Placed) (p : Placed) (r : Option BlockId) → o ≡ Some p → IsFound tells v.shape v.digests c (data_under o) r → IsFound tells v.shape v.digests c (data_of p.parts) r
-found_at tells v c o p r is found = subst (λ (bs : List BlockId). IsFound tells v.shape v.digests c bs r) (ap data_under is) found
+found_at : (reveals : Type 0) (v : Opened) (c : Files) (o : Option Placed) (p : Placed) (r : Option BlockId) → o ≡ Some p → IsFound reveals v.shape v.digests c (data_under o) r → IsFound reveals v.shape v.digests c (data_of p.parts) r
+found_at reveals v c o p r is found = subst (λ (bs : List BlockId). IsFound reveals v.shape v.digests c bs r) (ap data_under is) found
 
-module _ (tells : Type 0) (v : Opened) (c : Files) (message : Message) (o : Option Placed) (p : Placed) (is : o ≡ Some p) where
+module _ (reveals : Type 0) (v : Opened) (c : Files) (message : Message) (o : Option Placed) (p : Placed) (is : o ≡ Some p) where
   -- a damaged block was found
-  pub damaged_reply : (b : BlockId) (n : ℕ) → n ≡ number_in v.shape b → IsFound tells v.shape v.digests c (data_under o) (Some b) → IsReplyOfObject tells v c message p damaged_code (reply message damaged_code (to_be_bytes w32 n))
+  pub damaged_reply : (b : BlockId) (n : ℕ) → n ≡ number_in v.shape b → IsFound reveals v.shape v.digests c (data_under o) (Some b) → IsReplyOfObject reveals v c message p damaged_code (reply message damaged_code (to_be_bytes w32 n))
   damaged_reply b n at found =
-      let here = found_at tells v c o p (Some b) is found in
+      let here = found_at reveals v c o p (Some b) is found in
       inr (b, here.0, here.1, refl, ap (λ (k : ℕ). reply message damaged_code (to_be_bytes w32 k)) at)
 
-  module _ (d : Files) (same : tells → d ≡ c) (size : ℕ) (long : p.object.length ≡ size) (found : IsFound tells v.shape v.digests c (data_under o) None) where
+  module _ (d : Files) (same : reveals → d ≡ c) (size : ℕ) (long : p.object.length ≡ size) (found : IsFound reveals v.shape v.digests c (data_under o) None) where
     -- all are intact, and their payloads were appended
     pub object_reply : (a b : SinkState) → LiesWithin v.shape v.lattice.n p
-        → HasSentBehind (IsPayload tells v.shape v.digests d) (data_under o) size (reply message 0 (to_be_bytes w64 size)) a b
-        → Replies (IsReplyOfObject tells v c message p 0) a b
+        → HasSentBehind (IsPayload reveals v.shape v.digests d) (data_under o) size (reply message 0 (to_be_bytes w64 size)) a b
+        → Replies (IsReplyOfObject reveals v c message p 0) a b
     object_reply a b lies sent =
         let blocks : List BlockId = data_of p.parts in
-        let has = IsPayload tells v.shape v.digests c in
+        let has = IsPayload reveals v.shape v.digests c in
         let are : ArePayloads has blocks sent.payloads =
-        payloads_at tells v.shape v.digests d c same blocks sent.payloads
-        (subst (λ (bs : List BlockId). ArePayloads (IsPayload tells v.shape v.digests d) bs sent.payloads) (ap data_under is) sent.are) in
+        payloads_at reveals v.shape v.digests d c same blocks sent.payloads
+        (subst (λ (bs : List BlockId). ArePayloads (IsPayload reveals v.shape v.digests d) bs sent.payloads) (ap data_under is) sent.are) in
         let bytes : List ℕ = reply message 0 (to_be_bytes w64 p.object.length ++ take p.object.length (joined sent.payloads)) in
         let text : reply message 0 (to_be_bytes w64 size) ++ take size (joined sent.payloads) ≡ bytes =
         ap (λ (n : ℕ). reply message 0 (to_be_bytes w64 n ++ take n (joined sent.payloads))) (sym long) in (
@@ -120,8 +120,8 @@ module _ (tells : Type 0) (v : Opened) (c : Files) (message : Message) (o : Opti
           inl (
             sent.payloads,
             are,
-            found_at tells v c o p None is found,
-            long_enough has v.shape.block (payload_wide tells v.shape v.digests c) v.shape p sent.payloads refl are lies.sum lies.count,
+            found_at reveals v c o p None is found,
+            long_enough has v.shape.block (payload_wide reveals v.shape v.digests c) v.shape p sent.payloads refl are lies.sum lies.count,
             refl,
             refl,
           ),
@@ -131,8 +131,8 @@ module _ (tells : Type 0) (v : Opened) (c : Files) (message : Message) (o : Opti
 
     -- or were cut short
     pub object_part : (a b : SinkState) (output : Type 0)
-        → HasCut (IsPayload tells v.shape v.digests d) (data_under o) size a (reply message 0 (to_be_bytes w64 size)) b output
-        → RepliesPart (MayBeginObject tells v c message p) a b
+        → HasCut (IsPayload reveals v.shape v.digests d) (data_under o) size a (reply message 0 (to_be_bytes w64 size)) b output
+        → RepliesPart (MayBeginObject reveals v c message p) a b
     object_part a b output cut =
         let blocks : List BlockId = data_of p.parts in
         let bytes : List ℕ = reply message 0 (to_be_bytes w64 p.object.length ++ take p.object.length (joined cut.payloads)) in
@@ -143,8 +143,8 @@ module _ (tells : Type 0) (v : Opened) (c : Files) (message : Message) (o : Opti
             front = cut.front;
             is_front = subst (λ (bs : List BlockId). IsFront cut.front bs) (ap data_under is) cut.is_front;
             payloads = cut.payloads;
-            are = payloads_at tells v.shape v.digests d c same cut.front cut.payloads cut.are;
-            intact = found_at tells v c o p None is found;
+            are = payloads_at reveals v.shape v.digests d c same cut.front cut.payloads cut.are;
+            intact = found_at reveals v c o p None is found;
             bytes_are = refl;
           }),
           subst (λ (l : List ℕ). AppendsPart a.written b.written l) text cut.part,
@@ -152,44 +152,44 @@ module _ (tells : Type 0) (v : Opened) (c : Files) (message : Message) (o : Opti
 
     -- a reply of an object has no more bytes than its head and its length
     pub object_fits : (a b : SinkState) (output : Type 0) (room : ℕ) → a.room ≡ Some room → 10 + p.object.length ≤ room
-        → HasCut (IsPayload tells v.shape v.digests d) (data_under o) size a (reply message 0 (to_be_bytes w64 size)) b output → output → ⊥
-    object_fits a b output room told enough cut =
+        → HasCut (IsPayload reveals v.shape v.digests d) (data_under o) size a (reply message 0 (to_be_bytes w64 size)) b output → output → ⊥
+    object_fits a b output room revealed enough cut =
         let most = most_bytes size cut.payloads in
         let all = length-append (reply message 0 (to_be_bytes w64 size)) (take size (joined cut.payloads)) in
-        (cut.fits room told (omega (arith, most, all, enough, long))).0
+        (cut.fits room revealed (omega (arith, most, all, enough, long))).0
 
 -- no block that was found intact is damaged
-pub none_damaged : (tells : Type 0) (v : Opened) (c d : Files) (o : Option Placed) (b : BlockId) → (tells → d ≡ c) → IsFound tells v.shape v.digests c (data_under o) None
-    → IsOneOf (data_under o) b × (tells → IsIntactBy v.shape v.digests d b → ⊥) → IsOneOf (data_under o) b × (tells → ⊥)
-none_damaged tells v c d o b same found damaged = (
+pub none_damaged : (reveals : Type 0) (v : Opened) (c d : Files) (o : Option Placed) (b : BlockId) → (reveals → d ≡ c) → IsFound reveals v.shape v.digests c (data_under o) None
+    → IsOneOf (data_under o) b × (reveals → IsIntactBy v.shape v.digests d b → ⊥) → IsOneOf (data_under o) b × (reveals → ⊥)
+none_damaged reveals v c d o b same found damaged = (
   damaged.0,
-  λ told. none_of (IsIntactBy v.shape v.digests c) (data_under o) b (found told) damaged.0
-      (subst (λ (f : Files). IsIntactBy v.shape v.digests f b → ⊥) (same told) (damaged.1 told)),
+  λ revealed. none_of (IsIntactBy v.shape v.digests c) (data_under o) b (found revealed) damaged.0
+      (subst (λ (f : Files). IsIntactBy v.shape v.digests f b → ⊥) (same revealed) (damaged.1 revealed)),
 )
 
 -- ---- the second pass, whatever it came to
 
-module _ (tells : Type 0) (v : Opened) (c d : Files) (same : tells → d ≡ c) (message : Message) (o : Option Placed) (size : ℕ) (long : (p : Placed) → o ≡ Some p → p.object.length ≡ size)
-    (found : IsFound tells v.shape v.digests c (data_under o) None) (a b : SinkState) (result : Result ℕ TakeFault) where
+module _ (reveals : Type 0) (v : Opened) (c d : Files) (same : reveals → d ≡ c) (message : Message) (o : Option Placed) (size : ℕ) (long : (p : Placed) → o ≡ Some p → p.object.length ≡ size)
+    (found : IsFound reveals v.shape v.digests c (data_under o) None) (a b : SinkState) (result : Result ℕ TakeFault) where
   pub object_replies : ((p : Placed) → o ≡ Some p → LiesWithin v.shape v.lattice.n p) → IfOk result (λ code. code ≡ 0)
-      → OnOk result (HasSentBehind (IsPayload tells v.shape v.digests d) (data_under o) size (reply message 0 (to_be_bytes w64 size)) a b)
-      → IfOk result (λ code. (p : Placed) → o ≡ Some p → Replies (IsReplyOfObject tells v c message p code) a b)
+      → OnOk result (HasSentBehind (IsPayload reveals v.shape v.digests d) (data_under o) size (reply message 0 (to_be_bytes w64 size)) a b)
+      → IfOk result (λ code. (p : Placed) → o ≡ Some p → Replies (IsReplyOfObject reveals v c message p code) a b)
   object_replies lies at sent =
-      ok_with result (HasSentBehind (IsPayload tells v.shape v.digests d) (data_under o) size (reply message 0 (to_be_bytes w64 size)) a b) (λ code. (p : Placed) → o ≡ Some p → Replies (IsReplyOfObject tells v c message p code) a b)
-      (λ all p is. object_reply tells v c message o p is d same size (long p is) found a b (lies p is) all) at sent
+      ok_with result (HasSentBehind (IsPayload reveals v.shape v.digests d) (data_under o) size (reply message 0 (to_be_bytes w64 size)) a b) (λ code. (p : Placed) → o ≡ Some p → Replies (IsReplyOfObject reveals v c message p code) a b)
+      (λ all p is. object_reply reveals v c message o p is d same size (long p is) found a b (lies p is) all) at sent
 
-  pub object_parts : (P : Type 0) → IfErr result (λ fault. HasCut (IsPayload tells v.shape v.digests d) (data_under o) size a (reply message 0 (to_be_bytes w64 size)) b (fault ≡ WriteFault))
-      → IfErr result (λ fault. (p : Placed) → o ≡ Some p → P ⊎ RepliesPart (MayBeginObject tells v c message p) a b)
+  pub object_parts : (P : Type 0) → IfErr result (λ fault. HasCut (IsPayload reveals v.shape v.digests d) (data_under o) size a (reply message 0 (to_be_bytes w64 size)) b (fault ≡ WriteFault))
+      → IfErr result (λ fault. (p : Placed) → o ≡ Some p → P ⊎ RepliesPart (MayBeginObject reveals v c message p) a b)
   object_parts P cut =
-      err_with result (λ fault. HasCut (IsPayload tells v.shape v.digests d) (data_under o) size a (reply message 0 (to_be_bytes w64 size)) b (fault ≡ WriteFault))
-      (λ fault. (p : Placed) → o ≡ Some p → P ⊎ RepliesPart (MayBeginObject tells v c message p) a b)
-      (λ fault one p is. inr (object_part tells v c message o p is d same size (long p is) found a b (fault ≡ WriteFault) one)) cut
+      err_with result (λ fault. HasCut (IsPayload reveals v.shape v.digests d) (data_under o) size a (reply message 0 (to_be_bytes w64 size)) b (fault ≡ WriteFault))
+      (λ fault. (p : Placed) → o ≡ Some p → P ⊎ RepliesPart (MayBeginObject reveals v c message p) a b)
+      (λ fault one p is. inr (object_part reveals v c message o p is d same size (long p is) found a b (fault ≡ WriteFault) one)) cut
 
-  pub object_in_room : IfErr result (λ fault. HasCut (IsPayload tells v.shape v.digests d) (data_under o) size a (reply message 0 (to_be_bytes w64 size)) b (fault ≡ WriteFault))
+  pub object_in_room : IfErr result (λ fault. HasCut (IsPayload reveals v.shape v.digests d) (data_under o) size a (reply message 0 (to_be_bytes w64 size)) b (fault ≡ WriteFault))
       → (p : Placed) (room : ℕ) → o ≡ Some p → a.room ≡ Some room → 10 + p.object.length ≤ room → result ≢ Err WriteFault
-  object_in_room cut p room is told enough fails =
-      object_fits tells v c message o p is d same size (long p is) found a b (WriteFault ≡ WriteFault) room told enough
-      (at_err result WriteFault (λ fault. HasCut (IsPayload tells v.shape v.digests d) (data_under o) size a (reply message 0 (to_be_bytes w64 size)) b (fault ≡ WriteFault)) fails cut) refl
+  object_in_room cut p room is revealed enough fails =
+      object_fits reveals v c message o p is d same size (long p is) found a b (WriteFault ≡ WriteFault) room revealed enough
+      (at_err result WriteFault (λ fault. HasCut (IsPayload reveals v.shape v.digests d) (data_under o) size a (reply message 0 (to_be_bytes w64 size)) b (fault ≡ WriteFault)) fails cut) refl
 
 module _ (has : BlockId → List ℕ → Type 0) (blocks : List BlockId) (size : ℕ) (head : List ℕ) (a b : SinkState) (result : Result ℕ TakeFault)
     (cut : IfErr result (λ fault. HasCut has blocks size a head b (fault ≡ WriteFault))) where
@@ -206,9 +206,9 @@ module _ (w : Work) (m : Machine) (keeps : KeepsMachine w m) (message : Message)
   answer_is o is =
       ap (λ (x : Message). (step w.ledger.shape m x).answer) kind ∙ ap (λ (q : Option Placed). (read_in m q).answer) (ap (λ (x : Objects). get x name) keeps.objects ∙ is)
 
-  pub unknown_reply : (tells : Type 0) (c : Files) → get w.ledger.objects name ≡ None → IsReplyTo tells w.ledger m c message 9 (reply message 9 [])
-  unknown_reply tells c none =
-      subst (λ (x : Answer). IsReply tells (IsPayload tells w.ledger.shape w.ledger.digests c) w.ledger.shape (length m.datas) w.ledger.digests c message x 9 (reply message 9 []))
+  pub unknown_reply : (reveals : Type 0) (c : Files) → get w.ledger.objects name ≡ None → IsReplyTo reveals w.ledger m c message 9 (reply message 9 [])
+  unknown_reply reveals c none =
+      subst (λ (x : Answer). IsReply reveals (IsPayload reveals w.ledger.shape w.ledger.digests c) w.ledger.shape (length m.datas) w.ledger.digests c message x 9 (reply message 9 []))
       (sym (answer_is None none)) (refl, refl)
 
   pub unknown_room : (room : ℕ) → get w.ledger.objects name ≡ None → greatest_reply (step w.ledger.shape m message).answer ≤ room → 2 ≤ room
@@ -218,32 +218,32 @@ module _ (w : Work) (m : Machine) (keeps : KeepsMachine w m) (message : Message)
     pub object_room : (room : ℕ) → greatest_reply (step w.ledger.shape m message).answer ≤ room → 10 + p.object.length ≤ room
     object_room room enough = subst (λ (x : Answer). greatest_reply x ≤ room) (answer_is (Some p) is) enough
 
-    pub object_to : (tells : Type 0) (c : Files) (code : ℕ) (bytes : List ℕ) → IsReplyOfObject tells w.ledger c message p code bytes → IsReplyTo tells w.ledger m c message code bytes
-    object_to tells c code bytes one =
-        subst (λ (x : Answer). IsReply tells (IsPayload tells w.ledger.shape w.ledger.digests c) w.ledger.shape (length m.datas) w.ledger.digests c message x code bytes)
+    pub object_to : (reveals : Type 0) (c : Files) (code : ℕ) (bytes : List ℕ) → IsReplyOfObject reveals w.ledger c message p code bytes → IsReplyTo reveals w.ledger m c message code bytes
+    object_to reveals c code bytes one =
+        subst (λ (x : Answer). IsReply reveals (IsPayload reveals w.ledger.shape w.ledger.digests c) w.ledger.shape (length m.datas) w.ledger.digests c message x code bytes)
         (sym (answer_is (Some p) is)) one
 
-    pub begin_to : (tells : Type 0) (c : Files) (bytes : List ℕ) → MayBeginObject tells w.ledger c message p bytes → MayBegin tells w.ledger m c message bytes
-    begin_to tells c bytes may =
-        ⊎_elim (λ (whole : (code : ℕ) × IsReplyOfObject tells w.ledger c message p code bytes). inl (whole.0, object_to tells c whole.0 bytes whole.1))
-        (λ (begins : BeginsObject tells w.ledger c message p bytes). inr (p, answer_is (Some p) is, begins)) may
+    pub begin_to : (reveals : Type 0) (c : Files) (bytes : List ℕ) → MayBeginObject reveals w.ledger c message p bytes → MayBegin reveals w.ledger m c message bytes
+    begin_to reveals c bytes may =
+        ⊎_elim (λ (whole : (code : ℕ) × IsReplyOfObject reveals w.ledger c message p code bytes). inl (whole.0, object_to reveals c whole.0 bytes whole.1))
+        (λ (begins : BeginsObject reveals w.ledger c message p bytes). inr (p, answer_is (Some p) is, begins)) may
 
-module _ (tells : Type 0) (w : Work) (c : Files) (message : Message) (name : List ℕ) (kind : message ≡ Read name) (p : Placed) (is : get w.ledger.objects name ≡ Some p) (a b : SinkState) (result : Result ℕ TakeFault) where
-  pub session_replies : IfOk result (λ code. (q : Placed) → get w.ledger.objects name ≡ Some q → Replies (IsReplyOfObject tells w.ledger c message q code) a b)
-      → IfOk result (λ code. (m : Machine) → KeepsMachine w m → Replies (IsReplyTo tells w.ledger m c message code) a b)
+module _ (reveals : Type 0) (w : Work) (c : Files) (message : Message) (name : List ℕ) (kind : message ≡ Read name) (p : Placed) (is : get w.ledger.objects name ≡ Some p) (a b : SinkState) (result : Result ℕ TakeFault) where
+  pub session_replies : IfOk result (λ code. (q : Placed) → get w.ledger.objects name ≡ Some q → Replies (IsReplyOfObject reveals w.ledger c message q code) a b)
+      → IfOk result (λ code. (m : Machine) → KeepsMachine w m → Replies (IsReplyTo reveals w.ledger m c message code) a b)
   session_replies one =
-      ok_as result (λ code. (q : Placed) → get w.ledger.objects name ≡ Some q → Replies (IsReplyOfObject tells w.ledger c message q code) a b)
-      (λ code. (m : Machine) → KeepsMachine w m → Replies (IsReplyTo tells w.ledger m c message code) a b)
-      (λ code all m keeps. let r = all p is in (r.0, object_to w m keeps message name kind p is tells c code r.0 r.1, r.2, r.3)) one
+      ok_as result (λ code. (q : Placed) → get w.ledger.objects name ≡ Some q → Replies (IsReplyOfObject reveals w.ledger c message q code) a b)
+      (λ code. (m : Machine) → KeepsMachine w m → Replies (IsReplyTo reveals w.ledger m c message code) a b)
+      (λ code all m keeps. let r = all p is in (r.0, object_to w m keeps message name kind p is reveals c code r.0 r.1, r.2, r.3)) one
 
-  pub session_parts : (P : Type 0) → IfErr result (λ fault. (q : Placed) → get w.ledger.objects name ≡ Some q → P ⊎ RepliesPart (MayBeginObject tells w.ledger c message q) a b)
-      → IfErr result (λ fault. (m : Machine) → KeepsMachine w m → P ⊎ RepliesPart (MayBegin tells w.ledger m c message) a b)
+  pub session_parts : (P : Type 0) → IfErr result (λ fault. (q : Placed) → get w.ledger.objects name ≡ Some q → P ⊎ RepliesPart (MayBeginObject reveals w.ledger c message q) a b)
+      → IfErr result (λ fault. (m : Machine) → KeepsMachine w m → P ⊎ RepliesPart (MayBegin reveals w.ledger m c message) a b)
   session_parts P one =
-      err_with result (λ fault. (q : Placed) → get w.ledger.objects name ≡ Some q → P ⊎ RepliesPart (MayBeginObject tells w.ledger c message q) a b)
-      (λ fault. (m : Machine) → KeepsMachine w m → P ⊎ RepliesPart (MayBegin tells w.ledger m c message) a b)
+      err_with result (λ fault. (q : Placed) → get w.ledger.objects name ≡ Some q → P ⊎ RepliesPart (MayBeginObject reveals w.ledger c message q) a b)
+      (λ fault. (m : Machine) → KeepsMachine w m → P ⊎ RepliesPart (MayBegin reveals w.ledger m c message) a b)
       (λ fault all m keeps.
       ⊎_elim (λ (none : P). inl none)
-      (λ (r : RepliesPart (MayBeginObject tells w.ledger c message p) a b). inr (r.0, begin_to w m keeps message name kind p is tells c r.0 r.1, r.2)) (all p is)) one
+      (λ (r : RepliesPart (MayBeginObject reveals w.ledger c message p) a b). inr (r.0, begin_to w m keeps message name kind p is reveals c r.0 r.1, r.2)) (all p is)) one
 
 -- what the catalogue found
 pub long_of : (o : Option Placed) (p : Placed) (object : ObjectRef) → option_map (λ q. q.object) o ≡ Some object → o ≡ Some p → p.object.length ≡ object.length

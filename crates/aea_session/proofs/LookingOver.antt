@@ -75,17 +75,17 @@ one-filtered p at true is = ap (λ (x : Bool). cond (not x) (at ∷ []) []) is
 one-filtered p at false is = ap (λ (x : Bool). cond (not x) (at ∷ []) []) is
 
 -- no block of the range was looked at
-pub damaged_none : (tells : Type 0) (v : Opened) (c : Files) (first : ℕ) → AreDamaged tells v c first 0 []
-damaged_none tells v c first = record {
+pub damaged_none : (reveals : Type 0) (v : Opened) (c : Files) (first : ℕ) → AreDamaged reveals v c first 0 []
+damaged_none reveals v c first = record {
   intact = λ k. true;
-  by = λ told b block from to. absurd (omega (arith, from, to));
+  by = λ revealed b block from to. absurd (omega (arith, from, to));
   are = refl;
 }
 
-module _ (tells : Type 0) (v : Opened) (c : Files) (first n : ℕ) (xs : List ℕ) (a : BlockId) (l : Lattice) (answer : Bool) where
+module _ (reveals : Type 0) (v : Opened) (c : Files) (first n : ℕ) (xs : List ℕ) (a : BlockId) (l : Lattice) (answer : Bool) where
   -- one block more was
-  pub damaged_more : AreDamaged tells v c first n xs → l.alpha ≡ v.shape.alpha → l.n ≡ v.lattice.n → HasBlock l a → number_of l a ≡ first + n → (tells → IsTrue answer ↔ IsIntactBy v.shape v.digests c a)
-      → (ys : List ℕ) → ys ≡ xs ++ cond answer [] ((first + n) ∷ []) → AreDamaged tells v c first (n + 1) ys
+  pub damaged_more : AreDamaged reveals v c first n xs → l.alpha ≡ v.shape.alpha → l.n ≡ v.lattice.n → HasBlock l a → number_of l a ≡ first + n → (reveals → IsTrue answer ↔ IsIntactBy v.shape v.digests c a)
+      → (ys : List ℕ) → ys ≡ xs ++ cond answer [] ((first + n) ∷ []) → AreDamaged reveals v c first (n + 1) ys
   damaged_more before alpha nodes has_a number says ys is =
       let at : ℕ = first + n in
       let test : ℕ → Bool = with_answer before.intact at answer in
@@ -95,18 +95,18 @@ module _ (tells : Type 0) (v : Opened) (c : Files) (first n : ℕ) (xs : List �
       let more : range_with_len first (n + 1) ≡ range_with_len first n ++ at ∷ [] = ap (range_with_len first) (let e : n + 1 ≡ suc n = omega arith in e) ∙ range-suc first n in
       record {
         intact = test;
-        by = λ told b block from to.
+        by = λ revealed b block from to.
             elim (cases_lt (number_in v.shape b) at) [
               | inl less ↦
                   subst (λ (x : Bool). IsTrue x ↔ IsIntactBy v.shape v.digests c b) (sym (with-other before.intact at (number_in v.shape b) answer (λ e. absurd (omega (arith, e, less)))))
-                  (before.by told b block from less)
+                  (before.by revealed b block from less)
               | inr past ↦
                   let same : number_in v.shape b ≡ at = omega (arith, past, to) in
                   let has_b : HasBlock l b = record { first = omega (arith, block.after); last = omega (arith, block.most, nodes); used = omega (arith, block.used, alpha) } in
                   let is_number : number_of l b ≡ at = ap (λ (k : ℕ). (b.node - 1) * (1 + k) + class_number b.class) alpha ∙ same in
                   let one : a ≡ b = number_equal l a b has_a has_b (number ∙ sym is_number) in
                   subst (λ (d : BlockId). IsTrue (test (number_in v.shape d)) ↔ IsIntactBy v.shape v.digests c d) one
-                  (subst (λ (x : Bool). IsTrue x ↔ IsIntactBy v.shape v.digests c a) (sym (ap test here ∙ with-same before.intact at answer)) (says told))
+                  (subst (λ (x : Bool). IsTrue x ↔ IsIntactBy v.shape v.digests c a) (sym (ap test here ∙ with-same before.intact at answer)) (says revealed))
             ];
         are =
             is ∙ ap (λ (l : List ℕ). l ++ cond answer [] (at ∷ [])) (before.are ∙ old)
@@ -149,8 +149,8 @@ length-text (x ∷ xs) = let h = length-text xs in let l = length-append (to_be_
 -- ---- the reply
 
 -- numbers of damaged blocks are that of the range
-pub range_reply : (tells : Type 0) (v : Opened) (c : Files) (message : Message) (first count : ℕ) (numbers : List ℕ) → AreDamaged tells v c first count numbers → IsReplyOfRange tells v c message first count 0 (reply message 0 (numbers_body numbers))
-range_reply tells v c message first count numbers are = (are.intact, are.by, refl, ap (λ (xs : List ℕ). reply message 0 (numbers_body xs)) are.are)
+pub range_reply : (reveals : Type 0) (v : Opened) (c : Files) (message : Message) (first count : ℕ) (numbers : List ℕ) → AreDamaged reveals v c first count numbers → IsReplyOfRange reveals v c message first count 0 (reply message 0 (numbers_body numbers))
+range_reply reveals v c message first count numbers are = (are.intact, are.by, refl, ap (λ (xs : List ℕ). reply message 0 (numbers_body xs)) are.are)
 
 pub length-range_reply : (message : Message) (numbers : List ℕ) → length (reply message 0 (numbers_body numbers)) ≡ 6 + 4 * length numbers
 length-range_reply message numbers =
@@ -169,9 +169,9 @@ module _ (w : Work) (m : Machine) (keeps : KeepsMachine w m) (message : Message)
       ∙ ap (λ (n : ℕ). (if nat_le 1 count && nat_le count greatest_patrol && nat_le (first + count) (n * (1 + w.ledger.shape.alpha)) then stays m (Patrols first count) else stays m BadRange).answer) keeps.datas
       ∙ ap (λ (x : Bool). (if x then stays m (Patrols first count) else stays m BadRange).answer) is
 
-  pub bad_reply : (tells : Type 0) (c : Files) → has_range w.ledger first count ≡ false → IsReplyTo tells w.ledger m c message 11 (reply message 11 [])
-  bad_reply tells c none =
-      subst (λ (x : Answer). IsReply tells (IsPayload tells w.ledger.shape w.ledger.digests c) w.ledger.shape (length m.datas) w.ledger.digests c message x 11 (reply message 11 []))
+  pub bad_reply : (reveals : Type 0) (c : Files) → has_range w.ledger first count ≡ false → IsReplyTo reveals w.ledger m c message 11 (reply message 11 [])
+  bad_reply reveals c none =
+      subst (λ (x : Answer). IsReply reveals (IsPayload reveals w.ledger.shape w.ledger.digests c) w.ledger.shape (length m.datas) w.ledger.digests c message x 11 (reply message 11 []))
       (sym (answer_is false none)) (refl, refl)
 
   pub bad_room : (room : ℕ) → has_range w.ledger first count ≡ false → greatest_reply (step w.ledger.shape m message).answer ≤ room → 2 ≤ room
@@ -180,27 +180,27 @@ module _ (w : Work) (m : Machine) (keeps : KeepsMachine w m) (message : Message)
   pub range_room : (room : ℕ) → has_range w.ledger first count ≡ true → greatest_reply (step w.ledger.shape m message).answer ≤ room → 6 + 4 * count ≤ room
   range_room room has enough = subst (λ (x : Answer). greatest_reply x ≤ room) (answer_is true has) enough
 
-  pub range_to : (tells : Type 0) (c : Files) (n code : ℕ) (bytes : List ℕ) → has_range w.ledger first count ≡ true → n ≡ count → IsReplyOfRange tells w.ledger c message first n code bytes → IsReplyTo tells w.ledger m c message code bytes
-  range_to tells c n code bytes has is one =
-      subst (λ (x : Answer). IsReply tells (IsPayload tells w.ledger.shape w.ledger.digests c) w.ledger.shape (length m.datas) w.ledger.digests c message x code bytes)
+  pub range_to : (reveals : Type 0) (c : Files) (n code : ℕ) (bytes : List ℕ) → has_range w.ledger first count ≡ true → n ≡ count → IsReplyOfRange reveals w.ledger c message first n code bytes → IsReplyTo reveals w.ledger m c message code bytes
+  range_to reveals c n code bytes has is one =
+      subst (λ (x : Answer). IsReply reveals (IsPayload reveals w.ledger.shape w.ledger.digests c) w.ledger.shape (length m.datas) w.ledger.digests c message x code bytes)
       (sym (answer_is true has))
-      (subst (λ (k : ℕ). IsRangeReply tells w.ledger.shape k w.ledger.digests c message first count code bytes) (sym keeps.datas)
-      (subst (λ (k : ℕ). IsReplyOfRange tells w.ledger c message first k code bytes) is one))
+      (subst (λ (k : ℕ). IsRangeReply reveals w.ledger.shape k w.ledger.digests c message first count code bytes) (sym keeps.datas)
+      (subst (λ (k : ℕ). IsReplyOfRange reveals w.ledger c message first k code bytes) is one))
 
-module _ (tells : Type 0) (w : Work) (c : Files) (message : Message) (first count : ℕ) (kind : message ≡ Patrol first count) (has : has_range w.ledger first count ≡ true) (n : ℕ) (is : n ≡ count) (a b : SinkState) (result : Result ℕ TakeFault) where
-  pub session_range : IfOk result (λ code. Replies (IsReplyOfRange tells w.ledger c message first n code) a b)
-      → IfOk result (λ code. (m : Machine) → KeepsMachine w m → Replies (IsReplyTo tells w.ledger m c message code) a b)
+module _ (reveals : Type 0) (w : Work) (c : Files) (message : Message) (first count : ℕ) (kind : message ≡ Patrol first count) (has : has_range w.ledger first count ≡ true) (n : ℕ) (is : n ≡ count) (a b : SinkState) (result : Result ℕ TakeFault) where
+  pub session_range : IfOk result (λ code. Replies (IsReplyOfRange reveals w.ledger c message first n code) a b)
+      → IfOk result (λ code. (m : Machine) → KeepsMachine w m → Replies (IsReplyTo reveals w.ledger m c message code) a b)
   session_range one =
-      ok_as result (λ code. Replies (IsReplyOfRange tells w.ledger c message first n code) a b)
-      (λ code. (m : Machine) → KeepsMachine w m → Replies (IsReplyTo tells w.ledger m c message code) a b)
-      (λ code r m keeps. (r.0, range_to w m keeps message first count kind tells c n code r.0 has is r.1, r.2, r.3)) one
+      ok_as result (λ code. Replies (IsReplyOfRange reveals w.ledger c message first n code) a b)
+      (λ code. (m : Machine) → KeepsMachine w m → Replies (IsReplyTo reveals w.ledger m c message code) a b)
+      (λ code r m keeps. (r.0, range_to w m keeps message first count kind reveals c n code r.0 has is r.1, r.2, r.3)) one
 
-  pub session_range_part : (P : Type 0) → IfErr result (λ fault. P ⊎ RepliesPart (λ bytes. (code : ℕ) × IsReplyOfRange tells w.ledger c message first n code bytes) a b)
-      → IfErr result (λ fault. (m : Machine) → KeepsMachine w m → P ⊎ RepliesPart (MayBegin tells w.ledger m c message) a b)
+  pub session_range_part : (P : Type 0) → IfErr result (λ fault. P ⊎ RepliesPart (λ bytes. (code : ℕ) × IsReplyOfRange reveals w.ledger c message first n code bytes) a b)
+      → IfErr result (λ fault. (m : Machine) → KeepsMachine w m → P ⊎ RepliesPart (MayBegin reveals w.ledger m c message) a b)
   session_range_part P one =
-      err_with result (λ fault. P ⊎ RepliesPart (λ bytes. (code : ℕ) × IsReplyOfRange tells w.ledger c message first n code bytes) a b)
-      (λ fault. (m : Machine) → KeepsMachine w m → P ⊎ RepliesPart (MayBegin tells w.ledger m c message) a b)
+      err_with result (λ fault. P ⊎ RepliesPart (λ bytes. (code : ℕ) × IsReplyOfRange reveals w.ledger c message first n code bytes) a b)
+      (λ fault. (m : Machine) → KeepsMachine w m → P ⊎ RepliesPart (MayBegin reveals w.ledger m c message) a b)
       (λ fault either m keeps.
       ⊎_elim (λ (none : P). inl none)
-      (λ (r : RepliesPart (λ bytes. (code : ℕ) × IsReplyOfRange tells w.ledger c message first n code bytes) a b).
-      inr (r.0, inl (r.1.0, range_to w m keeps message first count kind tells c n r.1.0 r.0 has is r.1.1), r.2)) either) one
+      (λ (r : RepliesPart (λ bytes. (code : ℕ) × IsReplyOfRange reveals w.ledger c message first n code bytes) a b).
+      inr (r.0, inl (r.1.0, range_to w m keeps message first count kind reveals c n r.1.0 r.0 has is r.1.1), r.2)) either) one

@@ -51,8 +51,8 @@ still_by (Err f) e only cause other = absurd (other (ap Err only))
 
 -- no fault where there is space for all
 pub fits_by : {a b : SinkState} {text : List ℕ} (result : Result ℕ TakeFault) (e : TakeFault) (room : ℕ) → Prints a [] b [] result text → a.room ≡ Some room → length text ≤ room → result ≢ Err e
-fits_by (Ok code) e room prints told enough is = absurd (let h : Ok code ≡ Err e = is in cc)
-fits_by (Err f) e room prints told enough is = absurd (false≢true (prints.fits room told enough))
+fits_by (Ok code) e room prints revealed enough is = absurd (let h : Ok code ≡ Err e = is in cc)
+fits_by (Err f) e room prints revealed enough is = absurd (false≢true (prints.fits room revealed enough))
 
 -- a result has one fault
 err_same : (r : Result ℕ TakeFault) (g f : TakeFault) → r ≡ Err g → r ≡ Err f → g ≡ f

@@ -30,25 +30,25 @@ this_kept v w c archive this = record {
       (subst (λ (ds : List (List ℕ)). AreIntactOn (Unit {0}) v.ledger.shape v.ledger.lattice.n v.heads.lattice.n ds c) (sym archive.digests) this.cells));
 }
 
-module _ (one : HasOneReading) (tells : Type 0) (v w : Work) (message : Message) (old : State) (before after : SinkState) (none : ClosesNone v message) (fixed : tells → IsFixed old 0) where
+module _ (one : HasOneReading) (reveals : Type 0) (v w : Work) (message : Message) (old : State) (before after : SinkState) (none : ClosesNone v message) (fixed : reveals → IsFixed old 0) where
   -- there was no memory
-  pub quietly_dry : Takes tells v w message old old before before (Err NoMemory)
-  quietly_dry = takes_dry tells v w message old old before ⊥ ⊥ (Unit {0}) (leaves_same one tells v w message old none fixed ⊥ (Unit {0})) tt (λ bad. bad)
+  pub quietly_dry : Takes reveals v w message old old before before (Err NoMemory)
+  quietly_dry = takes_dry reveals v w message old old before ⊥ ⊥ (Unit {0}) (leaves_same one reveals v w message old none fixed ⊥ (Unit {0})) tt (λ bad. bad)
 
-  module _ (made : Result (Unit {0}) Refusal) (some : KeepsSomeMachine v) (makes : MakesStep made_by v w message made) (archive : KeepsArchive v w) (live : v.ledger.live ≡ true) (this : tells → IsTheSessions v old.files) where
+  module _ (made : Result (Unit {0}) Refusal) (some : KeepsSomeMachine v) (makes : MakesStep made_by v w message made) (archive : KeepsArchive v w) (live : v.ledger.live ≡ true) (this : reveals → IsTheSessions v old.files) where
     -- the reply was given
     pub quietly_put : {T E : Type 0} {value : T} (code : ℕ) → code ≡ code_of (answer_by made_by made) → IsFlushed after
-        → Prints {E = E} before [] after [] (Ok value) (reply_to message (answer_by made_by made)) → Takes tells v w message old old before after (Ok code)
+        → Prints {E = E} before [] after [] (Ok value) (reply_to message (answer_by made_by made)) → Takes reveals v w message old old before after (Ok code)
     quietly_put code is flushed prints =
-        subst (λ (n : ℕ). Takes tells v w message old old before after (Ok n)) (sym is)
-        (takes_put tells v w message old old before after (Unit {0}) ⊥ ⊥ (code_of (answer_by made_by made)) (reply_to message (answer_by made_by made))
-        (leaves_same one tells v w message old none fixed (Unit {0}) ⊥) tt (λ bad. bad)
-        (moves_made tells made_by v w message old old made some makes (ap (λ (l : Opened). l.live) archive.ledger ∙ live) (goes_same v w message archive.ledger none) (λ told. this_kept v w old.files archive (this told)) fixed)
-        (reply_made tells v w old.files message made makes) flushed prints)
+        subst (λ (n : ℕ). Takes reveals v w message old old before after (Ok n)) (sym is)
+        (takes_put reveals v w message old old before after (Unit {0}) ⊥ ⊥ (code_of (answer_by made_by made)) (reply_to message (answer_by made_by made))
+        (leaves_same one reveals v w message old none fixed (Unit {0}) ⊥) tt (λ bad. bad)
+        (moves_made reveals made_by v w message old old made some makes (ap (λ (l : Opened). l.live) archive.ledger ∙ live) (goes_same v w message archive.ledger none) (λ revealed. this_kept v w old.files archive (this revealed)) fixed)
+        (reply_made reveals v w old.files message made makes) flushed prints)
 
     -- it failed
-    pub quietly_unwritten : {T E : Type 0} {value : E} → Prints {T = T} before [] after [] (Err value) (reply_to message (answer_by made_by made)) → Takes tells v w message old old before after (Err WriteFault)
+    pub quietly_unwritten : {T E : Type 0} {value : E} → Prints {T = T} before [] after [] (Err value) (reply_to message (answer_by made_by made)) → Takes reveals v w message old old before after (Err WriteFault)
     quietly_unwritten prints =
-        takes_unwritten tells v w message old old before after (Unit {0}) ⊥ ⊥ (code_of (answer_by made_by made)) (reply_to message (answer_by made_by made))
-        (leaves_same one tells v w message old none fixed (Unit {0}) ⊥) tt (λ bad. bad)
-        (reply_made tells v w old.files message made makes) (long_made v w message made makes) prints
+        takes_unwritten reveals v w message old old before after (Unit {0}) ⊥ ⊥ (code_of (answer_by made_by made)) (reply_to message (answer_by made_by made))
+        (leaves_same one reveals v w message old none fixed (Unit {0}) ⊥) tt (λ bad. bad)
+        (reply_made reveals v w old.files message made makes) (long_made v w message made makes) prints

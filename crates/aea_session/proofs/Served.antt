@@ -59,28 +59,28 @@ took_both left mid rest before now then bs cs p q = record { taken = Consumes-tr
 -- ---- a message that was taken
 
 -- what is left of the disk where there is no fault
-pub leaves_fine : (tells : Type 0) (v w : Work) (message : Message) (old new : State) (made fault dry : Type 0) → made → (fault → ⊥)
-    → Leaves tells v w message old new made fault dry → Leaves tells v w message old new (Unit {0}) ⊥ ⊥
-leaves_fine tells v w message old new made fault dry is fine leaves = record {
+pub leaves_fine : (reveals : Type 0) (v w : Work) (message : Message) (old new : State) (made fault dry : Type 0) → made → (fault → ⊥)
+    → Leaves reveals v w message old new made fault dry → Leaves reveals v w message old new (Unit {0}) ⊥ ⊥
+leaves_fine reveals v w message old new made fault dry is fine leaves = record {
   ledger = leaves.ledger;
   closed = λ _. leaves.closed is;
   quiet = λ none. absurd none;
-  writes = writes_as tells (IsReady old) (HasTakeRoom v message old) fault ⊥
+  writes = writes_as reveals (IsReady old) (HasTakeRoom v message old) fault ⊥
       (ChangesArchive v.ledger.shape raised_limit (IsBlockIn v.ledger.shape v.heads.lattice.n) (IsBesides v.ledger.shape)) old new (λ none. absurd none) fine leaves.writes;
   padded = λ _. leaves.padded fine;
 }
 
 -- the reply and the step, in each state of the machine that the session kept
-pub taken_answers : (tells : Type 0) (v w : Work) (message : Message) (old new : State) (before then : SinkState) (code : ℕ) (m : Machine) → KeepsMachine v m
-    → Takes tells v w message old new before then (Ok code)
-    → (reply : List ℕ) × Answers tells m v w message old new code reply × Appends before.written then.written reply × TakesSpace before then (length reply)
-taken_answers tells v w message old new before then code m keeps takes =
+pub taken_answers : (reveals : Type 0) (v w : Work) (message : Message) (old new : State) (before then : SinkState) (code : ℕ) (m : Machine) → KeepsMachine v m
+    → Takes reveals v w message old new before then (Ok code)
+    → (reply : List ℕ) × Answers reveals m v w message old new code reply × Appends before.written then.written reply × TakesSpace before then (length reply)
+taken_answers reveals v w message old new before then code m keeps takes =
     let replied = takes.replies m keeps in (
       replied.0,
       record {
         is_reply = replied.1;
         moves = takes.moves;
-        leaves = leaves_fine tells v w message old new (IsOk {E = TakeFault} (Ok code) ⊎ (Ok code ≡ Err WriteFault)) (Ok code ≡ Err DiskFault) (Ok code ≡ Err NoMemory) (inl refl) (λ is. absurd (cc)) takes.leaves;
+        leaves = leaves_fine reveals v w message old new (IsOk {E = TakeFault} (Ok code) ⊎ (Ok code ≡ Err WriteFault)) (Ok code ≡ Err DiskFault) (Ok code ≡ Err NoMemory) (inl refl) (λ is. absurd (cc)) takes.leaves;
       },
       replied.2,
       replied.3,
@@ -88,19 +88,19 @@ taken_answers tells v w message old new before then code m keeps takes =
 
 -- ---- the messages so far
 
-module _ (tells : Type 0) {D : Type 0} (state : D → State) where
+module _ (reveals : Type 0) {D : Type 0} (state : D → State) where
   -- one more was taken
   pub served_more : (m : Machine) (v u w : Work) (d e f : D) (messages : List Message) (bytes : List ℕ) (message : Message) (code : ℕ) (reply : List ℕ)
-      → HasServed tells state m v d messages bytes u e → Answers tells (after v.ledger.shape m messages) u w message (state e) (state f) code reply
-      → HasServed tells state m v d (messages ++ message ∷ []) (bytes ++ reply) w f
+      → HasServed reveals state m v d messages bytes u e → Answers reveals (after v.ledger.shape m messages) u w message (state e) (state f) code reply
+      → HasServed reveals state m v d (messages ++ message ∷ []) (bytes ++ reply) w f
   served_more m v u w d e f [] bytes message code reply served answers = (
     w,
     f,
     code,
     reply,
     [],
-    subst (λ (x : D). Answers tells m v w message (state x) (state f) code reply) served.1
-        (subst (λ (x : Work). Answers tells m x w message (state e) (state f) code reply) served.0 answers),
+    subst (λ (x : D). Answers reveals m v w message (state x) (state f) code reply) served.1
+        (subst (λ (x : Work). Answers reveals m x w message (state e) (state f) code reply) served.0 answers),
     ap (λ (l : List ℕ). l ++ reply) served.2 ∙ sym (append-nil reply),
     (refl, refl, refl),
   )
@@ -113,13 +113,13 @@ module _ (tells : Type 0) {D : Type 0} (state : D → State) where
     served.5,
     ap (λ (l : List ℕ). l ++ reply) served.6 ∙ append_assoc served.3 served.4 reply,
     served_more (step v.ledger.shape m first).state served.0 u w served.1 e f messages served.4 message code reply served.7
-        (subst (λ (s : Shape). Answers tells (after s (step v.ledger.shape m first).state messages) u w message (state e) (state f) code reply) (sym served.5.moves.shape) answers),
+        (subst (λ (s : Shape). Answers reveals (after s (step v.ledger.shape m first).state messages) u w message (state e) (state f) code reply) (sym served.5.moves.shape) answers),
   )
 
   -- what became of a machine that the session kept at the beginning
   abbrev pub HasTraced : Machine → Work → Work → D → D → SinkState → SinkState → List Message → Type 0
   HasTraced m v w d e before now messages =
-      (bytes : List ℕ) × HasServed tells state m v d messages bytes w e × KeepsMachine w (after v.ledger.shape m messages) × Appends before.written now.written bytes
+      (bytes : List ℕ) × HasServed reveals state m v d messages bytes w e × KeepsMachine w (after v.ledger.shape m messages) × Appends before.written now.written bytes
       × TakesSpace before now (length bytes)
 
   -- What a run has done so far.
@@ -149,11 +149,11 @@ module _ (tells : Type 0) {D : Type 0} (state : D → State) where
 
   -- the trace with one message more
   traced_more : (m : Machine) (v u w : Work) (d e f : D) (before now then : SinkState) (messages : List Message) (message : Message) (code : ℕ)
-      → u.ledger.shape ≡ v.ledger.shape → HasTraced m v u d e before now messages → Takes tells u w message (state e) (state f) now then (Ok code)
+      → u.ledger.shape ≡ v.ledger.shape → HasTraced m v u d e before now messages → Takes reveals u w message (state e) (state f) now then (Ok code)
       → HasTraced m v w d f before then (messages ++ message ∷ [])
   traced_more m v u w d e f before now then messages message code same gone takes =
       let k : Machine = after v.ledger.shape m messages in
-      let answered = taken_answers tells u w message (state e) (state f) now then code k gone.2 takes in (
+      let answered = taken_answers reveals u w message (state e) (state f) now then code k gone.2 takes in (
         gone.0 ++ answered.0,
         served_more m v u w d e f messages gone.0 message code answered.0 gone.1 answered.1,
         subst (KeepsMachine w) (ap (λ (s : Shape). (step s k message).state) same ∙ sym (after_more v.ledger.shape m messages message)) (takes.moves.keeps k gone.2),
@@ -164,7 +164,7 @@ module _ (tells : Type 0) {D : Type 0} (state : D → State) where
   -- and with the next message
   pub gone_more : (v u w : Work) (d e f : D) (left rest more : Option (List ℕ)) (before now then : SinkState) (count at next : ℕ) (message : Message) (code : ℕ)
       → HasGone v u d e left rest before now count at
-      → ReadsNext rest more at next count (Ok (Some message)) → Takes tells u w message (state e) (state f) now then (Ok code)
+      → ReadsNext rest more at next count (Ok (Some message)) → Takes reveals u w message (state e) (state f) now then (Ok code)
       → HasGone v w d f left more before then (count + 1) next
   gone_more v u w d e f left rest more before now then count at next message code gone reads takes = record {
     messages = gone.messages ++ message ∷ [];
@@ -184,7 +184,7 @@ module _ (tells : Type 0) {D : Type 0} (state : D → State) where
   -- ---- how it ends
 
   pub ends_well : (v w : Work) (d e : D) (left rest more : Option (List ℕ)) (before now : SinkState) (count at next : ℕ) → HasGone v w d e left rest before now count at
-      → ReadsNext rest more at next count (Ok None) → ServesAll tells state v w d e left more before now (Ok tt)
+      → ReadsNext rest more at next count (Ok None) → ServesAll reveals state v w d e left more before now (Ok tt)
   ends_well v w d e left rest more before now count at next gone reads = record {
     handled = gone.messages;
     are = gone.are;
@@ -230,7 +230,7 @@ module _ (tells : Type 0) {D : Type 0} (state : D → State) where
 
   -- nothing came after the messages
   last_none : (w : Work) (e : D) (rest more : Option (List ℕ)) (at next count : ℕ) (tail : List ℕ) (now : SinkState) (fault : Stop) → ReadsNext rest more at next count (Err fault)
-      → EndsThere tells state w w e e tail now now (Err fault)
+      → EndsThere reveals state w w e e tail now now (Err fault)
   last_none w e rest more at next count tail now (stop.BadMessage place) reads = (refl, refl, refl)
   last_none w e rest more at next count tail now (stop.BadStream place) reads = (refl, refl, refl)
   last_none w e rest more at next count tail now stop.TooManyMessages reads = (refl, refl, refl)
@@ -239,7 +239,7 @@ module _ (tells : Type 0) {D : Type 0} (state : D → State) where
   last_none w e rest more at next count tail now (stop.Taken fault) reads = absurd reads
 
   pub ends_early : (v w : Work) (d e : D) (left rest more : Option (List ℕ)) (before now : SinkState) (count at next : ℕ) (fault : Stop) → HasGone v w d e left rest before now count at
-      → ReadsNext rest more at next count (Err fault) → ServesAll tells state v w d e left more before now (Err fault)
+      → ReadsNext rest more at next count (Err fault) → ServesAll reveals state v w d e left more before now (Err fault)
   ends_early v w d e left rest more before now count at next fault gone reads = record {
     handled = gone.messages;
     are = gone.are;
@@ -257,7 +257,7 @@ module _ (tells : Type 0) {D : Type 0} (state : D → State) where
   }
 
   pub ends_taken : (v u w : Work) (d e f : D) (left rest more : Option (List ℕ)) (before now then : SinkState) (count at next : ℕ) (message : Message) (fault : TakeFault) → HasGone v u d e left rest before now count at
-      → ReadsNext rest more at next count (Ok (Some message)) → Takes tells u w message (state e) (state f) now then (Err fault) → ServesAll tells state v w d f left more before then (Err (stop.Taken fault))
+      → ReadsNext rest more at next count (Ok (Some message)) → Takes reveals u w message (state e) (state f) now then (Err fault) → ServesAll reveals state v w d f left more before then (Err (stop.Taken fault))
   ends_taken v u w d e f left rest more before now then count at next message fault gone reads takes = record {
     handled = gone.messages;
     are = gone.are;

@@ -80,22 +80,22 @@ closed_plain (Err r) = refused_plain r
 abbrev pub reply_to : Message → Answer → List ℕ
 reply_to message answer = reply message (code_of answer) (body_of answer)
 
-plain_reply : (tells : Type 0) (has : BlockId → List ℕ → Type 0) (shape : Shape) (nodes : ℕ) (digests : List (List ℕ)) (c : Files) (message : Message) (answer : Answer) → IsPlain answer
-    → IsReply tells has shape nodes digests c message answer (code_of answer) (reply_to message answer)
-plain_reply tells has shape nodes digests c message Made plain = (refl, refl)
-plain_reply tells has shape nodes digests c message (Closed count size digest) plain = (refl, refl)
-plain_reply tells has shape nodes digests c message (Reads placed) plain = absurd plain
-plain_reply tells has shape nodes digests c message (Patrols first count) plain = absurd plain
-plain_reply tells has shape nodes digests c message BadSlot plain = (refl, refl)
-plain_reply tells has shape nodes digests c message SlotTaken plain = (refl, refl)
-plain_reply tells has shape nodes digests c message SlotFree plain = (refl, refl)
-plain_reply tells has shape nodes digests c message BadName plain = (refl, refl)
-plain_reply tells has shape nodes digests c message NameTaken plain = (refl, refl)
-plain_reply tells has shape nodes digests c message NameOpen plain = (refl, refl)
-plain_reply tells has shape nodes digests c message (Full count) plain = (refl, refl)
-plain_reply tells has shape nodes digests c message CatalogFull plain = (refl, refl)
-plain_reply tells has shape nodes digests c message UnknownName plain = (refl, refl)
-plain_reply tells has shape nodes digests c message BadRange plain = (refl, refl)
+plain_reply : (reveals : Type 0) (has : BlockId → List ℕ → Type 0) (shape : Shape) (nodes : ℕ) (digests : List (List ℕ)) (c : Files) (message : Message) (answer : Answer) → IsPlain answer
+    → IsReply reveals has shape nodes digests c message answer (code_of answer) (reply_to message answer)
+plain_reply reveals has shape nodes digests c message Made plain = (refl, refl)
+plain_reply reveals has shape nodes digests c message (Closed count size digest) plain = (refl, refl)
+plain_reply reveals has shape nodes digests c message (Reads placed) plain = absurd plain
+plain_reply reveals has shape nodes digests c message (Patrols first count) plain = absurd plain
+plain_reply reveals has shape nodes digests c message BadSlot plain = (refl, refl)
+plain_reply reveals has shape nodes digests c message SlotTaken plain = (refl, refl)
+plain_reply reveals has shape nodes digests c message SlotFree plain = (refl, refl)
+plain_reply reveals has shape nodes digests c message BadName plain = (refl, refl)
+plain_reply reveals has shape nodes digests c message NameTaken plain = (refl, refl)
+plain_reply reveals has shape nodes digests c message NameOpen plain = (refl, refl)
+plain_reply reveals has shape nodes digests c message (Full count) plain = (refl, refl)
+plain_reply reveals has shape nodes digests c message CatalogFull plain = (refl, refl)
+plain_reply reveals has shape nodes digests c message UnknownName plain = (refl, refl)
+plain_reply reveals has shape nodes digests c message BadRange plain = (refl, refl)
 
 plain_long : (message : Message) (answer : Answer) → IsPlain answer → length (reply_to message answer) ≡ greatest_reply answer
 plain_long message Made plain = refl
@@ -114,29 +114,29 @@ plain_long message UnknownName plain = refl
 plain_long message BadRange plain = refl
 
 -- where the machine answers so, these bytes are the reply, and it has no others
-pub reply_plain : (tells : Type 0) (v : Work) (m : Machine) (c : Files) (message : Message) (answer : Answer) → IsPlain answer → (step v.ledger.shape m message).answer ≡ answer
-    → IsReplyTo tells v.ledger m c message (code_of answer) (reply_to message answer)
-reply_plain tells v m c message answer plain is =
-    subst (λ (a : Answer). IsReply tells (IsPayload tells v.ledger.shape v.ledger.digests c) v.ledger.shape (length m.datas) v.ledger.digests c message a (code_of answer) (reply_to message answer)) (sym is)
-    (plain_reply tells (IsPayload tells v.ledger.shape v.ledger.digests c) v.ledger.shape (length m.datas) v.ledger.digests c message answer plain)
+pub reply_plain : (reveals : Type 0) (v : Work) (m : Machine) (c : Files) (message : Message) (answer : Answer) → IsPlain answer → (step v.ledger.shape m message).answer ≡ answer
+    → IsReplyTo reveals v.ledger m c message (code_of answer) (reply_to message answer)
+reply_plain reveals v m c message answer plain is =
+    subst (λ (a : Answer). IsReply reveals (IsPayload reveals v.ledger.shape v.ledger.digests c) v.ledger.shape (length m.datas) v.ledger.digests c message a (code_of answer) (reply_to message answer)) (sym is)
+    (plain_reply reveals (IsPayload reveals v.ledger.shape v.ledger.digests c) v.ledger.shape (length m.datas) v.ledger.digests c message answer plain)
 
 pub long_plain : (v : Work) (m : Machine) (message : Message) (answer : Answer) → IsPlain answer → (step v.ledger.shape m message).answer ≡ answer
     → length (reply_to message answer) ≡ greatest_reply (step v.ledger.shape m message).answer
 long_plain v m message answer plain is = plain_long message answer plain ∙ ap greatest_reply (sym is)
 
 -- the reply to an open, a chunk or an abort, in each state that the session kept
-pub reply_made : (tells : Type 0) (v w : Work) (c : Files) (message : Message) (made : Result (Unit {0}) Refusal) → MakesStep made_by v w message made
-    → (m : Machine) → KeepsMachine v m → IsReplyTo tells v.ledger m c message (code_of (answer_by made_by made)) (reply_to message (answer_by made_by made))
-reply_made tells v w c message made makes m kept = reply_plain tells v m c message (answer_by made_by made) (made_plain made) (makes m kept).answer
+pub reply_made : (reveals : Type 0) (v w : Work) (c : Files) (message : Message) (made : Result (Unit {0}) Refusal) → MakesStep made_by v w message made
+    → (m : Machine) → KeepsMachine v m → IsReplyTo reveals v.ledger m c message (code_of (answer_by made_by made)) (reply_to message (answer_by made_by made))
+reply_made reveals v w c message made makes m kept = reply_plain reveals v m c message (answer_by made_by made) (made_plain made) (makes m kept).answer
 
 pub long_made : (v w : Work) (message : Message) (made : Result (Unit {0}) Refusal) → MakesStep made_by v w message made
     → (m : Machine) → KeepsMachine v m → length (reply_to message (answer_by made_by made)) ≡ greatest_reply (step v.ledger.shape m message).answer
 long_made v w message made makes m kept = long_plain v m message (answer_by made_by made) (made_plain made) (makes m kept).answer
 
 -- and to a close
-pub reply_closed : (tells : Type 0) (v w : Work) (c : Files) (message : Message) (closed : Result Stored Refusal) → MakesStep closed_by v w message closed
-    → (m : Machine) → KeepsMachine v m → IsReplyTo tells v.ledger m c message (code_of (answer_by closed_by closed)) (reply_to message (answer_by closed_by closed))
-reply_closed tells v w c message closed makes m kept = reply_plain tells v m c message (answer_by closed_by closed) (closed_plain closed) (makes m kept).answer
+pub reply_closed : (reveals : Type 0) (v w : Work) (c : Files) (message : Message) (closed : Result Stored Refusal) → MakesStep closed_by v w message closed
+    → (m : Machine) → KeepsMachine v m → IsReplyTo reveals v.ledger m c message (code_of (answer_by closed_by closed)) (reply_to message (answer_by closed_by closed))
+reply_closed reveals v w c message closed makes m kept = reply_plain reveals v m c message (answer_by closed_by closed) (closed_plain closed) (makes m kept).answer
 
 pub long_closed : (v w : Work) (message : Message) (closed : Result Stored Refusal) → MakesStep closed_by v w message closed
     → (m : Machine) → KeepsMachine v m → length (reply_to message (answer_by closed_by closed)) ≡ greatest_reply (step v.ledger.shape m message).answer
@@ -163,9 +163,9 @@ goes_same v w message same none m kept records has =
     }
 
 -- it made the step, and the disk is its own
-pub moves_made : {T : Type 0} (tells : Type 0) (done : T → Answer) (v w : Work) (message : Message) (old new : State) (made : Result T Refusal) → KeepsSomeMachine v → MakesStep done v w message made
-    → w.ledger.live ≡ true → GoesOnBy v w message → (tells → IsTheSessions w new.files) → (tells → IsFixed new 0) → Moves tells v w message old new
-moves_made tells done v w message old new made some makes live goes this fixed = record {
+pub moves_made : {T : Type 0} (reveals : Type 0) (done : T → Answer) (v w : Work) (message : Message) (old new : State) (made : Result T Refusal) → KeepsSomeMachine v → MakesStep done v w message made
+    → w.ledger.live ≡ true → GoesOnBy v w message → (reveals → IsTheSessions w new.files) → (reveals → IsFixed new 0) → Moves reveals v w message old new
+moves_made reveals done v w message old new made some makes live goes this fixed = record {
   keeps = λ m kept. (makes m kept).keeps;
   stands = λ m kept. (makes m kept).stands;
   shape = (makes some.0 some.1).shape;
@@ -178,25 +178,25 @@ moves_made tells done v w message old new made some makes live goes this fixed =
 -- ---- what is left of the disk
 
 -- the same of other results that mean no more
-pub leaves_as : (tells : Type 0) (v w : Work) (message : Message) (old new : State) (made fault dry other_made other_fault other_dry : Type 0)
+pub leaves_as : (reveals : Type 0) (v w : Work) (message : Message) (old new : State) (made fault dry other_made other_fault other_dry : Type 0)
     → (other_made → made) → (other_fault → fault) → (fault → other_fault) → (other_dry → dry)
-    → Leaves tells v w message old new made fault dry → Leaves tells v w message old new other_made other_fault other_dry
-leaves_as tells v w message old new made fault dry other_made other_fault other_dry so_made so_fault back so_dry leaves = record {
+    → Leaves reveals v w message old new made fault dry → Leaves reveals v w message old new other_made other_fault other_dry
+leaves_as reveals v w message old new made fault dry other_made other_fault other_dry so_made so_fault back so_dry leaves = record {
   ledger = leaves.ledger;
   closed = λ is. leaves.closed (so_made is);
   quiet = λ is. leaves.quiet (so_dry is);
-  writes = writes_as tells (IsReady old) (HasTakeRoom v message old) fault other_fault
+  writes = writes_as reveals (IsReady old) (HasTakeRoom v message old) fault other_fault
       (ChangesArchive v.ledger.shape raised_limit (IsBlockIn v.ledger.shape v.heads.lattice.n) (IsBesides v.ledger.shape)) old new so_fault back leaves.writes;
   padded = λ fine. leaves.padded (λ is. fine (back is));
 }
 
 -- the reply was given
-pub takes_put : {T E : Type 0} {value : T} (tells : Type 0) (v w : Work) (message : Message) (old new : State) (before after : SinkState) (made fault dry : Type 0) (code : ℕ) (bytes : List ℕ)
-    → Leaves tells v w message old new made fault dry → made → (fault → ⊥) → Moves tells v w message old new
-    → ((m : Machine) → KeepsMachine v m → IsReplyTo tells v.ledger m old.files message code bytes)
+pub takes_put : {T E : Type 0} {value : T} (reveals : Type 0) (v w : Work) (message : Message) (old new : State) (before after : SinkState) (made fault dry : Type 0) (code : ℕ) (bytes : List ℕ)
+    → Leaves reveals v w message old new made fault dry → made → (fault → ⊥) → Moves reveals v w message old new
+    → ((m : Machine) → KeepsMachine v m → IsReplyTo reveals v.ledger m old.files message code bytes)
     → IsFlushed after → Prints {E = E} before [] after [] (Ok value) bytes
-    → Takes tells v w message old new before after (Ok code)
-takes_put tells v w message old new before after made fault dry code bytes leaves is fine moves replies flushed prints = record {
+    → Takes reveals v w message old new before after (Ok code)
+takes_put reveals v w message old new before after made fault dry code bytes leaves is fine moves replies flushed prints = record {
   moves = moves;
   replies = λ m kept. (
     bytes,
@@ -206,76 +206,76 @@ takes_put tells v w message old new before after made fault dry code bytes leave
   );
   part = tt;
   flushed = flushed;
-  leaves = leaves_as tells v w message old new made fault dry _ _ _ (λ _. is) (λ e. absurd (let bad = e in cc)) (λ bad. absurd (fine bad)) (λ e. absurd (let bad = e in cc)) leaves;
+  leaves = leaves_as reveals v w message old new made fault dry _ _ _ (λ _. is) (λ e. absurd (let bad = e in cc)) (λ bad. absurd (fine bad)) (λ e. absurd (let bad = e in cc)) leaves;
   damaged = λ b e. absurd (let bad = e in cc);
   out_kept = prints.cause.kept;
   out_cause = λ e. absurd (let bad = e in cc);
   out_still = λ _. prints.cause.still;
-  in_room = λ room told m kept enough e. absurd (let bad = e in cc);
+  in_room = λ room revealed m kept enough e. absurd (let bad = e in cc);
 }
 
 -- the reply failed: the step was made
-pub takes_unwritten : {T E : Type 0} {value : E} (tells : Type 0) (v w : Work) (message : Message) (old new : State) (before after : SinkState) (made fault dry : Type 0) (code : ℕ) (bytes : List ℕ)
-    → Leaves tells v w message old new made fault dry → made → (fault → ⊥)
-    → ((m : Machine) → KeepsMachine v m → IsReplyTo tells v.ledger m old.files message code bytes)
+pub takes_unwritten : {T E : Type 0} {value : E} (reveals : Type 0) (v w : Work) (message : Message) (old new : State) (before after : SinkState) (made fault dry : Type 0) (code : ℕ) (bytes : List ℕ)
+    → Leaves reveals v w message old new made fault dry → made → (fault → ⊥)
+    → ((m : Machine) → KeepsMachine v m → IsReplyTo reveals v.ledger m old.files message code bytes)
     → ((m : Machine) → KeepsMachine v m → length bytes ≡ greatest_reply (step v.ledger.shape m message).answer)
     → Prints {T = T} before [] after [] (Err value) bytes
-    → Takes tells v w message old new before after (Err WriteFault)
-takes_unwritten tells v w message old new before after made fault dry code bytes leaves is fine replies long prints = record {
+    → Takes reveals v w message old new before after (Err WriteFault)
+takes_unwritten reveals v w message old new before after made fault dry code bytes leaves is fine replies long prints = record {
   moves = tt;
   replies = tt;
   part = λ m kept. inr (bytes, inl (code, replies m kept), prints.bytes);
   flushed = tt;
-  leaves = leaves_as tells v w message old new made fault dry _ _ _ (λ _. is) (λ e. absurd (let bad = e in cc)) (λ bad. absurd (fine bad)) (λ e. absurd (let bad = e in cc)) leaves;
+  leaves = leaves_as reveals v w message old new made fault dry _ _ _ (λ _. is) (λ e. absurd (let bad = e in cc)) (λ bad. absurd (fine bad)) (λ e. absurd (let bad = e in cc)) leaves;
   damaged = λ b e. absurd (let bad = e in cc);
   out_kept = prints.cause.kept;
   out_cause = λ _. prints.cause.rose;
   out_still = λ other. absurd (other refl);
-  in_room = λ room told m kept enough _.
-      absurd (let ok = prints.fits room told (let l = long m kept in omega (arith, enough, l)) in cc);
+  in_room = λ room revealed m kept enough _.
+      absurd (let ok = prints.fits room revealed (let l = long m kept in omega (arith, enough, l)) in cc);
 }
 
 -- the step failed for the disk: nothing was said
-pub takes_fault : (tells : Type 0) (v w : Work) (message : Message) (old new : State) (out : SinkState) (made fault dry : Type 0)
-    → Leaves tells v w message old new made fault dry → fault → Takes tells v w message old new out out (Err DiskFault)
-takes_fault tells v w message old new out made fault dry leaves is = record {
+pub takes_fault : (reveals : Type 0) (v w : Work) (message : Message) (old new : State) (out : SinkState) (made fault dry : Type 0)
+    → Leaves reveals v w message old new made fault dry → fault → Takes reveals v w message old new out out (Err DiskFault)
+takes_fault reveals v w message old new out made fault dry leaves is = record {
   moves = tt;
   replies = tt;
   part = λ m kept. inl refl;
   flushed = tt;
-  leaves = leaves_as tells v w message old new made fault dry _ _ _
+  leaves = leaves_as reveals v w message old new made fault dry _ _ _
       (λ e. absurd (elim e [ inl ok ↦ (let bad = ok in cc) | inr bad ↦ cc ])) (λ _. is) (λ _. refl) (λ e. absurd (let bad = e in cc)) leaves;
   damaged = λ b e. absurd (let bad = e in cc);
   out_kept = omega arith;
   out_cause = λ e. absurd (let bad = e in cc);
   out_still = λ _. refl;
-  in_room = λ room told m kept enough e. absurd (let bad = e in cc);
+  in_room = λ room revealed m kept enough e. absurd (let bad = e in cc);
 }
 
 -- and for want of memory
-pub takes_dry : (tells : Type 0) (v w : Work) (message : Message) (old new : State) (out : SinkState) (made fault dry : Type 0)
-    → Leaves tells v w message old new made fault dry → dry → (fault → ⊥) → Takes tells v w message old new out out (Err NoMemory)
-takes_dry tells v w message old new out made fault dry leaves is fine = record {
+pub takes_dry : (reveals : Type 0) (v w : Work) (message : Message) (old new : State) (out : SinkState) (made fault dry : Type 0)
+    → Leaves reveals v w message old new made fault dry → dry → (fault → ⊥) → Takes reveals v w message old new out out (Err NoMemory)
+takes_dry reveals v w message old new out made fault dry leaves is fine = record {
   moves = tt;
   replies = tt;
   part = λ m kept. inl refl;
   flushed = tt;
-  leaves = leaves_as tells v w message old new made fault dry _ _ _
+  leaves = leaves_as reveals v w message old new made fault dry _ _ _
       (λ e. absurd (elim e [ inl ok ↦ (let bad = ok in cc) | inr bad ↦ cc ])) (λ e. absurd (let bad = e in cc)) (λ bad. absurd (fine bad)) (λ _. is) leaves;
   damaged = λ b e. absurd (let bad = e in cc);
   out_kept = omega arith;
   out_cause = λ e. absurd (let bad = e in cc);
   out_still = λ _. refl;
-  in_room = λ room told m kept enough e. absurd (let bad = e in cc);
+  in_room = λ room revealed m kept enough e. absurd (let bad = e in cc);
 }
 
 -- the step failed, for either of both
-pub takes_stopped : {T : Type 0} (tells : Type 0) (v w : Work) (message : Message) (old new : State) (out : SinkState) (made : Type 0) (result : Result T StepFault) (fault : StepFault) → result ≡ Err fault
-    → Leaves tells v w message old new made (result ≡ Err stopped.DiskFault) (result ≡ Err stopped.NoMemory) → Takes tells v w message old new out out (Err (fault_by fault))
-takes_stopped tells v w message old new out made result stopped.DiskFault is leaves =
-    takes_fault tells v w message old new out made (result ≡ Err stopped.DiskFault) (result ≡ Err stopped.NoMemory) leaves is
-takes_stopped tells v w message old new out made result stopped.NoMemory is leaves =
-    takes_dry tells v w message old new out made (result ≡ Err stopped.DiskFault) (result ≡ Err stopped.NoMemory) leaves is (λ bad. absurd (let e = sym is ∙ bad in cc))
+pub takes_stopped : {T : Type 0} (reveals : Type 0) (v w : Work) (message : Message) (old new : State) (out : SinkState) (made : Type 0) (result : Result T StepFault) (fault : StepFault) → result ≡ Err fault
+    → Leaves reveals v w message old new made (result ≡ Err stopped.DiskFault) (result ≡ Err stopped.NoMemory) → Takes reveals v w message old new out out (Err (fault_by fault))
+takes_stopped reveals v w message old new out made result stopped.DiskFault is leaves =
+    takes_fault reveals v w message old new out made (result ≡ Err stopped.DiskFault) (result ≡ Err stopped.NoMemory) leaves is
+takes_stopped reveals v w message old new out made result stopped.NoMemory is leaves =
+    takes_dry reveals v w message old new out made (result ≡ Err stopped.DiskFault) (result ≡ Err stopped.NoMemory) leaves is (λ bad. absurd (let e = sym is ∙ bad in cc))
 
 -- ---- messages that add no close
 
@@ -315,26 +315,26 @@ refused_closes v w slot p makes m kept =
     ap (λ (a : Answer). closing_by v.ledger.shape m (in_slot m slot) a) (makes m kept).answer ∙ refused_none v.ledger.shape m (in_slot m slot) p
 
 -- where the ledger stays, and nothing closes
-leaves_quiet : HasOneReading → (tells : Type 0) (v w : Work) (message : Message) (old new : State) (fault : Type 0) → ClosesNone v message
-    → OnlyWrites tells (IsReady old) (HasTakeRoom v message old) fault (ChangesArchive v.ledger.shape raised_limit (IsBlockIn v.ledger.shape v.heads.lattice.n) (IsBesides v.ledger.shape)) old new
-    → ((fault → ⊥) → tells → KeepsPadded v.ledger.shape (IsBlockIn v.ledger.shape v.heads.lattice.n) old.files new.files)
-    → (tells → LeavesLedger old new) → (made dry : Type 0) → Leaves tells v w message old new made fault dry
-leaves_quiet one tells v w message old new fault none writes padded ledger made dry = record {
-  ledger = λ told m kept. inl (adds_none one v m old new writes.earlier (ledger told));
-  closed = λ _ told m c kept is. absurd (let no = sym (none m kept) ∙ is in cc);
-  quiet = λ _ told. ledger told;
+leaves_quiet : HasOneReading → (reveals : Type 0) (v w : Work) (message : Message) (old new : State) (fault : Type 0) → ClosesNone v message
+    → OnlyWrites reveals (IsReady old) (HasTakeRoom v message old) fault (ChangesArchive v.ledger.shape raised_limit (IsBlockIn v.ledger.shape v.heads.lattice.n) (IsBesides v.ledger.shape)) old new
+    → ((fault → ⊥) → reveals → KeepsPadded v.ledger.shape (IsBlockIn v.ledger.shape v.heads.lattice.n) old.files new.files)
+    → (reveals → LeavesLedger old new) → (made dry : Type 0) → Leaves reveals v w message old new made fault dry
+leaves_quiet one reveals v w message old new fault none writes padded ledger made dry = record {
+  ledger = λ revealed m kept. inl (adds_none one v m old new writes.earlier (ledger revealed));
+  closed = λ _ revealed m c kept is. absurd (let no = sym (none m kept) ∙ is in cc);
+  quiet = λ _ revealed. ledger revealed;
   writes = writes;
   padded = padded;
 }
 
 -- the disk was not touched
-pub leaves_same : HasOneReading → (tells : Type 0) (v w : Work) (message : Message) (old : State) → ClosesNone v message → (tells → IsFixed old 0)
-    → (made dry : Type 0) → Leaves tells v w message old old made ⊥ dry
-leaves_same one tells v w message old none fixed made dry =
-    leaves_quiet one tells v w message old old ⊥ none
-    (writes_none tells (IsReady old) (HasTakeRoom v message old) _ old (changes_none v.ledger.shape raised_limit (IsBlockIn v.ledger.shape v.heads.lattice.n) (IsBesides v.ledger.shape)))
-    (λ fine told. padded_none v.ledger.shape (IsBlockIn v.ledger.shape v.heads.lattice.n) old.files)
-    (λ told. record { images = during_none old (λ c. c 0 ≡ old.files 0) (fixed told); reads = refl }) made dry
+pub leaves_same : HasOneReading → (reveals : Type 0) (v w : Work) (message : Message) (old : State) → ClosesNone v message → (reveals → IsFixed old 0)
+    → (made dry : Type 0) → Leaves reveals v w message old old made ⊥ dry
+leaves_same one reveals v w message old none fixed made dry =
+    leaves_quiet one reveals v w message old old ⊥ none
+    (writes_none reveals (IsReady old) (HasTakeRoom v message old) _ old (changes_none v.ledger.shape raised_limit (IsBlockIn v.ledger.shape v.heads.lattice.n) (IsBesides v.ledger.shape)))
+    (λ fine revealed. padded_none v.ledger.shape (IsBlockIn v.ledger.shape v.heads.lattice.n) old.files)
+    (λ revealed. record { images = during_none old (λ c. c 0 ≡ old.files 0) (fixed revealed); reads = refl }) made dry
 
 -- the space for a message has that for the rows
 rows_of : (v : Work) (message : Message) (s : State) → HasTakeRoom v message s → FitsRows v.ledger.shape raised_limit s
@@ -346,40 +346,40 @@ rows_of v (Read name) s room = record { sites = room.0; sync = room.1 }
 rows_of v (Patrol first count) s room = record { sites = room.0; sync = room.1 }
 
 -- it was only read
-pub leaves_read : HasOneReading → HomesAreOnItsSites → (tells : Type 0) (v w : Work) (message : Message) (old new : State) (fault : Type 0) → ClosesNone v message → (tells → IsFixed old 0)
-    → OnlyReads tells fault old new → (made dry : Type 0) → Leaves tells v w message old new made fault dry
-leaves_read one sites tells v w message old new fault none fixed reads made dry =
-    leaves_quiet one tells v w message old new fault none
-    (reads_writes tells (IsReady old) (HasTakeRoom v message old) fault _ old new (λ is. is) (λ room. rows_roomy sites v.ledger.shape raised_limit old (rows_of v message old room))
+pub leaves_read : HasOneReading → HomesAreOnItsSites → (reveals : Type 0) (v w : Work) (message : Message) (old new : State) (fault : Type 0) → ClosesNone v message → (reveals → IsFixed old 0)
+    → OnlyReads reveals fault old new → (made dry : Type 0) → Leaves reveals v w message old new made fault dry
+leaves_read one sites reveals v w message old new fault none fixed reads made dry =
+    leaves_quiet one reveals v w message old new fault none
+    (reads_writes reveals (IsReady old) (HasTakeRoom v message old) fault _ old new (λ is. is) (λ room. rows_roomy sites v.ledger.shape raised_limit old (rows_of v message old room))
     (changes_none v.ledger.shape raised_limit (IsBlockIn v.ledger.shape v.heads.lattice.n) (IsBesides v.ledger.shape)) reads)
-    (λ fine told. padded_kept v.ledger.shape (IsBlockIn v.ledger.shape v.heads.lattice.n) old.files new.files (reads.contents told))
-    (λ told. record { images = λ t c from to here. fixed told c (reads.crash t c from to here); reads = ap (λ (f : Files). f 0) (reads.contents told) }) made dry
+    (λ fine revealed. padded_kept v.ledger.shape (IsBlockIn v.ledger.shape v.heads.lattice.n) old.files new.files (reads.contents revealed))
+    (λ revealed. record { images = λ t c from to here. fixed revealed c (reads.crash t c from to here); reads = ap (λ (f : Files). f 0) (reads.contents revealed) }) made dry
 
 -- and then nothing is pending on the ledger
-pub fixed_read : (tells fault : Type 0) (old new : State) → tells → IsFixed old 0 → OnlyReads tells fault old new → IsFixed new 0
-fixed_read tells fault old new told fixed reads c here =
-    fixed c (reads.crash new.moment c reads.time.later (omega arith) here) ∙ sym (ap (λ (f : Files). f 0) (reads.contents told))
+pub fixed_read : (reveals fault : Type 0) (old new : State) → reveals → IsFixed old 0 → OnlyReads reveals fault old new → IsFixed new 0
+fixed_read reveals fault old new revealed fixed reads c here =
+    fixed c (reads.crash new.moment c reads.time.later (omega arith) here) ∙ sym (ap (λ (f : Files). f 0) (reads.contents revealed))
 
 -- cells of new nodes were written
-pub leaves_cells : HasOneReading → (tells : Type 0) (v w : Work) (message : Message) (old new : State) (fault : Type 0) → ClosesNone v message → (tells → IsFixed old 0)
-    → WritesCells tells v.ledger.shape raised_limit (IsBlockIn v.ledger.shape v.heads.lattice.n) fault old new
-    → ((fault → ⊥) → tells → KeepsPadded v.ledger.shape (IsBlockIn v.ledger.shape v.heads.lattice.n) old.files new.files)
-    → (made dry : Type 0) → Leaves tells v w message old new made fault dry
-leaves_cells one tells v w message old new fault none fixed cells padded made dry =
+pub leaves_cells : HasOneReading → (reveals : Type 0) (v w : Work) (message : Message) (old new : State) (fault : Type 0) → ClosesNone v message → (reveals → IsFixed old 0)
+    → WritesCells reveals v.ledger.shape raised_limit (IsBlockIn v.ledger.shape v.heads.lattice.n) fault old new
+    → ((fault → ⊥) → reveals → KeepsPadded v.ledger.shape (IsBlockIn v.ledger.shape v.heads.lattice.n) old.files new.files)
+    → (made dry : Type 0) → Leaves reveals v w message old new made fault dry
+leaves_cells one reveals v w message old new fault none fixed cells padded made dry =
     let blocks = IsBlockIn v.ledger.shape v.heads.lattice.n in
-    leaves_quiet one tells v w message old new fault none
-    (writes_wider tells (IsReady old) (FitsRows v.ledger.shape raised_limit old) (IsReady old) (HasTakeRoom v message old) fault
+    leaves_quiet one reveals v w message old new fault none
+    (writes_wider reveals (IsReady old) (FitsRows v.ledger.shape raised_limit old) (IsReady old) (HasTakeRoom v message old) fault
     (ChangesArchive v.ledger.shape raised_limit blocks (IsNoSite v.ledger.shape)) (ChangesArchive v.ledger.shape raised_limit blocks (IsBesides v.ledger.shape)) old new
     (λ c d step. changes_less v.ledger.shape raised_limit blocks blocks (IsNoSite v.ledger.shape) (IsBesides v.ledger.shape) c d (λ a is. is) (λ f past. inr past) step)
     (λ _ is. is) (λ _ room. rows_of v message old room) cells)
     padded
-    (λ told. record {
-      images = file_kept tells (IsReady old) (FitsRows v.ledger.shape raised_limit old) fault v.ledger.shape raised_limit blocks (IsNoSite v.ledger.shape) old new 0 (inl refl) cells (fixed told);
-      reads = (cells.contents told).stay 0 (inl refl);
+    (λ revealed. record {
+      images = file_kept reveals (IsReady old) (FitsRows v.ledger.shape raised_limit old) fault v.ledger.shape raised_limit blocks (IsNoSite v.ledger.shape) old new 0 (inl refl) cells (fixed revealed);
+      reads = (cells.contents revealed).stay 0 (inl refl);
     }) made dry
 
 -- and then nothing is pending on the ledger
-pub fixed_cells : (tells fault : Type 0) (v : Work) (old new : State) → tells → IsFixed old 0
-    → WritesCells tells v.ledger.shape raised_limit (IsBlockIn v.ledger.shape v.heads.lattice.n) fault old new → IsFixed new 0
-fixed_cells tells fault v old new told fixed cells =
-    fixed_kept tells (IsReady old) (FitsRows v.ledger.shape raised_limit old) fault v.ledger.shape raised_limit (IsBlockIn v.ledger.shape v.heads.lattice.n) (IsNoSite v.ledger.shape) old new 0 told (inl refl) cells fixed
+pub fixed_cells : (reveals fault : Type 0) (v : Work) (old new : State) → reveals → IsFixed old 0
+    → WritesCells reveals v.ledger.shape raised_limit (IsBlockIn v.ledger.shape v.heads.lattice.n) fault old new → IsFixed new 0
+fixed_cells reveals fault v old new revealed fixed cells =
+    fixed_kept reveals (IsReady old) (FitsRows v.ledger.shape raised_limit old) fault v.ledger.shape raised_limit (IsBlockIn v.ledger.shape v.heads.lattice.n) (IsNoSite v.ledger.shape) old new 0 revealed (inl refl) cells fixed

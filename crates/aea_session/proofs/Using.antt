@@ -12,7 +12,7 @@ use Rattle.aea_session.specs.Stands.{KeepsSomeMachine}
 use Rattle.aea_session.specs.Takes.{Moves}
 
 -- where a message was taken, the session keeps the next state, and its ledger may be appended to
-pub usable_after : (tells : Type 0) (v w : Work) (message : Message) (old new : State) (r : Result ℕ TakeFault) → KeepsSomeMachine v
-    → OnOk r (Moves tells v w message old new) → is_ok r ≡ true → KeepsSomeMachine w × (w.ledger.live ≡ true)
-usable_after tells v w message old new (Ok code) some moves is = (((step v.ledger.shape some.0 message).state, moves.keeps some.0 some.1), moves.live)
-usable_after tells v w message old new (Err fault) some moves is = absurd (false≢true is)
+pub usable_after : (reveals : Type 0) (v w : Work) (message : Message) (old new : State) (r : Result ℕ TakeFault) → KeepsSomeMachine v
+    → OnOk r (Moves reveals v w message old new) → is_ok r ≡ true → KeepsSomeMachine w × (w.ledger.live ≡ true)
+usable_after reveals v w message old new (Ok code) some moves is = (((step v.ledger.shape some.0 message).state, moves.keeps some.0 some.1), moves.live)
+usable_after reveals v w message old new (Err fault) some moves is = absurd (false≢true is)

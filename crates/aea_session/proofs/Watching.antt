@@ -56,16 +56,16 @@ patrol_looks message first count kind = record {
 -- ---- where it was taken
 
 -- the session keeps the state, which is the next one
-moves_looked : LooksKeep → (tells fault : Type 0) (v w : Work) (message : Message) (old new : State) → OnlyLooks message → v.ledger.live ≡ true
-    → (tells → IsTheSessions v old.files) → (tells → IsFixed old 0) → KeepsAllButCell v w → OnlyReads tells fault old new → Moves tells v w message old new
-moves_looked keep tells fault v w message old new looks live this fixed same reads = record {
+moves_looked : LooksKeep → (reveals fault : Type 0) (v w : Work) (message : Message) (old new : State) → OnlyLooks message → v.ledger.live ≡ true
+    → (reveals → IsTheSessions v old.files) → (reveals → IsFixed old 0) → KeepsAllButCell v w → OnlyReads reveals fault old new → Moves reveals v w message old new
+moves_looked keep reveals fault v w message old new looks live this fixed same reads = record {
   keeps = λ m kept. subst (KeepsMachine w) (sym (looks.stays v.ledger.shape m)) ((keep v w same).0 m kept);
   stands = λ m kept stood. subst (StandsFor w) (sym (looks.stays v.ledger.shape m)) ((keep v w same).1 m stood);
   shape = ap (λ (l : Opened). l.shape) same.ledger;
   live = ap (λ (l : Opened). l.live) same.ledger ∙ live;
   goes = goes_same v w message same.ledger (λ m kept. looks.none v.ledger.shape m);
-  this = λ told. subst (IsTheSessions w) (sym (reads.contents told)) ((keep v w same).2 old.files (this told));
-  fixed = λ told. fixed_read tells fault old new told (fixed told) reads;
+  this = λ revealed. subst (IsTheSessions w) (sym (reads.contents revealed)) ((keep v w same).2 old.files (this revealed));
+  fixed = λ revealed. fixed_read reveals fault old new revealed (fixed revealed) reads;
 }
 
 -- ---- whatever the result
@@ -83,13 +83,13 @@ part_of result v P Q may so all =
     (λ fault is m kept. elim (is m kept) [ inl none ↦ inl (so none) | inr some ↦ inr some ]) all
 
 -- what a look ensures, of the session, the disk and the output before and after it
-pub record Looked (tells : Type 0) (v w : Work) (message : Message) (old new : State) (before after : SinkState) (untouched : Type 0) (result : Result ℕ TakeFault) : Type 0 where
+pub record Looked (reveals : Type 0) (v w : Work) (message : Message) (old new : State) (before after : SinkState) (untouched : Type 0) (result : Result ℕ TakeFault) : Type 0 where
   pub same : KeepsAllButCell v w
-  pub replies : IfOk result (λ code. (m : Machine) → KeepsMachine v m → Replies (IsReplyTo tells v.ledger m old.files message code) before after)
+  pub replies : IfOk result (λ code. (m : Machine) → KeepsMachine v m → Replies (IsReplyTo reveals v.ledger m old.files message code) before after)
   pub flushed : OnOk result (IsFlushed after)
-  pub part : IfErr result (λ fault. (m : Machine) → KeepsMachine v m → untouched ⊎ RepliesPart (MayBegin tells v.ledger m old.files message) before after)
-  pub damaged : (b : BlockId) → result ≡ Err (Damaged b) → IsRead v message b × (tells → ⊥)
-  pub reads : OnlyReads tells (result ≡ Err DiskFault) old new
+  pub part : IfErr result (λ fault. (m : Machine) → KeepsMachine v m → untouched ⊎ RepliesPart (MayBegin reveals v.ledger m old.files message) before after)
+  pub damaged : (b : BlockId) → result ≡ Err (Damaged b) → IsRead v message b × (reveals → ⊥)
+  pub reads : OnlyReads reveals (result ≡ Err DiskFault) old new
   pub out_kept : before.faults ≤ after.faults
   pub out_cause : result ≡ Err WriteFault → Rose before.faults after.faults
   pub out_still : result ≢ Err WriteFault → after.faults ≡ before.faults
@@ -97,18 +97,18 @@ pub record Looked (tells : Type 0) (v w : Work) (message : Message) (old new : S
       → (result ≢ Err WriteFault) × (after.faults ≡ before.faults)
 
 -- the message was taken
-pub takes_looked : HasOneReading → HomesAreOnItsSites → LooksKeep → (tells : Type 0) (v w : Work) (message : Message) (old new : State) (before after : SinkState) (untouched : Type 0) (result : Result ℕ TakeFault)
-    → OnlyLooks message → v.ledger.live ≡ true → (tells → IsTheSessions v old.files) → (tells → IsFixed old 0) → (untouched → after ≡ before)
-    → Looked tells v w message old new before after untouched result → Takes tells v w message old new before after result
-takes_looked one sites keep tells v w message old new before after untouched result looks live this fixed so looked = record {
-  moves = on_any result (Moves tells v w message old new) (moves_looked keep tells (result ≡ Err DiskFault) v w message old new looks live this fixed looked.same looked.reads);
+pub takes_looked : HasOneReading → HomesAreOnItsSites → LooksKeep → (reveals : Type 0) (v w : Work) (message : Message) (old new : State) (before after : SinkState) (untouched : Type 0) (result : Result ℕ TakeFault)
+    → OnlyLooks message → v.ledger.live ≡ true → (reveals → IsTheSessions v old.files) → (reveals → IsFixed old 0) → (untouched → after ≡ before)
+    → Looked reveals v w message old new before after untouched result → Takes reveals v w message old new before after result
+takes_looked one sites keep reveals v w message old new before after untouched result looks live this fixed so looked = record {
+  moves = on_any result (Moves reveals v w message old new) (moves_looked keep reveals (result ≡ Err DiskFault) v w message old new looks live this fixed looked.same looked.reads);
   replies = looked.replies;
-  part = part_of result v untouched (after ≡ before) (λ m. RepliesPart (MayBegin tells v.ledger m old.files message) before after) so looked.part;
+  part = part_of result v untouched (after ≡ before) (λ m. RepliesPart (MayBegin reveals v.ledger m old.files message) before after) so looked.part;
   flushed = looked.flushed;
-  leaves = leaves_read one sites tells v w message old new (result ≡ Err DiskFault) (λ m kept. looks.none v.ledger.shape m) fixed looked.reads _ _;
+  leaves = leaves_read one sites reveals v w message old new (result ≡ Err DiskFault) (λ m kept. looks.none v.ledger.shape m) fixed looked.reads _ _;
   damaged = looked.damaged;
   out_kept = looked.out_kept;
   out_cause = looked.out_cause;
   out_still = looked.out_still;
-  in_room = λ room told m kept enough. (looked.in_room m room kept told enough).0;
+  in_room = λ room revealed m kept enough. (looked.in_room m room kept revealed enough).0;
 }

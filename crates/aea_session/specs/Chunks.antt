@@ -24,11 +24,11 @@ IsDecided shape m slot bytes (Some refusal) = step shape m (Chunk slot bytes) �
 
 -- The bytes joined what the slot keeps, the blocks that they filled were woven, and the session has the digests of their nodes
 -- after the others.
-pub record AddsChunk (tells : Type 0) (v w : Work) (slot : ℕ) (bytes : List ℕ) (old new : Files) : Type 0 where
+pub record AddsChunk (reveals : Type 0) (v w : Work) (slot : ℕ) (bytes : List ℕ) (old new : Files) : Type 0 where
   pub before : Slot
   pub after : Slot
   pub was : slice_index_or v.slots slot None ≡ Some before
   pub slots : w.slots ≡ slice_set v.slots slot (Some after)
-  pub gathers : Gathers tells v.ledger.shape bytes v.heads w.heads before after v.digests.items w.digests.items old new
+  pub gathers : Gathers reveals v.ledger.shape bytes v.heads w.heads before after v.digests.items w.digests.items old new
   pub counted : length w.digests.items ≡ length v.digests.items + (w.heads.lattice.n - v.heads.lattice.n) * (1 + v.ledger.shape.alpha)
   pub cell : length w.cell.items ≡ length v.cell.items

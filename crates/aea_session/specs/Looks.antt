@@ -13,7 +13,7 @@ use Rattle.aea_archive.specs.Objects.{data_of, ArePayloads, joined, IsFront}
 use Rattle.aea_fetch.specs.Payloads.{IsPayload}
 use Rattle.aea_messages.specs.declared.message.Message.{Message}
 use Rattle.aea_machine.specs.Machine.{Machine, Answer, Reads, Patrols, greatest_patrol, step}
-use Rattle.aea_machine.specs.Replies.{reply, body_of, object_body, TellsRange, IsObjectReply, IsRangeReply, IsReply}
+use Rattle.aea_machine.specs.Replies.{reply, body_of, object_body, RevealsRange, IsObjectReply, IsRangeReply, IsReply}
 use Rattle.aea_session.specs.declared.work.Work.{Work}
 use Rattle.aea_session.specs.Stands.{KeepsMachine, StandsFor, IsTheSessions}
 
@@ -48,49 +48,49 @@ pub record HasSentBehind (has : BlockId → List ℕ → Type 0) (blocks : List 
 
 -- the reply is that of the object, read from its cells
 abbrev pub IsReplyOfObject : Type 0 → Opened → Files → Message → Placed → ℕ → List ℕ → Type 0
-IsReplyOfObject tells v c message placed code bytes = IsObjectReply tells (IsPayload tells v.shape v.digests c) v.shape v.digests c message placed code bytes
+IsReplyOfObject reveals v c message placed code bytes = IsObjectReply reveals (IsPayload reveals v.shape v.digests c) v.shape v.digests c message placed code bytes
 
 -- The bytes begin the reply of an object all of whose data blocks are intact: its code, its length, and its first bytes, of
 -- payloads of some first ones of its data blocks.
-pub record BeginsObject (tells : Type 0) (v : Opened) (c : Files) (message : Message) (placed : Placed) (bytes : List ℕ) : Type 0 where
+pub record BeginsObject (reveals : Type 0) (v : Opened) (c : Files) (message : Message) (placed : Placed) (bytes : List ℕ) : Type 0 where
   pub front : List BlockId
   pub is_front : IsFront front (data_of placed.parts)
   pub payloads : List (List ℕ)
-  pub are : ArePayloads (IsPayload tells v.shape v.digests c) front payloads
-  pub intact : tells → All (IsIntactBy v.shape v.digests c) (data_of placed.parts)
+  pub are : ArePayloads (IsPayload reveals v.shape v.digests c) front payloads
+  pub intact : reveals → All (IsIntactBy v.shape v.digests c) (data_of placed.parts)
   pub bytes_are : bytes ≡ reply message 0 (object_body placed.object.length (take placed.object.length (joined payloads)))
 
 -- they are the reply of an object, or begin it
 abbrev pub MayBeginObject : Type 0 → Opened → Files → Message → Placed → List ℕ → Type 0
-MayBeginObject tells v c message placed bytes = ((code : ℕ) × IsReplyOfObject tells v c message placed code bytes) ⊎ BeginsObject tells v c message placed bytes
+MayBeginObject reveals v c message placed bytes = ((code : ℕ) × IsReplyOfObject reveals v c message placed code bytes) ⊎ BeginsObject reveals v c message placed bytes
 
 -- whether the archive has a range of so many blocks from this number on, and it is neither empty nor too long
 abbrev pub has_range : Opened → ℕ → ℕ → Bool
 has_range v first count = nat_le 1 count && nat_le count greatest_patrol && nat_le (first + count) (v.lattice.n * (1 + v.shape.alpha))
 
 -- The numbers are those of the blocks of a range that are not intact, in order, by a test of the range's blocks.
-pub record AreDamaged (tells : Type 0) (v : Opened) (c : Files) (first count : ℕ) (numbers : List ℕ) : Type 0 where
+pub record AreDamaged (reveals : Type 0) (v : Opened) (c : Files) (first count : ℕ) (numbers : List ℕ) : Type 0 where
   pub intact : ℕ → Bool
-  pub by : tells → TellsRange v.shape v.lattice.n v.digests c first count intact
+  pub by : reveals → RevealsRange v.shape v.lattice.n v.digests c first count intact
   pub are : numbers ≡ filter (λ k. not (intact k)) (range_with_len first count)
 
 -- the reply is that of the range
 abbrev pub IsReplyOfRange : Type 0 → Opened → Files → Message → ℕ → ℕ → ℕ → List ℕ → Type 0
-IsReplyOfRange tells v c message first count code bytes = IsRangeReply tells v.shape v.lattice.n v.digests c message first count code bytes
+IsReplyOfRange reveals v c message first count code bytes = IsRangeReply reveals v.shape v.lattice.n v.digests c message first count code bytes
 
 -- ---- replies of a session
 
 -- The bytes are a reply with this code to the message, in this state of the machine: where the machine asks for an object or a
 -- range, of what stands in the files.
 abbrev pub IsReplyTo : Type 0 → Opened → Machine → Files → Message → ℕ → List ℕ → Type 0
-IsReplyTo tells v m c message code bytes =
-    IsReply tells (IsPayload tells v.shape v.digests c) v.shape (length m.datas) v.digests c message (step v.shape m message).answer code bytes
+IsReplyTo reveals v m c message code bytes =
+    IsReply reveals (IsPayload reveals v.shape v.digests c) v.shape (length m.datas) v.digests c message (step v.shape m message).answer code bytes
 
 -- they are such a reply, or begin that of an object
 abbrev pub MayBegin : Type 0 → Opened → Machine → Files → Message → List ℕ → Type 0
-MayBegin tells v m c message bytes =
-    ((code : ℕ) × IsReplyTo tells v m c message code bytes)
-    ⊎ ((placed : Placed) × ((step v.shape m message).answer ≡ Reads placed) × BeginsObject tells v c message placed bytes)
+MayBegin reveals v m c message bytes =
+    ((code : ℕ) × IsReplyTo reveals v m c message code bytes)
+    ⊎ ((placed : Placed) × ((step v.shape m message).answer ≡ Reads placed) × BeginsObject reveals v c message placed bytes)
 
 -- such bytes were appended, and taken from the sink's space
 abbrev pub Replies : (List ℕ → Type 0) → SinkState → SinkState → Type 0

@@ -21,19 +21,19 @@ greatest_messages = 16777216
 
 -- A message was taken, with this code and reply, where the machine was in the state m: the reply is one of these files, and the
 -- session and the disk moved by the step.
-pub record Answers (tells : Type 0) (m : Machine) (v w : Work) (message : Message) (old new : State) (code : ℕ) (reply : List ℕ) : Type 0 where
-  pub is_reply : IsReplyTo tells v.ledger m old.files message code reply
-  pub moves : Moves tells v w message old new
-  pub leaves : Leaves tells v w message old new (Unit {0}) ⊥ ⊥
+pub record Answers (reveals : Type 0) (m : Machine) (v w : Work) (message : Message) (old new : State) (code : ℕ) (reply : List ℕ) : Type 0 where
+  pub is_reply : IsReplyTo reveals v.ledger m old.files message code reply
+  pub moves : Moves reveals v w message old new
+  pub leaves : Leaves reveals v w message old new (Unit {0}) ⊥ ⊥
 
 -- Messages were taken one after the other, with these replies, joined; `state` is the state of a disk. The machine begins in the
 -- state m, and each message is taken where the one before it has left the session, the disk and the machine.
 abbrev pub HasServed : Type 0 → {D : Type 0} → (D → State) → Machine → Work → D → List Message → List ℕ → Work → D → Type 0
-HasServed tells state m v d [] bytes w e = (w ≡ v) × (e ≡ d) × (bytes ≡ [])
-HasServed tells {D} state m v d (message ∷ messages) bytes w e =
+HasServed reveals state m v d [] bytes w e = (w ≡ v) × (e ≡ d) × (bytes ≡ [])
+HasServed reveals {D} state m v d (message ∷ messages) bytes w e =
     (u : Work) × (f : D) × (code : ℕ) × (reply : List ℕ) × (rest : List ℕ)
-    × Answers tells m v u message (state d) (state f) code reply × (bytes ≡ reply ++ rest)
-    × HasServed tells state (step v.ledger.shape m message).state u f messages rest w e
+    × Answers reveals m v u message (state d) (state f) code reply × (bytes ≡ reply ++ rest)
+    × HasServed reveals state (step v.ledger.shape m message).state u f messages rest w e
 
 -- what is taken for the next message, where so many were taken
 abbrev pub ReadsNext : Option (List ℕ) → Option (List ℕ) → ℕ → ℕ → ℕ → Result (Option Message) Stop → Type 0
@@ -58,14 +58,14 @@ TailOf rest start count tail (Err (stop.Taken fault)) = (message : Message) × I
 
 -- What came after the messages that were taken: where the next one was not taken, what that call left; else nothing.
 abbrev pub EndsThere : Type 0 → {D : Type 0} → (D → State) → Work → Work → D → D → List ℕ → SinkState → SinkState → Result (Unit {0}) Stop → Type 0
-EndsThere tells state v w d e tail before after (Err (stop.Taken fault)) =
-    (message : Message) × IsMessage message × (tail ≡ spelled message) × Takes tells v w message (state d) (state e) before after (Err fault)
-EndsThere tells state v w d e tail before after result = (w ≡ v) × (e ≡ d) × (after ≡ before)
+EndsThere reveals state v w d e tail before after (Err (stop.Taken fault)) =
+    (message : Message) × IsMessage message × (tail ≡ spelled message) × Takes reveals v w message (state d) (state e) before after (Err fault)
+EndsThere reveals state v w d e tail before after result = (w ≡ v) × (e ≡ d) × (after ≡ before)
 
 -- Of a run over a stream, with the session, the disk, the stream and the output before and after it: the messages that were taken,
 -- what was taken of the stream after them, and, in whatever state the session kept its machine, their replies. Where a message was
 -- not taken, what it left comes after these.
-pub record ServesAll (tells : Type 0) {D : Type 0} (state : D → State) (v w : Work) (d e : D) (left rest : Option (List ℕ)) (before after : SinkState) (result : Result (Unit {0}) Stop) : Type 0 where
+pub record ServesAll (reveals : Type 0) {D : Type 0} (state : D → State) (v w : Work) (d e : D) (left rest : Option (List ℕ)) (before after : SinkState) (result : Result (Unit {0}) Stop) : Type 0 where
   pub handled : List Message
   pub are : AreMessages handled
   pub most : length handled ≤ greatest_messages
@@ -76,7 +76,7 @@ pub record ServesAll (tells : Type 0) {D : Type 0} (state : D → State) (v w : 
   pub here : Work
   pub there : D
   pub mid : SinkState
-  pub served : (m : Machine) → KeepsMachine v m → (bytes : List ℕ) × HasServed tells state m v d handled bytes here there × Appends before.written mid.written bytes × TakesSpace before mid (length bytes)
+  pub served : (m : Machine) → KeepsMachine v m → (bytes : List ℕ) × HasServed reveals state m v d handled bytes here there × Appends before.written mid.written bytes × TakesSpace before mid (length bytes)
   -- each reply was flushed
   pub flushed : ((handled ≡ []) × (mid ≡ before)) ⊎ IsFlushed mid
-  pub last : EndsThere tells state here w there e tail mid after result
+  pub last : EndsThere reveals state here w there e tail mid after result

@@ -36,7 +36,7 @@ IsRead v (Read name) b = IsOneOf (data_under (get v.ledger.objects name)) b
 IsRead v message b = ⊥
 
 -- Where a message was taken: the session, and the disk, before and after it.
-pub record Moves (tells : Type 0) (v w : Work) (message : Message) (old new : State) : Type 0 where
+pub record Moves (reveals : Type 0) (v w : Work) (message : Message) (old new : State) : Type 0 where
   -- the step of the machine, in whatever state the session kept it
   pub keeps : (m : Machine) → KeepsMachine v m → KeepsMachine w (step v.ledger.shape m message).state
   pub stands : (m : Machine) → KeepsMachine v m → StandsFor v m → StandsFor w (step v.ledger.shape m message).state
@@ -45,32 +45,32 @@ pub record Moves (tells : Type 0) (v w : Work) (message : Message) (old new : St
   -- the records of the ledger, whatever the disk
   pub goes : (m : Machine) → KeepsMachine v m → (records : List Record) → HasRecords v.ledger records → GoesOn v.ledger w.ledger (closing_in v.ledger.shape m message) records
   -- the disk is the session's again, and nothing is pending on its ledger
-  pub this : tells → IsTheSessions w new.files
-  pub fixed : tells → IsFixed new 0
+  pub this : reveals → IsTheSessions w new.files
+  pub fixed : reveals → IsFixed new 0
 
 -- What a message leaves of the disk, whatever became of it: where it was made, where the disk is at fault, and where memory ran out.
-pub record Leaves (tells : Type 0) (v w : Work) (message : Message) (old new : State) (made fault dry : Type 0) : Type 0 where
+pub record Leaves (reveals : Type 0) (v w : Work) (message : Message) (old new : State) (made fault dry : Type 0) : Type 0 where
   -- the ledger: as it was, or with the record of the close; after a close that was made, with it
-  pub ledger : tells → (m : Machine) → KeepsMachine v m → MayHaveClosed v m (closing_in v.ledger.shape m message) old new
-  pub closed : made → tells → (m : Machine) (c : Closing) → KeepsMachine v m → closing_in v.ledger.shape m message ≡ c ∷ [] → HasClosed v w m (c ∷ []) old new
+  pub ledger : reveals → (m : Machine) → KeepsMachine v m → MayHaveClosed v m (closing_in v.ledger.shape m message) old new
+  pub closed : made → reveals → (m : Machine) (c : Closing) → KeepsMachine v m → closing_in v.ledger.shape m message ≡ c ∷ [] → HasClosed v w m (c ∷ []) old new
   -- no want of memory from the first write of the record on
-  pub quiet : dry → tells → LeavesLedger old new
+  pub quiet : dry → reveals → LeavesLedger old new
   -- the blocks of X and W stay, and so do the files that are not the archive's, at each moment; and when the disk is at fault
-  pub writes : OnlyWrites tells (IsReady old) (HasTakeRoom v message old) fault
+  pub writes : OnlyWrites reveals (IsReady old) (HasTakeRoom v message old) fault
       (ChangesArchive v.ledger.shape raised_limit (IsBlockIn v.ledger.shape v.heads.lattice.n) (IsBesides v.ledger.shape)) old new
-  pub padded : (fault → ⊥) → tells → KeepsPadded v.ledger.shape (IsBlockIn v.ledger.shape v.heads.lattice.n) old.files new.files
+  pub padded : (fault → ⊥) → reveals → KeepsPadded v.ledger.shape (IsBlockIn v.ledger.shape v.heads.lattice.n) old.files new.files
 
 -- Of a message that the session took, whatever the result: the session, the disk and the output before and after it.
-pub record Takes (tells : Type 0) (v w : Work) (message : Message) (old new : State) (before after : SinkState) (result : Result ℕ TakeFault) : Type 0 where
-  pub moves : OnOk result (Moves tells v w message old new)
+pub record Takes (reveals : Type 0) (v w : Work) (message : Message) (old new : State) (before after : SinkState) (result : Result ℕ TakeFault) : Type 0 where
+  pub moves : OnOk result (Moves reveals v w message old new)
   -- the reply; where there is a fault nothing, or a part of one
-  pub replies : IfOk result (λ code. (m : Machine) → KeepsMachine v m → Replies (IsReplyTo tells v.ledger m old.files message code) before after)
-  pub part : IfErr result (λ fault. (m : Machine) → KeepsMachine v m → (after ≡ before) ⊎ RepliesPart (MayBegin tells v.ledger m old.files message) before after)
+  pub replies : IfOk result (λ code. (m : Machine) → KeepsMachine v m → Replies (IsReplyTo reveals v.ledger m old.files message code) before after)
+  pub part : IfErr result (λ fault. (m : Machine) → KeepsMachine v m → (after ≡ before) ⊎ RepliesPart (MayBegin reveals v.ledger m old.files message) before after)
   pub flushed : OnOk result (IsFlushed after)
   -- what is left of the disk; a close whose reply failed was made
-  pub leaves : Leaves tells v w message old new (IsOk result ⊎ (result ≡ Err WriteFault)) (result ≡ Err DiskFault) (result ≡ Err NoMemory)
+  pub leaves : Leaves reveals v w message old new (IsOk result ⊎ (result ≡ Err WriteFault)) (result ≡ Err DiskFault) (result ≡ Err NoMemory)
   -- only a block of an object that is read, and never where the disk's contents are known, is intact and then damaged
-  pub damaged : (b : BlockId) → result ≡ Err (Damaged b) → IsRead v message b × (tells → ⊥)
+  pub damaged : (b : BlockId) → result ≡ Err (Damaged b) → IsRead v message b × (reveals → ⊥)
   -- when the output is at fault: not where there is space for the reply to some state that the session keeps
   pub out_kept : before.faults ≤ after.faults
   pub out_cause : result ≡ Err WriteFault → Rose before.faults after.faults

@@ -9,30 +9,30 @@ use Rattle.aea_session.specs.Serving.{HasServed}
 
 -- What a session is after these messages, which kept the state m of the machine before them: it keeps the state after them, stands
 -- for it where it stood for m, and is as fit for use as it was.
-pub record IsAfter (tells : Type 0) (m : Machine) (v w : Work) (messages : List Message) (old new : State) : Type 0 where
+pub record IsAfter (reveals : Type 0) (m : Machine) (v w : Work) (messages : List Message) (old new : State) : Type 0 where
   pub keeps : KeepsMachine w (after v.ledger.shape m messages)
   pub stands : StandsFor v m → StandsFor w (after v.ledger.shape m messages)
   pub shape : w.ledger.shape ≡ v.ledger.shape
   pub live : v.ledger.live ≡ true → w.ledger.live ≡ true
-  pub this : (tells → IsTheSessions v old.files) → tells → IsTheSessions w new.files
-  pub fixed : (tells → IsFixed old 0) → tells → IsFixed new 0
+  pub this : (reveals → IsTheSessions v old.files) → reveals → IsTheSessions w new.files
+  pub fixed : (reveals → IsFixed old 0) → reveals → IsFixed new 0
 
 -- So it is after messages that were taken, whatever the replies.
 abbrev pub ServedAreAfter : Type 0 → {D : Type 0} → (D → State) → Type 0
-ServedAreAfter tells {D} state =
-    (m : Machine) (v w : Work) (d e : D) (messages : List Message) (bytes : List ℕ) → KeepsMachine v m → HasServed tells state m v d messages bytes w e
-    → IsAfter tells m v w messages (state d) (state e)
+ServedAreAfter reveals {D} state =
+    (m : Machine) (v w : Work) (d e : D) (messages : List Message) (bytes : List ℕ) → KeepsMachine v m → HasServed reveals state m v d messages bytes w e
+    → IsAfter reveals m v w messages (state d) (state e)
 
 -- Where two lists of messages, joined, were taken, the first one was, and then the second, in the state of the machine after it.
 abbrev pub ServedInTwo : Type 0 → {D : Type 0} → (D → State) → Type 0
-ServedInTwo tells {D} state =
-    (m : Machine) (v w : Work) (d e : D) (early late : List Message) (bytes : List ℕ) → HasServed tells state m v d (early ++ late) bytes w e
+ServedInTwo reveals {D} state =
+    (m : Machine) (v w : Work) (d e : D) (early late : List Message) (bytes : List ℕ) → HasServed reveals state m v d (early ++ late) bytes w e
     → (u : Work) × (f : D) × (first : List ℕ) × (second : List ℕ) × (bytes ≡ first ++ second)
-    × HasServed tells state m v d early first u f × HasServed tells state (after v.ledger.shape m early) u f late second w e
+    × HasServed reveals state m v d early first u f × HasServed reveals state (after v.ledger.shape m early) u f late second w e
 
 -- And two that were taken one after the other, joined, were taken.
 abbrev pub ServedAsOne : Type 0 → {D : Type 0} → (D → State) → Type 0
-ServedAsOne tells {D} state =
+ServedAsOne reveals {D} state =
     (m : Machine) (v u w : Work) (d f e : D) (early late : List Message) (first second : List ℕ)
-    → HasServed tells state m v d early first u f → HasServed tells state (after v.ledger.shape m early) u f late second w e
-    → HasServed tells state m v d (early ++ late) (first ++ second) w e
+    → HasServed reveals state m v d early first u f → HasServed reveals state (after v.ledger.shape m early) u f late second w e
+    → HasServed reveals state m v d (early ++ late) (first ++ second) w e

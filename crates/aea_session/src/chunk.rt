@@ -76,10 +76,10 @@ fn gather_counted<D: Disk>(
     requires fits { heads.old.lattice.n * shape.now.block + slot.old.have + length bytes.now < (greatest_nodes + 1) * shape.now.block }
     requires small { slot.old.length + length bytes.now < 2 ^ 64 }
     requires buffer { length cell.old ≡ cell_size shape.now }
-    ensures gathers { OnOk result (Gathers D.tells shape.now bytes.now heads.old heads.new slot.old slot.new digests.old.items digests.new.items (D.state disk.old).files (D.state disk.new).files) }
+    ensures gathers { OnOk result (Gathers D.reveals shape.now bytes.now heads.old heads.new slot.old slot.new digests.old.items digests.new.items (D.state disk.old).files (D.state disk.new).files) }
     ensures counted { OnOk result (length digests.new.items ≡ length digests.old.items + (heads.new.lattice.n - heads.old.lattice.n) * (1 + shape.now.alpha)) }
-    ensures writes { WritesCells D.tells shape.now raised_limit (IsBlockIn shape.now heads.old.lattice.n) (result ≡ Err PutFault.DiskFault) (D.state disk.old) (D.state disk.new) }
-    ensures padded { result ≢ Err PutFault.DiskFault → D.tells → KeepsPadded shape.now (IsBlockIn shape.now heads.old.lattice.n) (D.state disk.old).files (D.state disk.new).files }
+    ensures writes { WritesCells D.reveals shape.now raised_limit (IsBlockIn shape.now heads.old.lattice.n) (result ≡ Err PutFault.DiskFault) (D.state disk.old) (D.state disk.new) }
+    ensures padded { result ≢ Err PutFault.DiskFault → D.reveals → KeepsPadded shape.now (IsBlockIn shape.now heads.old.lattice.n) (D.state disk.old).files (D.state disk.new).files }
     ensures faults { IfErr result IsStopping }
 {
     longer_data_keep_values();
@@ -114,10 +114,10 @@ fn join_bytes<D: Disk>(
 ) -> Result<(), StepFault>
     requires keeps { KeepsSomeMachine work.old }
     requires takes { (m : Machine) → KeepsMachine work.old m → TakesChunk work.old.ledger.shape m slot bytes.now }
-    ensures adds { OnOk result (AddsChunk D.tells work.old work.new slot bytes.now (D.state disk.old).files (D.state disk.new).files) }
+    ensures adds { OnOk result (AddsChunk D.reveals work.old work.new slot bytes.now (D.state disk.old).files (D.state disk.new).files) }
     ensures ledger { work.new.ledger ≡ work.old.ledger }
-    ensures writes { WritesCells D.tells work.old.ledger.shape raised_limit (IsBlockIn work.old.ledger.shape work.old.heads.lattice.n) (result ≡ Err StepFault.DiskFault) (D.state disk.old) (D.state disk.new) }
-    ensures padded { result ≢ Err StepFault.DiskFault → D.tells → KeepsPadded work.old.ledger.shape (IsBlockIn work.old.ledger.shape work.old.heads.lattice.n) (D.state disk.old).files (D.state disk.new).files }
+    ensures writes { WritesCells D.reveals work.old.ledger.shape raised_limit (IsBlockIn work.old.ledger.shape work.old.heads.lattice.n) (result ≡ Err StepFault.DiskFault) (D.state disk.old) (D.state disk.new) }
+    ensures padded { result ≢ Err StepFault.DiskFault → D.reveals → KeepsPadded work.old.ledger.shape (IsBlockIn work.old.ledger.shape work.old.heads.lattice.n) (D.state disk.old).files (D.state disk.new).files }
 {
     filled_are_counted();
     let shape = work.ledger.shape();
@@ -158,9 +158,9 @@ pub fn add_chunk<D: Disk>(
     ensures refused { (refusal : Refusal) → result ≡ Ok (Err refusal) → (work.new ≡ work.old) × (disk.new ≡ disk.old) }
 
     // The disk is the session's where it was, and cells of new nodes alone are written.
-    ensures this { OnOk result (D.tells → IsTheSessions work.old (D.state disk.old).files → IsTheSessions work.new (D.state disk.new).files) }
-    ensures writes { WritesCells D.tells work.old.ledger.shape raised_limit (IsBlockIn work.old.ledger.shape work.old.heads.lattice.n) (result ≡ Err StepFault.DiskFault) (D.state disk.old) (D.state disk.new) }
-    ensures padded { result ≢ Err StepFault.DiskFault → D.tells → KeepsPadded work.old.ledger.shape (IsBlockIn work.old.ledger.shape work.old.heads.lattice.n) (D.state disk.old).files (D.state disk.new).files }
+    ensures this { OnOk result (D.reveals → IsTheSessions work.old (D.state disk.old).files → IsTheSessions work.new (D.state disk.new).files) }
+    ensures writes { WritesCells D.reveals work.old.ledger.shape raised_limit (IsBlockIn work.old.ledger.shape work.old.heads.lattice.n) (result ≡ Err StepFault.DiskFault) (D.state disk.old) (D.state disk.new) }
+    ensures padded { result ≢ Err StepFault.DiskFault → D.reveals → KeepsPadded work.old.ledger.shape (IsBlockIn work.old.ledger.shape work.old.heads.lattice.n) (D.state disk.old).files (D.state disk.new).files }
 {
     filled_are_the_machines();
     kept_with_more();

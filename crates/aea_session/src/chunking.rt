@@ -27,10 +27,10 @@ pub(crate) fn take_chunk<D: Disk, O: Sink>(
 ) -> Result<u8, TakeFault>
     requires keeps { KeepsSomeMachine work.old }
     requires live { work.old.ledger.live ≡ true }
-    requires this { D.tells → IsTheSessions work.old (D.state disk.old).files }
-    requires fixed { D.tells → IsFixed (D.state disk.old) 0 }
+    requires this { D.reveals → IsTheSessions work.old (D.state disk.old).files }
+    requires fixed { D.reveals → IsFixed (D.state disk.old) 0 }
     requires kind { message.now ≡ Chunk slot bytes.now }
-    ensures takes { Takes D.tells work.old work.new message.now (D.state disk.old) (D.state disk.new) (O.state out.old) (O.state out.new) result }
+    ensures takes { Takes D.reveals work.old work.new message.now (D.state disk.old) (D.state disk.new) (O.state out.old) (O.state out.new) result }
 {
     ledgers_have_one_reading();
     let made = match add_chunk(disk, work, slot, bytes) {

@@ -97,10 +97,10 @@ fn weave_rest<D: Disk>(
     requires keeps { KeepsSome shape.now heads.old.lattice.n slot.old }
     requires fits { 1 ≤ slot.old.have → heads.old.lattice.n + 1 ≤ raised_limit }
     requires buffer { length cell.old.items ≡ cell_size shape.now }
-    ensures finishes { OnOk result (Finishes D.tells shape.now heads.old heads.new slot.old slot.new digests.old.items digests.new.items (D.state disk.old).files (D.state disk.new).files) }
+    ensures finishes { OnOk result (Finishes D.reveals shape.now heads.old heads.new slot.old slot.new digests.old.items digests.new.items (D.state disk.old).files (D.state disk.new).files) }
     ensures cell { length cell.new.items ≡ length cell.old.items }
-    ensures writes { WritesCells D.tells shape.now raised_limit (λ a. a.node ≢ heads.old.lattice.n + 1) (result ≡ Err StepFault.DiskFault) (D.state disk.old) (D.state disk.new) }
-    ensures padded { result ≢ Err StepFault.DiskFault → D.tells → KeepsPadded shape.now (λ a. a.node ≢ heads.old.lattice.n + 1) (D.state disk.old).files (D.state disk.new).files }
+    ensures writes { WritesCells D.reveals shape.now raised_limit (λ a. a.node ≢ heads.old.lattice.n + 1) (result ≡ Err StepFault.DiskFault) (D.state disk.old) (D.state disk.new) }
+    ensures padded { result ≢ Err StepFault.DiskFault → D.reveals → KeepsPadded shape.now (λ a. a.node ≢ heads.old.lattice.n + 1) (D.state disk.old).files (D.state disk.new).files }
 {
     match finish_rest(disk, shape, heads, digests, slot, cell.as_mut_slice()) {
         Ok(()) => Ok(()),
@@ -148,18 +148,18 @@ fn close_open<D: Disk>(disk: &mut D, work: &mut Work, slot: u8) -> Result<Stored
     requires keeps { KeepsSomeMachine work.old }
     requires may { MayClose work.old slot }
     requires live { work.old.ledger.live ≡ true }
-    requires this { D.tells → IsTheSessions work.old (D.state disk.old).files }
-    requires fixed { D.tells → IsFixed (D.state disk.old) 0 }
+    requires this { D.reveals → IsTheSessions work.old (D.state disk.old).files }
+    requires fixed { D.reveals → IsFixed (D.state disk.old) 0 }
     ensures steps { IfOk result (λ stored. MakesStep closed_by work.old work.new (Close slot) (Ok stored)) }
     ensures goes { OnOk result ((m : Machine) → KeepsMachine work.old m → (records : List Record) → HasRecords work.old.ledger records → GoesOn work.old.ledger work.new.ledger (closing_in work.old.ledger.shape m (Close slot)) records) }
-    ensures closed { OnOk result (D.tells → (m : Machine) → KeepsMachine work.old m → HasClosed work.old work.new m (closing_in work.old.ledger.shape m (Close slot)) (D.state disk.old) (D.state disk.new)) }
-    ensures this { OnOk result (D.tells → IsTheSessions work.new (D.state disk.new).files) }
+    ensures closed { OnOk result (D.reveals → (m : Machine) → KeepsMachine work.old m → HasClosed work.old work.new m (closing_in work.old.ledger.shape m (Close slot)) (D.state disk.old) (D.state disk.new)) }
+    ensures this { OnOk result (D.reveals → IsTheSessions work.new (D.state disk.new).files) }
     ensures live_on { OnOk result (work.new.ledger.live ≡ true) }
-    ensures synced { OnOk result (D.tells → IsSynced (D.state disk.new)) }
-    ensures stopped { result ≡ Err StepFault.DiskFault → D.tells → (m : Machine) → KeepsMachine work.old m → MayHaveClosed work.old m (closing_in work.old.ledger.shape m (Close slot)) (D.state disk.old) (D.state disk.new) }
-    ensures quiet { result ≡ Err StepFault.NoMemory → D.tells → LeavesLedger (D.state disk.old) (D.state disk.new) }
-    ensures writes { OnlyWrites D.tells (IsReady (D.state disk.old)) (HasCloseRoom work.old slot (D.state disk.old)) (result ≡ Err StepFault.DiskFault) (ChangesArchive work.old.ledger.shape raised_limit (IsBlockIn work.old.ledger.shape work.old.heads.lattice.n) (IsBesides work.old.ledger.shape)) (D.state disk.old) (D.state disk.new) }
-    ensures padded { result ≢ Err StepFault.DiskFault → D.tells → KeepsPadded work.old.ledger.shape (IsBlockIn work.old.ledger.shape work.old.heads.lattice.n) (D.state disk.old).files (D.state disk.new).files }
+    ensures synced { OnOk result (D.reveals → IsSynced (D.state disk.new)) }
+    ensures stopped { result ≡ Err StepFault.DiskFault → D.reveals → (m : Machine) → KeepsMachine work.old m → MayHaveClosed work.old m (closing_in work.old.ledger.shape m (Close slot)) (D.state disk.old) (D.state disk.new) }
+    ensures quiet { result ≡ Err StepFault.NoMemory → D.reveals → LeavesLedger (D.state disk.old) (D.state disk.new) }
+    ensures writes { OnlyWrites D.reveals (IsReady (D.state disk.old)) (HasCloseRoom work.old slot (D.state disk.old)) (result ≡ Err StepFault.DiskFault) (ChangesArchive work.old.ledger.shape raised_limit (IsBlockIn work.old.ledger.shape work.old.heads.lattice.n) (IsBesides work.old.ledger.shape)) (D.state disk.old) (D.state disk.new) }
+    ensures padded { result ≢ Err StepFault.DiskFault → D.reveals → KeepsPadded work.old.ledger.shape (IsBlockIn work.old.ledger.shape work.old.heads.lattice.n) (D.state disk.old).files (D.state disk.new).files }
 {
     close_laws();
     let shape = work.ledger.shape();
@@ -217,8 +217,8 @@ pub fn close_upload<D: Disk>(
 ) -> Result<Result<Stored, Refusal>, StepFault>
     requires keeps { KeepsSomeMachine work.old }
     requires live { work.old.ledger.live ≡ true }
-    requires this { D.tells → IsTheSessions work.old (D.state disk.old).files }
-    requires fixed { D.tells → IsFixed (D.state disk.old) 0 }
+    requires this { D.reveals → IsTheSessions work.old (D.state disk.old).files }
+    requires fixed { D.reveals → IsFixed (D.state disk.old) 0 }
 
     // The step of the machine.
     ensures steps { IfOk result (λ stored. MakesStep closed_by work.old work.new (Close slot) stored) }
@@ -227,16 +227,16 @@ pub fn close_upload<D: Disk>(
     // The ledger goes on by the record of a close that is made. In each image it has the record, or, where the disk failed, it is
     // as it was or has the record.
     ensures goes { OnOk result ((m : Machine) → KeepsMachine work.old m → (records : List Record) → HasRecords work.old.ledger records → GoesOn work.old.ledger work.new.ledger (closing_in work.old.ledger.shape m (Close slot)) records) }
-    ensures closed { (stored : Stored) → result ≡ Ok (Ok stored) → D.tells → (m : Machine) → KeepsMachine work.old m → HasClosed work.old work.new m (closing_in work.old.ledger.shape m (Close slot)) (D.state disk.old) (D.state disk.new) }
-    ensures this { OnOk result (D.tells → IsTheSessions work.new (D.state disk.new).files) }
+    ensures closed { (stored : Stored) → result ≡ Ok (Ok stored) → D.reveals → (m : Machine) → KeepsMachine work.old m → HasClosed work.old work.new m (closing_in work.old.ledger.shape m (Close slot)) (D.state disk.old) (D.state disk.new) }
+    ensures this { OnOk result (D.reveals → IsTheSessions work.new (D.state disk.new).files) }
     ensures live_on { OnOk result (work.new.ledger.live ≡ true) }
-    ensures synced { (stored : Stored) → result ≡ Ok (Ok stored) → D.tells → IsSynced (D.state disk.new) }
-    ensures stopped { result ≡ Err StepFault.DiskFault → D.tells → (m : Machine) → KeepsMachine work.old m → MayHaveClosed work.old m (closing_in work.old.ledger.shape m (Close slot)) (D.state disk.old) (D.state disk.new) }
-    ensures quiet { result ≡ Err StepFault.NoMemory → D.tells → LeavesLedger (D.state disk.old) (D.state disk.new) }
+    ensures synced { (stored : Stored) → result ≡ Ok (Ok stored) → D.reveals → IsSynced (D.state disk.new) }
+    ensures stopped { result ≡ Err StepFault.DiskFault → D.reveals → (m : Machine) → KeepsMachine work.old m → MayHaveClosed work.old m (closing_in work.old.ledger.shape m (Close slot)) (D.state disk.old) (D.state disk.new) }
+    ensures quiet { result ≡ Err StepFault.NoMemory → D.reveals → LeavesLedger (D.state disk.old) (D.state disk.new) }
 
     // The blocks that there were and the other files stay, and when the disk is at fault.
-    ensures writes { OnlyWrites D.tells (IsReady (D.state disk.old)) (HasCloseRoom work.old slot (D.state disk.old)) (result ≡ Err StepFault.DiskFault) (ChangesArchive work.old.ledger.shape raised_limit (IsBlockIn work.old.ledger.shape work.old.heads.lattice.n) (IsBesides work.old.ledger.shape)) (D.state disk.old) (D.state disk.new) }
-    ensures padded { result ≢ Err StepFault.DiskFault → D.tells → KeepsPadded work.old.ledger.shape (IsBlockIn work.old.ledger.shape work.old.heads.lattice.n) (D.state disk.old).files (D.state disk.new).files }
+    ensures writes { OnlyWrites D.reveals (IsReady (D.state disk.old)) (HasCloseRoom work.old slot (D.state disk.old)) (result ≡ Err StepFault.DiskFault) (ChangesArchive work.old.ledger.shape raised_limit (IsBlockIn work.old.ledger.shape work.old.heads.lattice.n) (IsBesides work.old.ledger.shape)) (D.state disk.old) (D.state disk.new) }
+    ensures padded { result ≢ Err StepFault.DiskFault → D.reveals → KeepsPadded work.old.ledger.shape (IsBlockIn work.old.ledger.shape work.old.heads.lattice.n) (D.state disk.old).files (D.state disk.new).files }
 {
     match decide(work, slot) {
         Ok(()) => (),

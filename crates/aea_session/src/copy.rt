@@ -40,11 +40,11 @@ fn copy_block<D: Disk, O: Sink>(
     requires buffer { length payloads.old.cell.now ≡ cell_size ledger.now.shape }
     requires block { HasBlock ledger.now.lattice b }
     ensures buffer { length payloads.new.cell.now ≡ cell_size ledger.now.shape }
-    ensures copied { OnOk result (HasCopied (IsPayload D.tells ledger.now.shape ledger.now.digests (D.state disk.old).files) (b ∷ []) most (O.state out.old) page.old (O.state out.new) page.new) }
-    ensures broken { IfErr result (HasBroken D.tells ledger.now.shape ledger.now.digests (D.state disk.old).files (b ∷ []) most (O.state out.old) page.old (O.state out.new)) }
+    ensures copied { OnOk result (HasCopied (IsPayload D.reveals ledger.now.shape ledger.now.digests (D.state disk.old).files) (b ∷ []) most (O.state out.old) page.old (O.state out.new) page.new) }
+    ensures broken { IfErr result (HasBroken D.reveals ledger.now.shape ledger.now.digests (D.state disk.old).files (b ∷ []) most (O.state out.old) page.old (O.state out.new)) }
     ensures faults { IfErr result IsCopyFault }
     ensures still { result ≢ Err GetFault.WriteFault → (O.state out.new).faults ≡ (O.state out.old).faults }
-    ensures reads { OnlyReads D.tells (result ≡ Err GetFault.DiskFault) (D.state disk.old) (D.state disk.new) }
+    ensures reads { OnlyReads D.reveals (result ≡ Err GetFault.DiskFault) (D.state disk.old) (D.state disk.new) }
 {
     match payloads.get_one(ledger, disk, b) {
         Ok(()) => (),
@@ -76,11 +76,11 @@ fn copy_blocks<D: Disk, O: Sink>(
 ) -> Result<(), GetFault>
     requires buffer { length payloads.old.cell.now ≡ cell_size ledger.now.shape }
     requires inside { All (HasBlock ledger.now.lattice) blocks }
-    ensures copied { OnOk result (HasCopied (IsPayload D.tells ledger.now.shape ledger.now.digests (D.state disk.old).files) blocks.entry most (O.state out.old) page.old (O.state out.new) page.new) }
-    ensures broken { IfErr result (HasBroken D.tells ledger.now.shape ledger.now.digests (D.state disk.old).files blocks.entry most (O.state out.old) page.old (O.state out.new)) }
+    ensures copied { OnOk result (HasCopied (IsPayload D.reveals ledger.now.shape ledger.now.digests (D.state disk.old).files) blocks.entry most (O.state out.old) page.old (O.state out.new) page.new) }
+    ensures broken { IfErr result (HasBroken D.reveals ledger.now.shape ledger.now.digests (D.state disk.old).files blocks.entry most (O.state out.old) page.old (O.state out.new)) }
     ensures faults { IfErr result IsCopyFault }
     ensures still { result ≢ Err GetFault.WriteFault → (O.state out.new).faults ≡ (O.state out.old).faults }
-    ensures reads { OnlyReads D.tells (result ≡ Err GetFault.DiskFault) (D.state disk.old) (D.state disk.new) }
+    ensures reads { OnlyReads D.reveals (result ≡ Err GetFault.DiskFault) (D.state disk.old) (D.state disk.new) }
 {
     let size = ledger.shape().block();
     let mut left = most;
@@ -108,12 +108,12 @@ pub(crate) fn send_blocks<D: Disk, O: Sink>(
 ) -> Result<(), GetFault>
     requires buffer { length cell.old ≡ cell_size ledger.now.shape }
     requires empty { page.old ≡ [] }
-    ensures copied { OnOk result (HasCopied (IsPayload D.tells ledger.now.shape ledger.now.digests (D.state disk.old).files) (data_under (get ledger.now.objects name.now)) most (O.state out.old) [] (O.state out.new) []) }
-    ensures broken { IfErr result (HasBroken D.tells ledger.now.shape ledger.now.digests (D.state disk.old).files (data_under (get ledger.now.objects name.now)) most (O.state out.old) [] (O.state out.new)) }
+    ensures copied { OnOk result (HasCopied (IsPayload D.reveals ledger.now.shape ledger.now.digests (D.state disk.old).files) (data_under (get ledger.now.objects name.now)) most (O.state out.old) [] (O.state out.new) []) }
+    ensures broken { IfErr result (HasBroken D.reveals ledger.now.shape ledger.now.digests (D.state disk.old).files (data_under (get ledger.now.objects name.now)) most (O.state out.old) [] (O.state out.new)) }
     ensures faults { IfErr result IsCopyFault }
     ensures still { result ≢ Err GetFault.WriteFault → (O.state out.new).faults ≡ (O.state out.old).faults }
     ensures flushed { OnOk result (IsFlushed (O.state out.new)) }
-    ensures reads { OnlyReads D.tells (result ≡ Err GetFault.DiskFault) (D.state disk.old) (D.state disk.new) }
+    ensures reads { OnlyReads D.reveals (result ≡ Err GetFault.DiskFault) (D.state disk.old) (D.state disk.new) }
 {
     let blocks = DataBlocks::new(ledger, name);
     let mut payloads = CellReader { cell };

@@ -67,8 +67,8 @@ fn find_damaged<D: Disk>(
     requires inside { end ≤ blocks_count ledger.now.lattice }
     requires long { length numbers.old ≡ end - first }
     ensures most { IfOk result (λ found. found ≤ end - first) }
-    ensures damaged { IfOk result (λ found. AreDamaged D.tells ledger.now (D.state disk.old).files first (end - first) (take found numbers.new)) }
-    ensures reads { OnlyReads D.tells (IsErr result) (D.state disk.old) (D.state disk.new) }
+    ensures damaged { IfOk result (λ found. AreDamaged D.reveals ledger.now (D.state disk.old).files first (end - first) (take found numbers.new)) }
+    ensures reads { OnlyReads D.reveals (IsErr result) (D.state disk.old) (D.state disk.new) }
 {
     let lattice = ledger.lattice();
     let mut found: u32 = 0;
@@ -146,12 +146,12 @@ fn look_over<D: Disk, O: Sink>(
     requires rising { first ≤ end }
     requires inside { end ≤ blocks_count ledger.now.lattice }
     requires few { end ≤ first + greatest_patrol }
-    ensures replies { IfOk result (λ code. Replies (IsReplyOfRange D.tells ledger.now (D.state disk.old).files message.now first (end - first) code) (O.state out.old) (O.state out.new)) }
-    ensures part { IfErr result (λ fault. (out.new ≡ out.old) ⊎ RepliesPart (λ bytes. (code : ℕ) × IsReplyOfRange D.tells ledger.now (D.state disk.old).files message.now first (end - first) code bytes) (O.state out.old) (O.state out.new)) }
+    ensures replies { IfOk result (λ code. Replies (IsReplyOfRange D.reveals ledger.now (D.state disk.old).files message.now first (end - first) code) (O.state out.old) (O.state out.new)) }
+    ensures part { IfErr result (λ fault. (out.new ≡ out.old) ⊎ RepliesPart (λ bytes. (code : ℕ) × IsReplyOfRange D.reveals ledger.now (D.state disk.old).files message.now first (end - first) code bytes) (O.state out.old) (O.state out.new)) }
     ensures damaged { (b : BlockId) → result ≢ Err (TakeFault.Damaged b) }
     ensures memory { result ≡ Err TakeFault.NoMemory → (out.new ≡ out.old) × (disk.new ≡ disk.old) }
     ensures flushed { OnOk result (IsFlushed (O.state out.new)) }
-    ensures reads { OnlyReads D.tells (result ≡ Err TakeFault.DiskFault) (D.state disk.old) (D.state disk.new) }
+    ensures reads { OnlyReads D.reveals (result ≡ Err TakeFault.DiskFault) (D.state disk.old) (D.state disk.new) }
     ensures kept { (O.state out.old).faults ≤ (O.state out.new).faults }
     ensures cause { result ≡ Err TakeFault.WriteFault → Rose (O.state out.old).faults (O.state out.new).faults }
     ensures still { result ≢ Err TakeFault.WriteFault → (O.state out.new).faults ≡ (O.state out.old).faults }
@@ -186,14 +186,14 @@ pub fn patrol<D: Disk, O: Sink>(
     ensures same { KeepsAllButCell work.old work.new }
 
     // The reply, or what was appended of it.
-    ensures replies { IfOk result (λ code. (m : Machine) → KeepsMachine work.old m → Replies (IsReplyTo D.tells work.old.ledger m (D.state disk.old).files message.now code) (O.state out.old) (O.state out.new)) }
+    ensures replies { IfOk result (λ code. (m : Machine) → KeepsMachine work.old m → Replies (IsReplyTo D.reveals work.old.ledger m (D.state disk.old).files message.now code) (O.state out.old) (O.state out.new)) }
     ensures flushed { OnOk result (IsFlushed (O.state out.new)) }
-    ensures part { IfErr result (λ fault. (m : Machine) → KeepsMachine work.old m → (out.new ≡ out.old) ⊎ RepliesPart (MayBegin D.tells work.old.ledger m (D.state disk.old).files message.now) (O.state out.old) (O.state out.new)) }
+    ensures part { IfErr result (λ fault. (m : Machine) → KeepsMachine work.old m → (out.new ≡ out.old) ⊎ RepliesPart (MayBegin D.reveals work.old.ledger m (D.state disk.old).files message.now) (O.state out.old) (O.state out.new)) }
     ensures damaged { (b : BlockId) → result ≢ Err (TakeFault.Damaged b) }
 
     // The disk is only read, not at all where there is no memory, and when the disk and the output are at fault.
     ensures memory { result ≡ Err TakeFault.NoMemory → (out.new ≡ out.old) × (disk.new ≡ disk.old) }
-    ensures reads { OnlyReads D.tells (result ≡ Err TakeFault.DiskFault) (D.state disk.old) (D.state disk.new) }
+    ensures reads { OnlyReads D.reveals (result ≡ Err TakeFault.DiskFault) (D.state disk.old) (D.state disk.new) }
     ensures out_kept { (O.state out.old).faults ≤ (O.state out.new).faults }
     ensures out_cause { result ≡ Err TakeFault.WriteFault → Rose (O.state out.old).faults (O.state out.new).faults }
     ensures out_still { result ≢ Err TakeFault.WriteFault → (O.state out.new).faults ≡ (O.state out.old).faults }

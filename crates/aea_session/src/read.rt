@@ -138,13 +138,13 @@ fn put_object<D: Disk, O: Sink>(
     requires buffer { length cell.old ≡ cell_size ledger.now.shape }
     requires empty { page.old ≡ [] }
     ensures code { IfOk result (λ code. code ≡ 0) }
-    ensures sent { OnOk result (HasSentBehind (IsPayload D.tells ledger.now.shape ledger.now.digests (D.state disk.old).files) (data_under (get ledger.now.objects name.now)) size (reply message.now 0 (to_be_bytes w64 size)) (O.state out.old) (O.state out.new)) }
-    ensures cut { IfErr result (λ fault. HasCut (IsPayload D.tells ledger.now.shape ledger.now.digests (D.state disk.old).files) (data_under (get ledger.now.objects name.now)) size (O.state out.old) (reply message.now 0 (to_be_bytes w64 size)) (O.state out.new) (fault ≡ TakeFault.WriteFault)) }
-    ensures damaged { (b : BlockId) → result ≡ Err (TakeFault.Damaged b) → IsOneOf (data_under (get ledger.now.objects name.now)) b × (D.tells → IsIntactBy ledger.now.shape ledger.now.digests (D.state disk.old).files b → ⊥) }
+    ensures sent { OnOk result (HasSentBehind (IsPayload D.reveals ledger.now.shape ledger.now.digests (D.state disk.old).files) (data_under (get ledger.now.objects name.now)) size (reply message.now 0 (to_be_bytes w64 size)) (O.state out.old) (O.state out.new)) }
+    ensures cut { IfErr result (λ fault. HasCut (IsPayload D.reveals ledger.now.shape ledger.now.digests (D.state disk.old).files) (data_under (get ledger.now.objects name.now)) size (O.state out.old) (reply message.now 0 (to_be_bytes w64 size)) (O.state out.new) (fault ≡ TakeFault.WriteFault)) }
+    ensures damaged { (b : BlockId) → result ≡ Err (TakeFault.Damaged b) → IsOneOf (data_under (get ledger.now.objects name.now)) b × (D.reveals → IsIntactBy ledger.now.shape ledger.now.digests (D.state disk.old).files b → ⊥) }
     ensures memory { result ≢ Err TakeFault.NoMemory }
     ensures still { result ≢ Err TakeFault.WriteFault → (O.state out.new).faults ≡ (O.state out.old).faults }
     ensures flushed { OnOk result (IsFlushed (O.state out.new)) }
-    ensures reads { OnlyReads D.tells (result ≡ Err TakeFault.DiskFault) (D.state disk.old) (D.state disk.new) }
+    ensures reads { OnlyReads D.reveals (result ≡ Err TakeFault.DiskFault) (D.state disk.old) (D.state disk.new) }
 {
     match send_head(out, page, message, size) {
         Ok(()) => (),
@@ -181,12 +181,12 @@ fn look_at<D: Disk, O: Sink>(
     requires buffer { length cell.old ≡ cell_size ledger.now.shape }
     requires empty { page.old ≡ [] }
     requires long { (p : Placed) → get ledger.now.objects name.now ≡ Some p → p.object.length ≡ size }
-    ensures replies { IfOk result (λ code. (p : Placed) → get ledger.now.objects name.now ≡ Some p → Replies (IsReplyOfObject D.tells ledger.now (D.state disk.old).files message.now p code) (O.state out.old) (O.state out.new)) }
-    ensures part { IfErr result (λ fault. (p : Placed) → get ledger.now.objects name.now ≡ Some p → (out.new ≡ out.old) ⊎ RepliesPart (MayBeginObject D.tells ledger.now (D.state disk.old).files message.now p) (O.state out.old) (O.state out.new)) }
-    ensures damaged { (b : BlockId) → result ≡ Err (TakeFault.Damaged b) → IsOneOf (data_under (get ledger.now.objects name.now)) b × (D.tells → ⊥) }
+    ensures replies { IfOk result (λ code. (p : Placed) → get ledger.now.objects name.now ≡ Some p → Replies (IsReplyOfObject D.reveals ledger.now (D.state disk.old).files message.now p code) (O.state out.old) (O.state out.new)) }
+    ensures part { IfErr result (λ fault. (p : Placed) → get ledger.now.objects name.now ≡ Some p → (out.new ≡ out.old) ⊎ RepliesPart (MayBeginObject D.reveals ledger.now (D.state disk.old).files message.now p) (O.state out.old) (O.state out.new)) }
+    ensures damaged { (b : BlockId) → result ≡ Err (TakeFault.Damaged b) → IsOneOf (data_under (get ledger.now.objects name.now)) b × (D.reveals → ⊥) }
     ensures memory { result ≢ Err TakeFault.NoMemory }
     ensures flushed { OnOk result (IsFlushed (O.state out.new)) }
-    ensures reads { OnlyReads D.tells (result ≡ Err TakeFault.DiskFault) (D.state disk.old) (D.state disk.new) }
+    ensures reads { OnlyReads D.reveals (result ≡ Err TakeFault.DiskFault) (D.state disk.old) (D.state disk.new) }
     ensures kept { (O.state out.old).faults ≤ (O.state out.new).faults }
     ensures cause { result ≡ Err TakeFault.WriteFault → Rose (O.state out.old).faults (O.state out.new).faults }
     ensures still { result ≢ Err TakeFault.WriteFault → (O.state out.new).faults ≡ (O.state out.old).faults }
@@ -218,16 +218,16 @@ pub fn read<D: Disk, O: Sink>(
     ensures same { KeepsAllButCell work.old work.new }
 
     // The reply, or what was appended of it.
-    ensures replies { IfOk result (λ code. (m : Machine) → KeepsMachine work.old m → Replies (IsReplyTo D.tells work.old.ledger m (D.state disk.old).files message.now code) (O.state out.old) (O.state out.new)) }
+    ensures replies { IfOk result (λ code. (m : Machine) → KeepsMachine work.old m → Replies (IsReplyTo D.reveals work.old.ledger m (D.state disk.old).files message.now code) (O.state out.old) (O.state out.new)) }
     ensures flushed { OnOk result (IsFlushed (O.state out.new)) }
-    ensures part { IfErr result (λ fault. (m : Machine) → KeepsMachine work.old m → (out.new ≡ out.old) ⊎ RepliesPart (MayBegin D.tells work.old.ledger m (D.state disk.old).files message.now) (O.state out.old) (O.state out.new)) }
+    ensures part { IfErr result (λ fault. (m : Machine) → KeepsMachine work.old m → (out.new ≡ out.old) ⊎ RepliesPart (MayBegin D.reveals work.old.ledger m (D.state disk.old).files message.now) (O.state out.old) (O.state out.new)) }
 
     // A block that the first pass found intact.
-    ensures damaged { (b : BlockId) → result ≡ Err (TakeFault.Damaged b) → IsOneOf (data_under (get work.old.ledger.objects name.now)) b × (D.tells → ⊥) }
+    ensures damaged { (b : BlockId) → result ≡ Err (TakeFault.Damaged b) → IsOneOf (data_under (get work.old.ledger.objects name.now)) b × (D.reveals → ⊥) }
 
     // The disk is only read, not at all where there is no memory, and when the disk and the output are at fault.
     ensures memory { result ≡ Err TakeFault.NoMemory → (out.new ≡ out.old) × (disk.new ≡ disk.old) }
-    ensures reads { OnlyReads D.tells (result ≡ Err TakeFault.DiskFault) (D.state disk.old) (D.state disk.new) }
+    ensures reads { OnlyReads D.reveals (result ≡ Err TakeFault.DiskFault) (D.state disk.old) (D.state disk.new) }
     ensures out_kept { (O.state out.old).faults ≤ (O.state out.new).faults }
     ensures out_cause { result ≡ Err TakeFault.WriteFault → Rose (O.state out.old).faults (O.state out.new).faults }
     ensures out_still { result ≢ Err TakeFault.WriteFault → (O.state out.new).faults ≡ (O.state out.old).faults }

@@ -71,9 +71,9 @@ fn take_next<D: Disk, O: Sink>(
     out: &mut O,
 ) -> Result<u8, TakeFault>
     requires live { session.old.live ≡ true }
-    requires this { D.tells → IsTheSessions session.old.work (D.state disk.old).files }
-    requires fixed { D.tells → IsFixed (D.state disk.old) 0 }
-    ensures takes { Takes D.tells session.old.work session.new.work message (D.state disk.old) (D.state disk.new) (O.state out.old) (O.state out.new) result }
+    requires this { D.reveals → IsTheSessions session.old.work (D.state disk.old).files }
+    requires fixed { D.reveals → IsFixed (D.state disk.old) 0 }
+    ensures takes { Takes D.reveals session.old.work session.new.work message (D.state disk.old) (D.state disk.new) (O.state out.old) (O.state out.new) result }
     ensures live { OnOk result (session.new.live ≡ true) }
     ensures dead { IsErr result → session.new.live ≡ false }
 {
@@ -91,13 +91,13 @@ pub fn serve<D: Disk, S: Source, O: Sink>(
     out: &mut O,
 ) -> Result<(), Stop>
     requires live { session.old.live ≡ true }
-    requires this { D.tells → IsTheSessions session.old.work (D.state disk.old).files }
-    requires fixed { D.tells → IsFixed (D.state disk.old) 0 }
-    ensures serves { ServesAll D.tells D.state session.old.work session.new.work disk.old disk.new (S.state input.old).left (S.state input.new).left (O.state out.old) (O.state out.new) result }
+    requires this { D.reveals → IsTheSessions session.old.work (D.state disk.old).files }
+    requires fixed { D.reveals → IsFixed (D.state disk.old) 0 }
+    ensures serves { ServesAll D.reveals D.state session.old.work session.new.work disk.old disk.new (S.state input.old).left (S.state input.new).left (O.state out.old) (O.state out.new) result }
     ensures live { ((fault : TakeFault) → result ≢ Err (Stop.Taken fault)) → session.new.live ≡ true }
     ensures dead { (fault : TakeFault) → result ≡ Err (Stop.Taken fault) → session.new.live ≡ false }
-    ensures this { ((fault : TakeFault) → result ≢ Err (Stop.Taken fault)) → D.tells → IsTheSessions session.new.work (D.state disk.new).files }
-    ensures fixed { ((fault : TakeFault) → result ≢ Err (Stop.Taken fault)) → D.tells → IsFixed (D.state disk.new) 0 }
+    ensures this { ((fault : TakeFault) → result ≢ Err (Stop.Taken fault)) → D.reveals → IsTheSessions session.new.work (D.state disk.new).files }
+    ensures fixed { ((fault : TakeFault) → result ≢ Err (Stop.Taken fault)) → D.reveals → IsFixed (D.state disk.new) 0 }
     ensures input_kept { (S.state input.old).faults ≤ (S.state input.new).faults }
     ensures input_cause { result ≡ Err Stop.Input → Rose (S.state input.old).faults (S.state input.new).faults }
     ensures input_still { result ≢ Err Stop.Input → (S.state input.new).faults ≡ (S.state input.old).faults }

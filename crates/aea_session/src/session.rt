@@ -66,25 +66,25 @@ impl Session {
         ensures keeps { IfOk result (λ session. (datas : List (List ℕ)) → length datas ≡ ledger.lattice.n → AreWide ledger.shape datas → KeepsMachine session.work (begun datas ledger.objects)) }
 
         // It stands for a data list that the ledger records, where the last parities are honest for it, and the disk is its own.
-        ensures stands { IfOk result (λ session. D.tells → (records : List Record) (datas : List (List ℕ)) → HasRecords ledger records → AreRecordsOf ledger.shape records datas
+        ensures stands { IfOk result (λ session. D.reveals → (records : List Record) (datas : List (List ℕ)) → HasRecords ledger records → AreRecordsOf ledger.shape records datas
             → AreLastsHonest ledger.shape ledger.lattice ledger.digests datas (D.state disk.old).files → StandsFor session.work (begun datas ledger.objects)) }
-        ensures this { IfOk result (λ session. D.tells → IsThisOne ledger ((D.state disk.old).files 0) → IsTheSessions session.work (D.state disk.new).files) }
+        ensures this { IfOk result (λ session. D.reveals → IsThisOne ledger ((D.state disk.old).files 0) → IsTheSessions session.work (D.state disk.new).files) }
 
         // An archive whose limit was not raised.
         ensures not_upgraded { (result ≡ Err BeginFault.NotUpgraded) ↔ (ledger.raised ≡ false) }
         ensures unread { result ≡ Err BeginFault.NotUpgraded → disk.new ≡ disk.old }
 
         // A last parity that is damaged.
-        ensures head { (b : BlockId) → result ≡ Err (BeginFault.HeadDamaged b) → IsLastParity ledger.lattice b × (D.tells → IsFirstDamagedLast ledger.shape ledger.lattice ledger.digests (D.state disk.old).files b) }
-        ensures head_refused { ledger.raised ≡ true → D.tells → (a : BlockId) → IsDamagedLast ledger.shape ledger.lattice ledger.digests (D.state disk.old).files a
+        ensures head { (b : BlockId) → result ≡ Err (BeginFault.HeadDamaged b) → IsLastParity ledger.lattice b × (D.reveals → IsFirstDamagedLast ledger.shape ledger.lattice ledger.digests (D.state disk.old).files b) }
+        ensures head_refused { ledger.raised ≡ true → D.reveals → (a : BlockId) → IsDamagedLast ledger.shape ledger.lattice ledger.digests (D.state disk.old).files a
             → ((b : BlockId) × (result ≡ Err (BeginFault.HeadDamaged b))) ⊎ ((result ≡ Err BeginFault.DiskFault) ⊎ (result ≡ Err BeginFault.NoMemory)) }
-        ensures complete { ledger.raised ≡ true → D.tells → AreLastsIntact ledger.shape ledger.lattice ledger.digests (D.state disk.old).files → (Rose (D.state disk.old).faults (D.state disk.new).faults → ⊥)
+        ensures complete { ledger.raised ≡ true → D.reveals → AreLastsIntact ledger.shape ledger.lattice ledger.digests (D.state disk.old).files → (Rose (D.state disk.old).faults (D.state disk.new).faults → ⊥)
             → IsOk result ⊎ (result ≡ Err BeginFault.NoMemory) }
 
         // The disk is only read, and not at all where there is no memory.
         ensures memory { result ≡ Err BeginFault.NoMemory → disk.new ≡ disk.old }
         ensures earlier { HasEarlier (D.state disk.old) (D.state disk.new) }
-        ensures reads { OnlyReads D.tells (result ≡ Err BeginFault.DiskFault) (D.state disk.old) (D.state disk.new) }
+        ensures reads { OnlyReads D.reveals (result ≡ Err BeginFault.DiskFault) (D.state disk.old) (D.state disk.new) }
     {
         none_have_names();
         objects_are_counted();
@@ -140,9 +140,9 @@ impl Session {
         out: &mut O,
     ) -> Result<u8, TakeFault>
         requires live { self.old.live ≡ true }
-        requires this { D.tells → IsTheSessions self.old.work (D.state disk.old).files }
-        requires fixed { D.tells → IsFixed (D.state disk.old) 0 }
-        ensures takes { Takes D.tells self.old.work self.new.work message.now (D.state disk.old) (D.state disk.new) (O.state out.old) (O.state out.new) result }
+        requires this { D.reveals → IsTheSessions self.old.work (D.state disk.old).files }
+        requires fixed { D.reveals → IsFixed (D.state disk.old) 0 }
+        ensures takes { Takes D.reveals self.old.work self.new.work message.now (D.state disk.old) (D.state disk.new) (O.state out.old) (O.state out.new) result }
         ensures live { OnOk result (self.new.live ≡ true) }
         ensures dead { IsErr result → self.new.live ≡ false }
     {

@@ -2,11 +2,11 @@
 #![tactic(auto)]
 
 #[cfg(test)]
-mod chance;
-#[cfg(test)]
 mod examples;
 #[cfg(test)]
 mod plain;
+#[cfg(test)]
+mod random;
 #[cfg(test)]
 mod runs;
 #[cfg(test)]

@@ -142,9 +142,9 @@ fn bears_no_input(alloc: Global, end: usize) -> Result<bool, Fail> {
     let mut disk = raised(alloc)?;
     let left = run_slowly(alloc, "session", &mut disk, stream(), end.saturating_add(1))?;
     let given = given_by(end);
-    let told = left.status == Status::Input && left.err.bytes() == b"fault: input\n".as_slice();
+    let revealed = left.status == Status::Input && left.err.bytes() == b"fault: input\n".as_slice();
     let printed = replies().get(..given) == Some(left.out.bytes());
-    Ok(told && printed && goes_on(alloc, &mut disk, given >= 54)?)
+    Ok(revealed && printed && goes_on(alloc, &mut disk, given >= 54)?)
 }
 
 #[test]
@@ -163,11 +163,12 @@ fn each_read_of_the_input_fails(rt: HostRuntime) -> Result<(), Fail> {
 fn bears_no_output(alloc: Global, faults: Faults) -> Result<bool, Fail> {
     let mut disk = raised(alloc)?;
     let ended = run_failing(alloc, "session", &mut disk, stream(), faults)?;
-    let told = ended.status == Status::Output && ended.err.bytes() == b"fault: output\n".as_slice();
+    let revealed = ended.status == Status::Output
+        && ended.err.bytes() == b"fault: output\n".as_slice();
     let out = ended.out.bytes();
     // a close is made where its reply fails: what it is refused for then is that of a reply which fits
     let there = out.len() >= 8 && ended.unread <= stream().len().saturating_sub(43);
-    Ok(told && replies().starts_with(out) && goes_on(alloc, &mut disk, there)?)
+    Ok(revealed && replies().starts_with(out) && goes_on(alloc, &mut disk, there)?)
 }
 
 #[test]
@@ -234,8 +235,8 @@ fn each_stop_leaves_the_object_or_none(rt: HostRuntime) -> Result<(), Fail> {
 fn bears_no_disk(alloc: Global, fails: u64, there: bool) -> Result<bool, Fail> {
     let mut disk = FailDisk::new(alloc, raised(alloc)?, &[fails])?;
     let left = run_input(alloc, "session", &mut disk, stream())?;
-    let told = left.status == Status::Disk && left.err.bytes() == b"fault: disk\n".as_slice();
-    Ok(told && replies().starts_with(left.out.bytes()) && goes_on(alloc, &mut disk, there)?)
+    let revealed = left.status == Status::Disk && left.err.bytes() == b"fault: disk\n".as_slice();
+    Ok(revealed && replies().starts_with(left.out.bytes()) && goes_on(alloc, &mut disk, there)?)
 }
 
 #[test]

@@ -21,13 +21,13 @@ written_home shape b bytes old new size changes =
 
 -- calls that change the home of one block alone keep the homes and the intact blocks of all others,
 -- as they read and in the images
-pub keeps_shelf : RowsGoOverSites → (tells : Type 0) (shape : Shape) (b : BlockId) (old new : State) → IsBlockOf shape b
-    → Follows (ChangesHome shape b) old new → (tells → ChangesHome shape b old.files new.files) → KeepsShelf tells shape (λ a. a ≢ b) old new
-keeps_shelf rows tells shape b old new has_b follows changes =
+pub keeps_shelf : RowsGoOverSites → (reveals : Type 0) (shape : Shape) (b : BlockId) (old new : State) → IsBlockOf shape b
+    → Follows (ChangesHome shape b) old new → (reveals → ChangesHome shape b old.files new.files) → KeepsShelf reveals shape (λ a. a ≢ b) old new
+keeps_shelf rows reveals shape b old new has_b follows changes =
     let homes = λ (d c : Files) (step : ChangesHome shape b d c). keeps_homes rows shape b d c (some_sites shape) has_b step in
     record {
-      homes = λ told. homes old.files new.files (changes told);
-      intact = λ told. keeps_intact shape (λ a. a ≢ b) old.files new.files (homes old.files new.files (changes told));
+      homes = λ revealed. homes old.files new.files (changes revealed);
+      intact = λ revealed. keeps_intact shape (λ a. a ≢ b) old.files new.files (homes old.files new.files (changes revealed));
       images = λ t c from to here.
           let was = follows t c from to here in
           (was.0, was.1, homes was.0 c was.2, keeps_intact shape (λ a. a ≢ b) was.0 c (homes was.0 c was.2));

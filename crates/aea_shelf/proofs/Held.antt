@@ -34,9 +34,9 @@ pub held_less : (shape : Shape) (b : BlockId) (recorded : List ℕ) (all some : 
 held_less shape b recorded all some fewer held = record { bytes = held.bytes; size = held.size; cell = held.cell; images = λ c here. held.images c (fewer c here) }
 
 -- a block that stays is held at each moment of the calls
-pub held_through : (tells : Type 0) (shape : Shape) (keep : BlockId → Type 0) (old new : State) (a : BlockId) (recorded : List ℕ) → IsBlockOf shape a → keep a → KeepsShelf tells shape keep old new
+pub held_through : (reveals : Type 0) (shape : Shape) (keep : BlockId → Type 0) (old new : State) (a : BlockId) (recorded : List ℕ) → IsBlockOf shape a → keep a → KeepsShelf reveals shape keep old new
     → IsHeldIn shape a recorded (old.image old.moment) → AtEachMoment old new (IsHeldIn shape a recorded)
-held_through tells shape keep old new a recorded has_a kept shelf held t from to = record {
+held_through reveals shape keep old new a recorded has_a kept shelf held t from to = record {
   bytes = held.bytes;
   size = held.size;
   cell = held.cell;

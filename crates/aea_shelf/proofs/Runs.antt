@@ -25,24 +25,24 @@ homes_less : (shape : Shape) (keep less : BlockId → Type 0) (old new : Files) 
 homes_less shape keep less old new fewer keeps a bytes has_a kept short here = keeps a bytes has_a (fewer a kept) short here
 
 -- a shelf from what it says of the homes
-shelf_of : (tells : Type 0) (shape : Shape) (keep : BlockId → Type 0) (old new : State) → (tells → KeepsHomes shape keep old.files new.files)
-    → ((t : ℕ) (c : Files) → old.moment ≤ t → t ≤ new.moment → new.image t c → (d : Files) × old.image old.moment d × KeepsHomes shape keep d c) → KeepsShelf tells shape keep old new
-shelf_of tells shape keep old new reads images = record {
+shelf_of : (reveals : Type 0) (shape : Shape) (keep : BlockId → Type 0) (old new : State) → (reveals → KeepsHomes shape keep old.files new.files)
+    → ((t : ℕ) (c : Files) → old.moment ≤ t → t ≤ new.moment → new.image t c → (d : Files) × old.image old.moment d × KeepsHomes shape keep d c) → KeepsShelf reveals shape keep old new
+shelf_of reveals shape keep old new reads images = record {
   homes = reads;
-  intact = λ told. keeps_intact shape keep old.files new.files (reads told);
+  intact = λ revealed. keeps_intact shape keep old.files new.files (reads revealed);
   images = λ t c from to here. let was = images t c from to here in (was.0, was.1, was.2, keeps_intact shape keep was.0 c was.2);
 }
 
 -- before the first call
-pub shelf_none : (tells : Type 0) (shape : Shape) (keep : BlockId → Type 0) (s : State) → KeepsShelf tells shape keep s s
-shelf_none tells shape keep s =
-    shelf_of tells shape keep s s (λ told. homes_same shape keep s.files s.files (λ a kept. refl))
+pub shelf_none : (reveals : Type 0) (shape : Shape) (keep : BlockId → Type 0) (s : State) → KeepsShelf reveals shape keep s s
+shelf_none reveals shape keep s =
+    shelf_of reveals shape keep s s (λ revealed. homes_same shape keep s.files s.files (λ a kept. refl))
     (λ t c from to here. let is : t ≡ s.moment = omega arith in (c, subst (λ (m : ℕ). s.image m c) is here, homes_same shape keep c c (λ a kept. refl)))
 
 -- two runs, one after the other
-pub shelf_both : (tells : Type 0) (shape : Shape) (keep : BlockId → Type 0) (old mid new : State) → Passes old mid → Passes mid new → KeepsShelf tells shape keep old mid → KeepsShelf tells shape keep mid new → KeepsShelf tells shape keep old new
-shelf_both tells shape keep old mid new first second early late =
-    shelf_of tells shape keep old new (λ told. homes_both shape keep old.files mid.files new.files (early.homes told) (late.homes told))
+pub shelf_both : (reveals : Type 0) (shape : Shape) (keep : BlockId → Type 0) (old mid new : State) → Passes old mid → Passes mid new → KeepsShelf reveals shape keep old mid → KeepsShelf reveals shape keep mid new → KeepsShelf reveals shape keep old new
+shelf_both reveals shape keep old mid new first second early late =
+    shelf_of reveals shape keep old new (λ revealed. homes_both shape keep old.files mid.files new.files (early.homes revealed) (late.homes revealed))
     (λ t c from to here.
     ⊎_elim
     (λ before. let was = early.images t c from (omega arith) ((second.keeps t c (omega arith)).0 here) in (was.0, was.1, was.2))
@@ -53,21 +53,21 @@ shelf_both tells shape keep old mid new first second early late =
     (cases_lt t mid.moment))
 
 -- fewer blocks that are to stay
-pub shelf_less : (tells : Type 0) (shape : Shape) (keep less : BlockId → Type 0) (old new : State) → ((a : BlockId) → less a → keep a) → KeepsShelf tells shape keep old new → KeepsShelf tells shape less old new
-shelf_less tells shape keep less old new fewer shelf =
-    shelf_of tells shape less old new (λ told. homes_less shape keep less old.files new.files fewer (shelf.homes told))
+pub shelf_less : (reveals : Type 0) (shape : Shape) (keep less : BlockId → Type 0) (old new : State) → ((a : BlockId) → less a → keep a) → KeepsShelf reveals shape keep old new → KeepsShelf reveals shape less old new
+shelf_less reveals shape keep less old new fewer shelf =
+    shelf_of reveals shape less old new (λ revealed. homes_less shape keep less old.files new.files fewer (shelf.homes revealed))
     (λ t c from to here. let was = shelf.images t c from to here in (was.0, was.1, homes_less shape keep less was.0 c fewer was.2))
 
 -- a call that keeps the images, as a read of a cell or a sync
-pub shelf_kept : (tells : Type 0) (shape : Shape) (keep : BlockId → Type 0) (old new : State) → KeepsImages old new → (tells → new.files ≡ old.files) → KeepsShelf tells shape keep old new
-shelf_kept tells shape keep old new keeps same =
-    shelf_of tells shape keep old new (λ told. homes_same shape keep old.files new.files (λ a kept. ap (λ (c : Files). c (home_file shape a)) (same told)))
+pub shelf_kept : (reveals : Type 0) (shape : Shape) (keep : BlockId → Type 0) (old new : State) → KeepsImages old new → (reveals → new.files ≡ old.files) → KeepsShelf reveals shape keep old new
+shelf_kept reveals shape keep old new keeps same =
+    shelf_of reveals shape keep old new (λ revealed. homes_same shape keep old.files new.files (λ a kept. ap (λ (c : Files). c (home_file shape a)) (same revealed)))
     (λ t c from to here. (c, keeps t c from to here, homes_same shape keep c c (λ a kept. refl)))
 
 -- calls on one file that has none of the homes, as the ledger
-pub shelf_others : (tells : Type 0) (shape : Shape) (keep : BlockId → Type 0) (file : ℕ) (old new : State) → ((a : BlockId) → keep a → home_file shape a ≢ file) → KeepsOthers tells file old new → KeepsShelf tells shape keep old new
-shelf_others tells shape keep file old new apart others =
-    shelf_of tells shape keep old new (λ told. homes_same shape keep old.files new.files (λ a kept. others.reads told (home_file shape a) (apart a kept)))
+pub shelf_others : (reveals : Type 0) (shape : Shape) (keep : BlockId → Type 0) (file : ℕ) (old new : State) → ((a : BlockId) → keep a → home_file shape a ≢ file) → KeepsOthers reveals file old new → KeepsShelf reveals shape keep old new
+shelf_others reveals shape keep file old new apart others =
+    shelf_of reveals shape keep old new (λ revealed. homes_same shape keep old.files new.files (λ a kept. others.reads revealed (home_file shape a) (apart a kept)))
     (λ t c from to here. let was = others.images t c from to here in (was.0, was.1, homes_same shape keep was.0 c (λ a kept. was.2 (home_file shape a) (apart a kept))))
 
 -- no home is in the ledger's file
@@ -79,22 +79,22 @@ pub no_home_outside : (shape : Shape) (a : BlockId) (file : ℕ) → shape.sites
 no_home_outside shape a file past same = omega (arith, same, past, (home_on_sites shape a).1)
 
 -- what every image had at a home that stays, every image of every moment has
-pub during_shelf : (tells : Type 0) (shape : Shape) (keep : BlockId → Type 0) (old new : State) (a : BlockId) (bytes : List ℕ) → IsBlockOf shape a → keep a → length bytes ≤ cell_size shape → KeepsShelf tells shape keep old new
+pub during_shelf : (reveals : Type 0) (shape : Shape) (keep : BlockId → Type 0) (old new : State) (a : BlockId) (bytes : List ℕ) → IsBlockOf shape a → keep a → length bytes ≤ cell_size shape → KeepsShelf reveals shape keep old new
     → EveryImage old (HasAtHome shape a bytes) → During old new (HasAtHome shape a bytes)
-during_shelf tells shape keep old new a bytes has_a kept short shelf held t c from to here =
+during_shelf reveals shape keep old new a bytes has_a kept short shelf held t c from to here =
     let was = shelf.images t c from to here in was.2 a bytes has_a kept short (held was.0 was.1)
 
 -- a block that is held and stays is held
-pub held_by_shelf : (tells : Type 0) (shape : Shape) (keep : BlockId → Type 0) (old new : State) (a : BlockId) (recorded : List ℕ) → tells → IsBlockOf shape a → keep a → old.moment ≤ new.moment → KeepsShelf tells shape keep old new
+pub held_by_shelf : (reveals : Type 0) (shape : Shape) (keep : BlockId → Type 0) (old new : State) (a : BlockId) (recorded : List ℕ) → reveals → IsBlockOf shape a → keep a → old.moment ≤ new.moment → KeepsShelf reveals shape keep old new
     → IsBlockHeld shape a recorded old → IsBlockHeld shape a recorded new
-held_by_shelf tells shape keep old new a recorded told has_a kept later shelf held =
+held_by_shelf reveals shape keep old new a recorded revealed has_a kept later shelf held =
     let bytes = home_bytes shape a old.files in
     let size : length (home_bytes shape a old.files) ≡ cell_size shape = length-home shape a old.files held.intact.within in
     let short : length (home_bytes shape a old.files) ≤ cell_size shape = omega (arith, size) in
-    let reads = at_home shape a (home_bytes shape a old.files) new.files size (shelf.homes told a (home_bytes shape a old.files) has_a kept short (at_intact shape a recorded old.files held.intact)) in
+    let reads = at_home shape a (home_bytes shape a old.files) new.files size (shelf.homes revealed a (home_bytes shape a old.files) has_a kept short (at_intact shape a recorded old.files held.intact)) in
     record {
-      intact = shelf.intact told a recorded has_a kept held.intact;
-      images = λ c here. subst (λ (xs : List ℕ). HasAtHome shape a xs c) (sym reads.0) (during_shelf tells shape keep old new a (home_bytes shape a old.files) has_a kept short shelf held.images new.moment c later (omega arith) here);
+      intact = shelf.intact revealed a recorded has_a kept held.intact;
+      images = λ c here. subst (λ (xs : List ℕ). HasAtHome shape a xs c) (sym reads.0) (during_shelf reveals shape keep old new a (home_bytes shape a old.files) has_a kept short shelf held.images new.moment c later (omega arith) here);
     }
 
 -- after a sync each intact block is held

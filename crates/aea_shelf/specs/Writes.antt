@@ -30,8 +30,8 @@ KeepsPadded shape keep old new =
 
 -- The homes and the intact blocks that are to stay, as they read; and as each image of a moment of a call has them, from
 -- some image from before the call.
-pub record KeepsShelf (tells : Type 0) (shape : Shape) (keep : BlockId → Type 0) (old new : State) : Type 0 where
-  pub homes : tells → KeepsHomes shape keep old.files new.files
-  pub intact : tells → KeepsIntact shape keep old.files new.files
+pub record KeepsShelf (reveals : Type 0) (shape : Shape) (keep : BlockId → Type 0) (old new : State) : Type 0 where
+  pub homes : reveals → KeepsHomes shape keep old.files new.files
+  pub intact : reveals → KeepsIntact shape keep old.files new.files
   pub images : (t : ℕ) (c : Files) → old.moment ≤ t → t ≤ new.moment → new.image t c
       → (d : Files) × old.image old.moment d × KeepsHomes shape keep d c × KeepsIntact shape keep d c

@@ -63,23 +63,23 @@ pub fn read_cell<D: Disk>(
     requires block { IsBlockOf shape.now b }
     requires buffer { length cell.old ≡ cell_size shape.now }
 
-    ensures intact { IfOk result (λ r. D.tells → (r ≡ Cell.Intact) ↔ IsIntact shape.now b want.now (D.state disk.old).files) }
-    ensures bad { IfOk result (λ r. D.tells → (r ≡ Cell.Bad) ↔ (¬ IsIntact shape.now b want.now (D.state disk.old).files)) }
+    ensures intact { IfOk result (λ r. D.reveals → (r ≡ Cell.Intact) ↔ IsIntact shape.now b want.now (D.state disk.old).files) }
+    ensures bad { IfOk result (λ r. D.reveals → (r ≡ Cell.Bad) ↔ (¬ IsIntact shape.now b want.now (D.state disk.old).files)) }
 
     // Over any disk, the buffer then has this cell.
     ensures cell { IfOk result (λ r. r ≡ Cell.Intact → cell.new ≡ cell_of b (payload_in shape.now cell.new)) }
     ensures digest { IfOk result (λ r. r ≡ Cell.Intact → block_digest b (payload_in shape.now cell.new) ≡ want.now) }
-    ensures bytes { IfOk result (λ r. r ≡ Cell.Intact → D.tells → HasAtHome shape.now b cell.new (D.state disk.old).files) }
+    ensures bytes { IfOk result (λ r. r ≡ Cell.Intact → D.reveals → HasAtHome shape.now b cell.new (D.state disk.old).files) }
 
     // Of survivors that are honest for a data list, at least those of a test that picks this block, it is the cell of the
     // block of the list's lattice.
-    ensures honest { IfOk result (λ r. r ≡ Cell.Intact → D.tells → (picks : BlockId → Bool) (l : Lattice) (recorded : BlockId → List ℕ) (datas : List (List ℕ)) → HasBlock l b → IsTrue (picks b) → recorded b ≡ want.now → IsHonestOn picks l shape.now recorded datas (D.state disk.old).files → payload_in shape.now cell.new ≡ value_of l shape.now.block datas b) }
+    ensures honest { IfOk result (λ r. r ≡ Cell.Intact → D.reveals → (picks : BlockId → Bool) (l : Lattice) (recorded : BlockId → List ℕ) (datas : List (List ℕ)) → HasBlock l b → IsTrue (picks b) → recorded b ≡ want.now → IsHonestOn picks l shape.now recorded datas (D.state disk.old).files → payload_in shape.now cell.new ≡ value_of l shape.now.block datas b) }
 
     // Also of a bad cell the buffer begins with what is at the home, all within the file.
-    ensures home { IfOk result (λ r. D.tells → take (length (home_bytes shape.now b (D.state disk.old).files)) cell.new ≡ home_bytes shape.now b (D.state disk.old).files) }
+    ensures home { IfOk result (λ r. D.reveals → take (length (home_bytes shape.now b (D.state disk.old).files)) cell.new ≡ home_bytes shape.now b (D.state disk.old).files) }
 
     ensures settled { Settles (D.state disk.old) (D.state disk.new) }
-    ensures reads { OnlyReads D.tells (IsErr result) (D.state disk.old) (D.state disk.new) }
+    ensures reads { OnlyReads D.reveals (IsErr result) (D.state disk.old) (D.state disk.new) }
 {
     let home = home_place(shape, b);
     let count = disk.read(home.file, home.at, cell)?;
@@ -112,9 +112,9 @@ fn write_home<D: Disk>(
 ) -> Result<(), DiskFault>
     requires block { IsBlockOf shape.now b }
     requires cell { length cell.now ≡ cell_size shape.now }
-    ensures written { OnOk result (D.tells → ChangesFile (home_file shape.now b) (Holds (home_place shape.now b) cell.now) (D.state disk.old).files (D.state disk.new).files) }
+    ensures written { OnOk result (D.reveals → ChangesFile (home_file shape.now b) (Holds (home_place shape.now b) cell.now) (D.state disk.old).files (D.state disk.new).files) }
     ensures settled { Settles (D.state disk.old) (D.state disk.new) }
-    ensures writes { OnlyWrites D.tells (IsReady (D.state disk.old)) (HasRoomTo (D.state disk.old) (home_file shape.now b) (home_place shape.now b + cell_size shape.now)) (IsErr result) (ChangesHome shape.now b) (D.state disk.old) (D.state disk.new) }
+    ensures writes { OnlyWrites D.reveals (IsReady (D.state disk.old)) (HasRoomTo (D.state disk.old) (home_file shape.now b) (home_place shape.now b + cell_size shape.now)) (IsErr result) (ChangesHome shape.now b) (D.state disk.old) (D.state disk.new) }
     ensures full { OnOk result (HasRoom (D.state disk.old) → HasRoomTo (D.state disk.old) (home_file shape.now b) (home_place shape.now b + cell_size shape.now)) }
 {
     let home = home_place(shape, b);
@@ -137,21 +137,21 @@ pub fn write_cell<D: Disk>(
 
     ensures digest { IfOk result (λ d. d ≡ block_digest b payload.now) }
     ensures cell { cell.new ≡ cell_of b payload.now }
-    ensures intact { IfOk result (λ d. D.tells → IsIntact shape.now b d (D.state disk.new).files) }
-    ensures home { OnOk result (D.tells → HasAtHome shape.now b (cell_of b payload.now) (D.state disk.new).files) }
+    ensures intact { IfOk result (λ d. D.reveals → IsIntact shape.now b d (D.state disk.new).files) }
+    ensures home { OnOk result (D.reveals → HasAtHome shape.now b (cell_of b payload.now) (D.state disk.new).files) }
 
     // The file grows by zeros up to the cell, and nothing else changes.
-    ensures written { OnOk result (D.tells → ChangesFile (home_file shape.now b) (Holds (home_place shape.now b) (cell_of b payload.now)) (D.state disk.old).files (D.state disk.new).files) }
-    ensures writes { OnlyWrites D.tells (IsReady (D.state disk.old)) (HasRoomTo (D.state disk.old) (home_file shape.now b) (home_place shape.now b + cell_size shape.now)) (IsErr result) (ChangesHome shape.now b) (D.state disk.old) (D.state disk.new) }
+    ensures written { OnOk result (D.reveals → ChangesFile (home_file shape.now b) (Holds (home_place shape.now b) (cell_of b payload.now)) (D.state disk.old).files (D.state disk.new).files) }
+    ensures writes { OnlyWrites D.reveals (IsReady (D.state disk.old)) (HasRoomTo (D.state disk.old) (home_file shape.now b) (home_place shape.now b + cell_size shape.now)) (IsErr result) (ChangesHome shape.now b) (D.state disk.old) (D.state disk.new) }
     ensures settled { Settles (D.state disk.old) (D.state disk.new) }
     ensures full { OnOk result (HasRoom (D.state disk.old) → HasRoomTo (D.state disk.old) (home_file shape.now b) (home_place shape.now b + cell_size shape.now)) }
 
     // The other blocks, as they read and in what a crash leaves; after any answer those in other files also with zeros past
     // the ends.
-    ensures padded { OnOk result (D.tells → KeepsPadded shape.now (λ a. a ≢ b) (D.state disk.old).files (D.state disk.new).files) }
-    ensures elsewhere { D.tells → KeepsPadded shape.now (λ a. home_file shape.now a ≢ home_file shape.now b) (D.state disk.old).files (D.state disk.new).files }
-    ensures shelf { KeepsShelf D.tells shape.now (λ a. a ≢ b) (D.state disk.old) (D.state disk.new) }
-    ensures held { D.tells → (a : BlockId) (recorded : List ℕ) → IsBlockOf shape.now a → a ≢ b → IsBlockHeld shape.now a recorded (D.state disk.old) → IsBlockHeld shape.now a recorded (D.state disk.new) }
+    ensures padded { OnOk result (D.reveals → KeepsPadded shape.now (λ a. a ≢ b) (D.state disk.old).files (D.state disk.new).files) }
+    ensures elsewhere { D.reveals → KeepsPadded shape.now (λ a. home_file shape.now a ≢ home_file shape.now b) (D.state disk.old).files (D.state disk.new).files }
+    ensures shelf { KeepsShelf D.reveals shape.now (λ a. a ≢ b) (D.state disk.old) (D.state disk.new) }
+    ensures held { D.reveals → (a : BlockId) (recorded : List ℕ) → IsBlockOf shape.now a → a ≢ b → IsBlockHeld shape.now a recorded (D.state disk.old) → IsBlockHeld shape.now a recorded (D.state disk.new) }
     ensures any_moment { (a : BlockId) (recorded : List ℕ) → IsBlockOf shape.now a → a ≢ b → IsHeldIn shape.now a recorded ((D.state disk.old).image (D.state disk.old).moment) → AtEachMoment (D.state disk.old) (D.state disk.new) (IsHeldIn shape.now a recorded) }
 {
     rows_go_over_sites();

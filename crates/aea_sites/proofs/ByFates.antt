@@ -152,7 +152,7 @@ module _ (sums : SumsAreDetermined) (open_still : WordsAreOpen) (l : Lattice) (k
       blocks = map block_of_fate (filter is_word fates);
       are = record {
         test = test;
-        tells = λ b has. (lost_open b has, open_lost b has);
+        reveals = λ b has. (lost_open b has, open_lost b has);
         are = words_are;
       };
       count = count ∙ sym (length-filter is_word fates) ∙ sym (length-map (filter is_word fates) block_of_fate);

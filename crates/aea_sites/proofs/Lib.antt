@@ -1,5 +1,5 @@
 mod Lists
-mod Turned
+mod Flipped
 mod Counting
 mod Losing
 mod Rows

@@ -30,7 +30,7 @@ none_lost determined l known loss all count first = record {
   blocks = [];
   are = record {
     test = λ b. false;
-    tells = λ b has. (λ t. absurd (false≢true t), λ open'. absurd (open' (determined l known b has (reached-known l known b (all b has)))));
+    reveals = λ b has. (λ t. absurd (false≢true t), λ open'. absurd (open' (determined l known b has (reached-known l known b (all b has)))));
     are = sym (none-pass (blocks_of l));
   };
   count = count;
@@ -68,7 +68,7 @@ counted_lost inside open_still l known losses loss are counted =
       blocks = filter test (blocks_of l);
       are = record {
         test = test;
-        tells = λ b has. (
+        reveals = λ b has. (
           some_open open_still l known b has (get_or losses (number_of l b) None) (are.each b has),
           open_some l known b (get_or losses (number_of l b) None) (are.each b has),
         );
@@ -98,9 +98,9 @@ loss_stays words stay l known more loss adds of = record {
   blocks = of.blocks;
   are = record {
     test = of.are.test;
-    tells = λ b has. (
-      λ t determined. (of.are.tells b has).0 t ((stay l known more adds b).0 determined),
-      λ open'. (of.are.tells b has).1 (λ determined. open' ((stay l known more adds b).1 determined)),
+    reveals = λ b has. (
+      λ t determined. (of.are.reveals b has).0 t ((stay l known more adds b).0 determined),
+      λ open'. (of.are.reveals b has).1 (λ determined. open' ((stay l known more adds b).1 determined)),
     );
     are = of.are.are;
   };

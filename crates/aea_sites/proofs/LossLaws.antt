@@ -13,12 +13,12 @@ use Rattle.aea_fates.specs.Laws.{ListsAreOne}
 use Rattle.aea_sites.proofs.Lists.{same-filter}
 use Rattle.aea_sites.specs.declared.lost.FirstLost.{FirstLost}
 use Rattle.aea_sites.specs.declared.lost.SiteLoss.{SiteLoss}
-use Rattle.aea_sites.specs.Losses.{TellsLost, AreLost, IsFirst}
+use Rattle.aea_sites.specs.Losses.{RevealsLost, AreLost, IsFirst}
 use Rattle.aea_sites.specs.Laws.{LossesAreOne, FirstWordsShow, LostAreOnSites}
 use Rattle.aea_sites.specs.Sites.{is_on, is_elsewhere}
 
 -- two tests that tell the lost blocks agree
-tests_agree : (l : Lattice) (known p q : BlockId → Bool) → TellsLost l known p → TellsLost l known q → (b : BlockId) → HasBlock l b → p b ≡ q b
+tests_agree : (l : Lattice) (known p q : BlockId → Bool) → RevealsLost l known p → RevealsLost l known q → (b : BlockId) → HasBlock l b → p b ≡ q b
 tests_agree l known p q first second b has =
     elim (cases_Bool (q b)) [
       | inl yes' ↦ (first b has).1 ((second b has).0 yes') ∙ sym yes'
@@ -27,7 +27,7 @@ tests_agree l known p q first second b has =
 
 one_list : BlocksAreInside → (l : Lattice) (known : BlockId → Bool) (xs ys : List BlockId) → AreLost l known xs → AreLost l known ys → xs ≡ ys
 one_list inside l known xs ys p q =
-    p.are ∙ same-filter p.test q.test (blocks_of l) (λ k d lt. tests_agree l known p.test q.test p.tells q.tells (get_or (blocks_of l) k d) (inside l k d lt)) ∙ sym q.are
+    p.are ∙ same-filter p.test q.test (blocks_of l) (λ k d lt. tests_agree l known p.test q.test p.reveals q.reveals (get_or (blocks_of l) k d) (inside l k d lt)) ∙ sym q.are
 
 first_equal : (b : BlockId) (ns ms : List ℕ) → ns ≡ ms → (x y : Option FirstLost) → x ≡ Some (record { block = b; nodes = ns }) → y ≡ Some (record { block = b; nodes = ms }) → x ≡ y
 first_equal b ns ms same x y is other = is ∙ ap (λ ks. let f : FirstLost = record { block = b; nodes = ks } in Some f) same ∙ sym other
@@ -63,9 +63,9 @@ words_show l known loss f is some =
     record { contains = word.chosen.1.contains; misses = word.chosen.1.word.misses }
 
 -- a block that passes the test of the lost ones is not known
-missing : ReachedAreDetermined → (l : Lattice) (known test : BlockId → Bool) → TellsLost l known test → (b : BlockId) → HasBlock l b → test b ≡ true → known b ≡ false
-missing determined l known test tells b has lost =
-    false_from_ne_true (known b) (λ k. (tells b has).0 lost (determined l known b has (reached-known l known b k)))
+missing : ReachedAreDetermined → (l : Lattice) (known test : BlockId → Bool) → RevealsLost l known test → (b : BlockId) → HasBlock l b → test b ≡ true → known b ≡ false
+missing determined l known test reveals b has lost =
+    false_from_ne_true (known b) (λ k. (reveals b has).0 lost (determined l known b has (reached-known l known b k)))
 
 not_false : (x : Bool) → not x ≡ false → x ≡ true
 not_false true h = refl
@@ -78,4 +78,4 @@ lost_on_sites inside determined l sites a b blocks lost =
     All-same (λ d. IsTrue (gone d)) blocks (filter lost.test (blocks_of l)) lost.are
     (λ k d lt.
     let x = get_or (filter lost.test (blocks_of l)) k d in
-    not_false (gone x) (missing determined l (is_elsewhere l sites a b) lost.test lost.tells x (all k d lt) (filter_passes lost.test (blocks_of l) k d lt)))
+    not_false (gone x) (missing determined l (is_elsewhere l sites a b) lost.test lost.reveals x (all k d lt) (filter_passes lost.test (blocks_of l) k d lt)))

@@ -9,13 +9,13 @@ use Rattle.aea_sites.specs.declared.lost.FirstLost.{FirstLost}
 use Rattle.aea_sites.specs.declared.lost.SiteLoss.{SiteLoss}
 
 -- the test tells the lost blocks of the lattice: those that the known ones do not determine, as they do each of themselves
-abbrev pub TellsLost : Lattice → (BlockId → Bool) → (BlockId → Bool) → Type 0
-TellsLost l known test = (b : BlockId) → HasBlock l b → IsTrue (test b) ↔ ¬ Determines l known b
+abbrev pub RevealsLost : Lattice → (BlockId → Bool) → (BlockId → Bool) → Type 0
+RevealsLost l known test = (b : BlockId) → HasBlock l b → IsTrue (test b) ↔ ¬ Determines l known b
 
 -- these are the lost blocks, in number order
 pub record AreLost (l : Lattice) (known : BlockId → Bool) (blocks : List BlockId) : Type 0 where
   pub test : BlockId → Bool
-  pub tells : TellsLost l known test
+  pub reveals : RevealsLost l known test
   pub are : blocks ≡ filter test (blocks_of l)
 
 -- the first of the lost blocks, with its listed nodes; none where no block is lost

@@ -5,8 +5,8 @@
 #[cfg(test)]
 mod archives;
 #[cfg(test)]
-mod chance;
-#[cfg(test)]
 mod examples;
 #[cfg(test)]
 mod plain;
+#[cfg(test)]
+mod random;

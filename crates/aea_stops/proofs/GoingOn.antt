@@ -87,13 +87,13 @@ no_record objects (r ∷ added) none same = let h = ap length none in let s = sa
 
 -- ---- one run
 
-module _ (reading : HasOneReading) (D tells : Type 0) (state : D → State) (told : tells) (shape : Shape) (records : List Record) (r : StoppedRun D tells state) (ledger : HasLedger shape records ((state r.old).files 0)) (fixed : IsFixed (state r.old) 0) where
+module _ (reading : HasOneReading) (D reveals : Type 0) (state : D → State) (revealed : reveals) (shape : Shape) (records : List Record) (r : StoppedRun D reveals state) (ledger : HasLedger shape records ((state r.old).files 0)) (fixed : IsFixed (state r.old) 0) where
   abbrev Ended : Type 0
   Ended = r.moment ≡ (state r.new).moment
 
   -- what a stop of a run of this kind leaves
   abbrev LeftAs : RunKind → Type 0
-  LeftAs kind = (one : List Record) × IsLeftBy tells shape records kind Ended one × HasLedger shape (records ++ one) (r.files 0)
+  LeftAs kind = (one : List Record) × IsLeftBy reveals shape records kind Ended one × HasLedger shape (records ++ one) (r.files 0)
 
   -- an image from the entry has the ledger as it read there
   at_entry : (state r.old).image (state r.old).moment r.files → HasLedger shape records (r.files 0)
@@ -135,11 +135,11 @@ module _ (reading : HasOneReading) (D tells : Type 0) (state : D → State) (tol
 
   -- ---- a put
 
-  module _ (p : PutRun) (stores : Stores p.name tells (state r.old) (state r.new) p.left p.rest p.answer) where
+  module _ (p : PutRun) (stores : Stores p.name reveals (state r.old) (state r.new) p.left p.rest p.answer) where
     -- where the record is not there, the put was not acknowledged
     unacknowledged : HasLedger shape records (r.files 0) → EndsStored p.answer → Ended → ⊥
     unacknowledged before said ended =
-        let stands = stores.stands said told shape records ledger in
+        let stands = stores.stands said revealed shape records ledger in
         let grown = stands.2.rest.stays in
         let many = as_many shape grown.grows.by.lattice grown.grows.by.longer grown.grows.by.payload (stands.0 ∷ []) grown.grows.by.added grown.grows.by.next in
         let same : r.files 0 ≡ (state r.new).files 0 = stands.2.rest.synced r.files (at_end ended) 0 in
@@ -220,9 +220,9 @@ module _ (reading : HasOneReading) (D tells : Type 0) (state : D → State) (tol
       | inr late ↦ some_ingested (length (i.printed ++ i.more)) refl _ opened.rest (opened.rest.grows.by.adds.prefix r.moment r.files late r.to r.image)
     ]
 
-  ingest_left : (i : IngestRun) → StoresFrames tells (state r.old) (state r.new) i.left i.rest i.printed i.more i.answer → LeftAs (Ingesting i)
+  ingest_left : (i : IngestRun) → StoresFrames reveals (state r.old) (state r.new) i.left i.rest i.printed i.more i.answer → LeftAs (Ingesting i)
   ingest_left i stores =
-      let stops = stores.stops told shape records ledger in
+      let stops = stores.stops revealed shape records ledger in
       ⊎_elim
       (λ unopened. none_ingested i stops.0 stops.1 (λ ended. unopened.none) (kept_images unopened.images))
       (λ opened. ingest_opened i stops.0 stops.1 opened)
@@ -230,7 +230,7 @@ module _ (reading : HasOneReading) (D tells : Type 0) (state : D → State) (tol
 
   -- ---- a session
 
-  module _ (s : SessionRun) (began : Began tells shape records (state r.old) (state r.new) s) where
+  module _ (s : SessionRun) (began : Began reveals shape records (state r.old) (state r.new) s) where
     abbrev v : Opened
     v = began.v
 
@@ -291,21 +291,21 @@ module _ (reading : HasOneReading) (D tells : Type 0) (state : D → State) (tol
           | inr late ↦ served_later _ late opened.rest
         ]
 
-  session_left : (s : SessionRun) → Sessions tells (state r.old) (state r.new) s.left s.rest s.before s.after s.answer → LeftAs (Sessioning s)
+  session_left : (s : SessionRun) → Sessions reveals (state r.old) (state r.new) s.left s.rest s.before s.after s.answer → LeftAs (Sessioning s)
   session_left s sessions = ⊎_elim
       (λ not. ([], inl (not.0.failed, not.0.unread, not.0.unused, refl), and_none (kept_images not.0.images)))
-      (λ ran. session_served s (begun_over reading tells shape records (state r.old) (state r.new) s told ledger ran))
+      (λ ran. session_served s (begun_over reading reveals shape records (state r.old) (state r.new) s revealed ledger ran))
       sessions.ran
 
   -- ---- a record that is added by itself
 
-  module _ (adds : List Record → Record) (answer : Answer) (does : AddsRecord adds tells (state r.old) (state r.new) answer) where
+  module _ (adds : List Record → Record) (answer : Answer) (does : AddsRecord adds reveals (state r.old) (state r.new) answer) where
     abbrev LeftWith : Type 0
     LeftWith = (one : List Record) × (IsUnadded answer Ended one ⊎ IsAdded answer (adds records) one) × HasLedger shape (records ++ one) (r.files 0)
 
     unadded : HasLedger shape records (r.files 0) → EndsStored answer → Ended → ⊥
     unadded before said ended =
-        let stands = does.stands said told in
+        let stands = does.stands said revealed in
         let added = stands.0 in
         let were = (reading ((state r.old).files 0) shape added.shape records added.records (length (spelled shape records)) (length (spelled added.shape added.records)) ledger added.before).1.0 in
         let same : r.files 0 ≡ (state r.new).files 0 = stands.1 r.files (at_end ended) 0 in
@@ -328,7 +328,7 @@ module _ (reading : HasOneReading) (D tells : Type 0) (state : D → State) (tol
     one_added : HasLedger shape (records ++ adds records ∷ []) (r.files 0) → LeftWith
     one_added after = (
       adds records ∷ [],
-      inr (λ why is. not_both (kept_images (does.refused why is).images) after, λ is. not_both (kept_images (does.wanting is).images) after, refl),
+      inr (λ why is. not_both (kept_images (does.refused why is).images) after, λ is. not_both (kept_images (does.out_of_memory is).images) after, refl),
       after,
     )
 
@@ -340,17 +340,17 @@ module _ (reading : HasOneReading) (D tells : Type 0) (state : D → State) (tol
     ]
 
     record_left : LeftWith
-    record_left = adds_left (opening_more (state r.old) (state r.new) _ _ (λ c may. may.ledger shape records ledger) (does.stops told))
+    record_left = adds_left (opening_more (state r.old) (state r.new) _ _ (λ c may. may.ledger shape records ledger) (does.stops revealed))
 
   -- ---- whatever it is
 
-  left_as : (kind : RunKind) → DoesRun kind tells (state r.old) (state r.new) → LeftAs kind
-  left_as (Putting p) does = let stops = does.stops told shape records ledger in put_left p does stops.0 stops.1 stops.2
+  left_as : (kind : RunKind) → DoesRun kind reveals (state r.old) (state r.new) → LeftAs kind
+  left_as (Putting p) does = let stops = does.stops revealed shape records ledger in put_left p does stops.0 stops.1 stops.2
   left_as (Ingesting i) does = ingest_left i does
   left_as (Sessioning s) does = session_left s does
   left_as (Fencing answer) does = record_left next_fence answer does
   left_as (Raising answer) does = record_left next_raise answer does
-  left_as Leaving does = ([], refl, and_none (as_it_was (does told)))
+  left_as Leaving does = ([], refl, and_none (as_it_was (does revealed)))
 
 -- ---- all of them
 
@@ -364,20 +364,20 @@ found_blocks : (shape : Shape) (records : List Record) (left found : Files) → 
 found_blocks shape records left found is b on was =
     intact_same shape b (recorded_in shape (digests_of records) b) left found (is.others (home_file shape b) (no_home_in_ledger shape b)) (was on.most)
 
-pub stops_keep : HasOneReading → DigestsAreCounted → CellsHaveLengths → CellsHaveParts → (D tells : Type 0) (state : D → State) → StopsKeepPuts {D = D} tells state
-stops_keep reading counts lengths parts D tells state told shape records [] first last ledger found =
+pub stops_keep : HasOneReading → DigestsAreCounted → CellsHaveLengths → CellsHaveParts → (D reveals : Type 0) (state : D → State) → StopsKeepPuts {D = D} reveals state
+stops_keep reading counts lengths parts D reveals state revealed shape records [] first last ledger found =
     let there : HasLedger shape records (last 0) = found.ledger shape records ledger in
     let keeps : KeepsBlocks shape records records first last = found_blocks shape records first last found in
     let nil : records ≡ records ++ [] = sym (append-nil records) in
     ([], refl, subst (λ (l : List Record). HasLedger shape l (last 0)) nil there, λ all. subst (λ (l : List Record). KeepsBlocks shape records l first last) nil keeps)
-stops_keep reading counts lengths parts D tells state told shape records (r ∷ runs) first last ledger goes =
+stops_keep reading counts lengths parts D reveals state revealed shape records (r ∷ runs) first last ledger goes =
     let here : HasLedger shape records ((state r.old).files 0) = goes.0.ledger shape records ledger in
-    let left = left_as reading D tells state told shape records r here goes.1 r.kind r.does in
-    let rest = stops_keep reading counts lengths parts D tells state told shape (records ++ left.0) runs r.files last left.2 goes.2 in
+    let left = left_as reading D reveals state revealed shape records r here goes.1 r.kind r.does in
+    let rest = stops_keep reading counts lengths parts D reveals state revealed shape (records ++ left.0) runs r.files last left.2 goes.2 in
     let all : (records ++ left.0) ++ rest.0 ≡ records ++ (left.0 ++ rest.0) = append_assoc records left.0 rest.0 in
-    let keeps : AllSpareBlocks D tells state (r ∷ runs) → KeepsBlocks shape records ((records ++ left.0) ++ rest.0) first last = λ spare.
+    let keeps : AllSpareBlocks D reveals state (r ∷ runs) → KeepsBlocks shape records ((records ++ left.0) ++ rest.0) first last = λ spare.
     blocks_both shape records (records ++ left.0) ((records ++ left.0) ++ rest.0) first r.files last
     (blocks_both shape records records (records ++ left.0) first (state r.old).files r.files (found_blocks shape records first (state r.old).files goes.0)
-    (blocks_left reading counts lengths parts D tells state told shape records r here spare.0 left.0 left.1 left.2))
+    (blocks_left reading counts lengths parts D reveals state revealed shape records r here spare.0 left.0 left.1 left.2))
     (rest.3 spare.1) in
     (left.0 ++ rest.0, (left.0, rest.0, refl, left.1, rest.1), subst (λ (l : List Record). HasLedger shape l (last 0)) all rest.2, λ spare. subst (λ (l : List Record). KeepsBlocks shape records l first last) all (keeps spare))

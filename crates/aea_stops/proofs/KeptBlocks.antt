@@ -37,8 +37,8 @@ use Rattle.aea_stops.proofs.Serving.{zeros, begun_over, surely_closed}
 
 -- ---- the blocks of a run
 
-module _ (reading : HasOneReading) (counts : DigestsAreCounted) (lengths : CellsHaveLengths) (parts : CellsHaveParts) (D tells : Type 0) (state : D → State) (told : tells) (shape : Shape) (records : List Record) (r : StoppedRun D tells state)
-    (ledger : HasLedger shape records ((state r.old).files 0)) (spares : SparesBlocks r.kind tells (state r.old) (state r.new)) where
+module _ (reading : HasOneReading) (counts : DigestsAreCounted) (lengths : CellsHaveLengths) (parts : CellsHaveParts) (D reveals : Type 0) (state : D → State) (revealed : reveals) (shape : Shape) (records : List Record) (r : StoppedRun D reveals state)
+    (ledger : HasLedger shape records ((state r.old).files 0)) (spares : SparesBlocks r.kind reveals (state r.old) (state r.new)) where
   abbrev KeepsTo : List Record → Type 0
   KeepsTo list = KeepsBlocks shape records list (state r.old).files r.files
 
@@ -126,29 +126,29 @@ module _ (reading : HasOneReading) (counts : DigestsAreCounted) (lengths : Cells
       (may.ledger shape records ledger)
 
   -- whatever it is
-  found_as : (kind : RunKind) → DoesRun kind tells (state r.old) (state r.new) → LeavesBlocks kind tells (state r.old) (state r.new) → (ended : Type 0) (one : List Record) → IsLeftBy tells shape records kind ended one → HasLedger shape (records ++ one) (r.files 0) → Found
+  found_as : (kind : RunKind) → DoesRun kind reveals (state r.old) (state r.new) → LeavesBlocks kind reveals (state r.old) (state r.new) → (ended : Type 0) (one : List Record) → IsLeftBy reveals shape records kind ended one → HasLedger shape (records ++ one) (r.files 0) → Found
   found_as (Putting p) does leaves ended one left there =
-      let stops = does.stops told shape records ledger in
+      let stops = does.stops revealed shape records ledger in
       ⊎_elim (λ keeps. kept_images keeps.0) (λ opened. from_then (Grows shape records stops.0) opened (growing stops.0)) stops.2
   found_as (Ingesting i) does leaves ended one left there =
-      let stops = does.stops told shape records ledger in
+      let stops = does.stops revealed shape records ledger in
       ⊎_elim (λ unopened. kept_images unopened.images) (λ opened. from_then _ opened (λ m late surely. growing ((i.printed ++ i.more) ++ stops.0) m late surely.grows)) stops.2
   found_as (Sessioning s) does leaves ended one left there = ⊎_elim
       (λ not. kept_images not.0.images)
       (λ ran.
-      let began = begun_over reading tells shape records (state r.old) (state r.new) s told ledger ran in
+      let began = begun_over reading reveals shape records (state r.old) (state r.new) s revealed ledger ran in
       from_then (ClosesAll began.v records (zeros began.v) began.begun.messages began.begun.tail began.begun.result) began.opens (λ m late closes.
       closing (zeros began.v) (closes_of began.v (zeros began.v) (began.begun.messages ++ closes.1)) m late
       (surely_closed began.v shape records (zeros began.v) began.begun.messages began.begun.tail began.begun.result (opened_at (state r.old) (state r.new) m) (state r.new) began.same closes).grows))
       does.ran
-  found_as (Fencing answer) does leaves ended one left there = from_opening _ (does.stops told) (adding next_fence refl)
-  found_as (Raising answer) does leaves ended one left there = from_opening _ (does.stops told) (adding next_raise refl)
+  found_as (Fencing answer) does leaves ended one left there = from_opening _ (does.stops revealed) (adding next_fence refl)
+  found_as (Raising answer) does leaves ended one left there = from_opening _ (does.stops revealed) (adding next_raise refl)
   found_as Leaving does leaves ended one left there =
       let same : records ++ one ≡ records = ap (λ (l : List Record). records ++ l) left ∙ append-nil records in
-      from_opening _ (leaves told shape records ledger) (λ keeps. (records, subst (λ (l : List Record). HasLedger shape l (r.files 0)) same there, keeps))
+      from_opening _ (leaves revealed shape records ledger) (λ keeps. (records, subst (λ (l : List Record). HasLedger shape l (r.files 0)) same there, keeps))
 
   -- so the blocks of the records that it left
-  pub blocks_left : (one : List Record) → IsLeftBy tells shape records r.kind (r.moment ≡ (state r.new).moment) one → HasLedger shape (records ++ one) (r.files 0) → KeepsTo (records ++ one)
+  pub blocks_left : (one : List Record) → IsLeftBy reveals shape records r.kind (r.moment ≡ (state r.new).moment) one → HasLedger shape (records ++ one) (r.files 0) → KeepsTo (records ++ one)
   blocks_left one left there =
       let found = found_as r.kind r.does spares.leaves (r.moment ≡ (state r.new).moment) one left there in
       let same = (reading (r.files 0) shape shape found.0 (records ++ one) (length (spelled shape found.0)) (length (spelled shape (records ++ one))) found.1 there).1.0 in

@@ -23,26 +23,26 @@ abbrev pub zeros : Opened → List (List ℕ)
 zeros v = replicate v.lattice.n (replicate v.shape.block 0)
 
 -- The archive of a run that began, and how it grew from the first sync on: by closes over an X of zeros.
-pub record Began (tells : Type 0) (shape : Shape) (records : List Record) (old new : State) (s : SessionRun) : Type 0 where
+pub record Began (reveals : Type 0) (shape : Shape) (records : List Record) (old new : State) (s : SessionRun) : Type 0 where
   pub v : Opened
   pub same : v.shape ≡ shape
   pub has : HasRecords v records
-  pub begun : HasBegun tells v old new s.left s.rest s.before s.after s.answer (λ messages tail result. OpensThen old new (HasClosedAll v messages tail result))
+  pub begun : HasBegun reveals v old new s.left s.rest s.before s.after s.answer (λ messages tail result. OpensThen old new (HasClosedAll v messages tail result))
   pub long : length (zeros v) ≡ nodes_of records
   pub wide : AreWide shape (zeros v)
   pub opens : OpensThen old new (ClosesAll v records (zeros v) begun.messages begun.tail begun.result)
 
 -- a run that began is one over the records of the ledger that the disk had
-pub begun_over : HasOneReading → (tells : Type 0) (shape : Shape) (records : List Record) (old new : State) (s : SessionRun) → tells → HasLedger shape records (old.files 0) → HasRun tells old new s.left s.rest s.before s.after s.answer → Began tells shape records old new s
-begun_over reading tells shape records old new s told ledger ran =
+pub begun_over : HasOneReading → (reveals : Type 0) (shape : Shape) (records : List Record) (old new : State) (s : SessionRun) → reveals → HasLedger shape records (old.files 0) → HasRun reveals old new s.left s.rest s.before s.after s.answer → Began reveals shape records old new s
+begun_over reading reveals shape records old new s revealed ledger ran =
     let v = ran.0 in
-    let one = ran.2 told in
+    let one = ran.2 revealed in
     let begun = ran.3 in
-    let opened = begun.closes told in
+    let opened = begun.closes revealed in
     let size = length-replicate v.lattice.n (replicate v.shape.block 0) in
     let wide : AreWide v.shape (zeros v) = All-replicate (λ (d : List ℕ). length d ≡ v.shape.block) v.lattice.n (replicate v.shape.block 0) (length-replicate v.shape.block 0) in
     let its : AreItsRecords v one.records (old.files 0) = record { has = one.has; ledger = one.ledger } in
-    by_reading reading v (old.files 0) one (λ shape records. Began tells shape records old new s)
+    by_reading reading v (old.files 0) one (λ shape records. Began reveals shape records old new s)
     (record {
       v = v;
       same = refl;

@@ -64,20 +64,20 @@ pub data RunKind : Type 0 where
 
 -- what a run does to a disk whose contents are known
 abbrev pub DoesRun : RunKind → Type 0 → State → State → Type 0
-DoesRun (Putting p) tells old new = Stores p.name tells old new p.left p.rest p.answer
-DoesRun (Ingesting i) tells old new = StoresFrames tells old new i.left i.rest i.printed i.more i.answer
-DoesRun (Sessioning s) tells old new = Sessions tells old new s.left s.rest s.before s.after s.answer
-DoesRun (Fencing answer) tells old new = AddsRecord next_fence tells old new answer
-DoesRun (Raising answer) tells old new = AddsRecord next_raise tells old new answer
-DoesRun Leaving tells old new = tells → HasOpening old new (λ c. c 0 ≡ old.files 0)
+DoesRun (Putting p) reveals old new = Stores p.name reveals old new p.left p.rest p.answer
+DoesRun (Ingesting i) reveals old new = StoresFrames reveals old new i.left i.rest i.printed i.more i.answer
+DoesRun (Sessioning s) reveals old new = Sessions reveals old new s.left s.rest s.before s.after s.answer
+DoesRun (Fencing answer) reveals old new = AddsRecord next_fence reveals old new answer
+DoesRun (Raising answer) reveals old new = AddsRecord next_raise reveals old new answer
+DoesRun Leaving reveals old new = reveals → HasOpening old new (λ c. c 0 ≡ old.files 0)
 
 -- A run over a disk of a type whose values have these states: the disk before it, and after it had it gone on to its end; and
 -- the files that a stop left, an image of some moment of it.
-pub record StoppedRun (D tells : Type 0) (state : D → State) : Type 0 where
+pub record StoppedRun (D reveals : Type 0) (state : D → State) : Type 0 where
   pub old : D
   pub new : D
   pub kind : RunKind
-  pub does : DoesRun kind tells (state old) (state new)
+  pub does : DoesRun kind reveals (state old) (state new)
   pub moment : ℕ
   pub from : (state old).moment ≤ moment
   pub to : moment ≤ (state new).moment
@@ -121,7 +121,7 @@ IsUnserved s added = IsErr s.answer × (s.rest ≡ s.left) × (s.after ≡ s.bef
 -- and of the one that was under way where the disk failed. Where the run ended before the stop, each close that was answered, or
 -- whose reply was begun, has its record. The closes are over some X with as many blocks as the archive has nodes; what these are
 -- makes no difference to the record of a close.
-pub record AreServed (tells : Type 0) (shape : Shape) (records : List Record) (s : SessionRun) (ended : Type 0) (added : List Record) : Type 0 where
+pub record AreServed (reveals : Type 0) (shape : Shape) (records : List Record) (s : SessionRun) (ended : Type 0) (added : List Record) : Type 0 where
   pub v : Opened
   pub same : v.shape ≡ shape
   pub has : HasRecords v records
@@ -130,7 +130,7 @@ pub record AreServed (tells : Type 0) (shape : Shape) (records : List Record) (s
   pub tail : List ℕ
   pub result : Result (Unit {0}) Stop
   pub by : AnswersBy result s.answer
-  pub serves : Serves tells v files s.left s.rest s.before s.after messages tail result
+  pub serves : Serves reveals v files s.left s.rest s.before s.after messages tail result
   pub datas : List (List ℕ)
   pub long : length datas ≡ nodes_of records
   pub wide : AreWide shape datas
@@ -154,12 +154,12 @@ IsAdded answer r added = ((why : Refusal) → answer ≢ Err (failure.Refused wh
 
 -- the records are what a stop of the run leaves, in an archive of this shape, after these that were there
 abbrev pub IsLeftBy : Type 0 → Shape → List Record → RunKind → Type 0 → List Record → Type 0
-IsLeftBy tells shape records (Putting p) ended added = IsUnadded p.answer ended added ⊎ ((o : NewObject) × IsPutOf p o × AreRecordsFor (o ∷ []) added)
-IsLeftBy tells shape records (Ingesting i) ended added = AreIngested i ended added
-IsLeftBy tells shape records (Sessioning s) ended added = IsUnserved s added ⊎ AreServed tells shape records s ended added
-IsLeftBy tells shape records (Fencing answer) ended added = IsUnadded answer ended added ⊎ IsAdded answer (next_fence records) added
-IsLeftBy tells shape records (Raising answer) ended added = IsUnadded answer ended added ⊎ IsAdded answer (next_raise records) added
-IsLeftBy tells shape records Leaving ended added = added ≡ []
+IsLeftBy reveals shape records (Putting p) ended added = IsUnadded p.answer ended added ⊎ ((o : NewObject) × IsPutOf p o × AreRecordsFor (o ∷ []) added)
+IsLeftBy reveals shape records (Ingesting i) ended added = AreIngested i ended added
+IsLeftBy reveals shape records (Sessioning s) ended added = IsUnserved s added ⊎ AreServed reveals shape records s ended added
+IsLeftBy reveals shape records (Fencing answer) ended added = IsUnadded answer ended added ⊎ IsAdded answer (next_fence records) added
+IsLeftBy reveals shape records (Raising answer) ended added = IsUnadded answer ended added ⊎ IsAdded answer (next_raise records) added
+IsLeftBy reveals shape records Leaving ended added = added ≡ []
 
 -- These files are found where those were left: all but the ledger are the same, and of that whatever shape and records it has. So
 -- it is where nothing came between; and where the ledger was damaged, or lost, and made anew from a copy.
@@ -169,16 +169,16 @@ pub record IsFoundOf (left found : Files) : Type 0 where
 
 -- The runs went on one after the other, from these files to those that are found after the last stop: each began over a disk that
 -- reads as what is found after the stop before it, and with nothing pending on its ledger.
-abbrev pub GoOn : (D tells : Type 0) (state : D → State) → Files → List (StoppedRun D tells state) → Files → Type 0
-GoOn D tells state first [] last = IsFoundOf first last
-GoOn D tells state first (r ∷ runs) last = IsFoundOf first (state r.old).files × IsFixed (state r.old) 0 × GoOn D tells state r.files runs last
+abbrev pub GoOn : (D reveals : Type 0) (state : D → State) → Files → List (StoppedRun D reveals state) → Files → Type 0
+GoOn D reveals state first [] last = IsFoundOf first last
+GoOn D reveals state first (r ∷ runs) last = IsFoundOf first (state r.old).files × IsFixed (state r.old) 0 × GoOn D reveals state r.files runs last
 
 -- the records are those that the runs left after these, in order, in an archive of this shape
-abbrev pub AreKept : (D tells : Type 0) (state : D → State) → Shape → List Record → List (StoppedRun D tells state) → List Record → Type 0
-AreKept D tells state shape records [] added = added ≡ []
-AreKept D tells state shape records (r ∷ runs) added =
-    (one : List Record) × (rest : List Record) × (added ≡ one ++ rest) × IsLeftBy tells shape records r.kind (r.moment ≡ (state r.new).moment) one
-    × AreKept D tells state shape (records ++ one) runs rest
+abbrev pub AreKept : (D reveals : Type 0) (state : D → State) → Shape → List Record → List (StoppedRun D reveals state) → List Record → Type 0
+AreKept D reveals state shape records [] added = added ≡ []
+AreKept D reveals state shape records (r ∷ runs) added =
+    (one : List Record) × (rest : List Record) × (added ≡ one ++ rest) × IsLeftBy reveals shape records r.kind (r.moment ≡ (state r.new).moment) one
+    × AreKept D reveals state shape (records ++ one) runs rest
 
 -- Each block of an archive with the later records that is one of the nodes after those of the records before, or was intact, by
 -- these, in the old files, is intact in the new ones.
@@ -188,25 +188,25 @@ KeepsBlocks shape records later old new =
 
 -- A run of a command that leaves the ledger leaves the blocks that are intact too: from its first sync on, in every image.
 abbrev pub LeavesBlocks : RunKind → Type 0 → State → State → Type 0
-LeavesBlocks Leaving tells old new =
-    tells → (shape : Shape) (records : List Record) → HasLedger shape records (old.files 0) → HasOpening old new (KeepsBlocks shape records records old.files)
-LeavesBlocks kind tells old new = Unit {0}
+LeavesBlocks Leaving reveals old new =
+    reveals → (shape : Shape) (records : List Record) → HasLedger shape records (old.files 0) → HasOpening old new (KeepsBlocks shape records records old.files)
+LeavesBlocks kind reveals old new = Unit {0}
 
 -- Of a run that leaves the blocks of others: it does, and it began with nothing pending, on the ledger and on the sites.
-pub record SparesBlocks (kind : RunKind) (tells : Type 0) (old new : State) : Type 0 where
+pub record SparesBlocks (kind : RunKind) (reveals : Type 0) (old new : State) : Type 0 where
   pub synced : IsSynced old
-  pub leaves : LeavesBlocks kind tells old new
+  pub leaves : LeavesBlocks kind reveals old new
 
 -- and so does each of these runs
-abbrev pub AllSpareBlocks : (D tells : Type 0) (state : D → State) → List (StoppedRun D tells state) → Type 0
-AllSpareBlocks D tells state [] = Unit {0}
-AllSpareBlocks D tells state (r ∷ runs) = SparesBlocks r.kind tells (state r.old) (state r.new) × AllSpareBlocks D tells state runs
+abbrev pub AllSpareBlocks : (D reveals : Type 0) (state : D → State) → List (StoppedRun D reveals state) → Type 0
+AllSpareBlocks D reveals state [] = Unit {0}
+AllSpareBlocks D reveals state (r ∷ runs) = SparesBlocks r.kind reveals (state r.old) (state r.new) × AllSpareBlocks D reveals state runs
 
 -- However many runs there are, and wherever each was stopped: the ledger that is found after the last stop has the records that were
 -- there before the first, and after them, in order, those that the runs added, of each that was acknowledged. And where each run
 -- began with nothing pending, every block of these is intact, and so is each block that was so before the first run.
 abbrev pub StopsKeepPuts : {D : Type 0} → Type 0 → (D → State) → Type 0
-StopsKeepPuts {D} tells state =
-    tells → (shape : Shape) (records : List Record) (runs : List (StoppedRun D tells state)) (first last : Files) → HasLedger shape records (first 0) → GoOn D tells state first runs last
-    → (added : List Record) × AreKept D tells state shape records runs added × HasLedger shape (records ++ added) (last 0)
-    × (AllSpareBlocks D tells state runs → KeepsBlocks shape records (records ++ added) first last)
+StopsKeepPuts {D} reveals state =
+    reveals → (shape : Shape) (records : List Record) (runs : List (StoppedRun D reveals state)) (first last : Files) → HasLedger shape records (first 0) → GoOn D reveals state first runs last
+    → (added : List Record) × AreKept D reveals state shape records runs added × HasLedger shape (records ++ added) (last 0)
+    × (AllSpareBlocks D reveals state runs → KeepsBlocks shape records (records ++ added) first last)

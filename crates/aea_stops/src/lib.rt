@@ -22,7 +22,7 @@ use aea_records::{digests_are_counted, ledgers_have_one_reading};
 /// pending on any file, every block of what they added is intact in what the last stop left, and so is each that was intact
 /// before the first run. It is a law alone; nothing is done.
 pub fn stops_keep_puts<D: Disk>(_disk: &D)
-    ensures { StopsKeepPuts D.tells D.state }
+    ensures { StopsKeepPuts D.reveals D.state }
 {
     ledgers_have_one_reading();
     digests_are_counted();

@@ -45,16 +45,16 @@ KeptStays = (files left : Files) (between : List Files) → HasKept files → Ar
 -- A run over a disk with copies, or without, that a stop cut off once copies were adopted: the disk before it; the one that adopting left,
 -- with what was said; the disk after the run had it gone on to its end, and what the Mirror kept then; and the files that the stop
 -- left, an image of some moment.
-pub record StoppedOver (D tells : Type 0) (state : D → State) : Type 0 where
+pub record StoppedOver (D reveals : Type 0) (state : D → State) : Type 0 where
   pub old : D
   pub mid : D
   pub adopted : Adopted
-  pub adopts : Adopts tells (state old) (state mid) (Ok adopted)
+  pub adopts : Adopts reveals (state old) (state mid) (Ok adopted)
   pub name : ℕ
   pub new : D
   pub kept : Kept
   pub kind : RunKind
-  pub does : DoesRun kind tells (mirror_state tells (state mid) (fresh name adopted)) (mirror_state tells (state new) kept)
+  pub does : DoesRun kind reveals (mirror_state reveals (state mid) (fresh name adopted)) (mirror_state reveals (state new) kept)
   pub moment : ℕ
   pub from : (state mid).moment ≤ moment
   pub to : moment ≤ (state new).moment
@@ -63,29 +63,29 @@ pub record StoppedOver (D tells : Type 0) (state : D → State) : Type 0 where
 
 -- The runs went on one after the other, from these files to those that the last opening leaves, with damage and openings that were
 -- stopped between them.
-abbrev pub GoOnOver : (D tells : Type 0) (state : D → State) → Files → List (StoppedOver D tells state) → Files → Type 0
-GoOnOver D tells state first [] last = (between : List Files) × (left : Files) × AreBetween first between left × CanBeAdopted left × LeavesAdopted left last
-GoOnOver D tells state first (r ∷ runs) last = (between : List Files) × AreBetween first between (state r.old).files × GoOnOver D tells state r.files runs last
+abbrev pub GoOnOver : (D reveals : Type 0) (state : D → State) → Files → List (StoppedOver D reveals state) → Files → Type 0
+GoOnOver D reveals state first [] last = (between : List Files) × (left : Files) × AreBetween first between left × CanBeAdopted left × LeavesAdopted left last
+GoOnOver D reveals state first (r ∷ runs) last = (between : List Files) × AreBetween first between (state r.old).files × GoOnOver D reveals state r.files runs last
 
 -- the records are those that the runs left after these, in order, in an archive of this shape
-abbrev pub AreKeptOver : (D tells : Type 0) (state : D → State) → Shape → List Record → List (StoppedOver D tells state) → List Record → Type 0
-AreKeptOver D tells state shape records [] added = added ≡ []
-AreKeptOver D tells state shape records (r ∷ runs) added =
-    (one : List Record) × (rest : List Record) × (added ≡ one ++ rest) × IsLeftBy tells shape records r.kind (r.moment ≡ (state r.new).moment) one
-    × AreKeptOver D tells state shape (records ++ one) runs rest
+abbrev pub AreKeptOver : (D reveals : Type 0) (state : D → State) → Shape → List Record → List (StoppedOver D reveals state) → List Record → Type 0
+AreKeptOver D reveals state shape records [] added = added ≡ []
+AreKeptOver D reveals state shape records (r ∷ runs) added =
+    (one : List Record) × (rest : List Record) × (added ≡ one ++ rest) × IsLeftBy reveals shape records r.kind (r.moment ≡ (state r.new).moment) one
+    × AreKeptOver D reveals state shape (records ++ one) runs rest
 
 -- each run leaves the blocks of others
-abbrev pub AllSpareOver : (D tells : Type 0) (state : D → State) → List (StoppedOver D tells state) → Type 0
-AllSpareOver D tells state [] = Unit {0}
-AllSpareOver D tells state (r ∷ runs) =
-    SparesBlocks r.kind tells (mirror_state tells (state r.mid) (fresh r.name r.adopted)) (mirror_state tells (state r.new) r.kept) × AllSpareOver D tells state runs
+abbrev pub AllSpareOver : (D reveals : Type 0) (state : D → State) → List (StoppedOver D reveals state) → Type 0
+AllSpareOver D reveals state [] = Unit {0}
+AllSpareOver D reveals state (r ∷ runs) =
+    SparesBlocks r.kind reveals (mirror_state reveals (state r.mid) (fresh r.name r.adopted)) (mirror_state reveals (state r.new) r.kept) × AllSpareOver D reveals state runs
 
 -- However many runs there are, wherever each was stopped, and whatever was lost of the ledger and of one copy between them: the ledger that
 -- the last opening leaves has the records that were there before the first, and after them, in order, those that the runs added, of
 -- each that was acknowledged; and where the runs leave the blocks of others, every block of these is intact, and so is each that was so
 -- before the first run.
 abbrev pub CopiesKeepPuts : {D : Type 0} → Type 0 → (D → State) → Type 0
-CopiesKeepPuts {D} tells state =
-    tells → (shape : Shape) (records : List Record) (runs : List (StoppedOver D tells state)) (first last : Files) → ((shown : Files) → Shows first shown → HasLedger shape records (shown 0)) → GoOnOver D tells state first runs last
-    → (added : List Record) × AreKeptOver D tells state shape records runs added × HasLedger shape (records ++ added) (last 0)
-    × (AllSpareOver D tells state runs → KeepsBlocks shape records (records ++ added) first last)
+CopiesKeepPuts {D} reveals state =
+    reveals → (shape : Shape) (records : List Record) (runs : List (StoppedOver D reveals state)) (first last : Files) → ((shown : Files) → Shows first shown → HasLedger shape records (shown 0)) → GoOnOver D reveals state first runs last
+    → (added : List Record) × AreKeptOver D reveals state shape records runs added × HasLedger shape (records ++ added) (last 0)
+    × (AllSpareOver D reveals state runs → KeepsBlocks shape records (records ++ added) first last)

@@ -30,7 +30,7 @@ pub fn kept_stays()
 /// may be lost or altered, and openings stopped, the ledger has after its old records, in order, those that the runs added, of each that
 /// was acknowledged. It is a law alone; nothing is done.
 pub fn copies_keep_puts<D: Disk>(_disk: &D)
-    ensures { CopiesKeepPuts D.tells D.state }
+    ensures { CopiesKeepPuts D.reveals D.state }
 {
     records_are_short();
     ledgers_have_one_reading();

@@ -24,8 +24,8 @@ bit_of_pow m i =
     ]
 
 -- the XOR of a word with a single bit flips the bit at its place alone
-pub turned : (x m i : ℕ) → m < 64 → has_bit (bit_xor x ((1 * 2 ^ m) % 2 ^ 64)) i ≡ differ (has_bit x i) (i == m)
-turned x m i less =
+pub flipped : (x m i : ℕ) → m < 64 → has_bit (bit_xor x ((1 * 2 ^ m) % 2 ^ 64)) i ≡ differ (has_bit x i) (i == m)
+flipped x m i less =
     ap (λ p. has_bit (bit_xor x p) i) (one_shl m 64 less) ∙ xor-bits x (2 ^ m) i ∙ ap (differ (has_bit x i)) (bit_of_pow m i)
 
 -- the least bit that is set
@@ -79,8 +79,8 @@ by_word h g f low middle high k less =
     ]
 
 -- a bit that is not at the place is not flipped
-pub not_turned : (b : Bool) (k place : ℕ) → k ≢ place → b ≡ differ b (k == place)
-not_turned b k place other = sym (ap (differ b) (ne_eqb k place other) ∙ differ-false_r b)
+pub not_flipped : (b : Bool) (k place : ℕ) → k ≢ place → b ≡ differ b (k == place)
+not_flipped b k place other = sym (ap (differ b) (ne_eqb k place other) ∙ differ-false_r b)
 
 -- nor is it taken away
 pub not_taken : (b : Bool) (k place : ℕ) → k ≢ place → b ≡ (b && not (k == place))

@@ -21,9 +21,9 @@ use Rattle.aea_sweep.specs.Labels.{label_of}
 use Rattle.aea_sweep.specs.Firsts.{IsFirst, AreFirst}
 use Rattle.aea_sweep.specs.Sweep.{SetsAside}
 use Rattle.aea_sweep.specs.Ends.{AddsEnds, IsKnownOrEnd, AreMarkedFrom}
-use Rattle.aea_sweep.proofs.StepLaws.{TellWords}
-use Rattle.aea_sweep.proofs.Tells.{ends_tell_words}
-use Rattle.aea_sweep.proofs.Telling.{determined_by}
+use Rattle.aea_sweep.proofs.StepLaws.{RevealWords}
+use Rattle.aea_sweep.proofs.Reveals.{ends_reveal_words}
+use Rattle.aea_sweep.proofs.Revealing.{determined_by}
 
 -- a codeword with a block has a greatest one
 codeword_end : (l : Lattice) (known : BlockId → Bool) (nodes : ℕ → Bool) (b : BlockId) → HasBlock l b → Misses l known nodes → is_in_codeword l nodes b ≡ true → (e : BlockId) × IsEndOf l known nodes e
@@ -169,8 +169,8 @@ module _ (l : Lattice) (known : BlockId → Bool) (words : List (List ℕ)) (lab
     marks = λ b hb from. (let below = number_below l b hb in absurd (omega (arith, from, below)));
   }
 
-  tells : TellWords l known (length words) (word_in words) s.ends
-  tells = ends_tell_words l known (length words) (word_in words) s.ends s.are_ends
+  reveals : RevealWords l known (length words) (word_in words) s.ends
+  reveals = ends_reveal_words l known (length words) (word_in words) s.ends s.are_ends
 
   -- where all blocks were passed, the marks are those of the known blocks and of the ends
   pub step_last : (left : ℕ) (m : Marked) → AreMarkedFrom l known (length words) s.ends 0 left m → AddsEnds l known (is_marked m)
@@ -192,7 +192,7 @@ module _ (l : Lattice) (known : BlockId → Bool) (words : List (List ℕ)) (lab
       kept' d hd is = (marked.marks d hd (omega arith)).1 (inl is)
 
       ends' : (d : BlockId) → IsEnd l known d → IsTrue (is_marked m d)
-      ends' d end = (marked.marks d end.1.block (omega arith)).1 (inr (tells.all d end))
+      ends' d end = (marked.marks d end.1.block (omega arith)).1 (inr (reveals.all d end))
 
       set_aside : (b : BlockId) → HasBlock l b → Determines l known b → (r : ℕ) → r < length words → SetsAside l known (is_marked m) b (s.ends r) (word_in words r)
       set_aside b hb determined r less =

@@ -1,7 +1,7 @@
 pub mod StepLaws
 pub mod Codes
 pub mod Steps
-pub mod Tells
+pub mod Reveals
 pub mod Aside
 pub mod Spare
 pub mod Ending
@@ -27,5 +27,5 @@ pub mod Labelling
 pub mod OpenStretch
 pub mod Stretching
 pub mod Taking
-pub mod Telling
+pub mod Revealing
 pub mod EndMarks

@@ -65,7 +65,7 @@ AddsWord =
 
 -- At the end the words are those of the ends, no block but these is an end, and the first word that has a block is that of
 -- the least end.
-pub record TellWords (l : Lattice) (known : BlockId → Bool) (rows : ℕ) (words : ℕ → ℕ → Bool) (ends : ℕ → BlockId) : Type 0 where
+pub record RevealWords (l : Lattice) (known : BlockId → Bool) (rows : ℕ) (words : ℕ → ℕ → Bool) (ends : ℕ → BlockId) : Type 0 where
   pub word : (r : ℕ) → r < rows → IsWordOfEnd l known (ends r) (words r)
   pub all : (e : BlockId) → IsEnd l known e → (r : ℕ) × (r < rows) × (ends r ≡ e)
   pub least : (b : BlockId) (r : ℕ) → HasBlock l b → r < rows → is_in_codeword l (words r) b ≡ true
@@ -73,10 +73,10 @@ pub record TellWords (l : Lattice) (known : BlockId → Bool) (rows : ℕ) (word
   pub none : (b : BlockId) → HasBlock l b → ((r : ℕ) → r < rows → is_in_codeword l (words r) b ≡ false)
       → (nodes : ℕ → Bool) → Misses l known nodes → is_in_codeword l nodes b ≡ false
 
-abbrev pub EndsTellWords : Type 0
-EndsTellWords =
+abbrev pub EndsRevealWords : Type 0
+EndsRevealWords =
     (l : Lattice) (known : BlockId → Bool) (rows : ℕ) (words : ℕ → ℕ → Bool) (ends : ℕ → BlockId)
-    → AreEnds l known rows words ends → TellWords l known rows words ends
+    → AreEnds l known rows words ends → RevealWords l known rows words ends
 
 -- After a node with no next one on its strand no later node before a fence is on that strand: where the strand of a later
 -- node goes on from g, at or before i, it is another one.

@@ -22,7 +22,7 @@ fn bit(word: u64, place: u32) -> bool
 }
 
 // The word with the bit at this place flipped.
-fn turned(word: u64, place: u32) -> u64
+fn flipped(word: u64, place: u32) -> u64
     requires { place < 64 }
     ensures { (k : ℕ) → k < 64 → has_bit result k ≡ differ (has_bit word k) (k == place) }
 {
@@ -82,27 +82,27 @@ impl Heads {
     }
 
     /// These bits with that of the place flipped.
-    pub(crate) fn turned(&self, place: u32) -> Heads
+    pub(crate) fn flipped(&self, place: u32) -> Heads
         requires { place < 192 }
         ensures { (k : ℕ) → k < 192 → has_head result k ≡ differ (has_head self.now k) (k == place) }
     {
         if place < 64 {
             Heads {
-                low: turned(self.low, place),
+                low: flipped(self.low, place),
                 middle: self.middle,
                 high: self.high,
             }
         } else if place < 128 {
             Heads {
                 low: self.low,
-                middle: turned(self.middle, place - 64),
+                middle: flipped(self.middle, place - 64),
                 high: self.high,
             }
         } else {
             Heads {
                 low: self.low,
                 middle: self.middle,
-                high: turned(self.high, place - 128),
+                high: flipped(self.high, place - 128),
             }
         }
     }

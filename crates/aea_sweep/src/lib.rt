@@ -29,6 +29,6 @@ pub use laws::{ends_stand_aside, not_spare};
 pub use listing::{LossList, MarkedLosses, losses, marked_losses};
 
 #[cfg(test)]
-mod chance;
+mod random;
 #[cfg(test)]
 mod tests;

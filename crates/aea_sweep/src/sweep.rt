@@ -135,15 +135,15 @@ fn heads_of(lattice: &Lattice, node: u32) -> Heads
     requires { HasNode lattice.now node }
     ensures { (t : ℕ) → t < 192 → has_head result t ≡ is_place_of lattice.now node t }
 {
-    let horiz = Heads::none().turned(place(lattice, node, Class::Horiz));
+    let horiz = Heads::none().flipped(place(lattice, node, Class::Horiz));
     if lattice.alpha() < 2 {
         return horiz;
     }
-    let right = horiz.turned(place(lattice, node, Class::Right));
+    let right = horiz.flipped(place(lattice, node, Class::Right));
     if lattice.alpha() < 3 {
         return right;
     }
-    right.turned(place(lattice, node, Class::Left))
+    right.flipped(place(lattice, node, Class::Left))
 }
 
 // Goes over the datum of the node.

@@ -41,12 +41,12 @@ sure_both all first second fits early_fits late_fits old mid new result takes th
 }
 
 -- a write and a sync
-pub sure_written : {T U E F : Type 0} {v : T} (tells : Type 0) (file at : ℕ) (bytes : List ℕ) (old mid new : State) (result : Result U F)
-    → (tells → ChangesFile file (Holds at bytes) old.files mid.files) → Passes old mid
-    → IsSure {E = E} (tells × TakesFrom old file at) (old.room file (at + length bytes)) old mid (Ok v) → IsSure (tells × IsReady mid) (IsRoomy mid) mid new result
-    → IsSure (tells × TakesWrite old file at bytes) (FitsWrite old file at bytes) old new result
-sure_written tells file at bytes old mid new result written time early late =
-    sure_both (tells × TakesWrite old file at bytes) (tells × TakesFrom old file at) (tells × IsReady mid) (FitsWrite old file at bytes) (old.room file (at + length bytes)) (IsRoomy mid) old mid new result
+pub sure_written : {T U E F : Type 0} {v : T} (reveals : Type 0) (file at : ℕ) (bytes : List ℕ) (old mid new : State) (result : Result U F)
+    → (reveals → ChangesFile file (Holds at bytes) old.files mid.files) → Passes old mid
+    → IsSure {E = E} (reveals × TakesFrom old file at) (old.room file (at + length bytes)) old mid (Ok v) → IsSure (reveals × IsReady mid) (IsRoomy mid) mid new result
+    → IsSure (reveals × TakesWrite old file at bytes) (FitsWrite old file at bytes) old new result
+sure_written reveals file at bytes old mid new result written time early late =
+    sure_both (reveals × TakesWrite old file at bytes) (reveals × TakesFrom old file at) (reveals × IsReady mid) (FitsWrite old file at bytes) (old.room file (at + length bytes)) (IsRoomy mid) old mid new result
     (λ is. (is.0, is.1.here))
     (λ is goes. let there = is.1.then mid.files (written is.0) in (is.0, (there.0, goes 0 (mid.files 0) there.0 there.1)))
     (λ is fit. fit.room)
@@ -54,13 +54,13 @@ sure_written tells file at bytes old mid new result written time early late =
     time early late
 
 -- two writes, each with a sync after it: a body, and its gate
-pub sure_committed : {T U E F : Type 0} {v : T} (tells : Type 0) (gate : ℕ) (body : List ℕ) (old mid new : State) (result : Result U F)
-    → (tells → ChangesFile 0 (Holds (gate + 1) body) old.files mid.files) → ((m n : ℕ) → m ≤ n → mid.room 0 n → mid.room 0 m) → Passes old mid
-    → IsSure {E = E} (tells × TakesWrite old 0 (gate + 1) body) (FitsWrite old 0 (gate + 1) body) old mid (Ok v)
-    → IsSure (tells × TakesWrite mid 0 gate (1 ∷ [])) (FitsWrite mid 0 gate (1 ∷ [])) mid new result
-    → IsSure (tells × TakesGate old gate body) (FitsGate old gate body) old new result
-sure_committed tells gate body old mid new result written smaller time early late =
-    sure_both (tells × TakesGate old gate body) (tells × TakesWrite old 0 (gate + 1) body) (tells × TakesWrite mid 0 gate (1 ∷ [])) (FitsGate old gate body) (FitsWrite old 0 (gate + 1) body) (FitsWrite mid 0 gate (1 ∷ [])) old mid new result
+pub sure_committed : {T U E F : Type 0} {v : T} (reveals : Type 0) (gate : ℕ) (body : List ℕ) (old mid new : State) (result : Result U F)
+    → (reveals → ChangesFile 0 (Holds (gate + 1) body) old.files mid.files) → ((m n : ℕ) → m ≤ n → mid.room 0 n → mid.room 0 m) → Passes old mid
+    → IsSure {E = E} (reveals × TakesWrite old 0 (gate + 1) body) (FitsWrite old 0 (gate + 1) body) old mid (Ok v)
+    → IsSure (reveals × TakesWrite mid 0 gate (1 ∷ [])) (FitsWrite mid 0 gate (1 ∷ [])) mid new result
+    → IsSure (reveals × TakesGate old gate body) (FitsGate old gate body) old new result
+sure_committed reveals gate body old mid new result written smaller time early late =
+    sure_both (reveals × TakesGate old gate body) (reveals × TakesWrite old 0 (gate + 1) body) (reveals × TakesWrite mid 0 gate (1 ∷ [])) (FitsGate old gate body) (FitsWrite old 0 (gate + 1) body) (FitsWrite mid 0 gate (1 ∷ [])) old mid new result
     (λ is. (is.0, is.1.first))
     (λ is goes.
     let at = written is.0 in (

@@ -19,7 +19,7 @@ fn has_bytes<D: Disk>(disk: &mut D, file: u8, want: &[u8]) -> Result<bool, DiskF
 }
 
 fn write_and_cut<D: Disk>(disk: &mut D) -> Result<(), DiskFault>
-    requires { ¬ D.tells }
+    requires { ¬ D.reveals }
 {
     disk.write(0, 0, b"ledger")?;
     disk.write(1, 4, b"cell")?;

@@ -36,9 +36,9 @@ impl<D: Disk> FlippingDisk<D> {
 impl<D: Disk> Disk for FlippingDisk<D> {
     ghost state = { λ d. D.state d.inner };
 
-    ghost tells = { ⊥ };
+    ghost reveals = { ⊥ };
 
-    ghost as_it_reads = { λ d t c told here. absurd told };
+    ghost as_it_reads = { λ d t c revealed here. absurd revealed };
 
     ghost later_taken = { λ d f b m n le has. D.later_taken d.inner f b m n le has };
 

@@ -25,7 +25,7 @@ pub struct Case {
     /// The runs that make what is there before it.
     pub before: &'static [Run],
     /// The bytes that are then flipped: the file of each, and its place.
-    pub turned: &'static [(u8, u64)],
+    pub flipped: &'static [(u8, u64)],
     pub line: &'static str,
     pub input: &'static str,
     pub status: Status,
@@ -125,7 +125,7 @@ const RESTORED: &str = "aea-report 1\nlattice 3 2 5 3\n\
 // A run that makes, reads and prints nothing, where nothing is there.
 const NOTHING: Case = Case {
     before: &[],
-    turned: &[],
+    flipped: &[],
     line: "",
     input: "",
     status: Status::Done,
@@ -239,7 +239,7 @@ const GET: Case = Case {
 };
 
 const FETCH: Case = Case {
-    turned: TORN,
+    flipped: TORN,
     line: "fetch b",
     out: "0123456789abcdefg",
     calls: 17,
@@ -273,7 +273,7 @@ const UPGRADE: Case = Case {
 };
 
 const SCRUB: Case = Case {
-    turned: TORN,
+    flipped: TORN,
     line: "scrub",
     status: Status::Damage,
     out: "damaged d1\ndamaged r1\ndamaged d2\ndamaged l2\ntotal 12 damaged 4\n",
@@ -282,7 +282,7 @@ const SCRUB: Case = Case {
 };
 
 const REPAIR: Case = Case {
-    turned: TORN,
+    flipped: TORN,
     line: "repair",
     out: RESTORED,
     calls: 29,
@@ -296,7 +296,7 @@ const REPAIR: Case = Case {
 };
 
 const EXPLAIN: Case = Case {
-    turned: TORN,
+    flipped: TORN,
     line: "explain d1",
     out: "damaged d1\nsum h1\n",
     calls: 12,

@@ -26,15 +26,20 @@ fn commits_by(case: &Case, calls: u64) -> usize {
 
 // Whether a run whose disk has failed says so, and has printed what so many commits print; a run without commits has printed
 // a first part of the whole.
-fn is_told(alloc: Global, case: &Case, left: &Left, commits: usize) -> Result<bool, AllocError> {
+fn is_revealed(
+    alloc: Global,
+    case: &Case,
+    left: &Left,
+    commits: usize,
+) -> Result<bool, AllocError> {
     let out = left.out.bytes();
     let is_printed = if case.commits.is_empty() {
         case.out.as_bytes().starts_with(out)
     } else {
         out == printed(alloc, case, commits)?.as_bytes()
     };
-    let is_told = left.err.bytes() == b"fault: disk\n".as_slice();
-    Ok(left.status == Status::Disk && is_told && is_printed)
+    let is_revealed = left.err.bytes() == b"fault: disk\n".as_slice();
+    Ok(left.status == Status::Disk && is_revealed && is_printed)
 }
 
 // Whether the run over a disk whose call of this number, counted from 1, fails ends as it should, and leaves what it should.
@@ -47,8 +52,8 @@ fn is_borne(alloc: Global, case: &Case, call: u64) -> Result<bool, Fail> {
     }
     // the calls before it have been made: a gate that they opened is open
     let sure = commits_by(case, call.saturating_sub(1));
-    let is_told = is_told(alloc, case, &left, sure)?;
-    Ok(is_told && stands(alloc, &mut disk, case, sure, commits_by(case, call))?)
+    let is_revealed = is_revealed(alloc, case, &left, sure)?;
+    Ok(is_revealed && stands(alloc, &mut disk, case, sure, commits_by(case, call))?)
 }
 
 // The first failing call of the disk that the run does not bear as it should.

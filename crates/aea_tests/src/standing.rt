@@ -15,7 +15,7 @@ pub fn prepare<D: Disk>(alloc: Global, case: &Case, disk: &mut D) -> Result<(), 
     for (line, bytes) in case.before {
         let _left = run_input(alloc, line, disk, bytes.as_bytes())?;
     }
-    for (file, at) in case.turned {
+    for (file, at) in case.flipped {
         spoil(disk, *file, *at)?;
     }
     disk.sync()?;
@@ -109,8 +109,8 @@ fn are_got<D: Disk>(
 fn takes_more<D: Disk>(alloc: Global, disk: &mut D) -> Result<bool, AllocError> {
     let (name, bytes) = MORE;
     let left = run_put(alloc, disk, name, bytes)?;
-    let is_told = left.status == Status::Done && left.out.bytes() == STORED_MORE.as_bytes();
-    Ok(is_told && is_got(alloc, disk, name, bytes)?)
+    let is_revealed = left.status == Status::Done && left.out.bytes() == STORED_MORE.as_bytes();
+    Ok(is_revealed && is_got(alloc, disk, name, bytes)?)
 }
 
 // Whether one more object is refused, since a last parity is damaged.
@@ -144,8 +144,8 @@ fn is_mended<D: Disk>(
     let is_done = repaired.status == Status::Done;
     let is_taken = found != Found::HeadDamaged || takes_more(alloc, disk)?;
     let scrubbed = run_over(alloc, "scrub", disk, 400)?;
-    let told = run_over(alloc, "repair", disk, 400)?;
-    let is_intact = scrubbed.status == Status::Done && told.out.bytes() == report.as_bytes();
+    let revealed = run_over(alloc, "repair", disk, 400)?;
+    let is_intact = scrubbed.status == Status::Done && revealed.out.bytes() == report.as_bytes();
     Ok(is_done && is_taken && is_intact)
 }
 
@@ -159,7 +159,7 @@ pub fn stands<D: Disk>(
     sure: usize,
     commits: usize,
 ) -> Result<bool, Fail> {
-    let is_torn = !case.turned.is_empty() && (sure == 0 || case.commits.is_empty());
+    let is_torn = !case.flipped.is_empty() && (sure == 0 || case.commits.is_empty());
     let found = find(alloc, disk, is_torn)?;
     let is_none = case.before.is_empty() && commits == 0;
     if is_none != (found == Found::Nothing) || !goes_on(alloc, disk, found)? {

@@ -34,11 +34,11 @@ upload_equal : (u : Upload) (bytes more nodes others : List ℕ) → bytes ≡ m
 upload_equal u bytes more nodes others p q = λ i. record { name = u.name; bytes = p i; nodes = q i }
 
 -- a piece that does not fill the block
-pub gathers_part : (tells : Type 0) (shape : Shape) (piece : List ℕ) (v : Woven) (s t : Slot) (digests : List (List ℕ)) (files : Files)
+pub gathers_part : (reveals : Type 0) (shape : Shape) (piece : List ℕ) (v : Woven) (s t : Slot) (digests : List (List ℕ)) (files : Files)
     → t.name ≡ s.name → t.parts.items ≡ s.parts.items → t.length ≡ s.length + length piece → ((m : List ℕ) → Holds256 s.hasher m → Holds256 t.hasher (m ++ piece))
     → t.have ≡ s.have + length piece → t.have < shape.block → length t.block.items ≡ shape.block → take t.have t.block.items ≡ take s.have s.block.items ++ piece
-    → Gathers tells shape piece v v s t digests digests files files
-gathers_part tells shape piece v s t digests files name parts long holds have less room front = record {
+    → Gathers reveals shape piece v v s t digests digests files files
+gathers_part reveals shape piece v s t digests files name parts long holds have less room front = record {
   filled = [];
   wide = λ k d inside. absurd (omega (arith, inside));
   grown = grown_same v.lattice _ (omega arith);
@@ -64,15 +64,15 @@ gathers_part tells shape piece v s t digests files name parts long holds have le
 }
 
 -- a piece that fills it, and the block is woven
-pub gathers_full : (tells : Type 0) (shape : Shape) (piece x : List ℕ) (v w : Woven) (s t : Slot) (digests more : List (List ℕ)) (node : ℕ) (old new : Files)
+pub gathers_full : (reveals : Type 0) (shape : Shape) (piece x : List ℕ) (v w : Woven) (s t : Slot) (digests more : List (List ℕ)) (node : ℕ) (old new : Files)
     → t.name ≡ s.name → node ≡ v.lattice.n + 1 → ((nodes : List ℕ) → s.parts.items ≡ runs_of nodes → t.parts.items ≡ runs_of (nodes ++ node ∷ []))
     → t.length ≡ s.length + length piece → ((m : List ℕ) → Holds256 s.hasher m → Holds256 t.hasher (m ++ piece))
     → t.have ≡ 0 → 1 ≤ shape.block → length t.block.items ≡ shape.block → length x ≡ shape.block → s.have + length piece ≡ shape.block → x ≡ take s.have s.block.items ++ piece
     → IsGrown v.lattice (v.lattice.n + 1) w.lattice → w.size ≡ v.size
     → ((l : Lattice) (datas woven : List (List ℕ)) → IsWovenOf shape l v datas woven digests → IsWovenOf shape l w datas (woven ++ x ∷ []) more)
-    → ((before : ℕ) → before ≤ v.lattice.n → AreIntactOn tells shape before v.lattice.n digests old → AreIntactOn tells shape before w.lattice.n more new)
-    → Gathers tells shape piece v w s t digests more old new
-gathers_full tells shape piece x v w s t digests more node old new name node_is runs long holds have some room wide full is grown size values intact = record {
+    → ((before : ℕ) → before ≤ v.lattice.n → AreIntactOn reveals shape before v.lattice.n digests old → AreIntactOn reveals shape before w.lattice.n more new)
+    → Gathers reveals shape piece v w s t digests more old new
+gathers_full reveals shape piece x v w s t digests more node old new name node_is runs long holds have some room wide full is grown size values intact = record {
   filled = x ∷ [];
   wide = All-cons (λ (d : List ℕ). length d ≡ shape.block) x [] wide (λ k d inside. absurd (omega (arith, inside)));
   grown = grown;
@@ -101,14 +101,14 @@ gathers_full tells shape piece x v w s t digests more node old new name node_is 
 }
 
 -- no bytes
-pub gathers_none : (tells : Type 0) (shape : Shape) (v : Woven) (s : Slot) (digests : List (List ℕ)) (files : Files) → s.have < shape.block → length s.block.items ≡ shape.block → Gathers tells shape [] v v s s digests digests files files
-gathers_none tells shape v s digests files less room =
-    gathers_part tells shape [] v s s digests files refl refl (omega arith) (λ m h. subst (Holds256 s.hasher) (sym (append-nil m)) h) (omega arith) less room (sym (append-nil (take s.have s.block.items)))
+pub gathers_none : (reveals : Type 0) (shape : Shape) (v : Woven) (s : Slot) (digests : List (List ℕ)) (files : Files) → s.have < shape.block → length s.block.items ≡ shape.block → Gathers reveals shape [] v v s s digests digests files files
+gathers_none reveals shape v s digests files less room =
+    gathers_part reveals shape [] v s s digests files refl refl (omega arith) (λ m h. subst (Holds256 s.hasher) (sym (append-nil m)) h) (omega arith) less room (sym (append-nil (take s.have s.block.items)))
 
 -- pieces one after the other
-pub gathers_both : (tells : Type 0) (shape : Shape) (xs ys : List ℕ) (v u w : Woven) (r s t : Slot) (digests some more : List (List ℕ)) (old mid new : Files)
-    → Gathers tells shape xs v u r s digests some old mid → Gathers tells shape ys u w s t some more mid new → Gathers tells shape (xs ++ ys) v w r t digests more old new
-gathers_both tells shape xs ys v u w r s t digests some more old mid new first second =
+pub gathers_both : (reveals : Type 0) (shape : Shape) (xs ys : List ℕ) (v u w : Woven) (r s t : Slot) (digests some more : List (List ℕ)) (old mid new : Files)
+    → Gathers reveals shape xs v u r s digests some old mid → Gathers reveals shape ys u w s t some more mid new → Gathers reveals shape (xs ++ ys) v w r t digests more old new
+gathers_both reveals shape xs ys v u w r s t digests some more old mid new first second =
     let a = first.grown.nodes in
     let b = second.grown.nodes in
     let both = length-append first.filled second.filled in
@@ -146,8 +146,8 @@ gathers_both tells shape xs ys v u w r s t digests some more old mid new first s
 -- ---- the last block
 
 -- there is no rest
-pub finishes_none : (tells : Type 0) (shape : Shape) (v : Woven) (s : Slot) (digests : List (List ℕ)) (files : Files) → s.have ≡ 0 → 1 ≤ shape.block → Finishes tells shape v v s s digests digests files files
-finishes_none tells shape v s digests files none some = record {
+pub finishes_none : (reveals : Type 0) (shape : Shape) (v : Woven) (s : Slot) (digests : List (List ℕ)) (files : Files) → s.have ≡ 0 → 1 ≤ shape.block → Finishes reveals shape v v s s digests digests files files
+finishes_none reveals shape v s digests files none some = record {
   filled = [];
   wide = λ k d inside. absurd (omega (arith, inside));
   grown = grown_same v.lattice _ (omega arith);
@@ -172,15 +172,15 @@ finishes_none tells shape v s digests files none some = record {
 }
 
 -- the rest was filled with zeros and woven
-pub finishes_full : (tells : Type 0) (shape : Shape) (x : List ℕ) (v w : Woven) (s t : Slot) (digests more : List (List ℕ)) (node : ℕ) (old new : Files)
+pub finishes_full : (reveals : Type 0) (shape : Shape) (x : List ℕ) (v w : Woven) (s t : Slot) (digests more : List (List ℕ)) (node : ℕ) (old new : Files)
     → t.name ≡ s.name → node ≡ v.lattice.n + 1 → ((nodes : List ℕ) → s.parts.items ≡ runs_of nodes → t.parts.items ≡ runs_of (nodes ++ node ∷ []))
     → t.length ≡ s.length → ((m : List ℕ) → Holds256 s.hasher m → Holds256 t.hasher m)
     → 1 ≤ s.have → s.have ≤ shape.block → length x ≡ shape.block → x ≡ take s.have s.block.items ++ replicate (shape.block - s.have) 0
     → IsGrown v.lattice (v.lattice.n + 1) w.lattice → w.size ≡ v.size
     → ((l : Lattice) (datas woven : List (List ℕ)) → IsWovenOf shape l v datas woven digests → IsWovenOf shape l w datas (woven ++ x ∷ []) more)
-    → ((before : ℕ) → before ≤ v.lattice.n → AreIntactOn tells shape before v.lattice.n digests old → AreIntactOn tells shape before w.lattice.n more new)
-    → Finishes tells shape v w s t digests more old new
-finishes_full tells shape x v w s t digests more node old new name node_is runs long holds some most wide is grown size values intact = record {
+    → ((before : ℕ) → before ≤ v.lattice.n → AreIntactOn reveals shape before v.lattice.n digests old → AreIntactOn reveals shape before w.lattice.n more new)
+    → Finishes reveals shape v w s t digests more old new
+finishes_full reveals shape x v w s t digests more node old new name node_is runs long holds some most wide is grown size values intact = record {
   filled = x ∷ [];
   wide = All-cons (λ (d : List ℕ). length d ≡ shape.block) x [] wide (λ k d inside. absurd (omega (arith, inside)));
   grown = grown;

@@ -19,7 +19,7 @@ with_bytes u bytes node count = record { name = u.name; bytes = u.bytes ++ bytes
 
 -- These bytes joined what the slot keeps, and the blocks that they filled were woven, in order: so it is of whatever upload
 -- the slot keeps, and whatever data list is woven after.
-pub record Gathers (tells : Type 0) (shape : Shape) (bytes : List ℕ) (v w : Woven) (s t : Slot) (digests more : List (List ℕ)) (old new : Files) : Type 0 where
+pub record Gathers (reveals : Type 0) (shape : Shape) (bytes : List ℕ) (v w : Woven) (s t : Slot) (digests more : List (List ℕ)) (old new : Files) : Type 0 where
   pub filled : List (List ℕ)
   pub wide : All (λ d. length d ≡ shape.block) filled
   pub grown : IsGrown v.lattice (v.lattice.n + length filled) w.lattice
@@ -27,7 +27,7 @@ pub record Gathers (tells : Type 0) (shape : Shape) (bytes : List ℕ) (v w : Wo
   pub sum : length filled * shape.block + t.have ≡ s.have + length bytes
   pub room : length t.block.items ≡ shape.block
   pub values : (l : Lattice) (datas woven : List (List ℕ)) → IsWovenOf shape l v datas woven digests → IsWovenOf shape l w datas (woven ++ filled) more
-  pub intact : (before : ℕ) → before ≤ v.lattice.n → AreIntactOn tells shape before v.lattice.n digests old → AreIntactOn tells shape before w.lattice.n more new
+  pub intact : (before : ℕ) → before ≤ v.lattice.n → AreIntactOn reveals shape before v.lattice.n digests old → AreIntactOn reveals shape before w.lattice.n more new
   pub keeps : (datas : List (List ℕ)) (u : Upload) → length datas ≡ v.lattice.n → Keeps shape datas s u
       → Keeps shape (datas ++ filled) t (with_bytes u bytes v.lattice.n (length filled))
 
@@ -43,13 +43,13 @@ pub record Closes (datas : List (List ℕ)) (u : Upload) (nodes : List ℕ) (zer
 
 -- The rest of what the slot keeps was filled with zeros and woven as a last block, where there was one: the blocks at its nodes
 -- are then its bytes and fewer zeros than a block has.
-pub record Finishes (tells : Type 0) (shape : Shape) (v w : Woven) (s t : Slot) (digests more : List (List ℕ)) (old new : Files) : Type 0 where
+pub record Finishes (reveals : Type 0) (shape : Shape) (v w : Woven) (s t : Slot) (digests more : List (List ℕ)) (old new : Files) : Type 0 where
   pub filled : List (List ℕ)
   pub wide : All (λ d. length d ≡ shape.block) filled
   pub grown : IsGrown v.lattice (v.lattice.n + length filled) w.lattice
   pub size : w.size ≡ v.size
   pub values : (l : Lattice) (datas woven : List (List ℕ)) → IsWovenOf shape l v datas woven digests → IsWovenOf shape l w datas (woven ++ filled) more
-  pub intact : (before : ℕ) → before ≤ v.lattice.n → AreIntactOn tells shape before v.lattice.n digests old → AreIntactOn tells shape before w.lattice.n more new
+  pub intact : (before : ℕ) → before ≤ v.lattice.n → AreIntactOn reveals shape before v.lattice.n digests old → AreIntactOn reveals shape before w.lattice.n more new
   pub zeros : ℕ
   pub few : zeros < shape.block
   pub closes : (datas : List (List ℕ)) (u : Upload) → length datas ≡ v.lattice.n → Keeps shape datas s u

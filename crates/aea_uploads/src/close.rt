@@ -46,9 +46,9 @@ pub fn finish_rest<D: Disk>(
     requires keeps { KeepsSome shape.now heads.old.lattice.n slot.old }
     requires fits { 1 ≤ slot.old.have → heads.old.lattice.n + 1 ≤ greatest_nodes }
     requires buffer { length cell.old ≡ cell_size shape.now }
-    ensures finishes { OnOk result (Finishes D.tells shape.now heads.old heads.new slot.old slot.new digests.old.items digests.new.items (D.state disk.old).files (D.state disk.new).files) }
-    ensures writes { (nodes : ℕ) → (1 ≤ slot.old.have → heads.old.lattice.n + 1 ≤ nodes) → WritesCells D.tells shape.now nodes (λ a. a.node ≢ heads.old.lattice.n + 1) (result ≡ Err PutFault.DiskFault) (D.state disk.old) (D.state disk.new) }
-    ensures padded { result ≢ Err PutFault.DiskFault → D.tells → KeepsPadded shape.now (λ a. a.node ≢ heads.old.lattice.n + 1) (D.state disk.old).files (D.state disk.new).files }
+    ensures finishes { OnOk result (Finishes D.reveals shape.now heads.old heads.new slot.old slot.new digests.old.items digests.new.items (D.state disk.old).files (D.state disk.new).files) }
+    ensures writes { (nodes : ℕ) → (1 ≤ slot.old.have → heads.old.lattice.n + 1 ≤ nodes) → WritesCells D.reveals shape.now nodes (λ a. a.node ≢ heads.old.lattice.n + 1) (result ≡ Err PutFault.DiskFault) (D.state disk.old) (D.state disk.new) }
+    ensures padded { result ≢ Err PutFault.DiskFault → D.reveals → KeepsPadded shape.now (λ a. a.node ≢ heads.old.lattice.n + 1) (D.state disk.old).files (D.state disk.new).files }
     ensures faults { IfErr result IsStopping }
 {
     if slot.have == 0 {

@@ -56,9 +56,9 @@ fn gather<D: Disk>(
     requires small { slot.old.length + length bytes.now < 2 ^ 64 }
     requires buffer { length cell.old ≡ cell_size shape.now }
     ensures count { IfOk result (λ k. k ≡ min (shape.now.block - slot.old.have) (length bytes.now)) }
-    ensures gathers { IfOk result (λ k. Gathers D.tells shape.now (take k bytes.now) heads.old heads.new slot.old slot.new digests.old.items digests.new.items (D.state disk.old).files (D.state disk.new).files) }
-    ensures writes { (nodes : ℕ) → (shape.now.block ≤ slot.old.have + length bytes.now → heads.old.lattice.n + 1 ≤ nodes) → WritesCells D.tells shape.now nodes (λ a. a.node ≢ heads.old.lattice.n + 1) (result ≡ Err PutFault.DiskFault) (D.state disk.old) (D.state disk.new) }
-    ensures padded { result ≢ Err PutFault.DiskFault → D.tells → KeepsPadded shape.now (λ a. a.node ≢ heads.old.lattice.n + 1) (D.state disk.old).files (D.state disk.new).files }
+    ensures gathers { IfOk result (λ k. Gathers D.reveals shape.now (take k bytes.now) heads.old heads.new slot.old slot.new digests.old.items digests.new.items (D.state disk.old).files (D.state disk.new).files) }
+    ensures writes { (nodes : ℕ) → (shape.now.block ≤ slot.old.have + length bytes.now → heads.old.lattice.n + 1 ≤ nodes) → WritesCells D.reveals shape.now nodes (λ a. a.node ≢ heads.old.lattice.n + 1) (result ≡ Err PutFault.DiskFault) (D.state disk.old) (D.state disk.new) }
+    ensures padded { result ≢ Err PutFault.DiskFault → D.reveals → KeepsPadded shape.now (λ a. a.node ≢ heads.old.lattice.n + 1) (D.state disk.old).files (D.state disk.new).files }
     ensures faults { IfErr result IsStopping }
 {
     let size = shape.block() as usize;
@@ -102,11 +102,11 @@ pub fn gather_all<D: Disk>(
     requires buffer { length cell.old ≡ cell_size shape.now }
 
     // The bytes joined what the slot keeps, and their blocks were woven.
-    ensures gathers { OnOk result (Gathers D.tells shape.now bytes.now heads.old heads.new slot.old slot.new digests.old.items digests.new.items (D.state disk.old).files (D.state disk.new).files) }
+    ensures gathers { OnOk result (Gathers D.reveals shape.now bytes.now heads.old heads.new slot.old slot.new digests.old.items digests.new.items (D.state disk.old).files (D.state disk.new).files) }
 
     // Cells of new nodes alone are written.
-    ensures writes { (nodes : ℕ) → heads.old.lattice.n * shape.now.block + slot.old.have + length bytes.now < (nodes + 1) * shape.now.block → WritesCells D.tells shape.now nodes (IsBlockIn shape.now heads.old.lattice.n) (result ≡ Err PutFault.DiskFault) (D.state disk.old) (D.state disk.new) }
-    ensures padded { result ≢ Err PutFault.DiskFault → D.tells → KeepsPadded shape.now (IsBlockIn shape.now heads.old.lattice.n) (D.state disk.old).files (D.state disk.new).files }
+    ensures writes { (nodes : ℕ) → heads.old.lattice.n * shape.now.block + slot.old.have + length bytes.now < (nodes + 1) * shape.now.block → WritesCells D.reveals shape.now nodes (IsBlockIn shape.now heads.old.lattice.n) (result ≡ Err PutFault.DiskFault) (D.state disk.old) (D.state disk.new) }
+    ensures padded { result ≢ Err PutFault.DiskFault → D.reveals → KeepsPadded shape.now (IsBlockIn shape.now heads.old.lattice.n) (D.state disk.old).files (D.state disk.new).files }
     ensures faults { IfErr result IsStopping }
 {
     let mut done: usize = 0;

@@ -20,7 +20,7 @@ use Rattle.aea_report.specs.Format.{block_in}
 use Rattle.aea_report.specs.Grammar.{AreLinesFrom}
 use Rattle.aea_lattice.specs.Equations.{is_in_codeword}
 use Rattle.aea_lattice.specs.Lists.{has_node}
-use Rattle.aea_report.specs.Fits.{is_peeled, is_solved, is_lost, AreCounted, IsTold, Fits}
+use Rattle.aea_report.specs.Fits.{is_peeled, is_solved, is_lost, AreCounted, IsRevealed, Fits}
 use Rattle.aea_verify.specs.declared.verdict.Why.{Why}
 use Rattle.aea_verify.specs.declared.verdict.Why.TheVariants.{OtherArchive, StillBad, NotDamaged, WordMisses, WordTouches, Missing, WrongCount}
 use Rattle.aea_verify.specs.declared.verdict.Verdict.TheVariants.{Accepted, Rejected}
@@ -177,19 +177,19 @@ from_misses l intact nodes misses =
 
 -- ---- a line
 
-told_from : (l : Lattice) (intact : BlockId → Bool) (line : Line) → AreKept (kind_rules l intact line) → IsTold l intact line
-told_from l intact (Peeled b) h = unless_none (intact b) (StillBad b) h.0
-told_from l intact (Solved b) h = unless_none (intact b) (StillBad b) h.0
-told_from l intact (Lost b nodes) h = record {
+revealed_from : (l : Lattice) (intact : BlockId → Bool) (line : Line) → AreKept (kind_rules l intact line) → IsRevealed l intact line
+revealed_from l intact (Peeled b) h = unless_none (intact b) (StillBad b) h.0
+revealed_from l intact (Solved b) h = unless_none (intact b) (StillBad b) h.0
+revealed_from l intact (Lost b nodes) h = record {
   damaged = not_true (intact b) (unless_none (not (intact b)) (NotDamaged b) h.0);
   contains = unless_none (is_in_codeword l (has_node nodes) b) (WordMisses b) h.1.0;
   misses = misses_from l intact nodes (map_none WordTouches (touched l intact nodes) h.1.1.0);
 }
 
-from_told : (l : Lattice) (intact : BlockId → Bool) (line : Line) → IsTold l intact line → AreKept (kind_rules l intact line)
-from_told l intact (Peeled b) h = (none_unless (intact b) (StillBad b) h, tt)
-from_told l intact (Solved b) h = (none_unless (intact b) (StillBad b) h, tt)
-from_told l intact (Lost b nodes) h = (
+from_revealed : (l : Lattice) (intact : BlockId → Bool) (line : Line) → IsRevealed l intact line → AreKept (kind_rules l intact line)
+from_revealed l intact (Peeled b) h = (none_unless (intact b) (StillBad b) h, tt)
+from_revealed l intact (Solved b) h = (none_unless (intact b) (StillBad b) h, tt)
+from_revealed l intact (Lost b nodes) h = (
   none_unless (not (intact b)) (NotDamaged b) (ap not h.damaged),
   (
     none_unless (is_in_codeword l (has_node nodes) b) (WordMisses b) h.contains,
@@ -199,12 +199,12 @@ from_told l intact (Lost b nodes) h = (
 
 -- ---- lines
 
-all_told : (l : Lattice) (intact : BlockId → Bool) (k least : ℕ) (lines : List Line) → Kept (rules_from l intact k least lines) → All (IsTold l intact) lines
-all_told l intact k least [] h = All-nil (IsTold l intact)
-all_told l intact k least (line ∷ lines) h =
+all_revealed : (l : Lattice) (intact : BlockId → Bool) (k least : ℕ) (lines : List Line) → Kept (rules_from l intact k least lines) → All (IsRevealed l intact) lines
+all_revealed l intact k least [] h = All-nil (IsRevealed l intact)
+all_revealed l intact k least (line ∷ lines) h =
     let here = at_kept k (line_rules l intact least line) (kept_left (at_line k (line_rules l intact least line)) (rules_from l intact (k + 1) (number_of l (block_in line) + 1) lines) h) in
-    All-cons (IsTold l intact) line lines (told_from l intact line here.1)
-    (all_told l intact (k + 1) (number_of l (block_in line) + 1) lines
+    All-cons (IsRevealed l intact) line lines (revealed_from l intact line here.1)
+    (all_revealed l intact (k + 1) (number_of l (block_in line) + 1) lines
     (kept_right (at_line k (line_rules l intact least line)) (rules_from l intact (k + 1) (number_of l (block_in line) + 1) lines) h))
 
 contains_more : {X : Type 0} (y : X) (ys : List X) (x : X) → Contains ys x → Contains (y ∷ ys) x
@@ -242,21 +242,21 @@ tail_has : {X : Type 0} (y : X) (ys : List X) (x : X) (k : ℕ) → (y ≡ x →
 tail_has y ys x zero other lt at = absurd (other at)
 tail_has y ys x (suc k) other lt at = (k, omega arith, at)
 
-all_kept : (l : Lattice) (intact : BlockId → Bool) (k least : ℕ) (lines : List Line) → AreLinesFrom l least lines → All (IsTold l intact) lines
+all_kept : (l : Lattice) (intact : BlockId → Bool) (k least : ℕ) (lines : List Line) → AreLinesFrom l least lines → All (IsRevealed l intact) lines
     → ((b : BlockId) → HasBlock l b → intact b ≡ false → least ≤ number_of l b → Contains (map block_in lines) b) → Kept (rules_from l intact k least lines)
-all_kept l intact k least [] valid told whole =
+all_kept l intact k least [] valid revealed whole =
     kept_at k (option_map Missing (missing l intact least (blocks_count l)) ∷ [])
     (ap (option_map Missing) (none_missing l intact least (blocks_count l) (λ b has damaged low high. let c = whole b has damaged low in let lt = c.1 in omega arith)), tt)
-all_kept l intact k least (line ∷ lines) valid told whole =
+all_kept l intact k least (line ∷ lines) valid revealed whole =
     let next = number_of l (block_in line) in
     kept_both (at_line k (line_rules l intact least line)) (rules_from l intact (k + 1) (next + 1) lines)
     (kept_at k (line_rules l intact least line) (
       ap (option_map Missing) (none_missing l intact least next (λ b has damaged low high.
           let c = whole b has damaged low in
           let ge = no_smaller l next (line ∷ lines) (record { block = valid.0.block; later = omega arith; nodes = valid.0.nodes }, valid.1) b c.0 c.1 c.2 in omega arith)),
-      from_told l intact line (All-head (IsTold l intact) line lines told),
+      from_revealed l intact line (All-head (IsRevealed l intact) line lines revealed),
     ))
-    (all_kept l intact (k + 1) (next + 1) lines valid.1 (All-tail (IsTold l intact) line lines told)
+    (all_kept l intact (k + 1) (next + 1) lines valid.1 (All-tail (IsRevealed l intact) line lines revealed)
     (λ b has damaged low.
     let c = whole b has damaged (let later = valid.0.later in omega arith) in
     tail_has (block_in line) (map block_in lines) b c.0 (λ same. let e : next ≡ number_of l b = ap (number_of l) same in omega arith) c.1 c.2))
@@ -265,7 +265,7 @@ all_kept l intact k least (line ∷ lines) valid told whole =
 
 seal_from : (seal : List ℕ) (o : Option (List ℕ)) → has_seal seal o ≡ true → o ≡ Some seal
 seal_from seal None h = let e : false ≡ true = h in cc
-seal_from seal (Some told) h = ap Some ((bytes_eq-Decides told seal).0 h)
+seal_from seal (Some revealed) h = ap Some ((bytes_eq-Decides revealed seal).0 h)
 
 from_seal : (seal : List ℕ) (o : Option (List ℕ)) → o ≡ Some seal → has_seal seal o ≡ true
 from_seal seal o h = rw h ((bytes_eq-Decides seal seal).1 refl)
@@ -288,8 +288,8 @@ counts_of_fit h lines are =
     (and_both (h.lost == o) (h.damaged == h.peeled + h.solved + h.lost) (number_same h.lost o are.lost) (number_same h.damaged (h.peeled + h.solved + h.lost) are.damaged)))
 
 fitting : (l : Lattice) (seal : List ℕ) (intact : BlockId → Bool) (h : Head) (lines : List Line) → has_lattice l h ≡ true → has_seal seal h.seal ≡ true → has_counts h lines ≡ true
-    → ((b : BlockId) → HasBlock l b → intact b ≡ false → Contains (map block_in lines) b) → All (IsTold l intact) lines → Fits l seal intact h lines
-fitting l seal intact h lines lattice sealed counts whole told =
+    → ((b : BlockId) → HasBlock l b → intact b ≡ false → Contains (map block_in lines) b) → All (IsRevealed l intact) lines → Fits l seal intact h lines
+fitting l seal intact h lines lattice sealed counts whole revealed =
     let p = count_by is_peeled lines in let s = count_by is_solved lines in let o = count_by is_lost lines in
     let l1 = and_second (h.alpha == l.alpha) (h.s == l.s && (h.p == l.p && h.n == l.n)) lattice in
     let l2 = and_second (h.s == l.s) (h.p == l.p && h.n == l.n) l1 in
@@ -302,7 +302,7 @@ fitting l seal intact h lines lattice sealed counts whole told =
       n = same_number h.n l.n (and_second (h.p == l.p) (h.n == l.n) l2);
       seal_is = seal_from seal h.seal sealed;
       whole = whole;
-      told = told;
+      revealed = revealed;
       counted = record {
         damaged = same_number h.damaged (h.peeled + h.solved + h.lost) (and_second (h.lost == o) (h.damaged == h.peeled + h.solved + h.lost) c2);
         peeled = same_number h.peeled p (and_first (h.peeled == p) (h.solved == s && (h.lost == o && h.damaged == h.peeled + h.solved + h.lost)) counts);
@@ -331,7 +331,7 @@ accepted-fit l seal intact h lines valid = (
       let kept = kept_left middle fourth inner in
       fitting l seal intact h lines lattice sealed counts
       (λ b has damaged. covered l intact 5 0 lines valid kept b has damaged (omega arith))
-      (all_told l intact 5 0 lines kept),
+      (all_revealed l intact 5 0 lines kept),
   λ fits.
       ap verdict_by
       (kept_both (at_line 2 (unless (has_lattice l h) OtherArchive ∷ [])) (at_line 3 (unless (has_seal seal h.seal) OtherArchive ∷ []) ++ (rules_from l intact 5 0 lines ++ at_line 4 (unless (has_counts h lines) WrongCount ∷ [])))
@@ -339,6 +339,6 @@ accepted-fit l seal intact h lines valid = (
       (kept_both (at_line 3 (unless (has_seal seal h.seal) OtherArchive ∷ [])) (rules_from l intact 5 0 lines ++ at_line 4 (unless (has_counts h lines) WrongCount ∷ []))
       (kept_at 3 (unless (has_seal seal h.seal) OtherArchive ∷ []) (none_unless (has_seal seal h.seal) OtherArchive (from_seal seal h.seal fits.seal_is), tt))
       (kept_both (rules_from l intact 5 0 lines) (at_line 4 (unless (has_counts h lines) WrongCount ∷ []))
-      (all_kept l intact 5 0 lines valid fits.told (λ b has damaged low. fits.whole b has damaged))
+      (all_kept l intact 5 0 lines valid fits.revealed (λ b has damaged low. fits.whole b has damaged))
       (kept_at 4 (unless (has_counts h lines) WrongCount ∷ []) (none_unless (has_counts h lines) WrongCount (counts_of_fit h lines fits.counted), tt))))),
 )

@@ -11,7 +11,7 @@ use Rattle.aea_lattice.specs.Data.{IsBytes, IsDataList}
 use Rattle.aea_lattice.specs.Facts.{Misses, changed_from, ChangesAreCodewords}
 use Rattle.aea_report.specs.declared.line.Line.TheVariants.{Lost}
 use Rattle.aea_lattice.specs.Lists.{has_node}
-use Rattle.aea_report.specs.Fits.{IsTold}
+use Rattle.aea_report.specs.Fits.{IsRevealed}
 use Rattle.aea_verify.specs.Shown.{IsOpenTo, LostAreOpen}
 
 -- data of zeros
@@ -49,5 +49,5 @@ words_open changes l known nodes w b some inside contained misses =
 -- a block that is reported as lost is open
 pub lost-open : ChangesAreCodewords → LostAreOpen
 lost-open changes l seal intact h lines w some fits b nodes inside has =
-    let told : IsTold l intact (Lost b nodes) = All-contains (IsTold l intact) lines (Lost b nodes) fits.told has in
-    words_open changes l intact (has_node nodes) w b some inside told.contains told.misses
+    let revealed : IsRevealed l intact (Lost b nodes) = All-contains (IsRevealed l intact) lines (Lost b nodes) fits.revealed has in
+    words_open changes l intact (has_node nodes) w b some inside revealed.contains revealed.misses

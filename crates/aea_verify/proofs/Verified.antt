@@ -10,7 +10,7 @@ use Rattle.aea_lattice.specs.Blocks.{HasBlock, number_of}
 use Rattle.aea_disk.specs.Files.{Files}
 use Rattle.aea_ledger.specs.Recorded.{IsLatticeOf}
 use Rattle.aea_ledger.specs.Values.{Opened}
-use Rattle.aea_archive.specs.Blocks.{IsBlockIn, TellsSurvivors}
+use Rattle.aea_archive.specs.Blocks.{IsBlockIn, RevealsSurvivors}
 use Rattle.aea_report.specs.declared.head.Head.{Head}
 use Rattle.aea_report.specs.declared.line.Line.{Line}
 use Rattle.aea_report.specs.declared.line.Line.TheVariants.{Lost}
@@ -51,7 +51,7 @@ same_truth true y to from = sym (to refl)
 same_truth false true to from = from refl
 same_truth false false to from = refl
 
-tests_agree : (v : Opened) (c : Files) (i j : BlockId → Bool) → AreInside v → TellsSurvivors v.shape v.lattice.n v.digests c i → TellsSurvivors v.shape v.lattice.n v.digests c j
+tests_agree : (v : Opened) (c : Files) (i j : BlockId → Bool) → AreInside v → RevealsSurvivors v.shape v.lattice.n v.digests c i → RevealsSurvivors v.shape v.lattice.n v.digests c j
     → (b : BlockId) → HasBlock v.lattice b → i b ≡ j b
 tests_agree v c i j inside first second b has =
     let one = first b (inside b has) in
@@ -95,14 +95,14 @@ module _ (l : Lattice) (seal : List ℕ) (input : List ℕ) (h : Head) (lines : 
 
 -- ---- a verdict
 
-pub judged : (v : Opened) (c : Files) (intact : BlockId → Bool) (input : List ℕ) (verdict : Verdict) → AreInside v → TellsSurvivors v.shape v.lattice.n v.digests c intact
+pub judged : (v : Opened) (c : Files) (intact : BlockId → Bool) (input : List ℕ) (verdict : Verdict) → AreInside v → RevealsSurvivors v.shape v.lattice.n v.digests c intact
     → HasVerdict v.lattice v.seal intact input verdict → IsJudged v c input verdict
-judged v c intact input verdict inside told has = record {
+judged v c intact input verdict inside revealed has = record {
   head = has.head;
   lines = has.lines;
   report = has.report;
-  verdict_is = λ test tells.
-      has.verdict_is ∙ same_verdict v.lattice v.seal input has.head has.lines has.report intact test (tests_agree v c intact test inside told tells);
+  verdict_is = λ test reveals.
+      has.verdict_is ∙ same_verdict v.lattice v.seal input has.head has.lines has.report intact test (tests_agree v c intact test inside revealed reveals);
 }
 
 some_bytes : (v : Opened) → 1 ≤ v.shape.block
@@ -112,22 +112,22 @@ same_ok : (a b : Verdict) → ◌≡◌ {A = Result Verdict VerifyFault} (Ok a) 
 same_ok a b e = cc
 
 module _ (one : HaveOneReading) (fitting : AcceptedAreFitting) (lost : LostAreOpen) (v : Opened) (c : Files) (input : List ℕ) where
-  fits_exactly : (verdict : Verdict) → IsJudged v c input verdict → (test : BlockId → Bool) (h : Head) (lines : List Line) → TellsSurvivors v.shape v.lattice.n v.digests c test → IsReport input h lines
+  fits_exactly : (verdict : Verdict) → IsJudged v c input verdict → (test : BlockId → Bool) (h : Head) (lines : List Line) → RevealsSurvivors v.shape v.lattice.n v.digests c test → IsReport input h lines
       → (verdict ≡ Accepted) ↔ Fits v.lattice v.seal test h lines
-  fits_exactly verdict is test h lines told report =
+  fits_exactly verdict is test h lines revealed report =
       let same = one input is.head h is.lines lines is.report report in
       let e : verdict ≡ verdict_of v.lattice v.seal test h lines =
-      is.verdict_is test told ∙ ap (λ x. verdict_of v.lattice v.seal test x is.lines) same.0 ∙ ap (verdict_of v.lattice v.seal test h) same.1 in
+      is.verdict_is test revealed ∙ ap (λ x. verdict_of v.lattice v.seal test x is.lines) same.0 ∙ ap (verdict_of v.lattice v.seal test h) same.1 in
       let exactly = accepted_fit v.lattice v.seal input h lines report fitting test in
       (λ accepted. exactly.0 (sym e ∙ accepted), λ fit. e ∙ exactly.1 fit)
 
   pub answered-ok : (verdict : Verdict) → IsJudged v c input verdict → IsAnswered v c input (Ok verdict)
   answered-ok verdict is = record {
-    fits = λ test h lines told report ok.
-        let exactly = fits_exactly verdict is test h lines told report in
+    fits = λ test h lines revealed report ok.
+        let exactly = fits_exactly verdict is test h lines revealed report in
         (λ accepted. exactly.0 (same_ok verdict Accepted accepted), λ fit. ap Ok (exactly.1 fit));
-    shows = λ test h lines b nodes told report accepted has.
-        let fit = (fits_exactly verdict is test h lines told report).0 (same_ok verdict Accepted accepted) in
+    shows = λ test h lines b nodes revealed report accepted has.
+        let fit = (fits_exactly verdict is test h lines revealed report).0 (same_ok verdict Accepted accepted) in
         let block = block_of_lost v.lattice v.seal input h lines report b nodes (lattice_of_fit v.lattice v.seal test h lines fit) has in
         (block, lost v.lattice v.seal test h lines v.shape.block (some_bytes v) fit b nodes block has);
   }
@@ -138,8 +138,8 @@ no_ok fault verdict e = cc
 -- of a fault there is nothing to say
 pub answered-err : (v : Opened) (c : Files) (input : List ℕ) (fault : VerifyFault) → IsAnswered v c input (Err fault)
 answered-err v c input fault = record {
-  fits = λ test h lines told report ok. absurd (false≢true ok);
-  shows = λ test h lines b nodes told report accepted has. absurd (no_ok fault Accepted accepted);
+  fits = λ test h lines revealed report ok. absurd (false≢true ok);
+  shows = λ test h lines b nodes revealed report accepted has. absurd (no_ok fault Accepted accepted);
 }
 
 -- ---- what the input alone decides

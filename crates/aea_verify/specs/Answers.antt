@@ -4,7 +4,7 @@ use Rattle.aea_lattice.specs.declared.blocks.BlockId.{BlockId}
 use Rattle.aea_lattice.specs.Blocks.{HasBlock}
 use Rattle.aea_disk.specs.Files.{Files}
 use Rattle.aea_ledger.specs.Values.{Opened}
-use Rattle.aea_archive.specs.Blocks.{TellsSurvivors}
+use Rattle.aea_archive.specs.Blocks.{RevealsSurvivors}
 use Rattle.aea_report.specs.declared.head.Head.{Head}
 use Rattle.aea_report.specs.declared.line.Line.{Line}
 use Rattle.aea_report.specs.declared.line.Line.TheVariants.{Lost}
@@ -32,7 +32,7 @@ pub record IsJudged (v : Opened) (c : Files) (input : List ℕ) (verdict : Verdi
   pub head : Head
   pub lines : List Line
   pub report : IsReport input head lines
-  pub verdict_is : (intact : BlockId → Bool) → TellsSurvivors v.shape v.lattice.n v.digests c intact → verdict ≡ verdict_of v.lattice v.seal intact head lines
+  pub verdict_is : (intact : BlockId → Bool) → RevealsSurvivors v.shape v.lattice.n v.digests c intact → verdict ≡ verdict_of v.lattice v.seal intact head lines
 
 -- A verdict has its cause in the input and the files. (Of a line that is named `IsReadAs` says that it is bad or too long.)
 abbrev pub Answers : Opened → Files → List ℕ → Result Verdict VerifyFault → Type 0
@@ -55,8 +55,8 @@ pub record IsReadAs (input : List ℕ) (result : Result Verdict VerifyFault) : T
 -- What the input and the files decide of a verdict on a report.
 pub record IsAnswered (v : Opened) (c : Files) (input : List ℕ) (result : Result Verdict VerifyFault) : Type 0 where
   -- a report is accepted exactly where it fits
-  pub fits : (intact : BlockId → Bool) (h : Head) (lines : List Line) → TellsSurvivors v.shape v.lattice.n v.digests c intact → IsReport input h lines
+  pub fits : (intact : BlockId → Bool) (h : Head) (lines : List Line) → RevealsSurvivors v.shape v.lattice.n v.digests c intact → IsReport input h lines
       → IsOk result → (result ≡ Ok Accepted) ↔ Fits v.lattice v.seal intact h lines
   -- what a yes shows: no lost block can be determined from the intact ones
-  pub shows : (intact : BlockId → Bool) (h : Head) (lines : List Line) (b : BlockId) (nodes : List ℕ) → TellsSurvivors v.shape v.lattice.n v.digests c intact → IsReport input h lines
+  pub shows : (intact : BlockId → Bool) (h : Head) (lines : List Line) (b : BlockId) (nodes : List ℕ) → RevealsSurvivors v.shape v.lattice.n v.digests c intact → IsReport input h lines
       → result ≡ Ok Accepted → Contains lines (Lost b nodes) → HasBlock v.lattice b × IsOpenTo v.lattice v.shape.block intact b

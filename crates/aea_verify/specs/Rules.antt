@@ -56,7 +56,7 @@ has_lattice l h = h.alpha == l.alpha && (h.s == l.s && (h.p == l.p && h.n == l.n
 -- whether it has this seal
 abbrev pub has_seal : List ℕ → Option (List ℕ) → Bool
 has_seal seal None = false
-has_seal seal (Some told) = bytes_eq told seal
+has_seal seal (Some revealed) = bytes_eq revealed seal
 
 -- whether the counts are those of the lines
 abbrev pub has_counts : Head → List Line → Bool

@@ -119,11 +119,11 @@ fn has_lattice(lattice: &Lattice, head: &Head) -> bool
 }
 
 // Whether the seal is this one.
-fn has_seal(seal: &[u8; 32], told: &Option<[u8; 32]>) -> bool
-    ensures { result ≡ has_seal seal.now told.now }
+fn has_seal(seal: &[u8; 32], revealed: &Option<[u8; 32]>) -> bool
+    ensures { result ≡ has_seal seal.now revealed.now }
 {
-    match told {
-        Some(told) => told.as_slice() == seal.as_slice(),
+    match revealed {
+        Some(revealed) => revealed.as_slice() == seal.as_slice(),
         None => false,
     }
 }

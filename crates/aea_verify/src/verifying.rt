@@ -39,8 +39,8 @@ pub fn verify<D: Disk, S: Source>(
     source: &mut S,
 ) -> Result<Verdict, VerifyFault>
     // A verdict has its cause in the report and the files, and these have that verdict alone.
-    ensures answers { D.tells → (input : List ℕ) → (S.state source.old).left ≡ Some input → Answers ledger.now (D.state disk.old).files input result }
-    ensures exactly { D.tells → (input : List ℕ) → (S.state source.old).left ≡ Some input → IsAnswered ledger.now (D.state disk.old).files input result }
+    ensures answers { D.reveals → (input : List ℕ) → (S.state source.old).left ≡ Some input → Answers ledger.now (D.state disk.old).files input result }
+    ensures exactly { D.reveals → (input : List ℕ) → (S.state source.old).left ≡ Some input → IsAnswered ledger.now (D.state disk.old).files input result }
 
     // Whether the input is a report, and at which line it is none, is determined by the input alone, whatever the disk is.
     ensures read { (input : List ℕ) → (S.state source.old).left ≡ Some input → IsReadAs input result }
@@ -50,7 +50,7 @@ pub fn verify<D: Disk, S: Source>(
     ensures unread { result ≡ Err VerifyFault.DiskFault → source.new ≡ source.old }
 
     // Nothing is written; when the disk and the source are at fault.
-    ensures reads { OnlyReads D.tells (result ≡ Err VerifyFault.DiskFault) (D.state disk.old) (D.state disk.new) }
+    ensures reads { OnlyReads D.reveals (result ≡ Err VerifyFault.DiskFault) (D.state disk.old) (D.state disk.new) }
     ensures source_kept { (S.state source.old).faults ≤ (S.state source.new).faults }
     ensures source_cause { result ≡ Err VerifyFault.ReadFault → Rose (S.state source.old).faults (S.state source.new).faults }
     ensures source_still { result ≢ Err VerifyFault.ReadFault → (S.state source.new).faults ≡ (S.state source.old).faults }

@@ -51,12 +51,12 @@ lowest-from word place fits some =
     div-small n m = omega arith
 
 -- a bit that is flipped
-turned_bit : (b : ℕ) → b < 2 → (1 - b == 1) ≡ not (b == 1)
-turned_bit zero less = refl
-turned_bit (suc zero) less = refl
-turned_bit (suc (suc b)) less = absurd (omega arith)
+flipped_bit : (b : ℕ) → b < 2 → (1 - b == 1) ≡ not (b == 1)
+flipped_bit zero less = refl
+flipped_bit (suc zero) less = refl
+flipped_bit (suc (suc b)) less = absurd (omega arith)
 
 -- each bit of a word of 64 bits that is flipped is set where it was not
-pub turned-bits : (word k : ℕ) → word < 2 ^ 64 → k < 64 → has_bit (bit_not w64 word) k ≡ not (has_bit word k)
-turned-bits word k fits within =
-    ap (λ (x : ℕ). x == 1) (bit_at_not w64 word k fits within) ∙ turned_bit (bit_at word k) (bit_at-lt word k)
+pub flipped-bits : (word k : ℕ) → word < 2 ^ 64 → k < 64 → has_bit (bit_not w64 word) k ≡ not (has_bit word k)
+flipped-bits word k fits within =
+    ap (λ (x : ℕ). x == 1) (bit_at_not w64 word k fits within) ∙ flipped_bit (bit_at word k) (bit_at-lt word k)

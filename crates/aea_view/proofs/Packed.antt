@@ -89,10 +89,10 @@ bits-more n words =
     one false = refl
 
 -- flipped words have the truth values flipped
-pub bits-turned : (n : ℕ) (words turned : List ℕ) → n ≤ 64 * length words
-    → ((k : ℕ) → k < 64 * length words → is_bit turned k ≡ not (is_bit words k)) → bits_of n turned ≡ map not (bits_of n words)
-bits-turned n words turned room are =
-    same-bits n turned (map not (bits_of n words))
+pub bits-flipped : (n : ℕ) (words flipped : List ℕ) → n ≤ 64 * length words
+    → ((k : ℕ) → k < 64 * length words → is_bit flipped k ≡ not (is_bit words k)) → bits_of n flipped ≡ map not (bits_of n words)
+bits-flipped n words flipped room are =
+    same-bits n flipped (map not (bits_of n words))
     (length-map (bits_of n words) not ∙ bits-length n words)
     (λ k less.
     are k (omega arith)

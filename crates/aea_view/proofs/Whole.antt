@@ -7,7 +7,7 @@ use Rattle.std.proofs.lemmas.Nat.{ones_cat, mod-pow-add, mod_below, pow_pos}
 use Rattle.std.proofs.lemmas.Nat.Bits.{bit_at-lt}
 use Rattle.aea_view.specs.Bits.{has_bit, is_bit, bits_of}
 use Rattle.aea_view.proofs.Packed.{bits-more}
-use Rattle.aea_view.proofs.Lowest.{turned-bits}
+use Rattle.aea_view.proofs.Lowest.{flipped-bits}
 
 -- a number below 2 has as many bits set as it says
 small_ones : (b : ℕ) → b < 2 → ones b ≡ b
@@ -24,12 +24,12 @@ low_more word k =
     ∙ ap (λ x. x + ones (word % 2 ^ k)) (small_ones (bit_at word k) (bit_at-lt word k))
 
 -- a bit that is set where the other is not
-turned_one : (b : Bool) (x : ℕ) → x < 2 → (x == 1) ≡ not b → x ≡ cond b 0 1
-turned_one true zero less e = refl
-turned_one false zero less e = absurd (false≢true e)
-turned_one true (suc zero) less e = absurd (false≢true (sym e))
-turned_one false (suc zero) less e = refl
-turned_one b (suc (suc x)) less e = absurd (omega arith)
+flipped_one : (b : Bool) (x : ℕ) → x < 2 → (x == 1) ≡ not b → x ≡ cond b 0 1
+flipped_one true zero less e = refl
+flipped_one false zero less e = absurd (false≢true e)
+flipped_one true (suc zero) less e = absurd (false≢true (sym e))
+flipped_one false (suc zero) less e = refl
+flipped_one b (suc (suc x)) less e = absurd (omega arith)
 
 -- truth value j of a word is its bit j
 bit_of_word : (words : List ℕ) (at word : ℕ) → get_or words at 0 ≡ word → (j : ℕ) → j < 64 → is_bit words (64 * at + j) ≡ has_bit word j
@@ -48,13 +48,13 @@ part_more words at word fits here zero within =
     ones_zero : (n : ℕ) → ones (n % 1) ≡ 0
     ones_zero n = ap ones (omega arith) ∙ small_ones 0 (omega arith)
 part_more words at word fits here (suc j) within =
-    let turned = bit_not w64 word in
+    let flipped = bit_not w64 word in
     let below : j < 64 = omega (arith, within) in
-    let one : bit_at turned j ≡ cond (is_bit words (64 * at + j)) 0 1 =
-    turned_one (is_bit words (64 * at + j)) (bit_at turned j) (bit_at-lt turned j)
-    (turned-bits word j fits below ∙ ap not (sym (bit_of_word words at word here j below))) in
+    let one : bit_at flipped j ≡ cond (is_bit words (64 * at + j)) 0 1 =
+    flipped_one (is_bit words (64 * at + j)) (bit_at flipped j) (bit_at-lt flipped j)
+    (flipped-bits word j fits below ∙ ap not (sym (bit_of_word words at word here j below))) in
     let before = part_more words at word fits here j (omega (arith, within)) in
-    let low : ones (turned % 2 ^ suc j) ≡ bit_at turned j + ones (turned % 2 ^ j) = ap (λ (n : ℕ). ones (turned % 2 ^ n)) (omega arith) ∙ low_more turned j in
+    let low : ones (flipped % 2 ^ suc j) ≡ bit_at flipped j + ones (flipped % 2 ^ j) = ap (λ (n : ℕ). ones (flipped % 2 ^ n)) (omega arith) ∙ low_more flipped j in
     let more = bits-more (64 * at + j) words in
     let same : 64 * at + suc j ≡ 64 * at + j + 1 = omega arith in
     ap (λ n. count_by not (bits_of n words)) same ∙ omega (arith, more, before, one, low)

@@ -5,7 +5,7 @@ ghost use Rattle.aea_lattice.specs.Closure.{IsForcedBy};
 ghost use Rattle.aea_lattice.specs.Equations.{HasEquation};
 ghost use Rattle.aea_view.specs.Marked.{IsWhole, is_marked, unmarked, IsSpent, AreClear, IsNextMarked};
 
-use crate::words::{all_turned, bit, count_clear, next_set, with_bit};
+use crate::words::{all_flipped, bit, count_clear, next_set, with_bit};
 use aea_lattice::{BlockId, EqId, Lattice};
 use std::alloc::{AllocError, Global};
 use std::marker::Model;
@@ -90,7 +90,7 @@ impl Marks {
         ensures marks { IfOk result (λ m. m.marks ≡ map not self.now.marks) }
         ensures whole { IfOk result IsWhole }
     {
-        let words = all_turned(alloc, self.words.as_slice())?;
+        let words = all_flipped(alloc, self.words.as_slice())?;
         Ok(Marks {
             lattice: self.lattice,
             words,

@@ -65,22 +65,22 @@ pub(crate) fn count_clear(words: &[u64], n: u32) -> u32
 }
 
 // The word with each bit flipped.
-fn turned(word: u64) -> u64
+fn flipped(word: u64) -> u64
     ensures { (k : ℕ) → k < 64 → has_bit result k ≡ not (has_bit word k) }
 {
     !word
 }
 
 // Words with each bit flipped.
-pub(crate) fn all_turned(alloc: Global, words: &[u64]) -> Result<Vec<u64>, AllocError>
-    ensures long { IfOk result (λ turned. length turned.items ≡ length words.now) }
-    ensures turned { IfOk result (λ turned. (k : ℕ) → k < 64 * length words.now → is_bit turned.items k ≡ not (is_bit words.now k)) }
+pub(crate) fn all_flipped(alloc: Global, words: &[u64]) -> Result<Vec<u64>, AllocError>
+    ensures long { IfOk result (λ flipped. length flipped.items ≡ length words.now) }
+    ensures flipped { IfOk result (λ flipped. (k : ℕ) → k < 64 * length words.now → is_bit flipped.items k ≡ not (is_bit words.now k)) }
 {
-    let mut turned_words = Vec::with_capacity(alloc, words.len())?;
+    let mut flipped_words = Vec::with_capacity(alloc, words.len())?;
     for k in 0..words.len() {
-        turned_words.push(turned(words[k]))?;
+        flipped_words.push(flipped(words[k]))?;
     }
-    Ok(turned_words)
+    Ok(flipped_words)
 }
 
 // The place of the first bit that is set at this place of the word or above it, None where there is none.

@@ -23,8 +23,8 @@ bit_of_pow m i =
     ]
 
 -- the XOR of a word with a single bit flips the bit at its place alone
-pub turned : (x m i : ℕ) → m < 64 → has_bit (bit_xor x ((1 * 2 ^ m) % 2 ^ 64)) i ≡ differ (has_bit x i) (i == m)
-turned x m i less =
+pub flipped : (x m i : ℕ) → m < 64 → has_bit (bit_xor x ((1 * 2 ^ m) % 2 ^ 64)) i ≡ differ (has_bit x i) (i == m)
+flipped x m i less =
     ap (λ p. bit_at (bit_xor x p) i == 1) (one_shl m 64 less)
     ∙ ap (λ b. b == 1) (bit_at_xor x (2 ^ m) i)
     ∙ bit_test (bit_at x i) (bit_at (2 ^ m) i) (bit_at-lt x i) (bit_at-lt (2 ^ m) i)

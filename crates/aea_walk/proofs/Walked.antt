@@ -68,8 +68,8 @@ same_test m n = grind (arith, nat_tests)
 step-member : (l : Lattice) (members : ℕ → Bool) (m : ℕ) (before carried after : Strands) → (is_parted l.fences m (suc m) ≡ false → carried ≡ before)
     → (is_parted l.fences m (suc m) ≡ true → (c : Class) (t : ℕ) → bit_of carried c t ≡ false) → IsWalked l members m before → members (suc m) ≡ true
     → ((c : Class) → HasParity l c → (t : ℕ) → t < 64 → bit_of after c t ≡ differ (bit_of carried c t) (t == strand_of l c (suc m))) → IsWalked l members (suc m) after
-step-member l members m before carried after join part walked member turned c has t lt =
-    turned c has t lt
+step-member l members m before carried after join part walked member flipped c has t lt =
+    flipped c has t lt
     ∙ ap (λ b. differ b (t == strand_of l c (suc m))) (carried-are l members m before carried join part walked c has t lt)
     ∙ ap (differ (is_odd_count members (nodes_on l c t (suc m) m)))
     (same_test t (strand_of l c (suc m)) ∙ sym (and_true (strand_of l c (suc m) == t) (members (suc m)) member))
@@ -87,7 +87,7 @@ step-other l members m before carried join part walked other c has t lt =
 -- the same at a node and the one before it
 pub walked-member : (l : Lattice) (members : ℕ → Bool) (i : ℕ) (before carried after : Strands) → 1 ≤ i → AreCarried l i before carried → IsWalked l members (i - 1) before → members i ≡ true
     → ((c : Class) → HasParity l c → (t : ℕ) → t < 64 → bit_of after c t ≡ differ (bit_of carried c t) (t == strand_of l c i)) → IsWalked l members i after
-walked-member l members i before carried after first are walked member turned =
+walked-member l members i before carried after first are walked member flipped =
     let e : suc (i - 1) ≡ i = omega arith in
     subst (λ j. IsWalked l members j after) e
     (step-member l members (i - 1) before carried after
@@ -95,7 +95,7 @@ walked-member l members i before carried after first are walked member turned =
     (λ h. are.parted (ap (is_parted l.fences (i - 1)) (sym e) ∙ h))
     walked
     (ap members e ∙ member)
-    (λ c has t lt. turned c has t lt ∙ ap (λ j. differ (bit_of carried c t) (t == strand_of l c j)) (sym e)))
+    (λ c has t lt. flipped c has t lt ∙ ap (λ j. differ (bit_of carried c t) (t == strand_of l c j)) (sym e)))
 
 pub walked-other : (l : Lattice) (members : ℕ → Bool) (i : ℕ) (before carried : Strands) → 1 ≤ i → AreCarried l i before carried → IsWalked l members (i - 1) before → members i ≡ false
     → IsWalked l members i carried

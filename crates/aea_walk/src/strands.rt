@@ -19,7 +19,7 @@ pub(crate) struct Strands {
 }
 
 // The word with the bit at this place flipped.
-fn turned(word: u64, place: u32) -> u64
+fn flipped(word: u64, place: u32) -> u64
     requires { place < 64 }
     ensures { (k : ℕ) → k < 64 → has_bit result k ≡ differ (has_bit word k) (k == place) }
 {
@@ -27,13 +27,13 @@ fn turned(word: u64, place: u32) -> u64
 }
 
 // The word of the class, with the bit of the node's strand flipped where the lattice has the class.
-fn turned_on(lattice: &Lattice, word: u64, node: u32, class: Class) -> u64
+fn flipped_on(lattice: &Lattice, word: u64, node: u32, class: Class) -> u64
     requires node { HasNode lattice.now node }
     requires class { 1 ≤ class_number class }
     ensures { HasParity lattice.now class → (t : ℕ) → t < 64 → has_bit result t ≡ differ (has_bit word t) (t == strand_of lattice.now class node) }
 {
     if class as u8 <= lattice.alpha() {
-        turned(word, lattice.strand(node, class))
+        flipped(word, lattice.strand(node, class))
     } else {
         word
     }
@@ -59,14 +59,14 @@ impl Strands {
     }
 
     /// These bits with that of each strand of the node flipped.
-    pub(crate) fn turned_at(&self, lattice: &Lattice, node: u32) -> Strands
+    pub(crate) fn flipped_at(&self, lattice: &Lattice, node: u32) -> Strands
         requires { HasNode lattice.now node }
         ensures { (c : Class) → HasParity lattice.now c → (t : ℕ) → t < 64 → bit_of result c t ≡ differ (bit_of self.now c t) (t == strand_of lattice.now c node) }
     {
         Strands {
-            horiz: turned_on(lattice, self.horiz, node, Class::Horiz),
-            right: turned_on(lattice, self.right, node, Class::Right),
-            left: turned_on(lattice, self.left, node, Class::Left),
+            horiz: flipped_on(lattice, self.horiz, node, Class::Horiz),
+            right: flipped_on(lattice, self.right, node, Class::Right),
+            left: flipped_on(lattice, self.left, node, Class::Left),
         }
     }
 

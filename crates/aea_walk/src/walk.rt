@@ -39,7 +39,7 @@ fn step(lattice: &Lattice, strands: &Strands, node: u32, member: bool) -> Strand
         *strands
     };
     if member {
-        carried.turned_at(lattice, node)
+        carried.flipped_at(lattice, node)
     } else {
         carried
     }

@@ -16,9 +16,9 @@ use Rattle.aea_shelf.specs.Intact.{payload_in}
 use Rattle.aea_shelf.proofs.Cells.{intact_same}
 use Rattle.aea_ledger.specs.Values.{Opened}
 use Rattle.aea_ledger.specs.Next.{AreItsRecords}
-use Rattle.aea_archive.specs.Blocks.{recorded_in, IsIntactBy, TellsSurvivors}
+use Rattle.aea_archive.specs.Blocks.{recorded_in, IsIntactBy, RevealsSurvivors}
 use Rattle.aea_archive.specs.Data.{AreSurvivorsHonest, IsDamagePlain}
-use Rattle.aea_archive.specs.Laws.{SurvivorsAreTold}
+use Rattle.aea_archive.specs.Laws.{SurvivorsAreRevealed}
 use Rattle.aea_archive.specs.Next.{NewObject}
 use Rattle.aea_repair.specs.declared.outcome.Outcome.{Outcome}
 use Rattle.aea_fetch.specs.Puts.{datas_of}
@@ -57,7 +57,7 @@ all_same n at x =
     ∙ ap (λ (xs : List ℕ). take n (xs ++ replicate n x)) (none_taken n)
     ∙ take-replicate n n x (omega arith)
 
-module _ (lengths : CellsHaveLengths) (parts : CellsHaveParts) (told_law : SurvivorsAreTold) (v : Opened) (puts : List NewObject) (c d : Files) (p : HasPuts v puts c) (loses : LosesSite 1 c d)
+module _ (lengths : CellsHaveLengths) (parts : CellsHaveParts) (revealed_law : SurvivorsAreRevealed) (v : Opened) (puts : List NewObject) (c d : Files) (p : HasPuts v puts c) (loses : LosesSite 1 c d)
     (some : 1 ≤ length puts) (few : length puts ≤ 3) where
   -- a block that is not on the first site is intact
   elsewhere : (b : BlockId) → HasBlock v.lattice b → home_file v.shape b ≢ 1 → IsIntactBy v.shape v.digests d b
@@ -98,10 +98,10 @@ module _ (lengths : CellsHaveLengths) (parts : CellsHaveParts) (told_law : Survi
 
   -- the test of the survivors
   abbrev known : BlockId → Bool
-  known = (told_law v.shape v.lattice.n v.digests d).0
+  known = (revealed_law v.shape v.lattice.n v.digests d).0
 
-  tells_known : TellsSurvivors v.shape v.lattice.n v.digests d known
-  tells_known = (told_law v.shape v.lattice.n v.digests d).1
+  reveals_known : RevealsSurvivors v.shape v.lattice.n v.digests d known
+  reveals_known = (revealed_law v.shape v.lattice.n v.digests d).1
 
   -- each block is determined by them
   determined : (b : BlockId) → HasBlock v.lattice b → Determines v.lattice known b
@@ -110,7 +110,7 @@ module _ (lengths : CellsHaveLengths) (parts : CellsHaveParts) (told_law : Survi
       let alpha = p.its.has.lattice.alpha in
       all_determined v.shape v.lattice known p.shape alpha (omega (arith, n, some)) (omega (arith, n, few))
       (λ b has other.
-      (tells_known b (record { after = has.first; most = has.last; used = (let used = has.used in omega (arith, used, alpha)) })).1 (elsewhere b has other))
+      (reveals_known b (record { after = has.first; most = has.last; used = (let used = has.used in omega (arith, used, alpha)) })).1 (elsewhere b has other))
 
   -- the archive may be repaired
   pub lost_ready : (room : ℕ) (s : State) → s.files ≡ d → HasCellsRoom s → room ≡ report_room v.lattice.n → IsReady v s room
@@ -127,7 +127,7 @@ module _ (lengths : CellsHaveLengths) (parts : CellsHaveParts) (told_law : Survi
         let n = p.nodes in
         cells.sites f (site_bytes v.shape v.lattice.n) first (omega (arith, last, count)) (rows-short v.shape v.lattice.n p.shape (omega (arith, n, few)));
     known = known;
-    survivors = subst (λ (e : Files). TellsSurvivors v.shape v.lattice.n v.digests e known) (sym same) tells_known;
+    survivors = subst (λ (e : Files). RevealsSurvivors v.shape v.lattice.n v.digests e known) (sym same) reveals_known;
     fits = λ h lines report printed.
         let n = p.nodes in
         let lat = p.its.has.lattice in
@@ -138,7 +138,7 @@ module _ (lengths : CellsHaveLengths) (parts : CellsHaveParts) (told_law : Survi
   -- what is there when it is repaired
   pub mended_again : (bytes : List ℕ) (e : Files) (o : Outcome) → IsMended v bytes d e o → IsLostAndMended v puts bytes c e o
   mended_again bytes e o m =
-      let restores = m.restores known tells_known in
+      let restores = m.restores known reveals_known in
       let ledger : e 0 ≡ c 0 = m.ledger ∙ loses.others 0 (λ same. absurd (omega (arith, same))) in
       record {
         lost = d;

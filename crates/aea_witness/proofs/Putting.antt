@@ -97,8 +97,8 @@ one_range r first count =
     ap (λ (k : ℕ). own_range (record { first = r.first; count = k; length = r.size; digest = r.digest })) count
     ∙ ap range_at first
 
-module _ (goes : PutsGoOn) (counted : DigestsAreCounted) (tells : Type 0) (told : tells) (v w : Opened) (o : NewObject) (old new : State) (stored : Stored) (puts : List NewObject)
-    (p : HasPuts v puts old.files) (small : IsSmall o) (free : get v.objects o.name ≡ None) (h : HasStored tells v w o old new stored) where
+module _ (goes : PutsGoOn) (counted : DigestsAreCounted) (reveals : Type 0) (revealed : reveals) (v w : Opened) (o : NewObject) (old new : State) (stored : Stored) (puts : List NewObject)
+    (p : HasPuts v puts old.files) (small : IsSmall o) (free : get v.objects o.name ≡ None) (h : HasStored reveals v w o old new stored) where
   has_v : HasRecords v p.records
   has_v = p.its.has
 
@@ -178,7 +178,7 @@ module _ (goes : PutsGoOn) (counted : DigestsAreCounted) (tells : Type 0) (told 
   intact_new : (b : BlockId) → HasBlock w.lattice b → v.lattice.n < b.node → IsIntactBy v.shape w.digests new.files b
   intact_new b has after =
       subst (λ (ds : List (List ℕ)). IsIntactBy v.shape ds new.files b) (sym has_w.digests)
-      ((h.added told p.records p.its).blocks b (record {
+      ((h.added revealed p.records p.its).blocks b (record {
         after = (let n = p.its.has.lattice.n in omega (arith, after, n));
         most = (let last = has.last in let n = has_w.lattice.n in omega (arith, last, n));
         used = used_in b has;
@@ -195,21 +195,21 @@ module _ (goes : PutsGoOn) (counted : DigestsAreCounted) (tells : Type 0) (told 
 
   recorded : AreRecordsOf w.shape more (datas_of w.shape (puts ++ o ∷ []))
   recorded =
-      let all = h.records_more told p.records (datas_of v.shape puts) has_v p.recorded (λ b last is. p.honest b (last_inside v.lattice b last) is) in
+      let all = h.records_more revealed p.records (datas_of v.shape puts) has_v p.recorded (λ b last is. p.honest b (last_inside v.lattice b last) is) in
       subst (AreRecordsOf w.shape more) (sym datas)
       (subst (λ (s : Shape). AreRecordsOf s more (datas_of v.shape puts ++ object_blocks v.shape o.bytes)) (sym h.same_shape) all.recorded)
 
   honest : AreSurvivorsHonest w.shape w.lattice w.digests (datas_of w.shape (puts ++ o ∷ [])) new.files
   honest =
       subst (λ (ds : List (List ℕ)). AreSurvivorsHonest w.shape w.lattice w.digests ds new.files) (sym datas)
-      (h.honest told p.records (datas_of v.shape puts) has_v p.recorded p.honest (none_damaged v old.files p.intact)).0
+      (h.honest revealed p.records (datas_of v.shape puts) has_v p.recorded p.honest (none_damaged v old.files p.intact)).0
 
   -- the ledger
   its : AreItsRecords w more (new.files 0)
   its = record {
     has = has_w;
     ledger = subst (λ (e : ℕ). IsLedger (new.files 0) w.shape more e) (sym has_w.end)
-        (subst (λ (s : Shape). IsLedger (new.files 0) s more (length (spelled s more))) (sym h.same_shape) (h.added told p.records p.its).ledger);
+        (subst (λ (s : Shape). IsLedger (new.files 0) s more (length (spelled s more))) (sym h.same_shape) (h.added revealed p.records p.its).ledger);
   }
 
   long : length (new.files 0) ≤ max (length (old.files 0)) (next_end v.end (length o.name) (stored.nodes * (1 + v.shape.alpha)) + 1) → length (new.files 0) ≤ 18 + 200 * length (puts ++ o ∷ [])
@@ -276,16 +276,16 @@ all_taken bytes taken None gone end = absurd gone
 all_taken bytes taken (Some left) gone end = gone ∙ ap (λ (xs : List ℕ). taken ++ xs) end ∙ append-nil taken
 
 -- what was put of a source that had just these bytes
-pub put_more : PutsGoOn → DigestsAreCounted → (tells : Type 0) → tells → (v w : Opened) (name bytes : List ℕ) (rest : Option (List ℕ)) (old new : State) (stored : Stored) (puts : List NewObject)
-    → HasPuts v puts old.files → IsSmall (object_of name bytes) → get v.objects name ≡ None → HasPut tells v w name (Some bytes) rest old new stored
+pub put_more : PutsGoOn → DigestsAreCounted → (reveals : Type 0) → reveals → (v w : Opened) (name bytes : List ℕ) (rest : Option (List ℕ)) (old new : State) (stored : Stored) (puts : List NewObject)
+    → HasPuts v puts old.files → IsSmall (object_of name bytes) → get v.objects name ≡ None → HasPut reveals v w name (Some bytes) rest old new stored
     → KeepsHomes v.shape (IsBlockIn v.shape v.lattice.n) old.files new.files
     → length (new.files 0) ≤ max (length (old.files 0)) (next_end v.end (length name) (stored.nodes * (1 + v.shape.alpha)) + 1)
     → HasPuts w (puts ++ object_of name bytes ∷ []) new.files
-put_more goes counted tells told v w name bytes rest old new stored puts p small free put keeps most =
+put_more goes counted reveals revealed v w name bytes rest old new stored puts p small free put keeps most =
     let whole = put.1 in
     let same : put.0 ≡ object_of name bytes = ap (λ (n : List ℕ). object_of n put.0.bytes) whole.name_is ∙ ap (object_of name) (sym (all_taken bytes put.0.bytes rest whole.taken whole.end)) in
-    let h : HasStored tells v w (object_of name bytes) old new stored = subst (λ (o : NewObject). HasStored tells v w o old new stored) same put.2 in
-    puts_more goes counted tells told v w (object_of name bytes) old new stored puts p small free h keeps most
+    let h : HasStored reveals v w (object_of name bytes) old new stored = subst (λ (o : NewObject). HasStored reveals v w o old new stored) same put.2 in
+    puts_more goes counted reveals revealed v w (object_of name bytes) old new stored puts p small free h keeps most
 
 -- an archive that was just made has no objects
 no_block : (v : Opened) (b : BlockId) → HasRecords v [] → HasBlock v.lattice b → ⊥

@@ -32,9 +32,9 @@ use Rattle.aea_witness.proofs.Putting.{puts_more}
 use Rattle.aea_witness.proofs.Rooms.{one_node, ends_within, rows_fit}
 
 -- what is left after bytes that were taken
-told_some : (stream bytes : List ℕ) (rest : Option (List ℕ)) → Consumes (Some stream) rest bytes → (ys : List ℕ) × (stream ≡ bytes ++ ys)
-told_some stream bytes None none = absurd none
-told_some stream bytes (Some ys) is = (ys, is)
+revealed_some : (stream bytes : List ℕ) (rest : Option (List ℕ)) → Consumes (Some stream) rest bytes → (ys : List ℕ) × (stream ≡ bytes ++ ys)
+revealed_some stream bytes None none = absurd none
+revealed_some stream bytes (Some ys) is = (ys, is)
 
 pub length-head : (name : List ℕ) (size : ℕ) → length (frame_head name size) ≡ 10 + length name
 length-head name size = length-append (to_be_bytes w16 (length name)) (name ++ to_be_bytes w64 size) ∙ omega (arith, length-append name (to_be_bytes w64 size), (let e : length (to_be_bytes w16 (length name)) ≡ 2 = refl in e), (let f : length (to_be_bytes w64 size) ≡ 8 = refl in f))
@@ -47,13 +47,13 @@ frame_room v puts name size rest stream s p few short small brief is room = reco
   ledger = λ q ys framed enters intact fits.
       let other = q.name in
       let more = length q.bytes in
-      let told = told_some stream (frame_of q) ys framed in
-      let behind = q.bytes ++ told.0 in
-      let whole : stream ≡ frame_head other more ++ behind = told.1 ∙ append_assoc (frame_head other more) q.bytes told.0 in
+      let revealed = revealed_some stream (frame_of q) ys framed in
+      let behind = q.bytes ++ revealed.0 in
+      let whole : stream ≡ frame_head other more ++ behind = revealed.1 ∙ append_assoc (frame_head other more) q.bytes revealed.0 in
       let long = ap length whole in
       let limit : limit_when v.raised ≡ 65536 = ap limit_when p.raised in
       let nodes = nodes-512 v.shape more p.shape in
-      let one = one_head name other size more rest behind (omega (arith, short)) (omega (arith, long, brief, length-append (frame_head other more) behind, length-head other more)) (omega (arith, small)) (omega (arith, long, brief, length-append (frame_head other more) behind, length-append q.bytes told.0)) (sym is ∙ whole) in
+      let one = one_head name other size more rest behind (omega (arith, short)) (omega (arith, long, brief, length-append (frame_head other more) behind, length-head other more)) (omega (arith, small)) (omega (arith, long, brief, length-append (frame_head other more) behind, length-append q.bytes revealed.0)) (sym is ∙ whole) in
       let size_is = one.sizes in
       let name_is = ap length one.names in
       let end = ends_within v puts s p in
@@ -189,14 +189,14 @@ pub on_err : (r : Result (Unit {0}) AllocError) (P : Type 0) (e : AllocError) �
 on_err r P e is = subst (λ (q : Result (Unit {0}) AllocError). OnOk q P) (sym is) tt
 
 -- what was taken of a stream that begins with the frame of a small object is this object, and it is put
-pub taken_more : PutsGoOn → DigestsAreCounted → (tells : Type 0) → tells → (v w : Opened) (o : NewObject) (rest stream ys name : List ℕ) (before after : ℕ) (old new : State) (stored : Stored) (puts : List NewObject)
+pub taken_more : PutsGoOn → DigestsAreCounted → (reveals : Type 0) → reveals → (v w : Opened) (o : NewObject) (rest stream ys name : List ℕ) (before after : ℕ) (old new : State) (stored : Stored) (puts : List NewObject)
     → HasPuts v puts old.files → IsSmall o → length puts ≤ 3 → MayEnter v o.name → stream ≡ frame_of o ++ rest
     → after ≤ before + frame_length stream → after ≡ before + 10 + length name + stored.length
-    → ((q : NewObject) × (q.name ≡ name) × IsFramed (Some stream) (Some ys) q × HasStored tells v w q old new stored)
+    → ((q : NewObject) × (q.name ≡ name) × IsFramed (Some stream) (Some ys) q × HasStored reveals v w q old new stored)
     → KeepsHomes v.shape (IsBlockIn v.shape v.lattice.n) old.files new.files
     → length (new.files 0) ≤ max (length (old.files 0)) (next_end v.end (length name) (stored.nodes * (1 + v.shape.alpha)) + 1)
     → HasPuts w (puts ++ o ∷ []) new.files × (ys ≡ rest)
-taken_more goes counted tells told v w o rest stream ys name before after old new stored puts p small few enters is within exact put keeps most =
+taken_more goes counted reveals revealed v w o rest stream ys name before after old new stored puts p small few enters is within exact put keeps most =
     let q = put.0 in
     let h = put.3 in
     let b = begins v puts o rest stream old.files p small few enters is in
@@ -207,9 +207,9 @@ taken_more goes counted tells told v w o rest stream ys name before after old ne
     let long = h.size in
     let named = ap length put.1 in
     let one = one_frame o q rest ys (omega (arith, short)) (omega (arith, named, within, exact, number, size, short, block)) (omega (arith, block)) (omega (arith, long, within, exact, number, size, short, block)) (sym is ∙ put.2) in
-    let own : HasStored tells v w o old new stored = subst (λ (x : NewObject). HasStored tells v w x old new stored) (sym one.0) h in
+    let own : HasStored reveals v w o old new stored = subst (λ (x : NewObject). HasStored reveals v w x old new stored) (sym one.0) h in
     let name_is : name ≡ o.name = sym put.1 ∙ ap (λ (x : NewObject). x.name) (sym one.0) in (
-      puts_more goes counted tells told v w o old new stored puts p small enters.free own keeps
+      puts_more goes counted reveals revealed v w o old new stored puts p small enters.free own keeps
           (subst (λ (n : List ℕ). length (new.files 0) ≤ max (length (old.files 0)) (next_end v.end (length n) (stored.nodes * (1 + v.shape.alpha)) + 1)) name_is most),
       sym one.1,
     )

@@ -21,12 +21,12 @@ pub(crate) fn fetch<D: Disk>(
     name: &[u8],
     out: &mut SureSink,
 ) -> Result<(), AllocError>
-    requires tells { D.tells }
+    requires reveals { D.reveals }
     requires willing { IsWilling (D.state disk.old) }
     requires puts { (o : NewObject) × (more : List NewObject) × HasPuts ledger.now (o ∷ more) (D.state disk.old).files × (o.name ≡ name.now) × (length o.bytes ≤ 512) }
     requires out { IsEmptySink 512 out.old }
     ensures got { OnOk result ((o : NewObject) (more : List NewObject) → HasPuts ledger.now (o ∷ more) (D.state disk.old).files → o.name ≡ name.now → out.new.bytes.items ≡ o.bytes) }
-    ensures reads { OnlyReads D.tells ⊥ (D.state disk.old) (D.state disk.new) }
+    ensures reads { OnlyReads D.reveals ⊥ (D.state disk.old) (D.state disk.new) }
 {
     match get(alloc, ledger, disk, name, out) {
         Ok(_) => Ok(()),

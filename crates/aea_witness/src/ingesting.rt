@@ -24,7 +24,7 @@ fn take_in<D: Disk>(
     source: &mut SureSource<'_>,
     at: &mut u64,
 ) -> Result<(), AllocError>
-    requires tells { D.tells }
+    requires reveals { D.reveals }
     requires live { ledger.old.live ≡ true }
     requires fixed { IsFixed (D.state disk.old) 0 }
     requires room { HasWitnessRoom (D.state disk.old) }
@@ -64,7 +64,7 @@ fn meet_cut<D: Disk>(
     source: &mut SureSource<'_>,
     at: &mut u64,
 ) -> Result<(), AllocError>
-    requires tells { D.tells }
+    requires reveals { D.reveals }
     requires live { ledger.old.live ≡ true }
     requires fixed { IsFixed (D.state disk.old) 0 }
     requires room { HasWitnessRoom (D.state disk.old) }
@@ -101,7 +101,7 @@ pub(crate) fn ingest<D: Disk>(
     disk: &mut D,
     at: &mut u64,
 ) -> Result<(), AllocError>
-    requires tells { D.tells }
+    requires reveals { D.reveals }
     requires live { ledger.old.live ≡ true }
     requires fixed { IsFixed (D.state disk.old) 0 }
     requires room { HasWitnessRoom (D.state disk.old) }

@@ -8,7 +8,7 @@ ghost use Rattle.aea_witness.specs.Objects.{HasPuts};
 ghost use Rattle.aea_witness.specs.Rooms.{IsEmptySink};
 ghost use Rattle.aea_witness.specs.Losses.{LosesSite, IsLostAndMended};
 
-use aea_archive::survivors_are_told;
+use aea_archive::survivors_are_revealed;
 use aea_disk::Disk;
 use aea_envelope::{cells_have_lengths, cells_have_parts};
 use aea_io::SureSink;
@@ -19,7 +19,7 @@ use std::alloc::{AllocError, Global};
 
 // Loses the first site: empties its file.
 fn lose<D: Disk>(disk: &mut D)
-    requires tells { D.tells }
+    requires reveals { D.reveals }
     requires free { (D.state disk.old).free }
     requires room { HasRoomTo (D.state disk.old) 1 0 }
     ensures lost { LosesSite 1 (D.state disk.old).files (D.state disk.new).files }
@@ -39,7 +39,7 @@ pub(crate) fn lose_and_mend<D: Disk>(
     disk: &mut D,
     report: &mut SureSink,
 ) -> Result<Outcome, AllocError>
-    requires tells { D.tells }
+    requires reveals { D.reveals }
     requires room { HasCellsRoom (D.state disk.old) }
     requires puts { (puts : List NewObject) × HasPuts ledger.now puts (D.state disk.old).files × (1 ≤ length puts) × (length puts ≤ 3) }
     requires report { IsEmptySink (report_room ledger.now.lattice.n) report.old }
@@ -49,7 +49,7 @@ pub(crate) fn lose_and_mend<D: Disk>(
 {
     cells_have_lengths();
     cells_have_parts();
-    survivors_are_told();
+    survivors_are_revealed();
     lose(disk);
     let outcome = mend(alloc, ledger, disk, report)?;
     Ok(outcome)

@@ -28,7 +28,7 @@ fn store<D: Disk>(
     name: &[u8],
     bytes: &[u8],
 ) -> Result<(), AllocError>
-    requires tells { D.tells }
+    requires reveals { D.reveals }
     requires live { ledger.old.live ≡ true }
     requires fixed { IsFixed (D.state disk.old) 0 }
     requires room { HasWitnessRoom (D.state disk.old) }
@@ -65,7 +65,7 @@ pub(crate) fn build<D: Disk>(
     disk: &mut D,
     at: &mut u64,
 ) -> Result<Ledger, AllocError>
-    requires tells { D.tells }
+    requires reveals { D.reveals }
     requires empty { (D.state disk.old).files 0 ≡ [] }
     requires room { HasWitnessRoom (D.state disk.old) }
     requires none { at.old ≡ 0 }

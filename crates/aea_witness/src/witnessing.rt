@@ -30,7 +30,7 @@ fn witness_on<D: Disk>(
     got: &mut SureSink,
     at: &mut u64,
 ) -> Result<Outcome, AllocError>
-    requires tells { D.tells }
+    requires reveals { D.reveals }
     requires empty { (D.state disk.old).files 0 ≡ [] }
     requires room { HasWitnessRoom (D.state disk.old) }
     requires report { IsEmptySink (report_room 3) report.old }

@@ -12,9 +12,9 @@ use Rattle.aea_command.specs.Causes.{place_of, IsFirst}
 use Rattle.aea_command_loss.specs.Drill.{greatest_input, DamageCauses, IsAccepted, IsFirstBad, NamesBlock}
 
 -- what is known
-pub told_is : (o : Option (List ℕ)) → IsSome o → o ≡ Some (unwrap_or o [])
-told_is None some = absurd (false≢true some)
-told_is (Some bytes) some = refl
+pub revealed_is : (o : Option (List ℕ)) → IsSome o → o ≡ Some (unwrap_or o [])
+revealed_is None some = absurd (false≢true some)
+revealed_is (Some bytes) some = refl
 
 -- a line that is bad names no block, so not all lines up to it do
 bad_line : (l : Lattice) (text : List ℕ) (j k : ℕ) → IsFirstBad l text j → j ≤ k - 1 → All (NamesBlock l) (take (k - 1) (lines_of text)) → ⊥

@@ -36,8 +36,8 @@ explain_behind word bytes = record { from = λ why cause. from_opening why cause
     back_to why cause = absurd cause
 
 -- an archive that was not opened shows why
-pub unopened_explain : {T : Type 0} (word : List ℕ) (tells : Type 0) (old new : State) (f : Failure) → Opens tells old new (Err f) → Refuses {T = T} tells (ExplainCauses word (old.files 0)) (Err f)
-unopened_explain word tells old new f opens = unopened_refuses tells old new f (ExplainCauses word (old.files 0)) (explain_behind word (old.files 0)) opens
+pub unopened_explain : {T : Type 0} (word : List ℕ) (reveals : Type 0) (old new : State) (f : Failure) → Opens reveals old new (Err f) → Refuses {T = T} reveals (ExplainCauses word (old.files 0)) (Err f)
+unopened_explain word reveals old new f opens = unopened_refuses reveals old new f (ExplainCauses word (old.files 0)) (explain_behind word (old.files 0)) opens
 
 -- ---- what the file says, as the opened ledger has it, and back
 
@@ -60,33 +60,33 @@ none_there reading v bytes word one has =
 
 -- ---- after the opening
 
-module _ (reading : HasOneReading) (word : List ℕ) (tells : Type 0) (v : Opened) (old mid : State) (opens : Opens tells old mid (Ok v)) where
+module _ (reading : HasOneReading) (word : List ℕ) (reveals : Type 0) (v : Opened) (old mid : State) (opens : Opens reveals old mid (Ok v)) where
   -- no cause of the opening holds
-  none_before : tells → (other : Refusal) → place_of other < place_of NoSuchBlock → ExplainCauses word (old.files 0) other → ⊥
-  none_before told NoArchive earlier cause = opened_no_opening tells old mid v opens told NoArchive cause
-  none_before told (LedgerBad at) earlier cause = opened_no_opening tells old mid v opens told (LedgerBad at) cause
-  none_before told NoSuchBlock earlier cause = omega arith
-  none_before told other earlier cause = cause
+  none_before : reveals → (other : Refusal) → place_of other < place_of NoSuchBlock → ExplainCauses word (old.files 0) other → ⊥
+  none_before revealed NoArchive earlier cause = opened_no_opening reveals old mid v opens revealed NoArchive cause
+  none_before revealed (LedgerBad at) earlier cause = opened_no_opening reveals old mid v opens revealed (LedgerBad at) cause
+  none_before revealed NoSuchBlock earlier cause = omega arith
+  none_before revealed other earlier cause = cause
 
-  one_cause : tells → (other : Refusal) → IsFirst (ExplainCauses word (old.files 0)) other → other ≡ NoSuchBlock
-  one_cause told NoArchive first = absurd (opened_no_opening tells old mid v opens told NoArchive first.stands)
-  one_cause told (LedgerBad at) first = absurd (opened_no_opening tells old mid v opens told (LedgerBad at) first.stands)
-  one_cause told NoSuchBlock first = refl
-  one_cause told other first = absurd first.stands
+  one_cause : reveals → (other : Refusal) → IsFirst (ExplainCauses word (old.files 0)) other → other ≡ NoSuchBlock
+  one_cause revealed NoArchive first = absurd (opened_no_opening reveals old mid v opens revealed NoArchive first.stands)
+  one_cause revealed (LedgerBad at) first = absurd (opened_no_opening reveals old mid v opens revealed (LedgerBad at) first.stands)
+  one_cause revealed NoSuchBlock first = refl
+  one_cause revealed other first = absurd first.stands
 
   -- the word is the text of no block
-  pub unnamed_refuses : (answer : Answer) → answer ≡ Err (failure.Refused NoSuchBlock) → (NamesBlock v.lattice word → ⊥) → Refuses tells (ExplainCauses word (old.files 0)) answer
+  pub unnamed_refuses : (answer : Answer) → answer ≡ Err (failure.Refused NoSuchBlock) → (NamesBlock v.lattice word → ⊥) → Refuses reveals (ExplainCauses word (old.files 0)) answer
   unnamed_refuses answer is none =
-      refuses_one tells (ExplainCauses word (old.files 0)) answer NoSuchBlock is
-      (λ told. record { stands = none_here reading v (old.files 0) word (opens.this_one told) none; none = none_before told })
-      (λ told other first. one_cause told other first)
+      refuses_one reveals (ExplainCauses word (old.files 0)) answer NoSuchBlock is
+      (λ revealed. record { stands = none_here reading v (old.files 0) word (opens.this_one revealed) none; none = none_before revealed })
+      (λ revealed other first. one_cause revealed other first)
 
-  no_cause : NamesBlock v.lattice word → tells → (why : Refusal) → IsFirst (ExplainCauses word (old.files 0)) why → ⊥
-  no_cause names told NoArchive first = opened_no_opening tells old mid v opens told NoArchive first.stands
-  no_cause names told (LedgerBad at) first = opened_no_opening tells old mid v opens told (LedgerBad at) first.stands
-  no_cause names told NoSuchBlock first = none_there reading v (old.files 0) word (opens.this_one told) first.stands names
-  no_cause names told why first = first.stands
+  no_cause : NamesBlock v.lattice word → reveals → (why : Refusal) → IsFirst (ExplainCauses word (old.files 0)) why → ⊥
+  no_cause names revealed NoArchive first = opened_no_opening reveals old mid v opens revealed NoArchive first.stands
+  no_cause names revealed (LedgerBad at) first = opened_no_opening reveals old mid v opens revealed (LedgerBad at) first.stands
+  no_cause names revealed NoSuchBlock first = none_there reading v (old.files 0) word (opens.this_one revealed) first.stands names
+  no_cause names revealed why first = first.stands
 
   -- it is that of one
-  pub named_refuses : (answer : Answer) → NamesBlock v.lattice word → ((why : Refusal) → answer ≡ Err (failure.Refused why) → ⊥) → Refuses tells (ExplainCauses word (old.files 0)) answer
-  named_refuses answer names never = refuses_none tells (ExplainCauses word (old.files 0)) answer never (no_cause names)
+  pub named_refuses : (answer : Answer) → NamesBlock v.lattice word → ((why : Refusal) → answer ≡ Err (failure.Refused why) → ⊥) → Refuses reveals (ExplainCauses word (old.files 0)) answer
+  named_refuses answer names never = refuses_none reveals (ExplainCauses word (old.files 0)) answer never (no_cause names)

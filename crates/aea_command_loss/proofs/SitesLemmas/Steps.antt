@@ -83,9 +83,9 @@ losses_failed {U = U} l sites cases a b f p =
 
 -- the space that is left after both texts
 room_then : (a b c : SinkState) (t u : List ℕ) → LeavesRoom a b t → LeavesRoom b c u → LeavesRoom a c (t ++ u)
-room_then a b c t u first second room told enough =
+room_then a b c t u first second room revealed enough =
     let both = length-append t u in
-    let l = first room told (omega arith) in
+    let l = first room revealed (omega arith) in
     let le = l.2 in
     let m = second l.0 l.1 (omega arith) in
     let me = m.2 in
@@ -106,9 +106,9 @@ cut_then l sites rest a b t u part first c =
       loss = c.loss;
       is = c.is;
       cut = c.cut;
-      too_long = λ room told. elim (cases_lt room (length t)) [
+      too_long = λ room revealed. elim (cases_lt room (length t)) [
         | inl short ↦ omega arith
-        | inr enough ↦ let m = first room told enough in let me = m.2 in let more = c.too_long m.0 m.1 in omega arith
+        | inr enough ↦ let m = first room revealed enough in let me = m.2 in let more = c.too_long m.0 m.1 in omega arith
       ];
     }
 
@@ -180,7 +180,7 @@ puts_none l sites a v = record {
     flushed = λ differs. inl (refl, refl);
   };
   kinds = tt;
-  left = λ room told enough. (room, told, omega arith);
+  left = λ room revealed enough. (room, revealed, omega arith);
   kept = omega arith;
   cause = λ e. absurd (done_never v failure.Output e);
   still = λ differs. refl;
@@ -236,9 +236,9 @@ module _ (l : Lattice) (sites : ℕ) (q : ℕ × ℕ) (loss : SiteLoss) (is : Is
             loss = loss;
             is = is;
             cut = (sent.0, sent.1, refl);
-            too_long = λ room told. elim (cases_lt room (length line)) [
+            too_long = λ room revealed. elim (cases_lt room (length line)) [
               | inl short ↦ short
-              | inr enough ↦ absurd (false≢true (prints.fits room told enough))
+              | inr enough ↦ absurd (false≢true (prints.fits room revealed enough))
             ];
           };
           flushed = λ differs. absurd (differs refl);
@@ -269,7 +269,7 @@ module _ (l : Lattice) (sites : ℕ) (q : ℕ × ℕ) (loss : SiteLoss) (is : Is
           flushed = λ differs. inr flushed;
         };
         kinds = tt;
-        left = λ room told enough. let m = prints.left room told enough in let me = m.2 in (m.0, m.1, omega arith);
+        left = λ room revealed enough. let m = prints.left room revealed enough in let me = m.2 in (m.0, m.1, omega arith);
         kept = prints.cause.kept;
         cause = λ e. absurd (done_never u failure.Output e);
         still = λ differs. prints.cause.still;

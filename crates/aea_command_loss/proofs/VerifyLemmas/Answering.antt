@@ -20,9 +20,9 @@ use Rattle.aea_command.specs.Failures.{Answer, verify_failure}
 use Rattle.aea_command.specs.Openings.{OpeningCauses, IsAfterOpening, Opens}
 use Rattle.aea_command_loss.specs.Verify.{VerifyCauses, PrintsVerdict, verdict_status}
 use Rattle.aea_command.proofs.Behind.{AreBehindOpening, some_ledger, unopened_refuses, opened_no_opening}
-use Rattle.aea_command_loss.proofs.DrillLemmas.Refused.{told_is}
+use Rattle.aea_command_loss.proofs.DrillLemmas.Refused.{revealed_is}
 use Rattle.aea_command.proofs.Reading.{has_ledger_of}
-use Rattle.aea_command.proofs.Refusing.{refuses_by_told}
+use Rattle.aea_command.proofs.Refusing.{refuses_by_revealed}
 
 -- the answer to what the check gave: of a verdict its status, or a failure of the output; of a fault its failure
 pub record IsAnswerTo (r : Result Verdict VerifyFault) (before after : SinkState) (answer : Answer) : Type 0 where
@@ -122,15 +122,15 @@ verify_behind bytes input = record { from = λ why cause. from_opening why cause
     back_to why cause = absurd cause
 
 -- an archive that was not opened shows why
-pub unopened_verify : {T : Type 0} (tells some : Type 0) (old new : State) (f : Failure) (input : List ℕ) → Opens tells old new (Err f)
-    → RefusesBy {T = T} (IsDecided tells some IsAfterOpening) (VerifyCauses (old.files 0) input) (Err f)
-unopened_verify {T} tells some old new f input opens =
-    refuses_by_told {T = T} (λ why. tells) (IsDecided tells some IsAfterOpening) (VerifyCauses (old.files 0) input) (Err f) (λ why both. both.0)
-    (unopened_refuses tells old new f (VerifyCauses (old.files 0) input) (verify_behind (old.files 0) input) opens)
+pub unopened_verify : {T : Type 0} (reveals some : Type 0) (old new : State) (f : Failure) (input : List ℕ) → Opens reveals old new (Err f)
+    → RefusesBy {T = T} (IsDecided reveals some IsAfterOpening) (VerifyCauses (old.files 0) input) (Err f)
+unopened_verify {T} reveals some old new f input opens =
+    refuses_by_revealed {T = T} (λ why. reveals) (IsDecided reveals some IsAfterOpening) (VerifyCauses (old.files 0) input) (Err f) (λ why both. both.0)
+    (unopened_refuses reveals old new f (VerifyCauses (old.files 0) input) (verify_behind (old.files 0) input) opens)
 
 -- after the opening
-module _ (reading : HasOneReading) (tells : Type 0) (v : Opened) (old mid : State) (source : SourceState) (before after : SinkState) (r : Result Verdict VerifyFault) (answer : Answer)
-    (opens : Opens tells old mid (Ok v))
+module _ (reading : HasOneReading) (reveals : Type 0) (v : Opened) (old mid : State) (source : SourceState) (before after : SinkState) (r : Result Verdict VerifyFault) (answer : Answer)
+    (opens : Opens reveals old mid (Ok v))
     (read : (report : List ℕ) → source.left ≡ Some report → IsReadAs report r)
     (to : IsAnswerTo r before after answer) where
   -- the answer is no refusal of the opening
@@ -140,21 +140,21 @@ module _ (reading : HasOneReading) (tells : Type 0) (v : Opened) (old mid : Stat
     | inr (k, e, same) ↦ subst IsAfterOpening (sym same) tt
   ]
 
-  module _ (told : tells) (some : IsSome source.left) where
+  module _ (revealed : reveals) (some : IsSome source.left) where
     -- the input that is known
     abbrev input : List ℕ
     input = unwrap_or source.left []
 
     is_input : source.left ≡ Some input
-    is_input = told_is source.left some
+    is_input = revealed_is source.left some
 
     ledger : IsSomeLedger (old.files 0)
-    ledger = let one = opens.this_one told in some_ledger (old.files 0) v.shape one.records (has_ledger_of reading v (old.files 0) one)
+    ledger = let one = opens.this_one revealed in some_ledger (old.files 0) v.shape one.records (has_ledger_of reading v (old.files 0) one)
 
     -- no cause of the opening holds, and the two of the report have one place
     none_before : (other : Refusal) → place_of other < place_of (BadLine 0) → VerifyCauses (old.files 0) input other → ⊥
-    none_before NoArchive earlier cause = opened_no_opening tells old mid v opens told NoArchive cause
-    none_before (LedgerBad at) earlier cause = opened_no_opening tells old mid v opens told (LedgerBad at) cause
+    none_before NoArchive earlier cause = opened_no_opening reveals old mid v opens revealed NoArchive cause
+    none_before (LedgerBad at) earlier cause = opened_no_opening reveals old mid v opens revealed (LedgerBad at) cause
     none_before (BadLine k) earlier cause = omega arith
     none_before (LineTooLong k) earlier cause = omega arith
     none_before other earlier cause = cause
@@ -172,8 +172,8 @@ module _ (reading : HasOneReading) (tells : Type 0) (v : Opened) (old mid : Stat
     ]
 
     always_for : (why : Refusal) → IsFirst (VerifyCauses (old.files 0) input) why → (answer ≡ Err (failure.Refused why)) ⊎ IsStopped answer
-    always_for NoArchive first = absurd (opened_no_opening tells old mid v opens told NoArchive first.stands)
-    always_for (LedgerBad at) first = absurd (opened_no_opening tells old mid v opens told (LedgerBad at) first.stands)
+    always_for NoArchive first = absurd (opened_no_opening reveals old mid v opens revealed NoArchive first.stands)
+    always_for (LedgerBad at) first = absurd (opened_no_opening reveals old mid v opens revealed (LedgerBad at) first.stands)
     always_for (BadLine k) first = elim ((read input is_input).bad k first.stands.1) [
       | inl e ↦ inl (answer_is r (fault.BadLine k) before after answer to e)
       | inr free ↦ inr (stopped_by r before after answer to free)
@@ -185,15 +185,15 @@ module _ (reading : HasOneReading) (tells : Type 0) (v : Opened) (old mid : Stat
     always_for why first = absurd first.stands
 
   -- where the files are known, no cause of the opening holds; any other is decided by the input too
-  always_decided : tells → (why : Refusal) → (IsAfterOpening why → IsSome source.left) → IsFirst (VerifyCauses (old.files 0) (unwrap_or source.left [])) why → (answer ≡ Err (failure.Refused why)) ⊎ IsStopped answer
-  always_decided told NoArchive some first = absurd (opened_no_opening tells old mid v opens told NoArchive first.stands)
-  always_decided told (LedgerBad at) some first = absurd (opened_no_opening tells old mid v opens told (LedgerBad at) first.stands)
-  always_decided told (BadLine k) some first = always_for told (some tt) (BadLine k) first
-  always_decided told (LineTooLong k) some first = always_for told (some tt) (LineTooLong k) first
-  always_decided told why some first = absurd first.stands
+  always_decided : reveals → (why : Refusal) → (IsAfterOpening why → IsSome source.left) → IsFirst (VerifyCauses (old.files 0) (unwrap_or source.left [])) why → (answer ≡ Err (failure.Refused why)) ⊎ IsStopped answer
+  always_decided revealed NoArchive some first = absurd (opened_no_opening reveals old mid v opens revealed NoArchive first.stands)
+  always_decided revealed (LedgerBad at) some first = absurd (opened_no_opening reveals old mid v opens revealed (LedgerBad at) first.stands)
+  always_decided revealed (BadLine k) some first = always_for revealed (some tt) (BadLine k) first
+  always_decided revealed (LineTooLong k) some first = always_for revealed (some tt) (LineTooLong k) first
+  always_decided revealed why some first = absurd first.stands
 
-  pub checked_refuses : RefusesBy (IsDecided tells (IsSome source.left) IsAfterOpening) (VerifyCauses (old.files 0) (unwrap_or source.left [])) answer
+  pub checked_refuses : RefusesBy (IsDecided reveals (IsSome source.left) IsAfterOpening) (VerifyCauses (old.files 0) (unwrap_or source.left [])) answer
   checked_refuses = record {
-    only = λ why is told. only_for told.0 (told.1 (not_opening why is)) why is;
-    always = λ why told first. always_decided told.0 why told.1 first;
+    only = λ why is revealed. only_for revealed.0 (revealed.1 (not_opening why is)) why is;
+    always = λ why revealed first. always_decided revealed.0 why revealed.1 first;
   }

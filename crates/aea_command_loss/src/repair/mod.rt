@@ -23,15 +23,15 @@ pub fn repair_archive<D: Disk, O: Sink>(
     disk: &mut D,
     out: &mut O,
 ) -> Result<Status, Failure>
-    ensures repairs { RepairsArchive D.tells (D.state disk.old) (D.state disk.new) (O.state out.old) (O.state out.new) result }
-    ensures refuses { Refuses D.tells (OpeningCauses ((D.state disk.old).files 0)) result }
+    ensures repairs { RepairsArchive D.reveals (D.state disk.old) (D.state disk.new) (O.state out.old) (O.state out.new) result }
+    ensures refuses { Refuses D.reveals (OpeningCauses ((D.state disk.old).files 0)) result }
     ensures words { result ≢ Err Failure.Words }
     ensures input { result ≢ Err Failure.Input }
     ensures kinds { IfOk result IsWell }
     ensures flushed { OnOk result (IsFlushed (O.state out.new)) }
 
     // The disk and the output in any case.
-    ensures rest { KeepsAllBut IsSiteFile D.tells (result ≡ Err Failure.Disk) (D.state disk.old) (D.state disk.new) }
+    ensures rest { KeepsAllBut IsSiteFile D.reveals (result ≡ Err Failure.Disk) (D.state disk.old) (D.state disk.new) }
     ensures out_kept { (O.state out.old).faults ≤ (O.state out.new).faults }
     ensures out_cause { result ≡ Err Failure.Output → Rose (O.state out.old).faults (O.state out.new).faults }
     ensures out_still { result ≢ Err Failure.Output → (O.state out.new).faults ≡ (O.state out.old).faults }

@@ -28,15 +28,15 @@ pub fn verify_report<D: Disk, S: Source, O: Sink>(
     input: &mut S,
     out: &mut O,
 ) -> Result<Status, Failure>
-    ensures verifies { Verifies D.tells (D.state disk.old) (D.state disk.new) (S.state input.old) (S.state input.new) (O.state out.old) (O.state out.new) result }
-    ensures refuses { RefusesBy (IsDecided D.tells (IsSome (S.state input.old).left) IsAfterOpening) (VerifyCauses ((D.state disk.old).files 0) (unwrap_or (S.state input.old).left [])) result }
+    ensures verifies { Verifies D.reveals (D.state disk.old) (D.state disk.new) (S.state input.old) (S.state input.new) (O.state out.old) (O.state out.new) result }
+    ensures refuses { RefusesBy (IsDecided D.reveals (IsSome (S.state input.old).left) IsAfterOpening) (VerifyCauses ((D.state disk.old).files 0) (unwrap_or (S.state input.old).left [])) result }
     ensures words { result ≢ Err Failure.Words }
     ensures clash { NeverClashes result }
     ensures kinds { IfOk result IsWell }
     ensures flushed { OnOk result (IsFlushed (O.state out.new)) }
 
     // The disk and the streams in any case.
-    ensures reads { OnlyReads D.tells (result ≡ Err Failure.Disk) (D.state disk.old) (D.state disk.new) }
+    ensures reads { OnlyReads D.reveals (result ≡ Err Failure.Disk) (D.state disk.old) (D.state disk.new) }
     ensures input_kept { (S.state input.old).faults ≤ (S.state input.new).faults }
     ensures input_cause { result ≡ Err Failure.Input → Rose (S.state input.old).faults (S.state input.new).faults }
     ensures input_still { result ≢ Err Failure.Input → (S.state input.new).faults ≡ (S.state input.old).faults }

@@ -43,8 +43,8 @@ get_behind name files = record { from = λ why cause. from_opening why cause; ba
     back_to why cause = absurd cause
 
 -- an archive that was not opened says why
-pub unopened_get : {T : Type 0} (name : List ℕ) (tells : Type 0) (old new : State) (f : Failure) → Opens tells old new (Err f) → Refuses {T = T} tells (GetCauses name old.files) (Err f)
-unopened_get name tells old new f opens = unopened_refuses tells old new f (GetCauses name old.files) (get_behind name old.files) opens
+pub unopened_get : {T : Type 0} (name : List ℕ) (reveals : Type 0) (old new : State) (f : Failure) → Opens reveals old new (Err f) → Refuses {T = T} reveals (GetCauses name old.files) (Err f)
+unopened_get name reveals old new f opens = unopened_refuses reveals old new f (GetCauses name old.files) (get_behind name old.files) opens
 
 -- ---- what the files say, as the opened ledger has it, and back
 
@@ -89,16 +89,16 @@ none_and_some o p none is = let h : None ≡ Some p = sym none ∙ is in cc
 
 -- ---- after the opening
 
-module _ (reading : HasOneReading) (free : NewNamesAreFree) (name : List ℕ) (tells : Type 0) (v : Opened) (old mid new : State) (before after : SinkState) (r : Result ℕ GetFault)
-    (gave : HasFetching name tells v old mid new before after r) where
-  module _ (told : tells) where
+module _ (reading : HasOneReading) (free : NewNamesAreFree) (name : List ℕ) (reveals : Type 0) (v : Opened) (old mid new : State) (before after : SinkState) (r : Result ℕ GetFault)
+    (gave : HasFetching name reveals v old mid new before after r) where
+  module _ (revealed : reveals) where
     one : IsThisOne v (old.files 0)
-    one = gave.opens.this_one told
+    one = gave.opens.this_one revealed
 
     -- no cause of the opening holds, nor, where an object has the name, that none has
     before_unknown : (other : Refusal) → place_of other < place_of UnknownName → GetCauses name old.files other → ⊥
-    before_unknown NoArchive earlier cause = opened_no_opening tells old mid v gave.opens told NoArchive cause
-    before_unknown (LedgerBad at) earlier cause = opened_no_opening tells old mid v gave.opens told (LedgerBad at) cause
+    before_unknown NoArchive earlier cause = opened_no_opening reveals old mid v gave.opens revealed NoArchive cause
+    before_unknown (LedgerBad at) earlier cause = opened_no_opening reveals old mid v gave.opens revealed (LedgerBad at) cause
     before_unknown UnknownName earlier cause = omega arith
     before_unknown (Damaged b) earlier cause = omega arith
     before_unknown other earlier cause = cause
@@ -106,8 +106,8 @@ module _ (reading : HasOneReading) (free : NewNamesAreFree) (name : List ℕ) (t
     before_damaged : (p : Placed) → get v.objects name ≡ Some p → (other : Refusal) → place_of other < suc (place_of UnknownName) → GetCauses name old.files other → ⊥
     before_damaged p is UnknownName earlier cause = none_and_some (get v.objects name) p (unknown_there reading v old.files one name free cause) is
     before_damaged p is (Damaged b) earlier cause = omega arith
-    before_damaged p is NoArchive earlier cause = opened_no_opening tells old mid v gave.opens told NoArchive cause
-    before_damaged p is (LedgerBad at) earlier cause = opened_no_opening tells old mid v gave.opens told (LedgerBad at) cause
+    before_damaged p is NoArchive earlier cause = opened_no_opening reveals old mid v gave.opens revealed NoArchive cause
+    before_damaged p is (LedgerBad at) earlier cause = opened_no_opening reveals old mid v gave.opens revealed (LedgerBad at) cause
     before_damaged p is other earlier cause = cause
 
     first_unknown : r ≡ Err fault.UnknownName → IsFirst (GetCauses name old.files) UnknownName
@@ -116,7 +116,7 @@ module _ (reading : HasOneReading) (free : NewNamesAreFree) (name : List ℕ) (t
     first_damaged : (b : BlockId) → r ≡ Err (fault.Damaged b) → IsFirst (GetCauses name old.files) (Damaged b)
     first_damaged b e =
         let by = gave.damaged b e in
-        let first = subst (λ (c : Files). IsFirstDamaged v.shape v.digests c (data_of by.0.parts) b) (gave.opens.reads.contents told) (by.3 told).0 in
+        let first = subst (λ (c : Files). IsFirstDamaged v.shape v.digests c (data_of by.0.parts) b) (gave.opens.reads.contents revealed) (by.3 revealed).0 in
         record { stands = damaged_here reading v old.files one name by.0 b by.1 first; none = before_damaged by.0 by.1 }
 
     only_for : (why : Refusal) → answer_to r ≡ Err (failure.Refused why) → IsFirst (GetCauses name old.files) why
@@ -126,17 +126,17 @@ module _ (reading : HasOneReading) (free : NewNamesAreFree) (name : List ℕ) (t
     ]
 
     always_for : (why : Refusal) → IsFirst (GetCauses name old.files) why → (answer_to r ≡ Err (failure.Refused why)) ⊎ IsStopped (answer_to r)
-    always_for NoArchive first = absurd (opened_no_opening tells old mid v gave.opens told NoArchive first.stands)
-    always_for (LedgerBad at) first = absurd (opened_no_opening tells old mid v gave.opens told (LedgerBad at) first.stands)
+    always_for NoArchive first = absurd (opened_no_opening reveals old mid v gave.opens revealed NoArchive first.stands)
+    always_for (LedgerBad at) first = absurd (opened_no_opening reveals old mid v gave.opens revealed (LedgerBad at) first.stands)
     always_for UnknownName first = inl (ap answer_to (gave.unknown.1 (unknown_there reading v old.files one name free first.stands)))
     always_for (Damaged b) first =
         let by = damaged_there reading v old.files one name b first.stands in
-        elim (gave.damage_refused told by.0 b by.1 (subst (λ (c : Files). IsFirstDamaged v.shape v.digests c (data_of by.0.parts) b) (sym (gave.opens.reads.contents told)) by.2)) [
+        elim (gave.damage_refused revealed by.0 b by.1 (subst (λ (c : Files). IsFirstDamaged v.shape v.digests c (data_of by.0.parts) b) (sym (gave.opens.reads.contents revealed)) by.2)) [
           | inl e ↦ inl (ap answer_to e)
           | inr (inl e) ↦ inr (inl (ap answer_to e))
           | inr (inr e) ↦ inr (inr (inr (ap answer_to e)))
         ]
     always_for why first = absurd first.stands
 
-  pub fetched_refuses : Refuses tells (GetCauses name old.files) (answer_to r)
-  fetched_refuses = record { only = λ why is told. only_for told why is; always = λ why told first. always_for told why first }
+  pub fetched_refuses : Refuses reveals (GetCauses name old.files) (answer_to r)
+  fetched_refuses = record { only = λ why is revealed. only_for revealed why is; always = λ why revealed first. always_for revealed why first }

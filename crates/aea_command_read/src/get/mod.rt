@@ -24,8 +24,8 @@ pub fn get_object<D: Disk, O: Sink>(
     disk: &mut D,
     out: &mut O,
 ) -> Result<Status, Failure>
-    ensures gets { Gets name.now D.tells (D.state disk.old) (D.state disk.new) (O.state out.old) (O.state out.new) result }
-    ensures refuses { Refuses D.tells (GetCauses name.now (D.state disk.old).files) result }
+    ensures gets { Gets name.now D.reveals (D.state disk.old) (D.state disk.new) (O.state out.old) (O.state out.new) result }
+    ensures refuses { Refuses D.reveals (GetCauses name.now (D.state disk.old).files) result }
     ensures words { result ≢ Err Failure.Words }
     ensures clash { NeverClashes result }
     ensures input { result ≢ Err Failure.Input }
@@ -33,7 +33,7 @@ pub fn get_object<D: Disk, O: Sink>(
     ensures flushed { OnOk result (IsFlushed (O.state out.new)) }
 
     // The disk and the output in any case.
-    ensures reads { OnlyReads D.tells (result ≡ Err Failure.Disk) (D.state disk.old) (D.state disk.new) }
+    ensures reads { OnlyReads D.reveals (result ≡ Err Failure.Disk) (D.state disk.old) (D.state disk.new) }
     ensures out_kept { (O.state out.old).faults ≤ (O.state out.new).faults }
     ensures out_cause { result ≡ Err Failure.Output → Rose (O.state out.old).faults (O.state out.new).faults }
     ensures out_still { result ≢ Err Failure.Output → (O.state out.new).faults ≡ (O.state out.old).faults }

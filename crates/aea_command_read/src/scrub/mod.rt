@@ -28,9 +28,9 @@ use std::alloc::Global;
 // Reads every cell of the archive, and marks the damaged blocks.
 fn damaged_marks<D: Disk>(alloc: Global, ledger: &Ledger, disk: &mut D) -> Result<Marks, Failure>
     ensures lattice { IfOk result (λ m. m.lattice ≡ ledger.now.lattice) }
-    ensures damaged { IfOk result (λ m. D.tells → (b : BlockId) → HasBlock ledger.now.lattice b → IsTrue (not (is_marked m b)) ↔ IsIntactBy ledger.now.shape ledger.now.digests (D.state disk.old).files b) }
+    ensures damaged { IfOk result (λ m. D.reveals → (b : BlockId) → HasBlock ledger.now.lattice b → IsTrue (not (is_marked m b)) ↔ IsIntactBy ledger.now.shape ledger.now.digests (D.state disk.old).files b) }
     ensures faults { IfErr result (λ f. (f ≡ Failure.Disk) ⊎ (f ≡ Failure.Memory)) }
-    ensures reads { OnlyReads D.tells (result ≡ Err Failure.Disk) (D.state disk.old) (D.state disk.new) }
+    ensures reads { OnlyReads D.reveals (result ≡ Err Failure.Disk) (D.state disk.old) (D.state disk.new) }
 {
     match scan(alloc, ledger, disk) {
         Ok(intact) => match intact.complement(alloc) {
@@ -45,8 +45,8 @@ fn damaged_marks<D: Disk>(alloc: Global, ledger: &Ledger, disk: &mut D) -> Resul
 /// Opens the archive, reads the cell of each block once, and prints the damaged blocks: `damaged B` for each in number
 /// order, and at the end `total BLOCKS damaged K`. The status says whether there are any. The disk is only read.
 pub fn scrub<D: Disk, O: Sink>(alloc: Global, disk: &mut D, out: &mut O) -> Result<Status, Failure>
-    ensures scrubs { Scrubs D.tells (D.state disk.old) (D.state disk.new) (O.state out.old) (O.state out.new) result }
-    ensures refuses { Refuses D.tells (OpeningCauses ((D.state disk.old).files 0)) result }
+    ensures scrubs { Scrubs D.reveals (D.state disk.old) (D.state disk.new) (O.state out.old) (O.state out.new) result }
+    ensures refuses { Refuses D.reveals (OpeningCauses ((D.state disk.old).files 0)) result }
     ensures words { result ≢ Err Failure.Words }
     ensures clash { NeverClashes result }
     ensures input { result ≢ Err Failure.Input }
@@ -54,7 +54,7 @@ pub fn scrub<D: Disk, O: Sink>(alloc: Global, disk: &mut D, out: &mut O) -> Resu
     ensures flushed { OnOk result (IsFlushed (O.state out.new)) }
 
     // The disk and the output in any case.
-    ensures reads { OnlyReads D.tells (result ≡ Err Failure.Disk) (D.state disk.old) (D.state disk.new) }
+    ensures reads { OnlyReads D.reveals (result ≡ Err Failure.Disk) (D.state disk.old) (D.state disk.new) }
     ensures out_kept { (O.state out.old).faults ≤ (O.state out.new).faults }
     ensures out_cause { result ≡ Err Failure.Output → Rose (O.state out.old).faults (O.state out.new).faults }
     ensures out_still { result ≢ Err Failure.Output → (O.state out.new).faults ≡ (O.state out.old).faults }

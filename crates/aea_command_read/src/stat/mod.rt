@@ -71,8 +71,8 @@ fn line_of(alloc: Global, ledger: &Ledger) -> Result<String, AllocError>
 
 /// Opens the archive, and prints its shape and how many nodes and objects it has, as a JSON object in one line.
 pub fn stat<D: Disk, O: Sink>(alloc: Global, disk: &mut D, out: &mut O) -> Result<Status, Failure>
-    ensures stats { Stats D.tells (D.state disk.old) (D.state disk.new) (O.state out.old) (O.state out.new) result }
-    ensures refuses { Refuses D.tells (OpeningCauses ((D.state disk.old).files 0)) result }
+    ensures stats { Stats D.reveals (D.state disk.old) (D.state disk.new) (O.state out.old) (O.state out.new) result }
+    ensures refuses { Refuses D.reveals (OpeningCauses ((D.state disk.old).files 0)) result }
     ensures words { result ≢ Err Failure.Words }
     ensures clash { NeverClashes result }
     ensures input { result ≢ Err Failure.Input }
@@ -80,7 +80,7 @@ pub fn stat<D: Disk, O: Sink>(alloc: Global, disk: &mut D, out: &mut O) -> Resul
     ensures flushed { OnOk result (IsFlushed (O.state out.new)) }
 
     // The disk and the output in any case.
-    ensures reads { OnlyReads D.tells (result ≡ Err Failure.Disk) (D.state disk.old) (D.state disk.new) }
+    ensures reads { OnlyReads D.reveals (result ≡ Err Failure.Disk) (D.state disk.old) (D.state disk.new) }
     ensures out_kept { (O.state out.old).faults ≤ (O.state out.new).faults }
     ensures out_cause { result ≡ Err Failure.Output → Rose (O.state out.old).faults (O.state out.new).faults }
     ensures out_still { result ≢ Err Failure.Output → (O.state out.new).faults ≡ (O.state out.old).faults }

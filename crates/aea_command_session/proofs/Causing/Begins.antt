@@ -2,7 +2,7 @@
 use Rattle.std.proofs.Common.{◌≡◌, inl, inr, ◌↔◌, ℕ, ◌<◌, Bool, true, false, List, refl, sym, ◌∙◌, ap, arith, Result, Err}
 use Rattle.aea_lattice.specs.declared.blocks.BlockId.{BlockId}
 use Rattle.aea_lattice.specs.declared.shape.Shape.{Shape}
-use Rattle.aea_lattice.specs.Facts.{NumbersTellBlocks}
+use Rattle.aea_lattice.specs.Facts.{NumbersRevealBlocks}
 use Rattle.aea_disk.specs.Files.{Files}
 use Rattle.aea_records.specs.Format.{first_limit, limit_of, limit_when}
 use Rattle.aea_records.specs.Laws.{HasOneReading}
@@ -58,10 +58,10 @@ module _ (reading : HasOneReading) (v : Opened) (files : Files) (one : IsThisOne
   never_damaged intact b has = intact b (head_there reading v files one b has).damaged
 
 -- Why a session is not begun: the opened ledger, the files, whether the source reveals its bytes, and what it has.
-module _ (reading : HasOneReading) (tell : NumbersTellBlocks) (tells told_input : Type 0) (v : Opened) (files : Files) (input : List ℕ)
-    (this : tells → IsThisOne v (files 0)) where
-  abbrev told : Refusal → Type 0
-  told = IsDecided tells told_input IsByInput
+module _ (reading : HasOneReading) (reveal : NumbersRevealBlocks) (reveals revealed_input : Type 0) (v : Opened) (files : Files) (input : List ℕ)
+    (this : reveals → IsThisOne v (files 0)) where
+  abbrev revealed : Refusal → Type 0
+  revealed = IsDecided reveals revealed_input IsByInput
 
   abbrev causes : Refusal → Type 0
   causes = OpenedCauses files input
@@ -84,14 +84,14 @@ module _ (reading : HasOneReading) (tell : NumbersTellBlocks) (tells told_input 
   limit_alone limit TooManyMessages first = absurd (first.none NotUpgraded (omega arith) limit)
   limit_alone limit other first = absurd first.stands
 
-  limit_refuses : v.raised ≡ false → RefusesBy told causes (let a : Answer = Err (failure.Refused NotUpgraded) in a)
-  limit_refuses isnt = refuses_by_one told causes NotUpgraded
+  limit_refuses : v.raised ≡ false → RefusesBy revealed causes (let a : Answer = Err (failure.Refused NotUpgraded) in a)
+  limit_refuses isnt = refuses_by_one revealed causes NotUpgraded
       (λ t. record { stands = limit_here reading v files (this t.0) isnt; none = none_before_limit })
       (λ why t first. limit_alone (limit_here reading v files (this t.0) isnt) why first)
 
   -- ---- a last parity that is damaged
 
-  none_before_head : v.raised ≡ true → tells → (b : BlockId) (other : Refusal) → place_of other < place_of (HeadDamaged b) → causes other → ⊥
+  none_before_head : v.raised ≡ true → reveals → (b : BlockId) (other : Refusal) → place_of other < place_of (HeadDamaged b) → causes other → ⊥
   none_before_head is t b NotUpgraded before cause = never_first reading v files (this t) is cause.0 cause.1
   none_before_head is t b (HeadDamaged a) before cause = omega arith
   none_before_head is t b (BadMessage at) before cause = omega arith
@@ -99,17 +99,17 @@ module _ (reading : HasOneReading) (tell : NumbersTellBlocks) (tells told_input 
   none_before_head is t b TooManyMessages before cause = omega arith
   none_before_head is t b other before cause = cause
 
-  head_alone : v.raised ≡ true → tells → (b : BlockId) → IsFirstDamagedLast v.shape v.lattice v.digests files b → (why : Refusal) → IsFirst causes why → why ≡ HeadDamaged b
+  head_alone : v.raised ≡ true → reveals → (b : BlockId) → IsFirstDamagedLast v.shape v.lattice v.digests files b → (why : Refusal) → IsFirst causes why → why ≡ HeadDamaged b
   head_alone is t b here NotUpgraded first = absurd (never_first reading v files (this t) is first.stands.0 first.stands.1)
   head_alone is t b here (HeadDamaged a) first =
-      ap HeadDamaged (one_head tell v.shape v.lattice v.digests files a b (this t).has.lattice.alpha (head_there reading v files (this t) a first.stands) here)
+      ap HeadDamaged (one_head reveal v.shape v.lattice v.digests files a b (this t).has.lattice.alpha (head_there reading v files (this t) a first.stands) here)
   head_alone is t b here (BadMessage at) first = absurd (first.none (HeadDamaged b) (omega arith) (head_here reading v files (this t) b here))
   head_alone is t b here (BadStream at) first = absurd (first.none (HeadDamaged b) (omega arith) (head_here reading v files (this t) b here))
   head_alone is t b here TooManyMessages first = absurd (first.none (HeadDamaged b) (omega arith) (head_here reading v files (this t) b here))
   head_alone is t b here other first = absurd first.stands
 
-  head_refuses : v.raised ≡ true → (b : BlockId) → (tells → IsFirstDamagedLast v.shape v.lattice v.digests files b) → RefusesBy told causes (let a : Answer = Err (failure.Refused (HeadDamaged b)) in a)
-  head_refuses is b here = refuses_by_one told causes (HeadDamaged b)
+  head_refuses : v.raised ≡ true → (b : BlockId) → (reveals → IsFirstDamagedLast v.shape v.lattice v.digests files b) → RefusesBy revealed causes (let a : Answer = Err (failure.Refused (HeadDamaged b)) in a)
+  head_refuses is b here = refuses_by_one revealed causes (HeadDamaged b)
       (λ t. record { stands = head_here reading v files (this t.0) b (here t.0); none = none_before_head is t.0 b })
       (λ why t first. head_alone is t.0 b (here t.0) why first)
 
@@ -118,10 +118,10 @@ module _ (reading : HasOneReading) (tell : NumbersTellBlocks) (tells told_input 
   -- it is refused for the one cause, or it stopped
   pub begin_refuses : {T : Type 0} (fault : BeginFault)
       → (let r : Result T BeginFault = Err fault in (r ≡ Err begin.NotUpgraded) ↔ (v.raised ≡ false))
-      → ((b : BlockId) → (let r : Result T BeginFault = Err fault in r ≡ Err (begin.HeadDamaged b)) → IsLastParity v.lattice b × (tells → IsFirstDamagedLast v.shape v.lattice v.digests files b))
-      → RefusesBy told causes (let a : Answer = Err (begin_failure fault) in a)
+      → ((b : BlockId) → (let r : Result T BeginFault = Err fault in r ≡ Err (begin.HeadDamaged b)) → IsLastParity v.lattice b × (reveals → IsFirstDamagedLast v.shape v.lattice v.digests files b))
+      → RefusesBy revealed causes (let a : Answer = Err (begin_failure fault) in a)
   begin_refuses begin.NotUpgraded upgraded head = limit_refuses (upgraded.0 refl)
   begin_refuses {T} (begin.HeadDamaged b) upgraded head =
       head_refuses (true_not v.raised (λ isnt. let h : (let r : Result T BeginFault = Err (begin.HeadDamaged b) in r ≡ Err begin.NotUpgraded) = upgraded.1 isnt in cc)) b (head b refl).1
-  begin_refuses begin.DiskFault upgraded head = refuses_by_stopped told causes (Err failure.Disk) (inl refl)
-  begin_refuses begin.NoMemory upgraded head = refuses_by_stopped told causes (Err failure.Memory) (inr (inr refl))
+  begin_refuses begin.DiskFault upgraded head = refuses_by_stopped revealed causes (Err failure.Disk) (inl refl)
+  begin_refuses begin.NoMemory upgraded head = refuses_by_stopped revealed causes (Err failure.Memory) (inr (inr refl))

@@ -79,16 +79,16 @@ stop_words (stop.Taken take.DiskFault) e = cc
 stop_words (stop.Taken take.WriteFault) e = cc
 stop_words (stop.Taken take.NoMemory) e = cc
 
-stop_clash : (stopped : Stop) (b : BlockId) (told computed : List ℕ) → stop_failure stopped ≡ failure.Clash b told computed → ⊥
-stop_clash (stop.BadMessage at) b told computed e = cc
-stop_clash (stop.BadStream at) b told computed e = cc
-stop_clash stop.TooManyMessages b told computed e = cc
-stop_clash stop.Input b told computed e = cc
-stop_clash stop.Memory b told computed e = cc
-stop_clash (stop.Taken (take.Damaged a)) b told computed e = cc
-stop_clash (stop.Taken take.DiskFault) b told computed e = cc
-stop_clash (stop.Taken take.WriteFault) b told computed e = cc
-stop_clash (stop.Taken take.NoMemory) b told computed e = cc
+stop_clash : (stopped : Stop) (b : BlockId) (revealed computed : List ℕ) → stop_failure stopped ≡ failure.Clash b revealed computed → ⊥
+stop_clash (stop.BadMessage at) b revealed computed e = cc
+stop_clash (stop.BadStream at) b revealed computed e = cc
+stop_clash stop.TooManyMessages b revealed computed e = cc
+stop_clash stop.Input b revealed computed e = cc
+stop_clash stop.Memory b revealed computed e = cc
+stop_clash (stop.Taken (take.Damaged a)) b revealed computed e = cc
+stop_clash (stop.Taken take.DiskFault) b revealed computed e = cc
+stop_clash (stop.Taken take.WriteFault) b revealed computed e = cc
+stop_clash (stop.Taken take.NoMemory) b revealed computed e = cc
 
 stop_input_by : (stopped : Stop) → stop_failure stopped ≡ failure.Input → stopped ≡ stop.Input
 stop_input_by (stop.BadMessage at) e = let h : failure.Refused (refusal.BadMessage at) ≡ failure.Input = e in cc
@@ -133,7 +133,7 @@ stop_not_words stopped e = stop_words stopped (same_failure (stop_failure stoppe
 
 -- and no digest clashes
 pub stop_no_clash : (stopped : Stop) → NeverClashes (failed (stop_failure stopped))
-stop_no_clash stopped b told computed e = stop_clash stopped b told computed (same_failure (stop_failure stopped) (failure.Clash b told computed) e)
+stop_no_clash stopped b revealed computed e = stop_clash stopped b revealed computed (same_failure (stop_failure stopped) (failure.Clash b revealed computed) e)
 
 -- what the messages ended by
 abbrev pub ended : Stop → Result (Unit {0}) Stop

@@ -52,9 +52,9 @@ use Rattle.aea_command_session.proofs.Causing.Streams.{AreRead}
 -- ---- where no session was begun
 
 -- the answer, what was done, and the disk
-pub unbegun_serves : (tells fault : Type 0) (v : Opened) (old new : State) (left : Option (List ℕ)) (before : SinkState) (begun : BeginFault) → OnlyReads tells fault old new
-    → ServesOpened tells v old new left left before before (failed (begin_failure begun))
-unbegun_serves tells fault v old new left before begun reads = record {
+pub unbegun_serves : (reveals fault : Type 0) (v : Opened) (old new : State) (left : Option (List ℕ)) (before : SinkState) (begun : BeginFault) → OnlyReads reveals fault old new
+    → ServesOpened reveals v old new left left before before (failed (begin_failure begun))
+unbegun_serves reveals fault v old new left before begun reads = record {
   done = tt;
   ran = inl (record {
     failed = refl;
@@ -73,60 +73,60 @@ disk_begin : {T : Type 0} (begun : BeginFault) → (let r : Result T BeginFault 
 disk_begin {T} begun e = let same : begun ≡ begin.DiskFault = (let h : (let r : Result T BeginFault = Err begun in r ≡ Err begin.DiskFault) = e in cc) in ap (λ (f : BeginFault). failed (begin_failure f)) same
 
 -- it only read, so it wrote no more than it may
-pub unbegun_writes : {T : Type 0} (tells : Type 0) (v : Opened) (old new : State) (left : Option (List ℕ)) (begun : BeginFault)
-    → OnlyReads tells (let r : Result T BeginFault = Err begun in r ≡ Err begin.DiskFault) old new
-    → OnlyWrites tells (IsReady old) (FitsMessages v left old) (failed (begin_failure begun) ≡ failed failure.Disk)
+pub unbegun_writes : {T : Type 0} (reveals : Type 0) (v : Opened) (old new : State) (left : Option (List ℕ)) (begun : BeginFault)
+    → OnlyReads reveals (let r : Result T BeginFault = Err begun in r ≡ Err begin.DiskFault) old new
+    → OnlyWrites reveals (IsReady old) (FitsMessages v left old) (failed (begin_failure begun) ≡ failed failure.Disk)
     (ChangesArchive v.shape (limit_when v.raised) (IsBlockIn v.shape v.lattice.n) (IsBesides v.shape)) old new
-unbegun_writes {T} tells v old new left begun reads =
-    reads_writes tells (IsReady old) (FitsMessages v left old) (failed (begin_failure begun) ≡ failed failure.Disk)
+unbegun_writes {T} reveals v old new left begun reads =
+    reads_writes reveals (IsReady old) (FitsMessages v left old) (failed (begin_failure begun) ≡ failed failure.Disk)
     (ChangesArchive v.shape (limit_when v.raised) (IsBlockIn v.shape v.lattice.n) (IsBesides v.shape)) old new (λ ready. ready) (λ fits. fits.some)
     (λ c. changes_none v.shape (limit_when v.raised) (IsBlockIn v.shape v.lattice.n) (IsBesides v.shape) c)
-    (reads_as tells (let r : Result T BeginFault = Err begun in r ≡ Err begin.DiskFault) (failed (begin_failure begun) ≡ failed failure.Disk) old new
+    (reads_as reveals (let r : Result T BeginFault = Err begun in r ≡ Err begin.DiskFault) (failed (begin_failure begun) ≡ failed failure.Disk) old new
     (λ e. ap Err (begin_disk begun e)) (λ e. disk_begin {T = T} begun e) reads)
 
 -- ---- what is known of the archive where one was
 
 -- the last parities are intact where a session was begun
-pub begun_intact : {T : Type 0} (s : T) (reading : HasOneReading) (tells : Type 0) (v : Opened) (files : Files) → (tells → IsThisOne v (files 0)) → v.raised ≡ true
-    → (v.raised ≡ true → tells → (a : BlockId) → IsDamagedLast v.shape v.lattice v.digests files a
+pub begun_intact : {T : Type 0} (s : T) (reading : HasOneReading) (reveals : Type 0) (v : Opened) (files : Files) → (reveals → IsThisOne v (files 0)) → v.raised ≡ true
+    → (v.raised ≡ true → reveals → (a : BlockId) → IsDamagedLast v.shape v.lattice v.digests files a
     → (let r : Result T BeginFault = Ok s in ((b : BlockId) × (r ≡ Err (begin.HeadDamaged b))) ⊎ ((r ≡ Err begin.DiskFault) ⊎ (r ≡ Err begin.NoMemory))))
-    → tells → (b : BlockId) → HasDamagedHead files b → ⊥
-begun_intact {T} s reading tells v files this raised refused told =
-    never_damaged reading v files (this told)
-    (λ a damaged. elim (refused raised told a damaged) [
+    → reveals → (b : BlockId) → HasDamagedHead files b → ⊥
+begun_intact {T} s reading reveals v files this raised refused revealed =
+    never_damaged reading v files (this revealed)
+    (λ a damaged. elim (refused raised revealed a damaged) [
       | inl e ↦ (let h : (let r : Result T BeginFault = Ok s in r ≡ Err (begin.HeadDamaged e.0)) = e.1 in cc)
       | inr (inl e) ↦ (let h : (let r : Result T BeginFault = Ok s in r ≡ Err begin.DiskFault) = e in cc)
       | inr (inr e) ↦ (let h : (let r : Result T BeginFault = Ok s in r ≡ Err begin.NoMemory) = e in cc)
     ])
 
 -- what its beginning gives, from the clauses of it
-pub began_from : {T : Type 0} (s : T) (tells : Type 0) (v : Opened) (w : Work) (old mid : State) → w.ledger ≡ v
+pub began_from : {T : Type 0} (s : T) (reveals : Type 0) (v : Opened) (w : Work) (old mid : State) → w.ledger ≡ v
     → (let r : Result T BeginFault = Ok s in (r ≡ Err begin.NotUpgraded) ↔ (v.raised ≡ false))
     → ((datas : List (List ℕ)) → length datas ≡ v.lattice.n → AreWide v.shape datas → KeepsMachine w (begun datas v.objects))
-    → (tells → (records : List Record) (datas : List (List ℕ)) → HasRecords v records → AreRecordsOf v.shape records datas
+    → (reveals → (records : List Record) (datas : List (List ℕ)) → HasRecords v records → AreRecordsOf v.shape records datas
     → AreLastsHonest v.shape v.lattice v.digests datas old.files → StandsFor w (begun datas v.objects))
-    → (tells → IsThisOne v (old.files 0) → IsTheSessions w mid.files)
-    → OnlyReads tells (let r : Result T BeginFault = Ok s in r ≡ Err begin.DiskFault) old mid → Began tells v w old mid
-began_from {T} s tells v w old mid ledger upgraded keeps stands this reads = record {
+    → (reveals → IsThisOne v (old.files 0) → IsTheSessions w mid.files)
+    → OnlyReads reveals (let r : Result T BeginFault = Ok s in r ≡ Err begin.DiskFault) old mid → Began reveals v w old mid
+began_from {T} s reveals v w old mid ledger upgraded keeps stands this reads = record {
   ledger = ledger;
   raised = true_not v.raised (λ isnt. let h : (let r : Result T BeginFault = Ok s in r ≡ Err begin.NotUpgraded) = upgraded.1 isnt in cc);
   keeps = keeps;
   stands = stands;
   this = this;
-  reads = reads_as tells (let r : Result T BeginFault = Ok s in r ≡ Err begin.DiskFault) ⊥ old mid (λ none. absurd none)
+  reads = reads_as reveals (let r : Result T BeginFault = Ok s in r ≡ Err begin.DiskFault) ⊥ old mid (λ none. absurd none)
       (λ is. let h : (let r : Result T BeginFault = Ok s in r ≡ Err begin.DiskFault) = is in cc) reads;
 }
 
 -- its ledger is as sure as it was
-pub begun_fixed : (tells : Type 0) (v : Opened) (w : Work) (old mid : State) → (tells → IsSynced old) → Began tells v w old mid → tells → IsFixed mid 0
-begun_fixed tells v w old mid synced began told c here = reads_synced tells ⊥ old mid told began.reads (synced told) c here 0
+pub begun_fixed : (reveals : Type 0) (v : Opened) (w : Work) (old mid : State) → (reveals → IsSynced old) → Began reveals v w old mid → reveals → IsFixed mid 0
+begun_fixed reveals v w old mid synced began revealed c here = reads_synced reveals ⊥ old mid revealed began.reads (synced revealed) c here 0
 
 -- ---- a run from there on
 
 -- what was printed is what it was after a flush
-prints_kept : (tells : Type 0) (w : Standing) (messages : List Message) (tail : List ℕ) (before after out : SinkState) (result : Result (Unit {0}) Stop) → Keeps after.written out.written
-    → PrintsReplies tells w messages tail before after result → PrintsReplies tells w messages tail before out result
-prints_kept tells w messages tail before after out result kept prints = record {
+prints_kept : (reveals : Type 0) (w : Standing) (messages : List Message) (tail : List ℕ) (before after out : SinkState) (result : Result (Unit {0}) Stop) → Keeps after.written out.written
+    → PrintsReplies reveals w messages tail before after result → PrintsReplies reveals w messages tail before out result
+prints_kept reveals w messages tail before after out result kept prints = record {
   last = prints.last;
   bytes = prints.bytes;
   part = prints.part;
@@ -135,24 +135,24 @@ prints_kept tells w messages tail before after out result kept prints = record {
   appended = Appends-kept before.written after.written out.written (prints.bytes ++ prints.part) prints.appended kept;
 }
 
-pub serves_kept : (tells : Type 0) (v : Opened) (c : Files) (left rest : Option (List ℕ)) (before after out : SinkState) (messages : List Message) (tail : List ℕ) (result : Result (Unit {0}) Stop) → Keeps after.written out.written
-    → Serves tells v c left rest before after messages tail result → Serves tells v c left rest before out messages tail result
-serves_kept tells v c left rest before after out messages tail result kept serves = record {
+pub serves_kept : (reveals : Type 0) (v : Opened) (c : Files) (left rest : Option (List ℕ)) (before after out : SinkState) (messages : List Message) (tail : List ℕ) (result : Result (Unit {0}) Stop) → Keeps after.written out.written
+    → Serves reveals v c left rest before after messages tail result → Serves reveals v c left rest before out messages tail result
+serves_kept reveals v c left rest before after out messages tail result kept serves = record {
   are = serves.are;
   few = serves.few;
   taken = serves.taken;
   ends = serves.ends;
-  prints = λ datas long wide. prints_kept tells _ messages tail before after out result kept (serves.prints datas long wide);
+  prints = λ datas long wide. prints_kept reveals _ messages tail before after out result kept (serves.prints datas long wide);
 }
 
-module _ (tells : Type 0) {D : Type 0} (state : D → State) (v : Opened) (w x : Work) (old : State) (d e : D) (left rest : Option (List ℕ)) (before after : SinkState) (result : Result (Unit {0}) Stop)
-    (began : Began tells v w old (state d)) (run : ServesAll tells state w x d e left rest before after result) where
+module _ (reveals : Type 0) {D : Type 0} (state : D → State) (v : Opened) (w x : Work) (old : State) (d e : D) (left rest : Option (List ℕ)) (before after : SinkState) (result : Result (Unit {0}) Stop)
+    (began : Began reveals v w old (state d)) (run : ServesAll reveals state w x d e left rest before after result) where
   -- its answer, and what it did
   pub begun_serves : (out : SinkState) (answer : Answer) → Keeps after.written out.written → AnswersBy result answer → IfOk answer (λ status. status ≡ Done)
       → (answer ≢ Err failure.Disk → result ≢ Err (stop.Taken take.DiskFault)) → (FitsAnswers v left before → answer ≢ Err failure.Output)
-      → Serves tells v (state d).files left rest before after run.handled run.tail result → (tells → HasClosedAll v run.handled run.tail result old (state e))
-      → (result ≢ Err (stop.Taken take.DiskFault) → tells → KeepsPadded v.shape (IsBlockIn v.shape v.lattice.n) old.files (state e).files)
-      → ServesOpened tells v old (state e) left rest before out answer
+      → Serves reveals v (state d).files left rest before after run.handled run.tail result → (reveals → HasClosedAll v run.handled run.tail result old (state e))
+      → (result ≢ Err (stop.Taken take.DiskFault) → reveals → KeepsPadded v.shape (IsBlockIn v.shape v.lattice.n) old.files (state e).files)
+      → ServesOpened reveals v old (state e) left rest before out answer
   begun_serves out answer kept by done disk fits serves closed padded = record {
     done = done;
     ran = inr (record {
@@ -163,7 +163,7 @@ module _ (tells : Type 0) {D : Type 0} (state : D → State) (v : Opened) (w x :
       by = by;
       files = (state d).files;
       same = began.reads.contents;
-      serves = serves_kept tells v (state d).files left rest before after out run.handled run.tail result kept serves;
+      serves = serves_kept reveals v (state d).files left rest before after out run.handled run.tail result kept serves;
       closes = closed;
       padded = λ fine. padded (disk fine);
     });
@@ -171,33 +171,33 @@ module _ (tells : Type 0) {D : Type 0} (state : D → State) (v : Opened) (w x :
   }
 
   -- a block that was damaged after it was intact was so on a disk whose contents are not known
-  pub never_damaged_then : (stopped : Stop) → result ≡ Err stopped → (b : BlockId) → stopped ≡ stop.Taken (take.Damaged b) → tells → ⊥
-  never_damaged_then stopped is b by told =
-      let last : EndsThere tells state run.here x run.there e run.tail run.mid after (Err (stop.Taken (take.Damaged b))) =
-      subst (EndsThere tells state run.here x run.there e run.tail run.mid after) (is ∙ ap Err by) run.last in
-      (last.3.damaged b refl).1 told
+  pub never_damaged_then : (stopped : Stop) → result ≡ Err stopped → (b : BlockId) → stopped ≡ stop.Taken (take.Damaged b) → reveals → ⊥
+  never_damaged_then stopped is b by revealed =
+      let last : EndsThere reveals state run.here x run.there e run.tail run.mid after (Err (stop.Taken (take.Damaged b))) =
+      subst (EndsThere reveals state run.here x run.there e run.tail run.mid after) (is ∙ ap Err by) run.last in
+      (last.3.damaged b refl).1 revealed
 
-  module _ (laws : AreRead) (reading : HasOneReading) (this : tells → IsThisOne v (old.files 0)) (intact : tells → (b : BlockId) → HasDamagedHead old.files b → ⊥) where
+  module _ (laws : AreRead) (reading : HasOneReading) (this : reveals → IsThisOne v (old.files 0)) (intact : reveals → (b : BlockId) → HasDamagedHead old.files b → ⊥) where
     abbrev refuses : Answer → Type 0
-    refuses answer = RefusesBy (IsDecided tells (IsSome left) IsByInput) (OpenedCauses old.files (unwrap_or left [])) answer
+    refuses answer = RefusesBy (IsDecided reveals (IsSome left) IsByInput) (OpenedCauses old.files (unwrap_or left [])) answer
 
-    raised : tells → (shape : Shape) → HasLimit shape first_limit (old.files 0) → ⊥
-    raised told = never_first reading v old.files (this told) began.raised
+    raised : reveals → (shape : Shape) → HasLimit shape first_limit (old.files 0) → ⊥
+    raised revealed = never_first reading v old.files (this revealed) began.raised
 
     -- why it is refused
     pub begun_refuses : (stopped : Stop) → result ≡ Err stopped → failed (stop_failure stopped) ≢ failed failure.Output → refuses (failed (stop_failure stopped))
     begun_refuses stopped is fine =
-        stop_refuses laws tells old.files left rest run.handled run.tail run.are run.most run.taken raised intact stopped
+        stop_refuses laws reveals old.files left rest run.handled run.tail run.are run.most run.taken raised intact stopped
         (subst (λ (r : Result (Unit {0}) Stop). TailOf rest (length (spelled_all run.handled)) (length run.handled) run.tail r) is run.ends) (never_damaged_then stopped is) fine
 
     -- and why it is not, where it is done
     pub begun_well : result ≡ Ok tt → refuses (let a : Answer = Ok Done in a)
     begun_well is =
-        well_refuses laws tells old.files left rest run.handled run.tail run.are run.most run.taken raised intact
+        well_refuses laws reveals old.files left rest run.handled run.tail run.are run.most run.taken raised intact
         (subst (λ (r : Result (Unit {0}) Stop). TailOf rest (length (spelled_all run.handled)) (length run.handled) run.tail r) is run.ends)
 
 -- ---- the last flush
 
 -- it is no fault where the output tells its space
 pub flush_in_room : {E : Type 0} (before after : SinkState) (fault : E) → (room : ℕ) × (before.room ≡ Some room) → FlushesInRoom before after (let r : Result (Unit {0}) E = Err fault in r) → ⊥
-flush_in_room {E} before after fault told flushes = (let h : IsOk (let r : Result (Unit {0}) E = Err fault in r) = flushes.fits told.0 told.1 in cc)
+flush_in_room {E} before after fault revealed flushes = (let h : IsOk (let r : Result (Unit {0}) E = Err fault in r) = flushes.fits revealed.0 revealed.1 in cc)

@@ -21,7 +21,7 @@ use Rattle.aea_command.specs.Causes.{place_of, IsFirst, IsStopped, IsDecided, Re
 use Rattle.aea_command.specs.Failures.{Answer}
 use Rattle.aea_command.proofs.Refusing.{refuses_by_stopped, refuses_by_none}
 use Rattle.aea_command_store.specs.Put.{HasDamagedHead, HasLimit}
-use Rattle.aea_command_store.proofs.IngestLemmas.Telling.{are_told}
+use Rattle.aea_command_store.proofs.IngestLemmas.Revealing.{are_revealed}
 use Rattle.aea_command_session.specs.Causes.{HasMessages, StreamCauses, OpenedCauses, IsByInput}
 use Rattle.aea_command_session.specs.Failures.{stop_failure}
 use Rattle.aea_command_session.proofs.Causing.Streams.{AreRead, bad_some, bad_begins, no_more, bad_there, cut_there, many_not_bad, many_not_cut}
@@ -35,20 +35,20 @@ pub same_refusal : (one why : Refusal) → (let a : Answer = Err (failure.Refuse
 same_refusal one why e = (let a : Answer = Err (failure.Refused one) in let h : a ≡ Err (failure.Refused why) = e in cc)
 
 -- an answer that is refused for the one first cause
-pub refuses_by_one : (told : Refusal → Type 0) (causes : Refusal → Type 0) (one : Refusal) → (told one → IsFirst causes one) → ((why : Refusal) → told why → IsFirst causes why → why ≡ one)
-    → RefusesBy told causes (let a : Answer = Err (failure.Refused one) in a)
-refuses_by_one told causes one first same = record {
-  only = λ why e t. let is = same_refusal one why e in subst (λ (w : Refusal). IsFirst causes w) is (first (subst (λ (w : Refusal). told w) (sym is) t));
+pub refuses_by_one : (revealed : Refusal → Type 0) (causes : Refusal → Type 0) (one : Refusal) → (revealed one → IsFirst causes one) → ((why : Refusal) → revealed why → IsFirst causes why → why ≡ one)
+    → RefusesBy revealed causes (let a : Answer = Err (failure.Refused one) in a)
+refuses_by_one revealed causes one first same = record {
+  only = λ why e t. let is = same_refusal one why e in subst (λ (w : Refusal). IsFirst causes w) is (first (subst (λ (w : Refusal). revealed w) (sym is) t));
   always = λ why t f. inl (ap (λ (w : Refusal). (let a : Answer = Err (failure.Refused w) in a)) (sym (same why t f)));
 }
 
 -- Of a run over an archive whose limit was raised and whose last parities are intact, the messages that were taken, and what was
 -- taken after them.
-module _ (laws : AreRead) (tells : Type 0) (files : Files) (left rest : Option (List ℕ)) (messages : List Message) (tail : List ℕ)
+module _ (laws : AreRead) (reveals : Type 0) (files : Files) (left rest : Option (List ℕ)) (messages : List Message) (tail : List ℕ)
     (are : AreMessages messages) (few : length messages ≤ greatest_messages) (taken : Consumes left rest (spelled_all messages ++ tail))
-    (raised : tells → (shape : Shape) → HasLimit shape first_limit (files 0) → ⊥) (intact : tells → (b : BlockId) → HasDamagedHead files b → ⊥) where
-  abbrev told : Refusal → Type 0
-  told = IsDecided tells (IsSome left) IsByInput
+    (raised : reveals → (shape : Shape) → HasLimit shape first_limit (files 0) → ⊥) (intact : reveals → (b : BlockId) → HasDamagedHead files b → ⊥) where
+  abbrev revealed : Refusal → Type 0
+  revealed = IsDecided reveals (IsSome left) IsByInput
 
   abbrev causes : Refusal → Type 0
   causes = OpenedCauses files (unwrap_or left [])
@@ -56,17 +56,17 @@ module _ (laws : AreRead) (tells : Type 0) (files : Files) (left rest : Option (
   -- ---- whatever the end
 
   -- nothing comes before what the input decides
-  none_before : tells → (other : Refusal) → place_of other < place_of TooManyMessages → causes other → ⊥
-  none_before tell NotUpgraded before cause = raised tell cause.0 cause.1
-  none_before tell (HeadDamaged b) before cause = intact tell b cause
-  none_before tell (BadMessage at) before cause = omega arith
-  none_before tell (BadStream at) before cause = omega arith
-  none_before tell TooManyMessages before cause = omega arith
-  none_before tell other before cause = cause
+  none_before : reveals → (other : Refusal) → place_of other < place_of TooManyMessages → causes other → ⊥
+  none_before reveal NotUpgraded before cause = raised reveal cause.0 cause.1
+  none_before reveal (HeadDamaged b) before cause = intact reveal b cause
+  none_before reveal (BadMessage at) before cause = omega arith
+  none_before reveal (BadStream at) before cause = omega arith
+  none_before reveal TooManyMessages before cause = omega arith
+  none_before reveal other before cause = cause
 
   -- there is no other cause
   by_kind : (P : Refusal → Type 0) → ((at : ℕ) → IsSome left → StreamCauses (unwrap_or left []) (BadMessage at) → P (BadMessage at)) → ((at : ℕ) → IsSome left → StreamCauses (unwrap_or left []) (BadStream at) → P (BadStream at))
-      → (IsSome left → StreamCauses (unwrap_or left []) TooManyMessages → P TooManyMessages) → (why : Refusal) → told why → IsFirst causes why → P why
+      → (IsSome left → StreamCauses (unwrap_or left []) TooManyMessages → P TooManyMessages) → (why : Refusal) → revealed why → IsFirst causes why → P why
   by_kind P bad cut many NotUpgraded t first = absurd (raised t.0 first.stands.0 first.stands.1)
   by_kind P bad cut many (HeadDamaged b) t first = absurd (intact t.0 b first.stands)
   by_kind P bad cut many (BadMessage at) t first = bad at (t.1 tt) first.stands
@@ -76,17 +76,17 @@ module _ (laws : AreRead) (tells : Type 0) (files : Files) (left rest : Option (
 
   -- what the source had behind the messages
   abbrev behind : IsSome left → List ℕ
-  behind some = tail ++ (are_told left rest (spelled_all messages ++ tail) some taken).stream
+  behind some = tail ++ (are_revealed left rest (spelled_all messages ++ tail) some taken).stream
 
   has : (some : IsSome left) → HasMessages (unwrap_or left []) messages (behind some)
   has some =
-      let t = are_told left rest (spelled_all messages ++ tail) some taken in
+      let t = are_revealed left rest (spelled_all messages ++ tail) some taken in
       record { are = are; few = few; input_is = t.given ∙ t.parts ∙ append_assoc (spelled_all messages) tail t.stream }
 
   -- at its end nothing is behind the tail
   at_end : IsAtEnd rest → (some : IsSome left) → behind some ≡ tail
   at_end end some =
-      let t = are_told left rest (spelled_all messages ++ tail) some taken in
+      let t = are_revealed left rest (spelled_all messages ++ tail) some taken in
       ap (λ (l : List ℕ). tail ++ l) (none_left rest t.stream t.stream_is end) ∙ append-nil tail
 
   has_all : IsAtEnd rest → (some : IsSome left) → HasMessages (unwrap_or left []) messages tail
@@ -95,10 +95,10 @@ module _ (laws : AreRead) (tells : Type 0) (files : Files) (left rest : Option (
   -- ---- at the end of the input
 
   -- it was not refused, and there is no cause
-  pub well_refuses : TailOf rest (length (spelled_all messages)) (length messages) tail (Ok tt) → RefusesBy told causes (let a : Answer = Ok Done in a)
+  pub well_refuses : TailOf rest (length (spelled_all messages)) (length messages) tail (Ok tt) → RefusesBy revealed causes (let a : Answer = Ok Done in a)
   well_refuses ends =
       let none : BeginsNone tail = inl ends.0 in
-      refuses_by_none told causes (let a : Answer = Ok Done in a) (λ why e. let h : (let a : Answer = Ok Done in a ≡ Err (failure.Refused why)) = e in cc)
+      refuses_by_none revealed causes (let a : Answer = Ok Done in a) (λ why e. let h : (let a : Answer = Ok Done in a ≡ Err (failure.Refused why)) = e in cc)
       (by_kind (λ why. ⊥)
       (λ at some cause. let b = bad_there laws (unwrap_or left []) messages tail (has_all ends.1 some) none at cause in bad_some b.0 b.1 b.2 b.4 (sym b.3 ∙ ends.0))
       (λ at some cause. (cut_there laws (unwrap_or left []) messages tail (has_all ends.1 some) none at cause).0.0 ends.0)
@@ -106,11 +106,11 @@ module _ (laws : AreRead) (tells : Type 0) (files : Files) (left rest : Option (
 
   -- ---- where what is behind the messages is none
 
-  bad_refuses : (at place : ℕ) → IsBad tail place → at ≡ length (spelled_all messages) + place → RefusesBy told causes (let a : Answer = Err (failure.Refused (BadMessage at)) in a)
+  bad_refuses : (at place : ℕ) → IsBad tail place → at ≡ length (spelled_all messages) + place → RefusesBy revealed causes (let a : Answer = Err (failure.Refused (BadMessage at)) in a)
   bad_refuses at place bad is =
-      let stream : IsSome left → List ℕ = λ some. (are_told left rest (spelled_all messages ++ tail) some taken).stream in
+      let stream : IsSome left → List ℕ = λ some. (are_revealed left rest (spelled_all messages ++ tail) some taken).stream in
       let none : (some : IsSome left) → BeginsNone (behind some) = λ some. bad_begins tail (stream some) place bad in
-      refuses_by_one told causes (BadMessage at)
+      refuses_by_one revealed causes (BadMessage at)
       (λ t. record { stands = (messages, tail, stream (t.1 tt), place, has (t.1 tt), bad, is); none = none_before t.0 })
       (by_kind (λ why. why ≡ BadMessage at)
       (λ at' some cause.
@@ -122,11 +122,11 @@ module _ (laws : AreRead) (tells : Type 0) (files : Files) (left rest : Option (
 
   -- ---- where it is cut
 
-  cut_refuses : (at : ℕ) → IsCut tail → IsAtEnd rest → at ≡ length (spelled_all messages) + length tail → RefusesBy told causes (let a : Answer = Err (failure.Refused (BadStream at)) in a)
+  cut_refuses : (at : ℕ) → IsCut tail → IsAtEnd rest → at ≡ length (spelled_all messages) + length tail → RefusesBy revealed causes (let a : Answer = Err (failure.Refused (BadStream at)) in a)
   cut_refuses at cut end is =
       let none : BeginsNone tail = inr (inl cut) in
       let whole : (some : IsSome left) → at ≡ length (unwrap_or left []) = λ some. is ∙ sym (length-append (spelled_all messages) tail) ∙ ap length (sym (has_all end some).input_is) in
-      refuses_by_one told causes (BadStream at)
+      refuses_by_one revealed causes (BadStream at)
       (λ t. record { stands = (messages, tail, has_all end (t.1 tt), cut, whole (t.1 tt)); none = none_before t.0 })
       (by_kind (λ why. why ≡ BadStream at)
       (λ at' some cause. let b = bad_there laws (unwrap_or left []) messages tail (has_all end some) none at' cause in absurd (laws.apart b.0 b.1 b.2 tail b.4 cut (sym b.3)))
@@ -135,11 +135,11 @@ module _ (laws : AreRead) (tells : Type 0) (files : Files) (left rest : Option (
 
   -- ---- where one message is too many
 
-  many_refuses : (message : Message) → IsMessage message → tail ≡ spelled message → length messages ≡ greatest_messages → RefusesBy told causes (let a : Answer = Err (failure.Refused TooManyMessages) in a)
+  many_refuses : (message : Message) → IsMessage message → tail ≡ spelled message → length messages ≡ greatest_messages → RefusesBy revealed causes (let a : Answer = Err (failure.Refused TooManyMessages) in a)
   many_refuses message is goes all =
-      let stream : IsSome left → List ℕ = λ some. (are_told left rest (spelled_all messages ++ tail) some taken).stream in
+      let stream : IsSome left → List ℕ = λ some. (are_revealed left rest (spelled_all messages ++ tail) some taken).stream in
       let same : (some : IsSome left) → behind some ≡ spelled message ++ stream some = λ some. ap (λ (l : List ℕ). l ++ stream some) goes in
-      refuses_by_one told causes TooManyMessages
+      refuses_by_one revealed causes TooManyMessages
       (λ t. record { stands = (messages, message, stream (t.1 tt), subst (HasMessages (unwrap_or left []) messages) (same (t.1 tt)) (has (t.1 tt)), is, all); none = none_before t.0 })
       (by_kind (λ why. why ≡ TooManyMessages)
       (λ at some cause. absurd (many_not_bad laws (unwrap_or left []) messages (behind some) (has some) message (stream some) (same some) is all at cause))
@@ -148,19 +148,19 @@ module _ (laws : AreRead) (tells : Type 0) (files : Files) (left rest : Option (
 
   -- ---- by the stop
 
-  stopped_refuses : (a : Answer) → IsStopped a → RefusesBy told causes a
-  stopped_refuses a is = refuses_by_stopped told causes a is
+  stopped_refuses : (a : Answer) → IsStopped a → RefusesBy revealed causes a
+  stopped_refuses a is = refuses_by_stopped revealed causes a is
 
   -- a block that was damaged where nothing is known
-  damaged_refuses : (b : BlockId) → (tells → ⊥) → RefusesBy told causes (let a : Answer = Err (stop_failure (stop.Taken (take.Damaged b))) in a)
+  damaged_refuses : (b : BlockId) → (reveals → ⊥) → RefusesBy revealed causes (let a : Answer = Err (stop_failure (stop.Taken (take.Damaged b))) in a)
   damaged_refuses b never = record {
     only = λ why e t. absurd (never t.0);
     always = λ why t first. absurd (never t.0);
   }
 
   -- it is refused for the one cause, where one decides, and else it stopped
-  pub stop_refuses : (stopped : Stop) → TailOf rest (length (spelled_all messages)) (length messages) tail (Err stopped) → ((b : BlockId) → stopped ≡ stop.Taken (take.Damaged b) → tells → ⊥)
-      → (let a : Answer = Err (stop_failure stopped) in a ≢ Err failure.Output) → RefusesBy told causes (let a : Answer = Err (stop_failure stopped) in a)
+  pub stop_refuses : (stopped : Stop) → TailOf rest (length (spelled_all messages)) (length messages) tail (Err stopped) → ((b : BlockId) → stopped ≡ stop.Taken (take.Damaged b) → reveals → ⊥)
+      → (let a : Answer = Err (stop_failure stopped) in a ≢ Err failure.Output) → RefusesBy revealed causes (let a : Answer = Err (stop_failure stopped) in a)
   stop_refuses (stop.BadMessage at) ends never fine = bad_refuses at ends.0 ends.1 ends.2
   stop_refuses (stop.BadStream at) ends never fine = cut_refuses at ends.0 ends.1 ends.2
   stop_refuses stop.TooManyMessages ends never fine = many_refuses ends.0 ends.1 ends.2 ends.3

@@ -38,9 +38,9 @@ use Rattle.aea_command_session.proofs.Growing.Serving.{done_all}
 
 -- ---- the archive grew by closes
 
-module _ (tells : Type 0) (told : tells) (fault : Type 0) (shape : Shape) (first : Lattice) (records : List Record) (datas : List (List ℕ)) (closings : List Closing) (old new : State)
+module _ (reveals : Type 0) (revealed : reveals) (fault : Type 0) (shape : Shape) (first : Lattice) (records : List Record) (datas : List (List ℕ)) (closings : List Closing) (old new : State)
     (synced : IsSynced old) (raised : limit_of records ≡ raised_limit) (is_first : IsLatticeOf shape (nodes_of records) (fences_of records) first)
-    (so : Added tells fault shape first records datas closings old new) where
+    (so : Added reveals fault shape first records datas closings old new) where
   -- an image of the beginning is the files as they read
   image_is : (d : Files) → old.image old.moment d → d ≡ old.files
   image_is d here = λ i f. synced d here f i
@@ -63,7 +63,7 @@ module _ (tells : Type 0) (told : tells) (fault : Type 0) (shape : Shape) (first
       leaves = λ t c from to here.
           let was = so.writes.crash t c from to here in
           leaves_is old.files c (subst (λ (d : Files). Changes shape first.n d c) (image_is was.0 was.1) was.2);
-      reads = leaves_is old.files new.files (so.writes.contents told);
+      reads = leaves_is old.files new.files (so.writes.contents revealed);
       long = so.long;
     };
     wide = so.wide;
@@ -103,7 +103,7 @@ adds_quiet reading v m now next earlier leaves = record {
 }
 
 module _ (reading : HasOneReading) (lengths : CellsHaveLengths) (join : ClosedRecordsJoin)
-    (tells : Type 0) (told : tells) (first : Lattice) (records : List Record) (datas : List (List ℕ)) (old : State) (synced : IsSynced old) (raised : limit_of records ≡ raised_limit) where
+    (reveals : Type 0) (revealed : reveals) (first : Lattice) (records : List Record) (datas : List (List ℕ)) (old : State) (synced : IsSynced old) (raised : limit_of records ≡ raised_limit) where
   -- after these closes, those of the messages that were made, and of those that may have been
   abbrev pub Ends : Shape → Machine → List Closing → List ℕ → Result (Unit {0}) Stop → State → Type 0
   Ends shape m closings tail result new =
@@ -111,25 +111,25 @@ module _ (reading : HasOneReading) (lengths : CellsHaveLengths) (join : ClosedRe
       × SurelyGrows shape records datas (closings ++ closings_of shape m more) (length (closings ++ closings_of shape m made)) old new
 
   -- nothing came after the messages
-  ends_here : (shape : Shape) (m : Machine) (closings : List Closing) (v : Work) (now : State) → HasGone tells shape first records datas closings m v old now
+  ends_here : (shape : Shape) (m : Machine) (closings : List Closing) (v : Work) (now : State) → HasGone reveals shape first records datas closings m v old now
       → SurelyGrows shape records datas (closings ++ []) (length (closings ++ [])) old now
   ends_here shape m closings v now gone =
       let many = closed_many shape first gone.so.longer gone.so.payload closings gone.so.added gone.so.are in
       let there : HasLedger shape (records ++ gone.so.added) (now.files 0) = subst (λ (s : Shape). HasLedger s (records ++ gone.so.added) (now.files 0)) gone.same (has_ledger v.ledger (records ++ gone.so.added) (now.files 0) gone.its) in
       subst (λ (cs : List Closing). SurelyGrows shape records datas cs (length cs) old now) (sym (append-nil closings))
-      (surely tells told ⊥ shape first records datas closings old now synced raised gone.is_first gone.so (length closings)
+      (surely reveals revealed ⊥ shape first records datas closings old now synced raised gone.is_first gone.so (length closings)
       (λ c here. at_all shape records gone.so.added (length closings) (c 0) (omega (arith, many)) (subst (HasLedger shape (records ++ gone.so.added)) (sym (gone.fixed c here)) there))
       (at_all shape records gone.so.added (length closings) (now.files 0) (omega (arith, many)) there))
 
-  module _ (m : Machine) (closings : List Closing) (v : Work) (now : State) (gone : HasGone tells v.ledger.shape first records datas closings m v old now)
+  module _ (m : Machine) (closings : List Closing) (v : Work) (now : State) (gone : HasGone reveals v.ledger.shape first records datas closings m v old now)
       (x : Work) (message : Message) (next : State) (before then : SinkState) where
     many : length gone.so.added ≡ length closings
     many = closed_many v.ledger.shape first gone.so.longer gone.so.payload closings gone.so.added gone.so.are
 
     module _ (later : List Closing) (added : List Record) (closes : AddsCloses v m later added now next) (fault : Type 0)
-        (writes : OnlyWrites tells (IsReady now) (HasTakeRoom v message now) fault (Changes v.ledger.shape v.heads.lattice.n) now next) where
-      abbrev so_all : Added tells fault v.ledger.shape first records datas (closings ++ later) old next
-      so_all = joins tells first records datas closings m v old now gone reading lengths join later added next closes (IsReady now) (HasTakeRoom v message now) fault writes
+        (writes : OnlyWrites reveals (IsReady now) (HasTakeRoom v message now) fault (Changes v.ledger.shape v.heads.lattice.n) now next) where
+      abbrev so_all : Added reveals fault v.ledger.shape first records datas (closings ++ later) old next
+      so_all = joins reveals first records datas closings m v old now gone reading lengths join later added next closes (IsReady now) (HasTakeRoom v message now) fault writes
 
       -- those before are there
       some_there : SurelyGrows v.ledger.shape records datas (closings ++ later) (length closings) old next
@@ -137,9 +137,9 @@ module _ (reading : HasOneReading) (lengths : CellsHaveLengths) (join : ClosedRe
       some_there =
           let at : (bytes : List ℕ) → HasAtLeast v.ledger.shape (records ++ gone.so.added) added 0 bytes → HasAtLeast v.ledger.shape records (gone.so.added ++ added) (length closings) bytes =
           λ bytes has. subst (λ (k : ℕ). HasAtLeast v.ledger.shape records (gone.so.added ++ added) k bytes) many
-          (first_there tells first records datas closings m v old now gone reading lengths join later added next closes (IsReady now) (HasTakeRoom v message now) fault writes bytes has) in
+          (first_there reveals first records datas closings m v old now gone reading lengths join later added next closes (IsReady now) (HasTakeRoom v message now) fault writes bytes has) in
           let adds = closes.adds (records ++ gone.so.added) gone.its in
-          surely tells told fault v.ledger.shape first records datas (closings ++ later) old next synced raised gone.is_first so_all (length closings)
+          surely reveals revealed fault v.ledger.shape first records datas (closings ++ later) old next synced raised gone.is_first so_all (length closings)
           (λ c here. at (c 0) (adds.prefix next.moment c writes.time.later (omega arith) here))
           (at (next.files 0) adds.reads)
 
@@ -153,7 +153,7 @@ module _ (reading : HasOneReading) (lengths : CellsHaveLengths) (join : ClosedRe
           let at : (bytes : List ℕ) → HasLedger v.ledger.shape ((records ++ gone.so.added) ++ added) bytes → HasAtLeast v.ledger.shape records (gone.so.added ++ added) (length (closings ++ later)) bytes =
           λ bytes has. at_all v.ledger.shape records (gone.so.added ++ added) (length (closings ++ later)) bytes
           (omega (arith, many, others, length-append closings later, length-append gone.so.added added)) (subst (λ (rs : List Record). HasLedger v.ledger.shape rs bytes) nest has) in
-          surely tells told fault v.ledger.shape first records datas (closings ++ later) old next synced raised gone.is_first so_all (length (closings ++ later))
+          surely reveals revealed fault v.ledger.shape first records datas (closings ++ later) old next synced raised gone.is_first so_all (length (closings ++ later))
           (λ c here. at (c 0) (images c here))
           (at (next.files 0) ledger)
 
@@ -165,8 +165,8 @@ module _ (reading : HasOneReading) (lengths : CellsHaveLengths) (join : ClosedRe
     alone = sym (append-nil (closing_in v.ledger.shape m message))
 
     -- a message was not taken
-    pub ends_taken : (fault : TakeFault) (tail : List ℕ) → tail ≡ spelled message → Takes tells v x message now next before then (Err fault) → Ends v.ledger.shape m closings tail (Err (stop.Taken fault)) next
-    ends_taken (Damaged b) tail is takes = absurd ((takes.damaged b refl).1 told)
+    pub ends_taken : (fault : TakeFault) (tail : List ℕ) → tail ≡ spelled message → Takes reveals v x message now next before then (Err fault) → Ends v.ledger.shape m closings tail (Err (stop.Taken fault)) next
+    ends_taken (Damaged b) tail is takes = absurd ((takes.damaged b refl).1 revealed)
     ends_taken DiskFault tail is takes = ⊎_elim
         (λ none. ([], [], refl, inl refl, none_made [] (some_there [] [] none _ takes.leaves.writes)))
         (λ one. (
@@ -177,9 +177,9 @@ module _ (reading : HasOneReading) (lengths : CellsHaveLengths) (join : ClosedRe
           subst (λ (cs : List Closing). SurelyGrows v.ledger.shape records datas (closings ++ cs) (length (closings ++ [])) old next) alone
               (none_made (closing_in v.ledger.shape m message) (some_there (closing_in v.ledger.shape m message) (one.0 ∷ []) one.1 _ takes.leaves.writes)),
         ))
-        (takes.leaves.ledger told m gone.keeps)
+        (takes.leaves.ledger revealed m gone.keeps)
     ends_taken WriteFault tail is takes =
-        let done = done_all v x m (records ++ gone.so.added) now next gone.its takes.leaves.writes.time.later message (takes.leaves.ledger told m gone.keeps) (λ c one. takes.leaves.closed (inr refl) told m c gone.keeps one) in (
+        let done = done_all v x m (records ++ gone.so.added) now next gone.its takes.leaves.writes.time.later message (takes.leaves.ledger revealed m gone.keeps) (λ c one. takes.leaves.closed (inr refl) revealed m c gone.keeps one) in (
           message ∷ [],
           message ∷ [],
           (message, is, refl),
@@ -188,23 +188,23 @@ module _ (reading : HasOneReading) (lengths : CellsHaveLengths) (join : ClosedRe
               (all_there (closing_in v.ledger.shape m message) done.added done.closes _ takes.leaves.writes done.ledger done.images),
         )
     ends_taken NoMemory tail is takes =
-        let ledger = takes.leaves.quiet refl told in
+        let ledger = takes.leaves.quiet refl revealed in
         ([], [], refl, refl, none_made [] (some_there [] [] (adds_quiet reading v m now next takes.leaves.writes.earlier ledger) _ takes.leaves.writes))
 
   -- a step that was not taken, by the shape at the beginning
   ends_step : (shape : Shape) (m : Machine) (closings : List Closing) (v x : Work) (now next : State) (message : Message) (before then : SinkState) (fault : TakeFault) (tail : List ℕ) → tail ≡ spelled message
-      → Takes tells v x message now next before then (Err fault) → v.ledger.shape ≡ shape → HasGone tells shape first records datas closings m v old now → Ends shape m closings tail (Err (stop.Taken fault)) next
+      → Takes reveals v x message now next before then (Err fault) → v.ledger.shape ≡ shape → HasGone reveals shape first records datas closings m v old now → Ends shape m closings tail (Err (stop.Taken fault)) next
   ends_step shape m closings v x now next message before then fault tail is takes same =
-      subst (λ (s : Shape). HasGone tells s first records datas closings m v old now → Ends s m closings tail (Err (stop.Taken fault)) next) same
+      subst (λ (s : Shape). HasGone reveals s first records datas closings m v old now → Ends s m closings tail (Err (stop.Taken fault)) next) same
       (λ gone. ends_taken m closings v now gone x message next before then fault tail is takes)
 
-  module _ {D : Type 0} (state : D → State) (shape : Shape) (m : Machine) (closings : List Closing) (v x : Work) (d e : D) (gone : HasGone tells shape first records datas closings m v old (state d)) (tail : List ℕ) (before then : SinkState) where
+  module _ {D : Type 0} (state : D → State) (shape : Shape) (m : Machine) (closings : List Closing) (v x : Work) (d e : D) (gone : HasGone reveals shape first records datas closings m v old (state d)) (tail : List ℕ) (before then : SinkState) where
     -- nothing came after, and none was made
     still_here : e ≡ d → SurelyGrows shape records datas (closings ++ []) (length (closings ++ [])) old (state e)
     still_here same = subst (λ (y : D). SurelyGrows shape records datas (closings ++ []) (length (closings ++ [])) old (state y)) (sym same) (ends_here shape m closings v (state d) gone)
 
     -- however the run ended
-    pub ends_any : (result : Result (Unit {0}) Stop) → EndsThere tells state v x d e tail before then result → Ends shape m closings tail result (state e)
+    pub ends_any : (result : Result (Unit {0}) Stop) → EndsThere reveals state v x d e tail before then result → Ends shape m closings tail result (state e)
     ends_any (Ok u) last = ([], [], refl, refl, still_here last.1)
     ends_any (Err (stop.BadMessage at)) last = ([], [], refl, refl, still_here last.1)
     ends_any (Err (stop.BadStream at)) last = ([], [], refl, refl, still_here last.1)

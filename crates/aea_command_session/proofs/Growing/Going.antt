@@ -53,7 +53,7 @@ IsOf shape first records datas old = AreRecordsOf shape records datas × AreLast
 
 -- In a stretch the records of these closes were added after others, from this lattice on; a list that those record goes on with the
 -- blocks of the closes.
-pub record Added (tells fault : Type 0) (shape : Shape) (first : Lattice) (records : List Record) (datas : List (List ℕ)) (closings : List Closing) (old new : State) : Type 0 where
+pub record Added (reveals fault : Type 0) (shape : Shape) (first : Lattice) (records : List Record) (datas : List (List ℕ)) (closings : List Closing) (old new : State) : Type 0 where
   pub added : List Record
   pub longer : Lattice
   pub payload : BlockId → List ℕ
@@ -61,13 +61,13 @@ pub record Added (tells fault : Type 0) (shape : Shape) (first : Lattice) (recor
   pub wide : AreBlocksWide shape first.n longer.n payload
   pub adds : Adds shape records added payload old new
   pub long : length (new.files 0) ≤ max (length (old.files 0)) (length (spelled shape (records ++ added)) + 1)
-  pub writes : OnlyWrites tells ⊥ ⊥ fault (Changes shape first.n) old new
+  pub writes : OnlyWrites reveals ⊥ ⊥ fault (Changes shape first.n) old new
   pub more : IsOf shape first records datas old → AreRecords shape (records ++ added) → AreRecordsOf shape (records ++ added) (datas ++ blocks_of closings)
 
 -- So it is for the closes so far, all of which are there: where the machine stands, with the session, and the disk at the beginning
 -- and now.
-pub record HasGone (tells : Type 0) (shape : Shape) (first : Lattice) (records : List Record) (datas : List (List ℕ)) (closings : List Closing) (m : Machine) (v : Work) (old now : State) : Type 0 where
-  pub so : Added tells ⊥ shape first records datas closings old now
+pub record HasGone (reveals : Type 0) (shape : Shape) (first : Lattice) (records : List Record) (datas : List (List ℕ)) (closings : List Closing) (m : Machine) (v : Work) (old now : State) : Type 0 where
+  pub so : Added reveals ⊥ shape first records datas closings old now
   pub is_first : IsLatticeOf shape (nodes_of records) (fences_of records) first
   pub same : v.ledger.shape ≡ shape
   pub keeps : KeepsMachine v m
@@ -77,8 +77,8 @@ pub record HasGone (tells : Type 0) (shape : Shape) (first : Lattice) (records :
   pub follows : m.datas ≡ datas ++ blocks_of closings
   pub padded : KeepsPadded shape (IsBlockIn shape first.n) old.files now.files
 
-module _ (tells : Type 0) (first : Lattice) (records : List Record) (datas : List (List ℕ)) (closings : List Closing) (m : Machine) (v : Work) (old now : State)
-    (gone : HasGone tells v.ledger.shape first records datas closings m v old now) where
+module _ (reveals : Type 0) (first : Lattice) (records : List Record) (datas : List (List ℕ)) (closings : List Closing) (m : Machine) (v : Work) (old now : State)
+    (gone : HasGone reveals v.ledger.shape first records datas closings m v old now) where
   -- the records that are there
   abbrev pub all_of : List Record
   all_of = records ++ gone.so.added
@@ -114,7 +114,7 @@ module _ (tells : Type 0) (first : Lattice) (records : List Record) (datas : Lis
   -- a stretch after it, in which records of closes are added
   module _ (reading : HasOneReading) (lengths : CellsHaveLengths) (join : ClosedRecordsJoin)
       (later : List Closing) (more : List Record) (next : State) (second : AddsCloses v m later more now next)
-      (taken fits fault : Type 0) (writes : OnlyWrites tells taken fits fault (Changes v.ledger.shape v.heads.lattice.n) now next) where
+      (taken fits fault : Type 0) (writes : OnlyWrites reveals taken fits fault (Changes v.ledger.shape v.heads.lattice.n) now next) where
     abbrev both : BlockId → List ℕ
     both = joined v.ledger.lattice.n gone.so.payload second.payload
 
@@ -158,24 +158,24 @@ module _ (tells : Type 0) (first : Lattice) (records : List Record) (datas : Lis
         )
 
     -- the cells of the first ones stay
-    shelf : KeepsShelf tells v.ledger.shape (IsBlockIn v.ledger.shape (nodes_of all_of)) now next
+    shelf : KeepsShelf reveals v.ledger.shape (IsBlockIn v.ledger.shape (nodes_of all_of)) now next
     shelf =
-        shelf_less tells v.ledger.shape (IsBlockIn v.ledger.shape v.heads.lattice.n) (IsBlockIn v.ledger.shape (nodes_of all_of)) now next
+        shelf_less reveals v.ledger.shape (IsBlockIn v.ledger.shape v.heads.lattice.n) (IsBlockIn v.ledger.shape (nodes_of all_of)) now next
         (λ b on. record { after = on.after; most = (let m = on.most in let g = gone.keeps.grown.nodes in omega (arith, m, g, gone.its.has.lattice.n)); used = on.used })
-        (changes_shelf tells taken fits fault v.ledger.shape raised_limit (IsBlockIn v.ledger.shape v.heads.lattice.n) (IsBesides v.ledger.shape) now next writes)
+        (changes_shelf reveals taken fits fault v.ledger.shape raised_limit (IsBlockIn v.ledger.shape v.heads.lattice.n) (IsBesides v.ledger.shape) now next writes)
 
     -- they are added one by one
     pub adds_all : Adds v.ledger.shape records (gone.so.added ++ more) both old next
     adds_all =
-        adds_both reading tells v.ledger.shape records gone.so.added more both old now next gone.so.writes.time writes.time gone.so.writes.earlier
+        adds_both reading reveals v.ledger.shape records gone.so.added more both old now next gone.so.writes.time writes.time gone.so.writes.earlier
         (adds_same v.ledger.shape records gone.so.added gone.so.payload both old now (λ b on. low b (let most = on.most in omega (arith, most, gone.its.has.lattice.n))) gone.so.adds)
         all_there in_homes shelf
         (adds_same v.ledger.shape all_of more second.payload both now next (λ b on. high b (let after = on.after in omega (arith, after, gone.its.has.lattice.n))) (second.adds all_of gone.its))
 
     -- and nothing else is changed
-    pub changes_all : OnlyWrites tells ⊥ ⊥ fault (Changes v.ledger.shape first.n) old next
+    pub changes_all : OnlyWrites reveals ⊥ ⊥ fault (Changes v.ledger.shape first.n) old next
     changes_all =
-        writes_both tells ⊥ ⊥ taken ⊥ ⊥ fits ⊥ fault (Changes v.ledger.shape first.n) (Changes v.ledger.shape v.heads.lattice.n) (Changes v.ledger.shape first.n) old now next (λ none. none)
+        writes_both reveals ⊥ ⊥ taken ⊥ ⊥ fits ⊥ fault (Changes v.ledger.shape first.n) (Changes v.ledger.shape v.heads.lattice.n) (Changes v.ledger.shape first.n) old now next (λ none. none)
         (λ c d one. one)
         (λ c d e one two. changes_both v.ledger.shape raised_limit (IsBlockIn v.ledger.shape first.n) (IsBesides v.ledger.shape) c d e one
         (changes_less v.ledger.shape raised_limit (IsBlockIn v.ledger.shape v.heads.lattice.n) (IsBlockIn v.ledger.shape first.n) (IsBesides v.ledger.shape) (IsBesides v.ledger.shape) d e among_all (λ f past. past) two))
@@ -194,7 +194,7 @@ module _ (tells : Type 0) (first : Lattice) (records : List Record) (datas : Lis
         (second.more all_of gone.its.has (recorded_there is) (gone.stands is).woven (subst (AreRecords v.ledger.shape) (sym nest) valid)))
 
     -- the records of both stretches
-    unfoldable pub joins : Added tells fault v.ledger.shape first records datas (closings ++ later) old next
+    unfoldable pub joins : Added reveals fault v.ledger.shape first records datas (closings ++ later) old next
     joins = record {
       added = gone.so.added ++ more;
       longer = second.longer;

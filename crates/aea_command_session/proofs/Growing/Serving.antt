@@ -86,27 +86,27 @@ its_by reading v shape records bytes this has =
 -- ---- a message that was taken
 
 module _ (reading : HasOneReading) (lengths : CellsHaveLengths) (join : ClosedRecordsJoin)
-    (tells : Type 0) (told : tells) (first : Lattice) (records : List Record) (datas : List (List ℕ)) (old : State) where
+    (reveals : Type 0) (revealed : reveals) (first : Lattice) (records : List Record) (datas : List (List ℕ)) (old : State) where
   -- with the records of its close
-  gone_more : (closings : List Closing) (m : Machine) (v u : Work) (now next : State) (message : Message) (code : ℕ) (reply : List ℕ) → Answers tells m v u message now next code reply
-      → HasGone tells v.ledger.shape first records datas closings m v old now
-      → HasGone tells v.ledger.shape first records datas (closings ++ closing_in v.ledger.shape m message) (step v.ledger.shape m message).state u old next
+  gone_more : (closings : List Closing) (m : Machine) (v u : Work) (now next : State) (message : Message) (code : ℕ) (reply : List ℕ) → Answers reveals m v u message now next code reply
+      → HasGone reveals v.ledger.shape first records datas closings m v old now
+      → HasGone reveals v.ledger.shape first records datas (closings ++ closing_in v.ledger.shape m message) (step v.ledger.shape m message).state u old next
   unfolding joins
   gone_more closings m v u now next message code reply answers gone =
       let all : List Record = records ++ gone.so.added in
       let moves = answers.moves in
       let leaves = answers.leaves in
-      let done = done_all v u m all now next gone.its leaves.writes.time.later message (leaves.ledger told m gone.keeps) (λ c is. leaves.closed tt told m c gone.keeps is) in
+      let done = done_all v u m all now next gone.its leaves.writes.time.later message (leaves.ledger revealed m gone.keeps) (λ c is. leaves.closed tt revealed m c gone.keeps is) in
       let nest : all ++ done.added ≡ records ++ (gone.so.added ++ done.added) = append_assoc records gone.so.added done.added in
       record {
-        so = joins tells first records datas closings m v old now gone reading lengths join (closing_in v.ledger.shape m message) done.added next done.closes
+        so = joins reveals first records datas closings m v old now gone reading lengths join (closing_in v.ledger.shape m message) done.added next done.closes
             (IsReady now) (HasTakeRoom v message now) ⊥ leaves.writes;
         is_first = gone.is_first;
         same = moves.shape;
         keeps = moves.keeps m gone.keeps;
         its = subst (λ (rs : List Record). AreItsRecords u.ledger rs (next.files 0)) nest
-            (its_by reading u.ledger v.ledger.shape (all ++ done.added) (next.files 0) (moves.this told).ledger done.ledger);
-        fixed = moves.fixed told;
+            (its_by reading u.ledger v.ledger.shape (all ++ done.added) (next.files 0) (moves.this revealed).ledger done.ledger);
+        fixed = moves.fixed revealed;
         stands = λ is. moves.stands m gone.keeps (gone.stands is);
         follows =
             step_datas v.ledger.shape m message
@@ -115,43 +115,43 @@ module _ (reading : HasOneReading) (lengths : CellsHaveLengths) (join : ClosedRe
             ∙ ap (λ (l : List (List ℕ)). datas ++ l) (sym (flat_map-append (λ (c : Closing). c.blocks) closings (closing_in v.ledger.shape m message)));
         padded = padded_both v.ledger.shape (IsBlockIn v.ledger.shape first.n) old.files now.files next.files gone.padded
             (padded_less v.ledger.shape (IsBlockIn v.ledger.shape v.heads.lattice.n) (IsBlockIn v.ledger.shape first.n) now.files next.files
-            (among_all tells first records datas closings m v old now gone) (leaves.padded (λ none. none) told));
+            (among_all reveals first records datas closings m v old now gone) (leaves.padded (λ none. none) revealed));
       }
 
   -- by the shape at the beginning
-  gone_step : (shape : Shape) (closings : List Closing) (m : Machine) (v u : Work) (now next : State) (message : Message) (code : ℕ) (reply : List ℕ) → Answers tells m v u message now next code reply
-      → v.ledger.shape ≡ shape → HasGone tells shape first records datas closings m v old now → HasGone tells shape first records datas (closings ++ closing_in shape m message) (step shape m message).state u old next
+  gone_step : (shape : Shape) (closings : List Closing) (m : Machine) (v u : Work) (now next : State) (message : Message) (code : ℕ) (reply : List ℕ) → Answers reveals m v u message now next code reply
+      → v.ledger.shape ≡ shape → HasGone reveals shape first records datas closings m v old now → HasGone reveals shape first records datas (closings ++ closing_in shape m message) (step shape m message).state u old next
   gone_step shape closings m v u now next message code reply answers same =
-      subst (λ (s : Shape). HasGone tells s first records datas closings m v old now → HasGone tells s first records datas (closings ++ closing_in s m message) (step s m message).state u old next) same
+      subst (λ (s : Shape). HasGone reveals s first records datas closings m v old now → HasGone reveals s first records datas (closings ++ closing_in s m message) (step s m message).state u old next) same
       (gone_more closings m v u now next message code reply answers)
 
   module _ {D : Type 0} (state : D → State) (shape : Shape) where
     -- after messages that were taken one after the other
-    pub gone_all : (m : Machine) (v w : Work) (d e : D) (messages : List Message) (closings : List Closing) (bytes : List ℕ) → HasGone tells shape first records datas closings m v old (state d)
-        → HasServed tells state m v d messages bytes w e → HasGone tells shape first records datas (closings ++ closings_of shape m messages) (after shape m messages) w old (state e)
+    pub gone_all : (m : Machine) (v w : Work) (d e : D) (messages : List Message) (closings : List Closing) (bytes : List ℕ) → HasGone reveals shape first records datas closings m v old (state d)
+        → HasServed reveals state m v d messages bytes w e → HasGone reveals shape first records datas (closings ++ closings_of shape m messages) (after shape m messages) w old (state e)
     gone_all m v w d e [] closings bytes gone served =
-        subst (λ (cs : List Closing). HasGone tells shape first records datas cs m w old (state e)) (sym (append-nil closings))
-        (subst (λ (x : D). HasGone tells shape first records datas closings m w old (state x)) (sym served.1)
-        (subst (λ (x : Work). HasGone tells shape first records datas closings m x old (state d)) (sym served.0) gone))
+        subst (λ (cs : List Closing). HasGone reveals shape first records datas cs m w old (state e)) (sym (append-nil closings))
+        (subst (λ (x : D). HasGone reveals shape first records datas closings m w old (state x)) (sym served.1)
+        (subst (λ (x : Work). HasGone reveals shape first records datas closings m x old (state d)) (sym served.0) gone))
     gone_all m v w d e (message ∷ messages) closings bytes gone served =
         let u : Work = served.0 in
         let f : D = served.1 in
         let n : Machine = (step shape m message).state in
         let then = gone_step shape closings m v u (state d) (state f) message served.2 served.3 served.5 gone.same gone in
-        subst (λ (cs : List Closing). HasGone tells shape first records datas cs (after shape n messages) w old (state e)) (append_assoc closings (closing_in shape m message) (closings_of shape n messages))
+        subst (λ (cs : List Closing). HasGone reveals shape first records datas cs (after shape n messages) w old (state e)) (append_assoc closings (closing_in shape m message) (closings_of shape n messages))
         (gone_all n u w f e messages (closings ++ closing_in shape m message) served.4 then
-        (subst (λ (s : Shape). HasServed tells state (step s m message).state u f messages served.4 w e) gone.same served.7))
+        (subst (λ (s : Shape). HasServed reveals state (step s m message).state u f messages served.4 w e) gone.same served.7))
 
 -- a block of the first nodes is one of X and W
-pub among_first : (tells : Type 0) (shape : Shape) (first : Lattice) (records : List Record) (datas : List (List ℕ)) (closings : List Closing) (m : Machine) (v : Work) (old now : State)
-    → HasGone tells shape first records datas closings m v old now → (b : BlockId) → IsBlockIn shape first.n b → IsBlockIn shape v.heads.lattice.n b
-among_first tells shape first records datas closings m v old now gone =
-    subst (λ (s : Shape). HasGone tells s first records datas closings m v old now → (b : BlockId) → IsBlockIn s first.n b → IsBlockIn s v.heads.lattice.n b) gone.same
-    (λ here. among_all tells first records datas closings m v old now here) gone
+pub among_first : (reveals : Type 0) (shape : Shape) (first : Lattice) (records : List Record) (datas : List (List ℕ)) (closings : List Closing) (m : Machine) (v : Work) (old now : State)
+    → HasGone reveals shape first records datas closings m v old now → (b : BlockId) → IsBlockIn shape first.n b → IsBlockIn shape v.heads.lattice.n b
+among_first reveals shape first records datas closings m v old now gone =
+    subst (λ (s : Shape). HasGone reveals s first records datas closings m v old now → (b : BlockId) → IsBlockIn s first.n b → IsBlockIn s v.heads.lattice.n b) gone.same
+    (λ here. among_all reveals first records datas closings m v old now here) gone
 
 -- ---- before the first message
 
-module _ (reading : HasOneReading) (tells : Type 0) (told : tells) (v : Opened) (w : Work) (old now : State) (began : Began tells v w old now) (synced : IsSynced old)
+module _ (reading : HasOneReading) (reveals : Type 0) (revealed : reveals) (v : Opened) (w : Work) (old now : State) (began : Began reveals v w old now) (synced : IsSynced old)
     (records : List Record) (its : AreItsRecords v records (old.files 0)) (datas : List (List ℕ)) where
   start_is : HasLedger v.shape records (old.files 0)
   start_is = has_ledger v records (old.files 0) its
@@ -160,7 +160,7 @@ module _ (reading : HasOneReading) (tells : Type 0) (told : tells) (v : Opened) 
   no_more = sym (append-nil records)
 
   -- the session began, and only read
-  added_none : Added tells ⊥ v.shape v.lattice records datas [] old now
+  added_none : Added reveals ⊥ v.shape v.lattice records datas [] old now
   added_none = record {
     added = [];
     longer = v.lattice;
@@ -169,16 +169,16 @@ module _ (reading : HasOneReading) (tells : Type 0) (told : tells) (v : Opened) 
     wide = λ b on. absurd (let a = on.after in let m = on.most in omega (arith, a, m));
     adds = adds_nothing reading v.shape records [] (λ b. []) old now began.reads.earlier
         (during_kept old now (λ c. HasLedger v.shape records (c 0)) began.reads.crash (λ c here. subst (HasLedger v.shape records) (sym (synced c here 0)) start_is))
-        (subst (λ (c : Files). HasLedger v.shape records (c 0)) (sym (began.reads.contents told)) start_is);
-    long = (let same = ap (λ (c : Files). length (c 0)) (began.reads.contents told) in omega (arith, same));
-    writes = reads_writes tells ⊥ ⊥ ⊥ (Changes v.shape v.lattice.n) old now (λ none. absurd none) (λ none. absurd none)
+        (subst (λ (c : Files). HasLedger v.shape records (c 0)) (sym (began.reads.contents revealed)) start_is);
+    long = (let same = ap (λ (c : Files). length (c 0)) (began.reads.contents revealed) in omega (arith, same));
+    writes = reads_writes reveals ⊥ ⊥ ⊥ (Changes v.shape v.lattice.n) old now (λ none. absurd none) (λ none. absurd none)
         (λ c. changes_none v.shape raised_limit (IsBlockIn v.shape v.lattice.n) (IsBesides v.shape) c) began.reads;
     more = λ is valid.
         subst (λ (ds : List (List ℕ)). AreRecordsOf v.shape (records ++ []) ds) (sym (append-nil datas))
         (subst (λ (rs : List Record). AreRecordsOf v.shape rs datas) no_more is.0);
   }
 
-  pub gone_none : length datas ≡ v.lattice.n → AreWide v.shape datas → HasGone tells v.shape v.lattice records datas [] (begun datas v.objects) w old now
+  pub gone_none : length datas ≡ v.lattice.n → AreWide v.shape datas → HasGone reveals v.shape v.lattice records datas [] (begun datas v.objects) w old now
   unfolding added_none
   gone_none long wide = record {
     so = added_none;
@@ -186,9 +186,9 @@ module _ (reading : HasOneReading) (tells : Type 0) (told : tells) (v : Opened) 
     same = ap (λ (o : Opened). o.shape) began.ledger;
     keeps = began.keeps datas long wide;
     its = subst (λ (o : Opened). AreItsRecords o (records ++ []) (now.files 0)) (sym began.ledger)
-        (subst (λ (rs : List Record). AreItsRecords v rs (now.files 0)) no_more (subst (λ (c : Files). AreItsRecords v records (c 0)) (sym (began.reads.contents told)) its));
-    fixed = synced_fixed now 0 (reads_synced tells ⊥ old now told began.reads synced);
-    stands = λ is. began.stands told records datas its.has is.0 (subst (λ (ds : List (List ℕ)). AreLastsHonest v.shape v.lattice ds datas old.files) (sym its.has.digests) is.1);
+        (subst (λ (rs : List Record). AreItsRecords v rs (now.files 0)) no_more (subst (λ (c : Files). AreItsRecords v records (c 0)) (sym (began.reads.contents revealed)) its));
+    fixed = synced_fixed now 0 (reads_synced reveals ⊥ old now revealed began.reads synced);
+    stands = λ is. began.stands revealed records datas its.has is.0 (subst (λ (ds : List (List ℕ)). AreLastsHonest v.shape v.lattice ds datas old.files) (sym its.has.digests) is.1);
     follows = sym (append-nil datas);
-    padded = padded_kept v.shape (IsBlockIn v.shape v.lattice.n) old.files now.files (began.reads.contents told);
+    padded = padded_kept v.shape (IsBlockIn v.shape v.lattice.n) old.files now.files (began.reads.contents revealed);
   }

@@ -33,26 +33,26 @@ among v m keeps b on = record {
 }
 
 -- where a message was taken, the run moved by it
-moves_to : (tells : Type 0) (m : Machine) (v u : Work) (message : Message) (now next : State) (code : ℕ) (reply : List ℕ) → KeepsMachine v m → Answers tells m v u message now next code reply
-    → MovesTo tells (stands_at m v now.files) (stands_at (step v.ledger.shape m message).state u next.files) message
-moves_to tells m v u message now next code reply keeps answers = record {
+moves_to : (reveals : Type 0) (m : Machine) (v u : Work) (message : Message) (now next : State) (code : ℕ) (reply : List ℕ) → KeepsMachine v m → Answers reveals m v u message now next code reply
+    → MovesTo reveals (stands_at m v now.files) (stands_at (step v.ledger.shape m message).state u next.files) message
+moves_to reveals m v u message now next code reply keeps answers = record {
   machine = refl;
   shape = answers.moves.shape;
   ledger = answers.moves.goes m keeps;
-  files = λ told. changes_less v.ledger.shape raised_limit (IsBlockIn v.ledger.shape v.heads.lattice.n) (IsBlockIn v.ledger.shape (length m.datas)) (IsBesides v.ledger.shape) (IsBesides v.ledger.shape)
-      now.files next.files (among v m keeps) (λ f past. past) (answers.leaves.writes.contents told);
+  files = λ revealed. changes_less v.ledger.shape raised_limit (IsBlockIn v.ledger.shape v.heads.lattice.n) (IsBlockIn v.ledger.shape (length m.datas)) (IsBesides v.ledger.shape) (IsBesides v.ledger.shape)
+      now.files next.files (among v m keeps) (λ f past. past) (answers.leaves.writes.contents revealed);
 }
 
 -- ---- all of them
 
-module _ (tells : Type 0) {D : Type 0} (state : D → State) where
+module _ (reveals : Type 0) {D : Type 0} (state : D → State) where
   -- these are the replies to the messages, after which the run stands at this state of the machine, in an archive of the same shape
   abbrev pub HasRepliedTo : Machine → Work → D → List Message → List ℕ → Work → D → Machine → Type 0
   HasRepliedTo m v d messages bytes w e k =
-      HasReplied tells (stands_at m v (state d).files) messages bytes (stands_at k w (state e).files) × KeepsMachine w k × (w.ledger.shape ≡ v.ledger.shape)
+      HasReplied reveals (stands_at m v (state d).files) messages bytes (stands_at k w (state e).files) × KeepsMachine w k × (w.ledger.shape ≡ v.ledger.shape)
 
   -- what was served are the replies
-  pub replied_all : (m : Machine) (v w : Work) (d e : D) (messages : List Message) (bytes : List ℕ) → KeepsMachine v m → HasServed tells state m v d messages bytes w e
+  pub replied_all : (m : Machine) (v w : Work) (d e : D) (messages : List Message) (bytes : List ℕ) → KeepsMachine v m → HasServed reveals state m v d messages bytes w e
       → HasRepliedTo m v d messages bytes w e (after v.ledger.shape m messages)
   replied_all m v w d e [] bytes keeps served = (
     (
@@ -74,7 +74,7 @@ module _ (tells : Type 0) {D : Type 0} (state : D → State) where
           served.3,
           served.4,
           served.5.is_reply,
-          moves_to tells m v u message (state d) (state f) served.2 served.3 keeps served.5,
+          moves_to reveals m v u message (state d) (state f) served.2 served.3 keeps served.5,
           served.6,
           rest.0,
         ),
@@ -83,11 +83,11 @@ module _ (tells : Type 0) {D : Type 0} (state : D → State) where
       )
 
   -- and they are no longer than the greatest ones
-  pub long_all : (m : Machine) (v w : Work) (d e : D) (messages : List Message) (bytes : List ℕ) → HasServed tells state m v d messages bytes w e → length bytes ≤ greatest_replies v.ledger.shape m messages
+  pub long_all : (m : Machine) (v w : Work) (d e : D) (messages : List Message) (bytes : List ℕ) → HasServed reveals state m v d messages bytes w e → length bytes ≤ greatest_replies v.ledger.shape m messages
   long_all m v w d e [] bytes served = (let none = ap length served.2 in omega (arith, none))
   long_all m v w d e (message ∷ messages) bytes served =
       let n : Machine = (step v.ledger.shape m message).state in
-      let first = reply_long tells v.ledger m (state d).files message served.2 served.3 served.5.is_reply in
+      let first = reply_long reveals v.ledger m (state d).files message served.2 served.3 served.5.is_reply in
       let rest = subst (λ (s : Shape). length served.4 ≤ greatest_replies s n messages) served.5.moves.shape (long_all n served.0 w served.1 e messages served.4 served.7) in
       let both = ap length served.6 ∙ length-append served.3 served.4 in
       omega (arith, first, rest, both)

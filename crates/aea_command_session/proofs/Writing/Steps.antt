@@ -70,8 +70,8 @@ prefix_none shape records bytes has =
 record_of_close : (shape : Shape) (l m : Lattice) (payload : BlockId → List ℕ) (c : Closing) (r : Record) → AreClosedRecords shape l m payload (c ∷ []) (r ∷ []) → IsRecordOfClose c r
 record_of_close shape l m payload c r are = (are.1, are.2, are.3.name_is, are.3.size, are.3.digest, are.3.count)
 
-module _ (tells : Type 0) (told : tells) (u w : Work) (m : Machine) (message : Message) (now next : State) (keeps : KeepsMachine u m)
-    (moves : Moves tells u w message now next) (leaves : Leaves tells u w message now next (Unit {0}) ⊥ ⊥) (records : List Record) (its : AreItsRecords u.ledger records (now.files 0)) where
+module _ (reveals : Type 0) (revealed : reveals) (u w : Work) (m : Machine) (message : Message) (now next : State) (keeps : KeepsMachine u m)
+    (moves : Moves reveals u w message now next) (leaves : Leaves reveals u w message now next (Unit {0}) ⊥ ⊥) (records : List Record) (its : AreItsRecords u.ledger records (now.files 0)) where
   -- it closes nothing
   pub its_none : closing_in u.ledger.shape m message ≡ [] → AreItsRecords w.ledger records (next.files 0)
   its_none none =
@@ -82,12 +82,12 @@ module _ (tells : Type 0) (told : tells) (u w : Work) (m : Machine) (message : M
       (⊎_elim
       (λ (adds : AddsCloses u m [] [] now next). prefix_none u.ledger.shape records (next.files 0) (adds.adds records its).reads)
       (λ (one : (r : Record) × AddsCloses u m [] (r ∷ []) now next). absurd one.1.are)
-      (subst (λ (cs : List Closing). MayHaveClosed u m cs now next) none (leaves.ledger told m keeps)))
+      (subst (λ (cs : List Closing). MayHaveClosed u m cs now next) none (leaves.ledger revealed m keeps)))
 
   -- it is a close
   pub its_one : (c : Closing) → closing_in u.ledger.shape m message ≡ c ∷ [] → (r : Record) × IsRecordOfClose c r × AreItsRecords w.ledger (records ++ r ∷ []) (next.files 0)
   its_one c is =
-      let closed : HasClosed u w m (c ∷ []) now next = leaves.closed tt told m c keeps is in (
+      let closed : HasClosed u w m (c ∷ []) now next = leaves.closed tt revealed m c keeps is in (
         closed.r,
         record_of_close u.ledger.shape u.ledger.lattice closed.adds.longer closed.adds.payload c closed.r closed.adds.are,
         its_by w.ledger u.ledger.shape (records ++ closed.r ∷ []) (next.files 0) moves.shape (closed.value records its.has) (closed.added records its).ledger,

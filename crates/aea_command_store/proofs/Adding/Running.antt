@@ -34,17 +34,17 @@ agrees_printed v answer (inr e) = record {
 }
 
 -- each other file stays
-pub rest_stays : (tells fault : Type 0) (old new : State) → KeepsTheRest tells fault old new → KeepsWhere tells (λ file. file ≡ 0 → ⊥) old new
-rest_stays tells fault old new rest = where_others tells _ 0 old new (λ k keep. keep) rest.others
+pub rest_stays : (reveals fault : Type 0) (old new : State) → KeepsTheRest reveals fault old new → KeepsWhere reveals (λ file. file ≡ 0 → ⊥) old new
+rest_stays reveals fault old new rest = where_others reveals _ 0 old new (λ k keep. keep) rest.others
 
 -- a run that adds a record, over a disk whose contents are known, begins with a sync: once that has succeeded every image has
 -- each file but the ledger's as it read
-pub adds_opens : {T : Type 0} (adds : List Record → Record) (tells : Type 0) (old new : State) (answer : Result T Failure) → AddsRecord adds tells old new answer → tells → HasOpening old new (KeepsFiles (λ file. file ≡ 0 → ⊥) old.files)
-adds_opens adds tells old new answer does told = opening_more old new _ _ (λ c may k keep. may.others k keep) (does.stops told)
+pub adds_opens : {T : Type 0} (adds : List Record → Record) (reveals : Type 0) (old new : State) (answer : Result T Failure) → AddsRecord adds reveals old new answer → reveals → HasOpening old new (KeepsFiles (λ file. file ≡ 0 → ⊥) old.files)
+adds_opens adds reveals old new answer does revealed = opening_more old new _ _ (λ c may k keep. may.others k keep) (does.stops revealed)
 
 -- what was done had no cause against it
-pub printing_refuses_by : {T : Type 0} (told : Refusal → Type 0) (causes : Refusal → Type 0) (v : T) (answer : Answer) → IsPrinting answer → RefusesBy {T = T} told causes (Ok v) → RefusesBy told causes answer
-printing_refuses_by told causes v answer printing refuses = refuses_by_done told causes v answer (λ why. printing_never answer (failure.Refused why) printing (λ d. cc)) refuses
+pub printing_refuses_by : {T : Type 0} (revealed : Refusal → Type 0) (causes : Refusal → Type 0) (v : T) (answer : Answer) → IsPrinting answer → RefusesBy {T = T} revealed causes (Ok v) → RefusesBy revealed causes answer
+printing_refuses_by revealed causes v answer printing refuses = refuses_by_done revealed causes v answer (λ why. printing_never answer (failure.Refused why) printing (λ d. cc)) refuses
 
-pub printing_refuses : {T : Type 0} (told : Type 0) (causes : Refusal → Type 0) (v : T) (answer : Answer) → IsPrinting answer → Refuses {T = T} told causes (Ok v) → Refuses told causes answer
-printing_refuses told causes v answer printing refuses = printing_refuses_by (λ why. told) causes v answer printing refuses
+pub printing_refuses : {T : Type 0} (revealed : Type 0) (causes : Refusal → Type 0) (v : T) (answer : Answer) → IsPrinting answer → Refuses {T = T} revealed causes (Ok v) → Refuses revealed causes answer
+printing_refuses revealed causes v answer printing refuses = printing_refuses_by (λ why. revealed) causes v answer printing refuses

@@ -17,21 +17,21 @@ use Rattle.aea_command_store.proofs.CreateLemmas.{IsPrinting, printing_done}
 use Rattle.aea_command.proofs.Texts.{text_unused}
 
 -- no fence was added
-pub fences_failed : {T : Type 0} (tells : Type 0) (old new : State) (out : SinkState) (f : Failure) → f ≢ failure.Output → AddsRecord {T = T} next_fence tells old new (Err f) → Fences tells old new out out (Err f)
-fences_failed {T} tells old new out f output adds = record {
+pub fences_failed : {T : Type 0} (reveals : Type 0) (old new : State) (out : SinkState) (f : Failure) → f ≢ failure.Output → AddsRecord {T = T} next_fence reveals old new (Err f) → Fences reveals old new out out (Err f)
+fences_failed {T} reveals old new out f output adds = record {
   done = tt;
-  adds = adds_as next_fence tells old new (Err f) (Err f) (agrees_failed f) adds;
-  prints = λ told shape records has. text_unused out f (fence_line (nodes_of records)) output;
+  adds = adds_as next_fence reveals old new (Err f) (Err f) (agrees_failed f) adds;
+  prints = λ revealed shape records has. text_unused out f (fence_line (nodes_of records)) output;
   some = (0, (omega arith, text_unused out f (fence_line 0) output));
 }
 
 -- one was, and then its line was printed, or the output failed
-pub fences_added : (tells : Type 0) (old new : State) (before after : SinkState) (nodes : ℕ) (answer : Answer) → IsPrinting answer → nodes ≤ raised_limit
-    → (tells → (shape : Shape) (records : List Record) → HasLedger shape records (old.files 0) → nodes ≡ nodes_of records)
-    → AddsRecord next_fence tells old new (Ok nodes) → PrintsText before after answer (fence_line nodes) → Fences tells old new before after answer
-fences_added tells old new before after nodes answer printing small counted adds prints = record {
+pub fences_added : (reveals : Type 0) (old new : State) (before after : SinkState) (nodes : ℕ) (answer : Answer) → IsPrinting answer → nodes ≤ raised_limit
+    → (reveals → (shape : Shape) (records : List Record) → HasLedger shape records (old.files 0) → nodes ≡ nodes_of records)
+    → AddsRecord next_fence reveals old new (Ok nodes) → PrintsText before after answer (fence_line nodes) → Fences reveals old new before after answer
+fences_added reveals old new before after nodes answer printing small counted adds prints = record {
   done = printing_done answer printing;
-  adds = adds_as next_fence tells old new (Ok nodes) answer (agrees_printed nodes answer printing) adds;
-  prints = λ told shape records has. subst (λ (n : ℕ). PrintsText before after answer (fence_line n)) (counted told shape records has) prints;
+  adds = adds_as next_fence reveals old new (Ok nodes) answer (agrees_printed nodes answer printing) adds;
+  prints = λ revealed shape records has. subst (λ (n : ℕ). PrintsText before after answer (fence_line n)) (counted revealed shape records has) prints;
   some = (nodes, (small, prints));
 }

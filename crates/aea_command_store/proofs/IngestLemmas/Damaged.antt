@@ -23,13 +23,13 @@ use Rattle.aea_command_store.proofs.IngestLemmas.Heads.{lasts_were_intact, lasts
 use Rattle.aea_command_store.proofs.PutLemmas.Reading.{head_here, head_there}
 
 module _ (reading : HasOneReading) (lengths : CellsHaveLengths) (parts : CellsHaveParts) (counts : DigestsAreCounted)
-    (tells : Type 0) (told : tells) (same : Type 0) (v w : Opened) (left rest : Option (List ℕ)) (old now : State) (before after : SinkState) (objects : List NewObject)
-    (gone : HasGone tells same v w left rest old now before after objects) (still : same → now ≡ old) (one : IsThisOne v (old.files 0)) where
+    (reveals : Type 0) (revealed : reveals) (same : Type 0) (v w : Opened) (left rest : Option (List ℕ)) (old now : State) (before after : SinkState) (objects : List NewObject)
+    (gone : HasGone reveals same v w left rest old now before after objects) (still : same → now ≡ old) (one : IsThisOne v (old.files 0)) where
   its : AreItsRecords v one.records (old.files 0)
   its = record { has = one.has; ledger = one.ledger }
 
   its_now : AreItsRecords w (one.records ++ gone.added) (now.files 0)
-  its_now = gone.its told one.records (record { has = one.has; ledger = one.ledger })
+  its_now = gone.its revealed one.records (record { has = one.has; ledger = one.ledger })
 
   one_now : IsThisOne w (now.files 0)
   one_now = record { records = one.records ++ gone.added; has = its_now.has; ledger = its_now.ledger }
@@ -49,7 +49,7 @@ module _ (reading : HasOneReading) (lengths : CellsHaveLengths) (parts : CellsHa
       let intact = lasts_are_intact lengths parts counts v.shape one.records one.has.valid objects some.0 old now g b last in
       let digests : digests_of (one.records ++ g.grows.by.added) ≡ w.digests = ap (λ (l : List Record). digests_of (one.records ++ l)) some.1.1 ∙ sym its_now.has.digests in
       absurd (first.damaged.damaged (subst (λ (s : Shape). IsIntactBy s w.digests now.files b) (sym gone.same_shape) (subst (λ (ds : List (List ℕ)). IsIntactBy v.shape ds now.files b) digests intact))))
-      (gone.grew told one.records its)
+      (gone.grew revealed one.records its)
 
   -- and of the archive as it was
   pub damaged_there : (b : BlockId) → HasDamagedHead old.files b → (objects ≡ []) × IsFirstDamagedLast w.shape w.lattice w.digests now.files b
@@ -62,4 +62,4 @@ module _ (reading : HasOneReading) (lengths : CellsHaveLengths) (parts : CellsHa
       let last : IsLastParity g.grows.by.lattice b = subst (λ (l : Lattice). IsLastParity l b) (sym lattice) first.damaged.last in
       let intact = lasts_were_intact lengths parts counts v.shape one.records one.has.valid objects some.0 old now g b last in
       absurd (first.damaged.damaged (subst (λ (ds : List (List ℕ)). IsIntactBy v.shape ds old.files b) (sym one.has.digests) intact)))
-      (gone.grew told one.records its)
+      (gone.grew revealed one.records its)

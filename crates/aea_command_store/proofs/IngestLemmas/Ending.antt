@@ -76,15 +76,15 @@ never_stored {T} f output (inr e) = output (same_failure {T = T} f failure.Outpu
 
 -- ---- the archive, where nothing was stored
 
-grown_none : (tells : Type 0) (told : tells) (v : Opened) (list : List Record) (s : State) → HasOneReading → AreItsRecords v list (s.files 0) → IsSynced s → HasGrown v.shape list [] s s
+grown_none : (reveals : Type 0) (revealed : reveals) (v : Opened) (list : List Record) (s : State) → HasOneReading → AreItsRecords v list (s.files 0) → IsSynced s → HasGrown v.shape list [] s s
 unfolding grows_no_more
-grown_none tells told v list s reading its synced =
-    let writes = writes_none tells (IsReady s) ⊥ (changes v) s (λ c. changes_none v.shape (limit_when v.raised) (IsBlockIn v.shape v.lattice.n) (IsBesides v.shape) c) in
+grown_none reveals revealed v list s reading its synced =
+    let writes = writes_none reveals (IsReady s) ⊥ (changes v) s (λ c. changes_none v.shape (limit_when v.raised) (IsBlockIn v.shape v.lattice.n) (IsBesides v.shape) c) in
     let leaves : LeavesLedger s s = record { images = during_none s (λ c. c 0 ≡ s.files 0) (λ c here. synced c here 0); reads = refl } in
     let ledger : HasLedger v.shape list (s.files 0) = has_ledger v list (s.files 0) its in
     let nil : list ≡ list ++ [] = sym (append-nil list) in
     let stays : StaysGrown v.shape list [] s s = record {
-      grows = grows_no_more tells told v list s s its synced (IsReady s) ⊥ ⊥ writes reading leaves;
+      grows = grows_no_more reveals revealed v list s s its synced (IsReady s) ⊥ ⊥ writes reading leaves;
       images = λ c here. subst (λ (l : List Record). HasLedger v.shape l (c 0)) nil (subst (HasLedger v.shape list) (sym (synced c here 0)) ledger);
       ledger = subst (λ (l : List Record). HasLedger v.shape l (s.files 0)) nil ledger;
       exactly = refl;
@@ -121,7 +121,7 @@ module _ (shape : Shape) (objects : List NewObject) (before after : SinkState) (
     whole = tt;
     cut = λ e. absurd (output (same_failure {T = Status} f failure.Output e));
     quiet = λ differs. refl;
-    in_room = λ room told enough. (λ e. output (same_failure {T = Status} f failure.Output e), lines.steady room told (let w = lines_within shape objects (end_line (length objects)) in omega (arith, w, enough)));
+    in_room = λ room revealed enough. (λ e. output (same_failure {T = Status} f failure.Output e), lines.steady room revealed (let w = lines_within shape objects (end_line (length objects)) in omega (arith, w, enough)));
   }
 
   -- a first part of what was printed after the lines
@@ -142,9 +142,9 @@ module _ (shape : Shape) (objects : List NewObject) (before after : SinkState) (
         whole = tt;
         cut = λ e. part.2;
         quiet = λ differs. absurd (differs refl);
-        in_room = λ room told enough.
+        in_room = λ room revealed enough.
             let all = prints_then lines line in
-            let fits = all.fits room told enough in
+            let fits = all.fits room revealed enough in
             absurd (false≢true fits);
       }
 
@@ -158,9 +158,9 @@ module _ (shape : Shape) (objects : List NewObject) (before after : SinkState) (
         whole = tt;
         cut = λ e. part.2;
         quiet = λ differs. absurd (differs refl);
-        in_room = λ room told enough.
+        in_room = λ room revealed enough.
             let all = prints_then lines line in
-            let fits = all.fits room told enough in
+            let fits = all.fits room revealed enough in
             absurd (false≢true fits);
       }
 
@@ -174,25 +174,25 @@ module _ (shape : Shape) (objects : List NewObject) (before after : SinkState) (
         whole = refl;
         cut = λ e. let h : (let a : Answer = Ok Done in a ≡ Err failure.Output) = e in cc;
         quiet = tt;
-        in_room = λ room told enough. (λ e. (let h : (let a : Answer = Ok Done in a ≡ Err failure.Output) = e in cc), all.steady room told enough);
+        in_room = λ room revealed enough. (λ e. (let h : (let a : Answer = Ok Done in a ≡ Err failure.Output) = e in cc), all.steady room revealed enough);
       }
 
 -- ---- the frame that is not stored
 
 -- a run that is not refused, and in which no read failed
-early_none : {T : Type 0} (tells : Type 0) (files : Files) (left rest : Option (List ℕ)) (objects : List NewObject) (answer : Result T Failure) → ((why : Refusal) → answer ≡ Err (failure.Refused why) → ⊥) → (answer ≡ Err failure.Input → ⊥)
-    → EndsEarly tells files left rest objects answer
-early_none tells files left rest objects answer fine whole = record { refused = λ told input is why e. absurd (fine why e); unread = λ input is e. absurd (whole e); closed = λ why opening e. absurd (fine why e) }
+early_none : {T : Type 0} (reveals : Type 0) (files : Files) (left rest : Option (List ℕ)) (objects : List NewObject) (answer : Result T Failure) → ((why : Refusal) → answer ≡ Err (failure.Refused why) → ⊥) → (answer ≡ Err failure.Input → ⊥)
+    → EndsEarly reveals files left rest objects answer
+early_none reveals files left rest objects answer fine whole = record { refused = λ revealed input is why e. absurd (fine why e); unread = λ input is e. absurd (whole e); closed = λ why opening e. absurd (fine why e) }
 
-early_failed : {T : Type 0} (tells : Type 0) (files : Files) (left rest : Option (List ℕ)) (objects : List NewObject) (f : Failure) → ((why : Refusal) → f ≡ failure.Refused why → ⊥) → (f ≡ failure.Input → ⊥) → EndsEarly {T = T} tells files left rest objects (Err f)
-early_failed {T} tells files left rest objects f fine whole =
-    early_none tells files left rest objects (Err f) (λ why e. fine why (same_failure {T = T} f (failure.Refused why) e)) (λ e. whole (same_failure {T = T} f failure.Input e))
+early_failed : {T : Type 0} (reveals : Type 0) (files : Files) (left rest : Option (List ℕ)) (objects : List NewObject) (f : Failure) → ((why : Refusal) → f ≡ failure.Refused why → ⊥) → (f ≡ failure.Input → ⊥) → EndsEarly {T = T} reveals files left rest objects (Err f)
+early_failed {T} reveals files left rest objects f fine whole =
+    early_none reveals files left rest objects (Err f) (λ why e. fine why (same_failure {T = T} f (failure.Refused why) e)) (λ e. whole (same_failure {T = T} f failure.Input e))
 
 -- ---- the ends
 
 module _ (reading : HasOneReading) (lengths : CellsHaveLengths) (parts : CellsHaveParts) (values : LastsAreValues) (record_more : ObjectsRecordMore) (counts : DigestsAreCounted)
-    (tells same : Type 0) (v w : Opened) (some : HasSomeRecords v) (left rest : Option (List ℕ)) (old now : State) (before after : SinkState) (objects : List NewObject)
-    (gone : HasGone tells same v w left rest old now before after objects) (still : same → now ≡ old) (is_this : tells → IsThisOne v (old.files 0)) where
+    (reveals same : Type 0) (v w : Opened) (some : HasSomeRecords v) (left rest : Option (List ℕ)) (old now : State) (before after : SinkState) (objects : List NewObject)
+    (gone : HasGone reveals same v w left rest old now before after objects) (still : same → now ≡ old) (is_this : reveals → IsThisOne v (old.files 0)) where
   framed_none : Consumes left rest (frames_of (objects ++ []))
   framed_none = subst (λ (xs : List NewObject). Consumes left rest (frames_of xs)) (sym (append-nil objects)) gone.framed
 
@@ -201,9 +201,9 @@ module _ (reading : HasOneReading) (lengths : CellsHaveLengths) (parts : CellsHa
   surely_none next list ys has = subst (λ (xs : List NewObject). GrowsSurely v.shape list (xs ++ ys) (length xs) old next) (sym (append-nil objects)) has
 
   -- a frame was not taken, for another reason than the disk
-  pub refused_opened : (fault : IngestFault) (next : State) (rest2 : Option (List ℕ)) (bad : Type 0) → SurvivorsStayHonest → OnlyWrites tells (IsReady now) (HasFrameRoom w rest now) bad (changes w) now next → (tells → LeavesLedger now next) → (tells → KeepsPadded w.shape (IsBlockIn w.shape w.lattice.n) now.files next.files)
-      → EndsEarly {T = Status} tells old.files left rest2 objects (Err (ingest_failure fault))
-      → IngestsOpened tells v old next left rest2 before after (Err (ingest_failure fault))
+  pub refused_opened : (fault : IngestFault) (next : State) (rest2 : Option (List ℕ)) (bad : Type 0) → SurvivorsStayHonest → OnlyWrites reveals (IsReady now) (HasFrameRoom w rest now) bad (changes w) now next → (reveals → LeavesLedger now next) → (reveals → KeepsPadded w.shape (IsBlockIn w.shape w.lattice.n) now.files next.files)
+      → EndsEarly {T = Status} reveals old.files left rest2 objects (Err (ingest_failure fault))
+      → IngestsOpened reveals v old next left rest2 before after (Err (ingest_failure fault))
   refused_opened fault next rest2 bad survivors writes leaves keeps early = record {
     done = tt;
     printed = objects;
@@ -213,26 +213,26 @@ module _ (reading : HasOneReading) (lengths : CellsHaveLengths) (parts : CellsHa
       most = inl refl;
       whole = λ ok. absurd (false≢true ok);
       stands = λ stored. absurd (never_stored (ingest_failure fault) (ingest_not_output fault) stored);
-      stops = λ told list its. (
+      stops = λ revealed list its. (
         [],
         inl refl,
         surely_none next list []
-            (surely tells same v w some left rest old now before after objects gone still is_this reading lengths parts values record_more counts next bad writes told list its []
-            (grows_no_more tells told w (list ++ gone.added) now next (gone.its told list its) (gone.synced told) (IsReady now) (HasFrameRoom w rest now) bad writes reading (leaves told))),
+            (surely reveals same v w some left rest old now before after objects gone still is_this reading lengths parts values record_more counts next bad writes revealed list its []
+            (grows_no_more reveals revealed w (list ++ gone.added) now next (gone.its revealed list its) (gone.synced revealed) (IsReady now) (HasFrameRoom w rest now) bad writes reading (leaves revealed))),
       );
-      stays = λ differs told list its.
-          stays_more tells same v w some left rest old now before after objects gone still is_this reading lengths parts values record_more counts next bad writes told list its
-          (stays_none reading counts survivors tells told w (list ++ gone.added) now next (gone.its told list its) (gone.synced told) (IsReady now) (HasFrameRoom w rest now) bad writes (leaves told) (keeps told));
-      padded = λ differs. padded_more tells same v w some left rest old now before after objects gone still is_this next keeps;
+      stays = λ differs revealed list its.
+          stays_more reveals same v w some left rest old now before after objects gone still is_this reading lengths parts values record_more counts next bad writes revealed list its
+          (stays_none reading counts survivors reveals revealed w (list ++ gone.added) now next (gone.its revealed list its) (gone.synced revealed) (IsReady now) (HasFrameRoom w rest now) bad writes (leaves revealed) (keeps revealed));
+      padded = λ differs. padded_more reveals same v w some left rest old now before after objects gone still is_this next keeps;
     };
     early = early;
     prints = prints_quiet v.shape objects before after gone.printed (ingest_failure fault) (ingest_not_output fault);
-    lines_in_room = λ told input is fits e. ingest_not_output fault (same_failure {T = Status} (ingest_failure fault) failure.Output e);
+    lines_in_room = λ revealed input is fits e. ingest_not_output fault (same_failure {T = Status} (ingest_failure fault) failure.Output e);
   }
 
   -- the disk failed
-  pub failed_opened : (next : State) (rest2 : Option (List ℕ)) (bad : Type 0) → OnlyWrites tells (IsReady now) (HasFrameRoom w rest now) bad (changes w) now next → (tells → MayHaveStored w (IsFramed rest rest2) now next)
-      → IngestsOpened tells v old next left rest2 before after (Err failure.Disk)
+  pub failed_opened : (next : State) (rest2 : Option (List ℕ)) (bad : Type 0) → OnlyWrites reveals (IsReady now) (HasFrameRoom w rest now) bad (changes w) now next → (reveals → MayHaveStored w (IsFramed rest rest2) now next)
+      → IngestsOpened reveals v old next left rest2 before after (Err failure.Disk)
   failed_opened next rest2 bad writes may = record {
     done = tt;
     printed = objects;
@@ -242,30 +242,30 @@ module _ (reading : HasOneReading) (lengths : CellsHaveLengths) (parts : CellsHa
       most = inl refl;
       whole = λ ok. absurd (false≢true ok);
       stands = λ stored. absurd (never_stored failure.Disk (λ e. cc) stored);
-      stops = λ told list its. (
-        (may told).objects,
+      stops = λ revealed list its. (
+        (may revealed).objects,
         ⊎_elim (λ none. inl none)
             (λ one. inr (refl, (one.0, one.2, (rest2, subst (Consumes left rest2) (frames_more objects one.0) (Consumes-trans left rest rest2 (frames_of objects) (frame_of one.0) gone.framed one.1)))))
-            (may told).most,
-        surely_none next list (may told).objects
-            (surely tells same v w some left rest old now before after objects gone still is_this reading lengths parts values record_more counts next bad writes told list its (may told).objects
-            (grows_maybe tells told w (list ++ gone.added) now next (gone.its told list its) (gone.synced told) (IsReady now) (HasFrameRoom w rest now) bad writes (IsFramed rest rest2) (may told))),
+            (may revealed).most,
+        surely_none next list (may revealed).objects
+            (surely reveals same v w some left rest old now before after objects gone still is_this reading lengths parts values record_more counts next bad writes revealed list its (may revealed).objects
+            (grows_maybe reveals revealed w (list ++ gone.added) now next (gone.its revealed list its) (gone.synced revealed) (IsReady now) (HasFrameRoom w rest now) bad writes (IsFramed rest rest2) (may revealed))),
       );
       stays = λ differs. absurd (differs refl);
       padded = λ differs. absurd (differs refl);
     };
-    early = early_failed tells old.files left rest2 objects failure.Disk (λ why e. let h : failure.Disk ≡ failure.Refused why = e in cc) (λ e. cc);
+    early = early_failed reveals old.files left rest2 objects failure.Disk (λ why e. let h : failure.Disk ≡ failure.Refused why = e in cc) (λ e. cc);
     prints = prints_quiet v.shape objects before after gone.printed failure.Disk (λ e. cc);
-    lines_in_room = λ told input is fits e. let h : (let a : Answer = Err failure.Disk in a ≡ Err failure.Output) = e in cc;
+    lines_in_room = λ revealed input is fits e. let h : (let a : Answer = Err failure.Disk in a ≡ Err failure.Output) = e in cc;
   }
 
   -- the output failed in the line of an object that was stored
-  pub unprinted_opened : (w2 : Opened) (o : NewObject) (next : State) (stored : Stored) (has : HasStored tells w w2 o now next stored) (bad : Type 0) (rest2 : Option (List ℕ)) (last : SinkState) (fault : WriteFault)
-      → OnlyWrites tells (IsReady now) (HasFrameRoom w rest now) bad (changes w) now next → IsFramed rest rest2 o → (tells → KeepsPadded w.shape (IsBlockIn w.shape w.lattice.n) now.files next.files)
+  pub unprinted_opened : (w2 : Opened) (o : NewObject) (next : State) (stored : Stored) (has : HasStored reveals w w2 o now next stored) (bad : Type 0) (rest2 : Option (List ℕ)) (last : SinkState) (fault : WriteFault)
+      → OnlyWrites reveals (IsReady now) (HasFrameRoom w rest now) bad (changes w) now next → IsFramed rest rest2 o → (reveals → KeepsPadded w.shape (IsBlockIn w.shape w.lattice.n) now.files next.files)
       → Prints {T = Unit {0}} {E = WriteFault} after [] last [] (Err fault) (stored_line v.shape o)
-      → IngestsOpened tells v old next left rest2 before last (Err failure.Output)
+      → IngestsOpened reveals v old next left rest2 before last (Err failure.Output)
   unprinted_opened w2 o next stored_here has bad rest2 last fault writes framed keeps line =
-      let grew = grew_more tells same v w some left rest old now before after objects gone still is_this reading lengths parts values record_more counts w2 o next stored_here has bad writes in
+      let grew = grew_more reveals same v w some left rest old now before after objects gone still is_this reading lengths parts values record_more counts w2 o next stored_here has bad writes in
       let whole : Consumes left rest2 (frames_of (objects ++ o ∷ [])) = subst (Consumes left rest2) (frames_more objects o) (Consumes-trans left rest rest2 (frames_of objects) (frame_of o) gone.framed framed) in
       let cut = prints_cut v.shape objects before after gone.printed last o fault line in
       record {
@@ -276,10 +276,10 @@ module _ (reading : HasOneReading) (lengths : CellsHaveLengths) (parts : CellsHa
           framed = (rest2, whole);
           most = inr (refl, (o, refl));
           whole = λ ok. absurd (false≢true ok);
-          stands = λ stored told list its. (grew told list its).0;
-          stays = λ differs told list its. (grew told list its).0.stays;
-          stops = λ told list its.
-              let all = grew told list its in
+          stands = λ stored revealed list its. (grew revealed list its).0;
+          stays = λ differs revealed list its. (grew revealed list its).0.stays;
+          stops = λ revealed list its.
+              let all = grew revealed list its in
               let many : length all.0.stays.grows.by.added ≡ length (objects ++ o ∷ []) =
               (let n = are_many v.shape objects gone.added gone.are in omega (arith, ap length all.1, length-append gone.added (Object has.r ∷ []), length-append objects (o ∷ []), n)) in (
                 [],
@@ -287,79 +287,79 @@ module _ (reading : HasOneReading) (lengths : CellsHaveLengths) (parts : CellsHa
                 subst (λ (xs : List NewObject). GrowsSurely v.shape list xs (length (objects ++ o ∷ [])) old next) (sym (append-nil (objects ++ o ∷ [])))
                     (surely_all v.shape list (objects ++ o ∷ []) old next all.0.stays many),
               );
-          padded = λ differs. padded_more tells same v w some left rest old now before after objects gone still is_this next keeps;
+          padded = λ differs. padded_more reveals same v w some left rest old now before after objects gone still is_this next keeps;
         };
-        early = early_failed tells old.files left rest2 objects failure.Output (λ why e. let h : failure.Output ≡ failure.Refused why = e in cc) (λ e. cc);
+        early = early_failed reveals old.files left rest2 objects failure.Output (λ why e. let h : failure.Output ≡ failure.Refused why = e in cc) (λ e. cc);
         prints = cut;
-        lines_in_room = λ told input is fits e.
-            let one = is_this told in
-            let room = fits_lines reading lengths parts counts v old next one (objects ++ o ∷ []) (grew told one.records (record { has = one.has; ledger = one.ledger })).0.stays left rest2 input before is whole fits in
+        lines_in_room = λ revealed input is fits e.
+            let one = is_this revealed in
+            let room = fits_lines reading lengths parts counts v old next one (objects ++ o ∷ []) (grew revealed one.records (record { has = one.has; ledger = one.ledger })).0.stays left rest2 input before is whole fits in
             (cut.in_room room.0 room.1 (let all = ap length (lines_more v.shape objects o) in omega (arith, all, room.2))).0 e;
       }
 
   -- all that was stored is there
-  stands_now : (told : tells) (list : List Record) → AreItsRecords v list (old.files 0) → HasGrown v.shape list objects old now
-  stands_now told list its = ⊎_elim
+  stands_now : (revealed : reveals) (list : List Record) → AreItsRecords v list (old.files 0) → HasGrown v.shape list objects old now
+  stands_now revealed list its = ⊎_elim
       (λ none.
-      let start : IsSynced old = subst IsSynced (still none.2) (gone.synced told) in
+      let start : IsSynced old = subst IsSynced (still none.2) (gone.synced revealed) in
       subst (λ (xs : List NewObject). HasGrown v.shape list xs old now) (sym none.0)
-      (subst (λ (s : State). HasGrown v.shape list [] old s) (sym (still none.2)) (grown_none tells told v list old reading its start)))
+      (subst (λ (s : State). HasGrown v.shape list [] old s) (sym (still none.2)) (grown_none reveals revealed v list old reading its start)))
       (λ some_more. some_more.1.0)
-      (gone.grew told list its)
+      (gone.grew revealed list its)
 
-  stops_now : (told : tells) (list : List Record) → AreItsRecords v list (old.files 0) → GrowsSurely v.shape list objects (length objects) old now
-  stops_now told list its = ⊎_elim
+  stops_now : (revealed : reveals) (list : List Record) → AreItsRecords v list (old.files 0) → GrowsSurely v.shape list objects (length objects) old now
+  stops_now revealed list its = ⊎_elim
       (λ none.
-      let start : IsSynced old = subst IsSynced (still none.2) (gone.synced told) in
-      let writes = writes_none tells (IsReady old) ⊥ (changes v) old (λ c. changes_none v.shape (limit_when v.raised) (IsBlockIn v.shape v.lattice.n) (IsBesides v.shape) c) in
+      let start : IsSynced old = subst IsSynced (still none.2) (gone.synced revealed) in
+      let writes = writes_none reveals (IsReady old) ⊥ (changes v) old (λ c. changes_none v.shape (limit_when v.raised) (IsBlockIn v.shape v.lattice.n) (IsBesides v.shape) c) in
       let leaves : LeavesLedger old old = record { images = during_none old (λ c. c 0 ≡ old.files 0) (λ c here. start c here 0); reads = refl } in
-      let grows = grows_no_more tells told v list old old its start (IsReady old) ⊥ ⊥ writes reading leaves in
+      let grows = grows_no_more reveals revealed v list old old its start (IsReady old) ⊥ ⊥ writes reading leaves in
       subst (λ (xs : List NewObject). GrowsSurely v.shape list xs (length xs) old now) (sym none.0)
       (subst (λ (s : State). GrowsSurely v.shape list [] 0 old s) (sym (still none.2))
       (record { grows = grows; first = λ c here. grows.by.adds.prefix old.moment c (omega arith) (omega arith) here; reads = grows.by.adds.reads })))
       (λ some_more. surely_all v.shape list objects old now some_more.1.0.stays (ap length some_more.1.1 ∙ are_many v.shape objects gone.added gone.are))
-      (gone.grew told list its)
+      (gone.grew revealed list its)
 
   -- the stream was at its end: all was done, but for the last line
-  stores_all : {T : Type 0} (rest2 : Option (List ℕ)) (answer : Result T Failure) → (IsOk answer → Consumes rest rest2 [] × IsAtEnd rest2) → StoresOpened tells v old now left rest2 objects [] answer
+  stores_all : {T : Type 0} (rest2 : Option (List ℕ)) (answer : Result T Failure) → (IsOk answer → Consumes rest rest2 [] × IsAtEnd rest2) → StoresOpened reveals v old now left rest2 objects [] answer
   stores_all rest2 answer end = record {
     framed = (rest, framed_none);
     most = inl refl;
     whole = λ ok. (subst (Consumes left rest2) (append-nil (frames_of objects)) (Consumes-trans left rest rest2 (frames_of objects) [] gone.framed (end ok).0), (end ok).1);
-    stands = λ stored told list its. subst (λ (xs : List NewObject). HasGrown v.shape list xs old now) (sym (append-nil objects)) (stands_now told list its);
-    stays = λ differs told list its. subst (λ (xs : List NewObject). StaysGrown v.shape list xs old now) (sym (append-nil objects)) (stands_now told list its).stays;
-    stops = λ told list its. (
+    stands = λ stored revealed list its. subst (λ (xs : List NewObject). HasGrown v.shape list xs old now) (sym (append-nil objects)) (stands_now revealed list its);
+    stays = λ differs revealed list its. subst (λ (xs : List NewObject). StaysGrown v.shape list xs old now) (sym (append-nil objects)) (stands_now revealed list its).stays;
+    stops = λ revealed list its. (
       [],
       inl refl,
       subst (λ (xs : List NewObject). GrowsSurely v.shape list xs (length (objects ++ [])) old now) (sym (append-nil (objects ++ [])))
-          (subst (λ (xs : List NewObject). GrowsSurely v.shape list xs (length xs) old now) (sym (append-nil objects)) (stops_now told list its)),
+          (subst (λ (xs : List NewObject). GrowsSurely v.shape list xs (length xs) old now) (sym (append-nil objects)) (stops_now revealed list its)),
     );
     padded = λ differs. gone.padded;
   }
 
   pub ended_opened : (rest2 : Option (List ℕ)) (last : SinkState) → IsAtEnd rest2 → Consumes rest rest2 [] → Prints {T = Unit {0}} {E = WriteFault} after [] last [] (Ok tt) (end_line (length objects))
-      → IngestsOpened tells v old now left rest2 before last (Ok Done)
+      → IngestsOpened reveals v old now left rest2 before last (Ok Done)
   ended_opened rest2 last end none line = record {
     done = refl;
     printed = objects;
     more = [];
     stores = stores_all rest2 (Ok Done) (λ ok. (none, end));
-    early = early_none tells old.files left rest2 objects (Ok Done) (λ why e. let h : (let one : Answer = Ok Done in one ≡ Err (failure.Refused why)) = e in cc) (λ e. let h : (let one : Answer = Ok Done in one ≡ Err failure.Input) = e in cc);
+    early = early_none reveals old.files left rest2 objects (Ok Done) (λ why e. let h : (let one : Answer = Ok Done in one ≡ Err (failure.Refused why)) = e in cc) (λ e. let h : (let one : Answer = Ok Done in one ≡ Err failure.Input) = e in cc);
     prints = prints_end v.shape objects before after gone.printed last line;
-    lines_in_room = λ told input is fits e. let h : (let a : Answer = Ok Done in a ≡ Err failure.Output) = e in cc;
+    lines_in_room = λ revealed input is fits e. let h : (let a : Answer = Ok Done in a ≡ Err failure.Output) = e in cc;
   }
 
   pub unended_opened : IsAtEnd rest → (rest2 : Option (List ℕ)) (last : SinkState) (fault : WriteFault) → Prints {T = Unit {0}} {E = WriteFault} after [] last [] (Err fault) (end_line (length objects))
-      → IngestsOpened tells v old now left rest2 before last (Err failure.Output)
+      → IngestsOpened reveals v old now left rest2 before last (Err failure.Output)
   unended_opened end rest2 last fault line = record {
     done = tt;
     printed = objects;
     more = [];
     stores = stores_all rest2 (Err failure.Output) (λ ok. absurd (false≢true ok));
-    early = early_failed tells old.files left rest2 objects failure.Output (λ why e. let h : failure.Output ≡ failure.Refused why = e in cc) (λ e. cc);
+    early = early_failed reveals old.files left rest2 objects failure.Output (λ why e. let h : failure.Output ≡ failure.Refused why = e in cc) (λ e. cc);
     prints = prints_cut_end v.shape objects before after gone.printed last fault line;
-    lines_in_room = λ told input is fits e.
-        let one = is_this told in
-        let room = fits_end reading lengths parts counts v old now one objects (stands_now told one.records (record { has = one.has; ledger = one.ledger })).stays left rest input before is gone.framed end fits in
+    lines_in_room = λ revealed input is fits e.
+        let one = is_this revealed in
+        let room = fits_end reading lengths parts counts v old now one objects (stands_now revealed one.records (record { has = one.has; ledger = one.ledger })).stays left rest input before is gone.framed end fits in
         ((prints_cut_end v.shape objects before after gone.printed last fault line).in_room room.0 room.1 room.2).0 e;
   }

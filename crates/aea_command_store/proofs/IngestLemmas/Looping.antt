@@ -72,19 +72,19 @@ pub ingest_no_output : (fault : IngestFault) → (let one : Answer = Err (ingest
 ingest_no_output fault e = ingest_not_output fault (same_answer (ingest_failure fault) failure.Output e)
 
 -- and no clash of digests
-fault_not_clash : (fault : IngestFault) (b : BlockId) (told computed : List ℕ) → ingest_failure fault ≡ failure.Clash b told computed → ⊥
-fault_not_clash ingest.BadName b told computed e = let h : failure.Refused refusal.BadName ≡ failure.Clash b told computed = e in cc
-fault_not_clash ingest.NameTaken b told computed e = let h : failure.Refused refusal.NameTaken ≡ failure.Clash b told computed = e in cc
-fault_not_clash ingest.CatalogFull b told computed e = let h : failure.Refused refusal.CatalogFull ≡ failure.Clash b told computed = e in cc
-fault_not_clash (ingest.HeadDamaged a) b told computed e = let h : failure.Refused (refusal.HeadDamaged a) ≡ failure.Clash b told computed = e in cc
-fault_not_clash (ingest.Full n) b told computed e = let h : failure.Refused (refusal.Full n) ≡ failure.Clash b told computed = e in cc
-fault_not_clash (ingest.BadStream n) b told computed e = let h : failure.Refused (refusal.BadStream n) ≡ failure.Clash b told computed = e in cc
-fault_not_clash ingest.ReadFault b told computed e = let h : failure.Input ≡ failure.Clash b told computed = e in cc
-fault_not_clash ingest.DiskFault b told computed e = let h : failure.Disk ≡ failure.Clash b told computed = e in cc
-fault_not_clash ingest.NoMemory b told computed e = let h : failure.Memory ≡ failure.Clash b told computed = e in cc
+fault_not_clash : (fault : IngestFault) (b : BlockId) (revealed computed : List ℕ) → ingest_failure fault ≡ failure.Clash b revealed computed → ⊥
+fault_not_clash ingest.BadName b revealed computed e = let h : failure.Refused refusal.BadName ≡ failure.Clash b revealed computed = e in cc
+fault_not_clash ingest.NameTaken b revealed computed e = let h : failure.Refused refusal.NameTaken ≡ failure.Clash b revealed computed = e in cc
+fault_not_clash ingest.CatalogFull b revealed computed e = let h : failure.Refused refusal.CatalogFull ≡ failure.Clash b revealed computed = e in cc
+fault_not_clash (ingest.HeadDamaged a) b revealed computed e = let h : failure.Refused (refusal.HeadDamaged a) ≡ failure.Clash b revealed computed = e in cc
+fault_not_clash (ingest.Full n) b revealed computed e = let h : failure.Refused (refusal.Full n) ≡ failure.Clash b revealed computed = e in cc
+fault_not_clash (ingest.BadStream n) b revealed computed e = let h : failure.Refused (refusal.BadStream n) ≡ failure.Clash b revealed computed = e in cc
+fault_not_clash ingest.ReadFault b revealed computed e = let h : failure.Input ≡ failure.Clash b revealed computed = e in cc
+fault_not_clash ingest.DiskFault b revealed computed e = let h : failure.Disk ≡ failure.Clash b revealed computed = e in cc
+fault_not_clash ingest.NoMemory b revealed computed e = let h : failure.Memory ≡ failure.Clash b revealed computed = e in cc
 
 pub ingest_no_clash : (fault : IngestFault) → NeverClashes (let one : Answer = Err (ingest_failure fault) in one)
-ingest_no_clash fault b told computed e = fault_not_clash fault b told computed (same_answer (ingest_failure fault) (failure.Clash b told computed) e)
+ingest_no_clash fault b revealed computed e = fault_not_clash fault b revealed computed (same_answer (ingest_failure fault) (failure.Clash b revealed computed) e)
 
 -- and it is no refusal of the opening
 same_refusal : (one why : Refusal) → failure.Refused one ≡ failure.Refused why → one ≡ why
@@ -180,41 +180,41 @@ frame_long o =
     omega (arith, length-append (frame_head o.name (length o.bytes)) o.bytes, length-append (to_be_bytes w16 (length o.name) ++ o.name) (to_be_bytes w64 (length o.bytes)), length-append (to_be_bytes w16 (length o.name)) o.name, two, eight)
 
 module _ (reading : HasOneReading) (lengths : CellsHaveLengths) (parts : CellsHaveParts) (values : LastsAreValues) (record_more : ObjectsRecordMore) (counts : DigestsAreCounted)
-    (tells same : Type 0) (v w : Opened) (some : HasSomeRecords v) (left rest : Option (List ℕ)) (old now : State) (before after : SinkState) (objects : List NewObject)
-    (gone : HasGone tells same v w left rest old now before after objects) (still : same → now ≡ old) (is_this : tells → IsThisOne v (old.files 0)) where
+    (reveals same : Type 0) (v w : Opened) (some : HasSomeRecords v) (left rest : Option (List ℕ)) (old now : State) (before after : SinkState) (objects : List NewObject)
+    (gone : HasGone reveals same v w left rest old now before after objects) (still : same → now ≡ old) (is_this : reveals → IsThisOne v (old.files 0)) where
   -- ---- what the call that takes a frame needs
 
   -- the opened ledger is that of the disk
-  pub this_now : tells → IsThisOne w (now.files 0)
-  this_now told =
-      let one = is_this told in
-      let its = gone.its told one.records (record { has = one.has; ledger = one.ledger }) in
+  pub this_now : reveals → IsThisOne w (now.files 0)
+  this_now revealed =
+      let one = is_this revealed in
+      let its = gone.its revealed one.records (record { has = one.has; ledger = one.ledger }) in
       record { records = one.records ++ gone.added; has = its.has; ledger = its.ledger }
 
   -- and nothing is pending on its file
-  pub fixed_now : tells → IsFixed now 0
-  fixed_now told c here = gone.synced told c here 0
+  pub fixed_now : reveals → IsFixed now 0
+  fixed_now revealed c here = gone.synced revealed c here 0
 
   -- ---- a frame that was stored
 
   module _ (w2 : Opened) (rest2 : Option (List ℕ)) (next : State) (name : List ℕ) (stored : Stored) (fault : Type 0)
-      (has : (o : NewObject) × (o.name ≡ name) × IsFramed rest rest2 o × HasStored tells w w2 o now next stored) (writes : OnlyWrites tells (IsReady now) (HasFrameRoom w rest now) fault (changes w) now next) where
+      (has : (o : NewObject) × (o.name ≡ name) × IsFramed rest rest2 o × HasStored reveals w w2 o now next stored) (writes : OnlyWrites reveals (IsReady now) (HasFrameRoom w rest now) fault (changes w) now next) where
     -- its line is that of the object
     line_is : stored_text stored.nodes stored.length stored.digest name ≡ stored_line v.shape has.0
-    line_is = line_of_stored tells same v w some left rest old now before after objects gone still is_this w2 has.0 next stored name has.1 has.3
+    line_is = line_of_stored reveals same v w some left rest old now before after objects gone still is_this w2 has.0 next stored name has.1 has.3
 
     -- the run goes on, with one object more
-    pub goes_on : ObjectsAreCounted → NewNamesAreFree → ((b c : List ℕ) (m n : ℕ) → EndsAt c n → now.takes 0 b m → now.takes 0 c n) → (other : Type 0) (after2 : SinkState) → (fault → ⊥) → (tells → KeepsPadded w.shape (IsBlockIn w.shape w.lattice.n) now.files next.files) → Prints {T = Unit {0}} {E = WriteFault} after [] after2 [] (Ok tt) (stored_text stored.nodes stored.length stored.digest name)
-        → HasGone tells other v w2 left rest2 old next before after2 (objects ++ has.0 ∷ [])
+    pub goes_on : ObjectsAreCounted → NewNamesAreFree → ((b c : List ℕ) (m n : ℕ) → EndsAt c n → now.takes 0 b m → now.takes 0 c n) → (other : Type 0) (after2 : SinkState) → (fault → ⊥) → (reveals → KeepsPadded w.shape (IsBlockIn w.shape w.lattice.n) now.files next.files) → Prints {T = Unit {0}} {E = WriteFault} after [] after2 [] (Ok tt) (stored_text stored.nodes stored.length stored.digest name)
+        → HasGone reveals other v w2 left rest2 old next before after2 (objects ++ has.0 ∷ [])
     goes_on count free ended other after2 fine keeps line =
-        gone_more tells same v w some left rest old now before after objects gone still is_this reading lengths parts values record_more counts w2 has.0 next stored has.3 fault writes count free ended other rest2 after2 has.2 fine keeps
+        gone_more reveals same v w some left rest old now before after objects gone still is_this reading lengths parts values record_more counts w2 has.0 next stored has.3 fault writes count free ended other rest2 after2 has.2 fine keeps
         (subst (λ (l : List ℕ). Prints {T = Unit {0}} {E = WriteFault} after [] after2 [] (Ok tt) l) line_is line)
 
     -- the output failed in its line
-    pub breaks_off : (last : SinkState) (broken : WriteFault) → (tells → KeepsPadded w.shape (IsBlockIn w.shape w.lattice.n) now.files next.files) → Prints {T = Unit {0}} {E = WriteFault} after [] last [] (Err broken) (stored_text stored.nodes stored.length stored.digest name)
-        → IngestsOpened tells v old next left rest2 before last (Err failure.Output)
+    pub breaks_off : (last : SinkState) (broken : WriteFault) → (reveals → KeepsPadded w.shape (IsBlockIn w.shape w.lattice.n) now.files next.files) → Prints {T = Unit {0}} {E = WriteFault} after [] last [] (Err broken) (stored_text stored.nodes stored.length stored.digest name)
+        → IngestsOpened reveals v old next left rest2 before last (Err failure.Output)
     breaks_off last broken keeps line =
-        unprinted_opened reading lengths parts values record_more counts tells same v w some left rest old now before after objects gone still is_this w2 has.0 next stored has.3 fault rest2 last broken writes has.2 keeps
+        unprinted_opened reading lengths parts values record_more counts reveals same v w some left rest old now before after objects gone still is_this w2 has.0 next stored has.3 fault rest2 last broken writes has.2 keeps
         (subst (λ (l : List ℕ). Prints {T = Unit {0}} {E = WriteFault} after [] last [] (Err broken) l) line_is line)
 
     -- one more is counted, and there are not more than the most
@@ -237,25 +237,25 @@ module _ (reading : HasOneReading) (lengths : CellsHaveLengths) (parts : CellsHa
     at_most_more at next_at count few taken = at_more w at (length taken.bytes) next_at count few taken.counted taken.most
 
   -- all its writes
-  pub writes_by : ObjectsAreCounted → NewNamesAreFree → ((b c : List ℕ) (m n : ℕ) → EndsAt c n → now.takes 0 b m → now.takes 0 c n) → (next : State) (fault disk : Type 0) → (disk → fault) → (fault → disk) → OnlyWrites tells (IsReady now) (HasFrameRoom w rest now) fault (changes w) now next → OnlyWrites tells (IsReady old) (FitsFrames v left old) disk (changes v) old next
+  pub writes_by : ObjectsAreCounted → NewNamesAreFree → ((b c : List ℕ) (m n : ℕ) → EndsAt c n → now.takes 0 b m → now.takes 0 c n) → (next : State) (fault disk : Type 0) → (disk → fault) → (fault → disk) → OnlyWrites reveals (IsReady now) (HasFrameRoom w rest now) fault (changes w) now next → OnlyWrites reveals (IsReady old) (FitsFrames v left old) disk (changes v) old next
   writes_by count free ended next fault disk so back writes =
-      writes_as tells (IsReady old) (FitsFrames v left old) fault disk (changes v) old next so back
-      (writes_more tells same v w some left rest old now before after objects gone still is_this count free lengths parts counts ended fault next writes)
+      writes_as reveals (IsReady old) (FitsFrames v left old) fault disk (changes v) old next so back
+      (writes_more reveals same v w some left rest old now before after objects gone still is_this count free lengths parts counts ended fault next writes)
 
   -- ---- a frame that was not stored
 
-  pub fails_by : (fault : IngestFault) (next : State) (rest2 : Option (List ℕ)) (bad : Type 0) → SurvivorsStayHonest → OnlyWrites tells (IsReady now) (HasFrameRoom w rest now) bad (changes w) now next
-      → ((let r : Result Ingest IngestFault = Err fault in r ≢ Err ingest.DiskFault) → ((name : List ℕ) (stored : Stored) → (let r : Result Ingest IngestFault = Err fault in r ≢ Ok (frame.Stored name stored))) → tells → LeavesLedger now next)
-      → ((let r : Result Ingest IngestFault = Err fault in r ≡ Err ingest.DiskFault) → tells → MayHaveStored w (IsFramed rest rest2) now next)
-      → ((let r : Result Ingest IngestFault = Err fault in r ≢ Err ingest.DiskFault) → tells → KeepsPadded w.shape (IsBlockIn w.shape w.lattice.n) now.files next.files)
-      → EndsEarly {T = Status} tells old.files left rest2 objects (Err (ingest_failure fault))
-      → IngestsOpened tells v old next left rest2 before after (Err (ingest_failure fault))
+  pub fails_by : (fault : IngestFault) (next : State) (rest2 : Option (List ℕ)) (bad : Type 0) → SurvivorsStayHonest → OnlyWrites reveals (IsReady now) (HasFrameRoom w rest now) bad (changes w) now next
+      → ((let r : Result Ingest IngestFault = Err fault in r ≢ Err ingest.DiskFault) → ((name : List ℕ) (stored : Stored) → (let r : Result Ingest IngestFault = Err fault in r ≢ Ok (frame.Stored name stored))) → reveals → LeavesLedger now next)
+      → ((let r : Result Ingest IngestFault = Err fault in r ≡ Err ingest.DiskFault) → reveals → MayHaveStored w (IsFramed rest rest2) now next)
+      → ((let r : Result Ingest IngestFault = Err fault in r ≢ Err ingest.DiskFault) → reveals → KeepsPadded w.shape (IsBlockIn w.shape w.lattice.n) now.files next.files)
+      → EndsEarly {T = Status} reveals old.files left rest2 objects (Err (ingest_failure fault))
+      → IngestsOpened reveals v old next left rest2 before after (Err (ingest_failure fault))
   fails_by fault next rest2 bad survivors writes leaves stopped keeps early = ⊎_elim
       (λ disk.
-      subst (λ (f : IngestFault). IngestsOpened tells v old next left rest2 before after (Err (ingest_failure f))) (sym disk)
-      (failed_opened reading lengths parts values record_more counts tells same v w some left rest old now before after objects gone still is_this next rest2 bad writes (stopped (ap Err disk))))
+      subst (λ (f : IngestFault). IngestsOpened reveals v old next left rest2 before after (Err (ingest_failure f))) (sym disk)
+      (failed_opened reading lengths parts values record_more counts reveals same v w some left rest old now before after objects gone still is_this next rest2 bad writes (stopped (ap Err disk))))
       (λ other.
-      refused_opened reading lengths parts values record_more counts tells same v w some left rest old now before after objects gone still is_this fault next rest2 bad survivors writes
+      refused_opened reading lengths parts values record_more counts reveals same v w some left rest old now before after objects gone still is_this fault next rest2 bad survivors writes
       (leaves (λ e. other (same_fault fault ingest.DiskFault e)) (λ name stored e. let h : (let r : Result Ingest IngestFault = Err fault in r ≡ Ok (frame.Stored name stored)) = e in cc))
       (keeps (λ e. other (same_fault fault ingest.DiskFault e))) early)
       (by_disk fault)
@@ -263,20 +263,20 @@ module _ (reading : HasOneReading) (lengths : CellsHaveLengths) (parts : CellsHa
   -- ---- the end of the stream
 
   pub ends_by : (next : State) → next ≡ now → (rest2 : Option (List ℕ)) (last : SinkState) (count : ℕ) → count ≡ length objects → IsAtEnd rest2 → Consumes rest rest2 [] → Prints {T = Unit {0}} {E = WriteFault} after [] last [] (Ok tt) (end_line count)
-      → IngestsOpened tells v old next left rest2 before last (Ok Done)
+      → IngestsOpened reveals v old next left rest2 before last (Ok Done)
   ends_by next unchanged rest2 last count is end none line =
-      subst (λ (s : State). IngestsOpened tells v old s left rest2 before last (Ok Done)) (sym unchanged)
-      (ended_opened reading lengths parts values record_more counts tells same v w some left rest old now before after objects gone still is_this rest2 last end none
+      subst (λ (s : State). IngestsOpened reveals v old s left rest2 before last (Ok Done)) (sym unchanged)
+      (ended_opened reading lengths parts values record_more counts reveals same v w some left rest old now before after objects gone still is_this rest2 last end none
       (subst (λ (k : ℕ). Prints {T = Unit {0}} {E = WriteFault} after [] last [] (Ok tt) (end_line k)) is line))
 
   pub cut_by : IsAtEnd rest → (next : State) → next ≡ now → (rest2 : Option (List ℕ)) (last : SinkState) (count : ℕ) (broken : WriteFault) → count ≡ length objects → Prints {T = Unit {0}} {E = WriteFault} after [] last [] (Err broken) (end_line count)
-      → IngestsOpened tells v old next left rest2 before last (Err failure.Output)
+      → IngestsOpened reveals v old next left rest2 before last (Err failure.Output)
   cut_by end next unchanged rest2 last count broken is line =
-      subst (λ (s : State). IngestsOpened tells v old s left rest2 before last (Err failure.Output)) (sym unchanged)
-      (unended_opened reading lengths parts values record_more counts tells same v w some left rest old now before after objects gone still is_this end rest2 last broken
+      subst (λ (s : State). IngestsOpened reveals v old s left rest2 before last (Err failure.Output)) (sym unchanged)
+      (unended_opened reading lengths parts values record_more counts reveals same v w some left rest old now before after objects gone still is_this end rest2 last broken
       (subst (λ (k : ℕ). Prints {T = Unit {0}} {E = WriteFault} after [] last [] (Err broken) (end_line k)) is line))
 
   -- the writes up to there
-  pub writes_then : (next : State) (disk : Type 0) → next ≡ now → (disk → ⊥) → OnlyWrites tells (IsReady old) (FitsFrames v left old) disk (changes v) old next
+  pub writes_then : (next : State) (disk : Type 0) → next ≡ now → (disk → ⊥) → OnlyWrites reveals (IsReady old) (FitsFrames v left old) disk (changes v) old next
   writes_then next disk unchanged none =
-      subst (λ (s : State). OnlyWrites tells (IsReady old) (FitsFrames v left old) disk (changes v) old s) (sym unchanged) (writes_as tells (IsReady old) (FitsFrames v left old) ⊥ disk (changes v) old now none (λ none. absurd none) gone.writes)
+      subst (λ (s : State). OnlyWrites reveals (IsReady old) (FitsFrames v left old) disk (changes v) old s) (sym unchanged) (writes_as reveals (IsReady old) (FitsFrames v left old) ⊥ disk (changes v) old now none (λ none. absurd none) gone.writes)

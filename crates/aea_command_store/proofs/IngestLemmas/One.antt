@@ -24,8 +24,8 @@ use Rattle.aea_command_store.proofs.Committing.{long_behind, long_exactly}
 use Rattle.aea_command_store.proofs.PutLemmas.Opening.{changes, leaves_is, none_more}
 use Rattle.aea_command_store.proofs.Wides.{wide_next}
 
-module _ (tells : Type 0) (told : tells) (w : Opened) (rs : List Record) (now next : State) (its : AreItsRecords w rs (now.files 0)) (synced : IsSynced now)
-    (taken fits fault : Type 0) (writes : OnlyWrites tells taken fits fault (changes w) now next) where
+module _ (reveals : Type 0) (revealed : reveals) (w : Opened) (rs : List Record) (now next : State) (its : AreItsRecords w rs (now.files 0)) (synced : IsSynced now)
+    (taken fits fault : Type 0) (writes : OnlyWrites reveals taken fits fault (changes w) now next) where
   -- an image of now is the files as they read
   image_now : (d : Files) → now.image now.moment d → d ≡ now.files
   image_now d here = λ i f. synced d here f i
@@ -36,7 +36,7 @@ module _ (tells : Type 0) (told : tells) (w : Opened) (rs : List Record) (now ne
       leaves_is w rs its.has now.files c (subst (λ (d : Files). changes w d c) (image_now was.0 was.1) was.2)
 
   pub reads_from : LeavesArchive w.shape rs now.files next.files
-  reads_from = leaves_is w rs its.has now.files next.files (writes.contents told)
+  reads_from = leaves_is w rs its.has now.files next.files (writes.contents revealed)
 
   -- nothing was stored
   unfoldable pub grows_no_more : HasOneReading → LeavesLedger now next → Grows w.shape rs [] now next
@@ -88,13 +88,13 @@ module _ (tells : Type 0) (told : tells) (w : Opened) (rs : List Record) (now ne
   }
 
   -- it was
-  pub grown_by_one : (w2 : Opened) (o : NewObject) (stored : Stored) (has : HasStored tells w w2 o now next stored) → (g : HasGrown w.shape rs (o ∷ []) now next) × (g.stays.grows.by.added ≡ Object has.r ∷ [])
+  pub grown_by_one : (w2 : Opened) (o : NewObject) (stored : Stored) (has : HasStored reveals w w2 o now next stored) → (g : HasGrown w.shape rs (o ∷ []) now next) × (g.stays.grows.by.added ≡ Object has.r ∷ [])
   grown_by_one w2 o stored has =
       let blocks = object_blocks w.shape o.bytes in
       let alone : blocks ≡ blocks ++ [] = sym (append-nil blocks) in
       let then = has.value rs its.has in
-      let added = has.added told rs its in
-      let exactly : next.files 0 ≡ committed_all w.shape rs (now.files 0) (Object has.r ∷ []) = has.exactly told ∙ ap (λ (n : ℕ). committed (now.files 0) n (body (Object has.r) ++ 0 ∷ [])) its.has.end in
+      let added = has.added revealed rs its in
+      let exactly : next.files 0 ≡ committed_all w.shape rs (now.files 0) (Object has.r ∷ []) = has.exactly revealed ∙ ap (λ (n : ℕ). committed (now.files 0) n (body (Object has.r) ++ 0 ∷ [])) its.has.end in
       let stays : StaysGrown w.shape rs (o ∷ []) now next = record {
         grows = record {
           by = record {
@@ -104,29 +104,29 @@ module _ (tells : Type 0) (told : tells) (w : Opened) (rs : List Record) (now ne
             payload = has.payload;
             added = Object has.r ∷ [];
             next = (w2.lattice, has.r, refl, has.next, refl);
-            adds = has.adds told rs its;
+            adds = has.adds revealed rs its;
             leaves = leaves_from;
             reads = reads_from;
             long = long_exactly w.shape rs (Object has.r ∷ []) (now.files 0) (next.files 0) exactly;
           };
-          homes = λ some. has.homes told;
+          homes = λ some. has.homes revealed;
           lasts_wide = λ some. has.lasts_wide;
           wide = has.wide;
           bytes = All-cons (λ q. AreBytes q.bytes) o [] has.bytes (λ k d inside. absurd (omega (arith, inside)));
           records_more = λ datas valid recorded honest.
               subst (λ (more : List (List ℕ)). RecordsMore w.shape rs (Object has.r ∷ []) datas more w.lattice w2.lattice has.payload) alone
-              (has.records_more told rs datas its.has recorded (subst (λ (ds : List (List ℕ)). AreLastsHonest w.shape w.lattice ds datas now.files) (sym its.has.digests) honest));
+              (has.records_more revealed rs datas its.has recorded (subst (λ (ds : List (List ℕ)). AreLastsHonest w.shape w.lattice ds datas now.files) (sym its.has.digests) honest));
         };
         images = λ c here. subst (HasLedger w.shape (rs ++ Object has.r ∷ [])) (sym (added.synced c here 0)) added.ledger;
         ledger = added.ledger;
         exactly = exactly;
         blocks = added.blocks;
         lasts = λ some. subst (λ (ds : List (List ℕ)). AreLastsRecorded w.shape w.lattice ds has.payload) its.has.digests has.lasts;
-        cells = has.cells told;
+        cells = has.cells revealed;
         honest = λ datas recorded honest plain.
             let early = subst (λ (ds : List (List ℕ)). AreSurvivorsHonest w.shape w.lattice ds datas now.files) (sym its.has.digests) honest in
             let damage = subst (λ (ds : List (List ℕ)). IsDamagePlain w.shape w.lattice ds now.files) (sym its.has.digests) plain in
-            let late = has.honest told rs datas its.has recorded early damage in
+            let late = has.honest revealed rs datas its.has recorded early damage in
             let as_shape = subst (λ (s : Shape). AreSurvivorsHonest s w2.lattice w2.digests (datas ++ blocks) next.files × IsDamagePlain s w2.lattice w2.digests next.files) has.same_shape late in
             let as_digests = subst (λ (ds : List (List ℕ)). AreSurvivorsHonest w.shape w2.lattice ds (datas ++ blocks) next.files × IsDamagePlain w.shape w2.lattice ds next.files) then.digests as_shape in
             subst (λ (more : List (List ℕ)). AreSurvivorsHonest w.shape w2.lattice (digests_of (rs ++ Object has.r ∷ [])) (datas ++ more) next.files × IsDamagePlain w.shape w2.lattice (digests_of (rs ++ Object has.r ∷ [])) next.files) alone as_digests;

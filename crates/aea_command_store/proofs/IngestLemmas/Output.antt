@@ -71,7 +71,7 @@ module _ (reading : HasOneReading) (lengths : CellsHaveLengths) (parts : CellsHa
   fits_lines left rest input out is taken fits =
       let more = rest_of_input left rest input (frames_of objects) is taken in
       let text = fits.lines v.shape objects more.0 (would_store input more.0 more.2) in
-      (text.room, text.told, text.enough)
+      (text.room, text.revealed, text.enough)
 
   pub fits_end : (left rest : Option (List ℕ)) (input : List ℕ) (out : SinkState) → left ≡ Some input → Consumes left rest (frames_of objects) → IsAtEnd rest → FitsLines old.files input out
       → (room : ℕ) × (out.room ≡ Some room) × (length (stored_lines v.shape objects ++ end_line (length objects)) ≤ room)
@@ -79,4 +79,4 @@ module _ (reading : HasOneReading) (lengths : CellsHaveLengths) (parts : CellsHa
       let more = rest_of_input left rest input (frames_of objects) is taken in
       let all : input ≡ frames_of objects ++ [] = more.2 ∙ ap (λ (l : List ℕ). frames_of objects ++ l) (none_at_end rest more.0 more.1 end) in
       let text = fits.end v.shape objects (would_store input [] all) in
-      (text.room, text.told, text.enough)
+      (text.room, text.revealed, text.enough)

@@ -185,30 +185,30 @@ module _ (reading : HasOneReading) (count : ObjectsAreCounted) (free : NewNamesA
 
     taken_cause : fault ≡ ingest.NameTaken → here NameTaken
     taken_cause is =
-        let told = gave.name_taken (ap Err is) in
-        (told.0, told.1, λ all. told.2 (names_are_free count free w (one.records ++ added) has (frame_name stream) all))
+        let revealed = gave.name_taken (ap Err is) in
+        (revealed.0, revealed.1, λ all. revealed.2 (names_are_free count free w (one.records ++ added) has (frame_name stream) all))
 
     many_cause : fault ≡ ingest.CatalogFull → here CatalogFull
     many_cause is =
-        let told = gave.many (ap Err is) in
-        (told.1.0, told.1.1, new_name told.1.2, sym (as_many count free w (one.records ++ added) has) ∙ told.0)
+        let revealed = gave.many (ap Err is) in
+        (revealed.1.0, revealed.1.1, new_name revealed.1.2, sym (as_many count free w (one.records ++ added) has) ∙ revealed.0)
 
     head_cause : (b : BlockId) → fault ≡ ingest.HeadDamaged b → here (HeadDamaged b)
     head_cause b is =
-        let told = gave.head b (ap Err is) in
-        let head = head_here b told.1 in
-        (head.0, place_of_entry count free w (one.records ++ added) has stream told.0, head.1)
+        let revealed = gave.head b (ap Err is) in
+        let head = head_here b revealed.1 in
+        (head.0, place_of_entry count free w (one.records ++ added) has stream revealed.0, head.1)
 
     full_cause : (n : ℕ) → fault ≡ ingest.Full n → here (Full n)
     full_cause n is =
-        let told = gave.full n (ap Err is) in
-        let past = subst (λ (s : Shape). f.limit < f.nodes + nodes_for s (object_length stream)) same_shape (too_long count free w (one.records ++ added) has stream told.2) in
-        (place_of_entry count free w (one.records ++ added) has stream told.1, told.0 ∙ has.lattice.n, past)
+        let revealed = gave.full n (ap Err is) in
+        let past = subst (λ (s : Shape). f.limit < f.nodes + nodes_for s (object_length stream)) same_shape (too_long count free w (one.records ++ added) has stream revealed.2) in
+        (place_of_entry count free w (one.records ++ added) has stream revealed.1, revealed.0 ∙ has.lattice.n, past)
 
     cut_cause : (n : ℕ) → fault ≡ ingest.BadStream n → here (BadStream n)
     cut_cause n is =
-        let told = gave.bad_stream n (ap Err is) in
-        (exact n is, subst (λ (s : Shape). EndsInHead stream ⊎ (HasPlace f stream × FitsLimit s f stream × (length stream < frame_length stream))) same_shape (inside count free w (one.records ++ added) has stream told.1))
+        let revealed = gave.bad_stream n (ap Err is) in
+        (exact n is, subst (λ (s : Shape). EndsInHead stream ⊎ (HasPlace f stream × FitsLimit s f stream × (length stream < frame_length stream))) same_shape (inside count free w (one.records ++ added) has stream revealed.1))
 
     -- ---- and the first cause
 
@@ -308,9 +308,9 @@ module _ (reading : HasOneReading) (count : ObjectsAreCounted) (free : NewNamesA
     -- a damaged last parity that was returned comes before a cause that comes later
     head_stands : (b : BlockId) → (let r : Result Ingest IngestFault = Err fault in r ≡ Err (ingest.HeadDamaged b)) → OpenedCauses files input (HeadDamaged b)
     head_stands b e =
-        let told = gave.head b e in
-        let head = head_here b told.1 in
-        refused_at (HeadDamaged b) (head.0, place_of_entry count free w (one.records ++ added) has stream told.0, head.1)
+        let revealed = gave.head b e in
+        let head = head_here b revealed.1 in
+        refused_at (HeadDamaged b) (head.0, place_of_entry count free w (one.records ++ added) has stream revealed.0, head.1)
 
     pub always_here : (why : Refusal) → here why → ((b : BlockId) → place_of (HeadDamaged b) < place_of why → OpenedCauses files input (HeadDamaged b) → ⊥) → (answer_by fault ≡ Err (failure.Refused why)) ⊎ IsStopped (answer_by fault)
     always_here BadName is first = ⊎_elim (λ e. inl (by_fault BadName ingest.BadName refl e)) (λ e. inr (by_read e)) (gave.bad_name_refused is)

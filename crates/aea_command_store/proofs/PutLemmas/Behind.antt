@@ -10,7 +10,7 @@ use Rattle.aea_command.specs.Causes.{RefusesBy, IsDecided, place_of}
 use Rattle.aea_command.specs.Openings.{OpeningCauses, Opens}
 use Rattle.aea_command_store.specs.Put.{PutCauses, IsByInput}
 use Rattle.aea_command.proofs.Behind.{AreBehindOpening, some_ledger, unopened_refuses}
-use Rattle.aea_command.proofs.Refusing.{refuses_by_told}
+use Rattle.aea_command.proofs.Refusing.{refuses_by_revealed}
 use Rattle.aea_records.specs.Laws.{IsSomeLedger}
 
 -- the causes of a put are those of the opening, and others at what is a ledger
@@ -36,8 +36,8 @@ put_behind name files input = record {
     back_to why cause = absurd cause
 
 -- an archive that was not opened shows why
-pub unopened_put : {T : Type 0} (name : List ℕ) (tells : Type 0) (old new : State) (left : Option (List ℕ)) (f : Failure) → Opens tells old new (Err f)
-    → RefusesBy {T = T} (IsDecided tells (IsSome left) IsByInput) (PutCauses name old.files (unwrap_or left [])) (Err f)
-unopened_put {T} name tells old new left f opens =
-    refuses_by_told {T = T} (λ why. tells) (IsDecided tells (IsSome left) IsByInput) (PutCauses name old.files (unwrap_or left [])) (Err f) (λ why told. told.0)
-    (unopened_refuses tells old new f (PutCauses name old.files (unwrap_or left [])) (put_behind name old.files (unwrap_or left [])) opens)
+pub unopened_put : {T : Type 0} (name : List ℕ) (reveals : Type 0) (old new : State) (left : Option (List ℕ)) (f : Failure) → Opens reveals old new (Err f)
+    → RefusesBy {T = T} (IsDecided reveals (IsSome left) IsByInput) (PutCauses name old.files (unwrap_or left [])) (Err f)
+unopened_put {T} name reveals old new left f opens =
+    refuses_by_revealed {T = T} (λ why. reveals) (IsDecided reveals (IsSome left) IsByInput) (PutCauses name old.files (unwrap_or left [])) (Err f) (λ why revealed. revealed.0)
+    (unopened_refuses reveals old new f (PutCauses name old.files (unwrap_or left [])) (put_behind name old.files (unwrap_or left [])) opens)

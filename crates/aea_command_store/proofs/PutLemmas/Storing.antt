@@ -1,7 +1,7 @@
 -- What becomes of the archive in a run that puts, by what its calls gave.
 use Rattle.std.proofs.Common.{◌≡◌, ◌≢◌, ◌⊎◌, inl, inr, ℕ, ◌+◌, ◌-◌, ◌*◌, ◌≤◌, List, [], ◌∷◌, length, refl, sym, ◌∙◌, ap, subst, arith, Option, Result, Ok, Err, IfOk, IsErr}
 use Rattle.aea_command.specs.Openings.{greatest_sites, opened_at, OpensThen, OpensOr, IsUntouched}
-use Rattle.aea_command_store.specs.Put.{stored_text, FitsPut, IsEarly, EndsStored, MayHavePut, IsWanting, Stores, IsStoredLine, KeepsOtherFiles}
+use Rattle.aea_command_store.specs.Put.{stored_text, FitsPut, IsEarly, EndsStored, MayHavePut, IsOutOfMemory, Stores, IsStoredLine, KeepsOtherFiles}
 use Rattle.aea_command.specs.declared.refusal.Refusal.TheVariants.{BadName, NameTaken, CatalogFull, HeadDamaged, Full}
 use Rattle.aea_command.specs.declared.refusal.Failure.{Failure}
 use Rattle.aea_command.specs.declared.refusal.Failure.TheVariants as failure
@@ -112,8 +112,8 @@ sites_most shape = let h = shape.in_profile in grind (arith, nat_tests)
 not_early : (n : ℕ) → IsEarly (Full n) → ⊥
 not_early n early = omega (arith, early)
 
-module _ (reading : HasOneReading) (counts : DigestsAreCounted) (survivors : SurvivorsStayHonest) (tells : Type 0) (v w : Opened) (name : List ℕ) (left rest : Option (List ℕ)) (old mid new : State) (r : Result Stored PutFault)
-    (gave : HasPutting tells v w name left rest old mid new r) where
+module _ (reading : HasOneReading) (counts : DigestsAreCounted) (survivors : SurvivorsStayHonest) (reveals : Type 0) (v w : Opened) (name : List ℕ) (left rest : Option (List ℕ)) (old mid new : State) (r : Result Stored PutFault)
+    (gave : HasPutting reveals v w name left rest old mid new r) where
   late : Passes mid new
   late = gave.writes.time
 
@@ -122,96 +122,96 @@ module _ (reading : HasOneReading) (counts : DigestsAreCounted) (survivors : Sur
   stored_one (Ok s) is ok = (s, is)
   stored_one (Err fault) is ok = absurd (false≢true ok)
 
-  put_of : (s : Stored) → r ≡ Ok s → HasPut tells v w name left rest mid new s
-  put_of s is = subst (λ (q : Result Stored PutFault). IfOk q (HasPut tells v w name left rest mid new)) is gave.stored
+  put_of : (s : Stored) → r ≡ Ok s → HasPut reveals v w name left rest mid new s
+  put_of s is = subst (λ (q : Result Stored PutFault). IfOk q (HasPut reveals v w name left rest mid new)) is gave.stored
 
   -- what the call left of the archive, as of the whole run: where the object was stored, and where nothing was
-  stored_then : (told : tells) (s : Stored) (o : NewObject) → HasStored tells v w o mid new s → HasGrown v.shape (gave.opens.this_one told).records (o ∷ []) (opened_at old new mid.moment) new
-  stored_then told s o has =
-      let one = gave.opens.this_one told in
-      grown_at v.shape one.records (o ∷ []) old mid new (gave.opens.reads.contents told)
-      (grown_by_one tells told v one.records mid new (its_records tells old mid v gave.opens told one) (opening_synced tells v old mid new gave.opens told) _ _ _ gave.writes w o s has).0
+  stored_then : (revealed : reveals) (s : Stored) (o : NewObject) → HasStored reveals v w o mid new s → HasGrown v.shape (gave.opens.this_one revealed).records (o ∷ []) (opened_at old new mid.moment) new
+  stored_then revealed s o has =
+      let one = gave.opens.this_one revealed in
+      grown_at v.shape one.records (o ∷ []) old mid new (gave.opens.reads.contents revealed)
+      (grown_by_one reveals revealed v one.records mid new (its_records reveals old mid v gave.opens revealed one) (opening_synced reveals v old mid new gave.opens revealed) _ _ _ gave.writes w o s has).0
 
-  none_then : (told : tells) → r ≢ Err put.DiskFault → IsErr r → StaysGrown v.shape (gave.opens.this_one told).records [] (opened_at old new mid.moment) new
-  none_then told differs failed =
-      let one = gave.opens.this_one told in
-      stays_at v.shape one.records [] old mid new (gave.opens.reads.contents told)
-      (stays_none reading counts survivors tells told v one.records mid new (its_records tells old mid v gave.opens told one) (opening_synced tells v old mid new gave.opens told) _ _ _ gave.writes
-      (gave.leaves failed differs told) (gave.padded differs told))
+  none_then : (revealed : reveals) → r ≢ Err put.DiskFault → IsErr r → StaysGrown v.shape (gave.opens.this_one revealed).records [] (opened_at old new mid.moment) new
+  none_then revealed differs failed =
+      let one = gave.opens.this_one revealed in
+      stays_at v.shape one.records [] old mid new (gave.opens.reads.contents revealed)
+      (stays_none reading counts survivors reveals revealed v one.records mid new (its_records reveals old mid v gave.opens revealed one) (opening_synced reveals v old mid new gave.opens revealed) _ _ _ gave.writes
+      (gave.leaves failed differs revealed) (gave.padded differs revealed))
 
-  has_stands : EndsStored (answer_of r) → tells → (shape : Shape) (records : List Record) → HasLedger shape records (old.files 0)
+  has_stands : EndsStored (answer_of r) → reveals → (shape : Shape) (records : List Record) → HasLedger shape records (old.files 0)
       → (o : NewObject) × IsWhole name left rest o × OpensThen old new (HasGrown shape records (o ∷ []))
-  has_stands stored told =
+  has_stands stored revealed =
       let s = stored_one r refl (answer_stored r stored) in
       let has = put_of s.0 s.1 in
-      by_reading reading v (old.files 0) (gave.opens.this_one told)
+      by_reading reading v (old.files 0) (gave.opens.this_one revealed)
       (λ shape records. (o : NewObject) × IsWhole name left rest o × OpensThen old new (HasGrown shape records (o ∷ []))) (
         has.0,
         has.1,
-        opens_then tells v old mid new gave.opens told (HasGrown v.shape (gave.opens.this_one told).records (has.0 ∷ [])) late
-            (stored_then told s.0 has.0 has.2),
+        opens_then reveals v old mid new gave.opens revealed (HasGrown v.shape (gave.opens.this_one revealed).records (has.0 ∷ [])) late
+            (stored_then revealed s.0 has.0 has.2),
       )
 
   -- what a stop leaves, by the answer
-  stops_by : (told : tells) (q : Result Stored PutFault) → r ≡ q → (objects : List NewObject) × MayHavePut name left rest (answer_of q) objects × OpensOr old new (Grows v.shape (gave.opens.this_one told).records objects)
-  stops_by told (Ok s) is =
+  stops_by : (revealed : reveals) (q : Result Stored PutFault) → r ≡ q → (objects : List NewObject) × MayHavePut name left rest (answer_of q) objects × OpensOr old new (Grows v.shape (gave.opens.this_one revealed).records objects)
+  stops_by revealed (Ok s) is =
       let has = put_of s is in
-      let one = gave.opens.this_one told in (
+      let one = gave.opens.this_one revealed in (
         has.0 ∷ [],
         inr (inl (inl refl), (has.0, has.1, refl)),
-        inr (opens_then tells v old mid new gave.opens told (Grows v.shape one.records (has.0 ∷ [])) late
-            (stored_then told s has.0 has.2).stays.grows),
+        inr (opens_then reveals v old mid new gave.opens revealed (Grows v.shape one.records (has.0 ∷ [])) late
+            (stored_then revealed s has.0 has.2).stays.grows),
       )
-  stops_by told (Err put.DiskFault) is =
-      let may = gave.stopped is told in
-      let one = gave.opens.this_one told in
+  stops_by revealed (Err put.DiskFault) is =
+      let may = gave.stopped is revealed in
+      let one = gave.opens.this_one revealed in
       let most : MayHavePut name left rest (let a : Result Stored Failure = Err failure.Disk in a) may.objects = elim may.most [
         | inl none ↦ inl none
         | inr some ↦ inr (inr refl, some)
       ] in (
         may.objects,
         most,
-        inr (opens_then tells v old mid new gave.opens told (Grows v.shape one.records may.objects) late
-            (grows_at v.shape one.records may.objects old mid new (gave.opens.reads.contents told)
-            (grows_maybe tells told v one.records mid new (its_records tells old mid v gave.opens told one) (opening_synced tells v old mid new gave.opens told) _ _ _ gave.writes (IsWhole name left rest) may))),
+        inr (opens_then reveals v old mid new gave.opens revealed (Grows v.shape one.records may.objects) late
+            (grows_at v.shape one.records may.objects old mid new (gave.opens.reads.contents revealed)
+            (grows_maybe reveals revealed v one.records mid new (its_records reveals old mid v gave.opens revealed one) (opening_synced reveals v old mid new gave.opens revealed) _ _ _ gave.writes (IsWhole name left rest) may))),
       )
-  stops_by told (Err fault) is =
-      let one = gave.opens.this_one told in
+  stops_by revealed (Err fault) is =
+      let one = gave.opens.this_one revealed in
       let differs : r ≢ Err put.DiskFault = λ e. let h : Err fault ≡ Err put.DiskFault = sym is ∙ e in cc in (
         [],
         inl refl,
-        inr (opens_then tells v old mid new gave.opens told (Grows v.shape one.records []) late
-            (none_then told differs (subst IsErr (sym is) refl)).grows),
+        inr (opens_then reveals v old mid new gave.opens revealed (Grows v.shape one.records []) late
+            (none_then revealed differs (subst IsErr (sym is) refl)).grows),
       )
 
   -- what is there but after a fault of the disk
-  stays_by : (told : tells) (q : Result Stored PutFault) → r ≡ q → answer_of q ≢ Err failure.Disk
-      → (objects : List NewObject) × MayHavePut name left rest (answer_of q) objects × StaysGrown v.shape (gave.opens.this_one told).records objects (opened_at old new mid.moment) new
-  stays_by told (Ok s) is fine =
+  stays_by : (revealed : reveals) (q : Result Stored PutFault) → r ≡ q → answer_of q ≢ Err failure.Disk
+      → (objects : List NewObject) × MayHavePut name left rest (answer_of q) objects × StaysGrown v.shape (gave.opens.this_one revealed).records objects (opened_at old new mid.moment) new
+  stays_by revealed (Ok s) is fine =
       let has = put_of s is in
-      (has.0 ∷ [], inr (inl (inl refl), (has.0, has.1, refl)), (stored_then told s has.0 has.2).stays)
-  stays_by told (Err fault) is fine =
+      (has.0 ∷ [], inr (inl (inl refl), (has.0, has.1, refl)), (stored_then revealed s has.0 has.2).stays)
+  stays_by revealed (Err fault) is fine =
       let differs : r ≢ Err put.DiskFault = λ e. fine (ap answer_of (sym is ∙ e)) in (
         [],
         inl refl,
-        none_then told differs (subst IsErr (sym is) refl),
+        none_then revealed differs (subst IsErr (sym is) refl),
       )
 
   -- refusals before the input is read
-  untouched_early : causes.IsEarly r → IsUntouched tells old new × (rest ≡ left)
+  untouched_early : causes.IsEarly r → IsUntouched reveals old new × (rest ≡ left)
   untouched_early early =
       let same = gave.early early in (
-        untouched_by tells v old mid new gave.opens (subst (λ (s : State). OnlyReads tells ⊥ mid s) (sym same.0) (reads_none tells ⊥ mid (λ none. none))),
+        untouched_by reveals v old mid new gave.opens (subst (λ (s : State). OnlyReads reveals ⊥ mid s) (sym same.0) (reads_none reveals ⊥ mid (λ none. none))),
         same.1,
       )
 
-  untouched_is : (q : Result Stored PutFault) → r ≡ q → (why : Refusal) → IsEarly why → answer_of q ≡ Err (failure.Refused why) → IsUntouched tells old new × (rest ≡ left)
+  untouched_is : (q : Result Stored PutFault) → r ≡ q → (why : Refusal) → IsEarly why → answer_of q ≡ Err (failure.Refused why) → IsUntouched reveals old new × (rest ≡ left)
   untouched_is (Ok s) is why early e = let h : Ok s ≡ Err (failure.Refused why) = e in cc
   untouched_is (Err put.BadName) is why early e = untouched_early (inl is)
   untouched_is (Err put.NameTaken) is why early e = untouched_early (inr (inl is))
   untouched_is (Err put.CatalogFull) is why early e = untouched_early (inr (inr is))
   untouched_is (Err (put.HeadDamaged b)) is why early e =
-      let leaves = gave.head_leaves b is in (untouched_by tells v old mid new gave.opens leaves.1, leaves.0)
+      let leaves = gave.head_leaves b is in (untouched_by reveals v old mid new gave.opens leaves.1, leaves.0)
   untouched_is (Err (put.Full n)) is why early e =
       let h : Err (failure.Refused (Full n)) ≡ Err (failure.Refused why) = e in
       let same : Full n ≡ why = cc in
@@ -221,30 +221,30 @@ module _ (reading : HasOneReading) (counts : DigestsAreCounted) (survivors : Sur
   untouched_is (Err put.NoMemory) is why early e = let h : Err failure.Memory ≡ Err (failure.Refused why) = e in cc
 
   -- other failures than of the disk leave the ledger
-  leaves_is_kept : (q : Result Stored PutFault) → r ≡ q → (f : Failure) → f ≢ failure.Disk → answer_of q ≡ Err f → tells → IsOpened old new (λ c. c 0 ≡ old.files 0) × (new.files 0 ≡ old.files 0)
-  leaves_is_kept (Ok s) is f differs e told = let h : Ok s ≡ Err f = e in cc
-  leaves_is_kept (Err fault) is f differs e told =
+  leaves_is_kept : (q : Result Stored PutFault) → r ≡ q → (f : Failure) → f ≢ failure.Disk → answer_of q ≡ Err f → reveals → IsOpened old new (λ c. c 0 ≡ old.files 0) × (new.files 0 ≡ old.files 0)
+  leaves_is_kept (Ok s) is f differs e revealed = let h : Ok s ≡ Err f = e in cc
+  leaves_is_kept (Err fault) is f differs e revealed =
       let apart : r ≢ Err put.DiskFault = λ d. (
       let same : fault ≡ put.DiskFault = fault_inside fault put.DiskFault (sym is ∙ d) in
       differs (sym (same_fault {T = Stored} (put_failure fault) f e) ∙ ap put_failure same)
       ) in
-      ledger_left tells v old mid new gave.opens told late (gave.leaves (subst IsErr (sym is) refl) apart told)
+      ledger_left reveals v old mid new gave.opens revealed late (gave.leaves (subst IsErr (sym is) refl) apart revealed)
 
   -- the space of the disk is the space that the put needs
-  fits_rest : mid.files ≡ old.files → Passes old mid → FitsPut name tells left old → HasPutRoom v name left rest mid
+  fits_rest : mid.files ≡ old.files → Passes old mid → FitsPut name reveals left old → HasPutRoom v name left rest mid
   fits_rest same time fits =
       let ledger_same : mid.files 0 ≡ old.files 0 = ap (λ (c : Files). c 0) same in
       record {
         sites = rows_later v.shape (limit_when v.raised) old mid ledger_same time (record {
           sites = fits.sites v.shape (limit_when v.raised)
-              (λ told. let one = gave.opens.this_one told in record { records = one.records; ledger = has_ledger_of reading v (old.files 0) one; is = ap limit_when one.has.raised });
+              (λ revealed. let one = gave.opens.this_one revealed in record { records = one.records; ledger = has_ledger_of reading v (old.files 0) one; is = ap limit_when one.has.raised });
           sync = fits.some.sync;
         });
         ledger = λ o whole enters intact few.
             let bytes = o.bytes in
             let end : ℕ = next_end v.end (length name) (nodes_for v.shape (length bytes) * (1 + v.shape.alpha)) in
-            adding_later old mid 1 end ledger_same time (fits.behind end (λ told.
-            let one = gave.opens.this_one told in
+            adding_later old mid 1 end ledger_same time (fits.behind end (λ revealed.
+            let one = gave.opens.this_one revealed in
             record {
               shape = v.shape;
               records = one.records;
@@ -260,50 +260,50 @@ module _ (reading : HasOneReading) (counts : DigestsAreCounted) (survivors : Sur
       }
 
   -- the opening and the put
-  putting_frame : OnlyWrites tells (IsReady old) (FitsPut name tells left old) (r ≡ Err put.DiskFault) (changes v) old new
+  putting_frame : OnlyWrites reveals (IsReady old) (FitsPut name reveals left old) (r ≡ Err put.DiskFault) (changes v) old new
   putting_frame =
-      reads_then_writes tells (IsReady old) (IsReady mid) (FitsPut name tells left old) (HasPutRoom v name left rest mid) (let opening : Result Opened Failure = Ok v in opening ≡ Err failure.Disk) (r ≡ Err put.DiskFault) (changes v) old mid new
+      reads_then_writes reveals (IsReady old) (IsReady mid) (FitsPut name reveals left old) (HasPutRoom v name left rest mid) (let opening : Result Opened Failure = Ok v in opening ≡ Err failure.Disk) (r ≡ Err put.DiskFault) (changes v) old mid new
       (λ e. opened_never v failure.Disk e) (λ c. changes_none v.shape (limit_when v.raised) (IsBlockIn v.shape v.lattice.n) (IsBesides v.shape) c)
-      (λ ready. ready) (λ told ready same goes. ready_later old mid same goes ready)
-      (λ fits. fits.some) (λ told fits same time. fits_rest same time fits)
+      (λ ready. ready) (λ revealed ready same goes. ready_later old mid same goes ready)
+      (λ fits. fits.some) (λ revealed fits same time. fits_rest same time fits)
       gave.opens.reads gave.writes
 
   -- the effect on the archive
-  pub putting_stores : ObjectsAreCounted → NewNamesAreFree → Stores name tells old new left rest (answer_of r)
+  pub putting_stores : ObjectsAreCounted → NewNamesAreFree → Stores name reveals old new left rest (answer_of r)
   putting_stores count free = record {
-    archive = λ stored told. let one = gave.opens.this_one told in record { shape = v.shape; records = one.records; end = v.end; ledger = one.ledger };
+    archive = λ stored revealed. let one = gave.opens.this_one revealed in record { shape = v.shape; records = one.records; end = v.end; ledger = one.ledger };
     stands = has_stands;
-    stops = λ told.
-        by_reading reading v (old.files 0) (gave.opens.this_one told)
+    stops = λ revealed.
+        by_reading reading v (old.files 0) (gave.opens.this_one revealed)
         (λ shape records. (objects : List NewObject) × MayHavePut name left rest (answer_of r) objects × OpensOr old new (Grows shape records objects))
-        (stops_by told r refl);
-    stays = λ differs told.
-        by_reading reading v (old.files 0) (gave.opens.this_one told)
-        (λ shape records. (objects : List NewObject) × MayHavePut name left rest (answer_of r) objects × (IsWanting old new (answer_of r) ⊎ OpensThen old new (StaysGrown shape records objects)))
-        (let stays = stays_by told r refl differs in
-        (stays.0, stays.1, inr (opens_then tells v old mid new gave.opens told (StaysGrown v.shape (gave.opens.this_one told).records stays.0) late stays.2)));
+        (stops_by revealed r refl);
+    stays = λ differs revealed.
+        by_reading reading v (old.files 0) (gave.opens.this_one revealed)
+        (λ shape records. (objects : List NewObject) × MayHavePut name left rest (answer_of r) objects × (IsOutOfMemory old new (answer_of r) ⊎ OpensThen old new (StaysGrown shape records objects)))
+        (let stays = stays_by revealed r refl differs in
+        (stays.0, stays.1, inr (opens_then reveals v old mid new gave.opens revealed (StaysGrown v.shape (gave.opens.this_one revealed).records stays.0) late stays.2)));
     untouched = λ why early is. untouched_is r refl why early is;
-    leaves = λ f disk output is told. let kept = leaves_is_kept r refl f disk is told in (inr kept.0, kept.1);
-    sure = λ f disk output memory is told. (leaves_is_kept r refl f disk is told).0;
-    none = λ told never. let one = gave.opens.this_one told in absurd (never (record { shape = v.shape; records = one.records; end = v.end; ledger = one.ledger }));
-    padded = λ differs told.
-        let one = gave.opens.this_one told in
+    leaves = λ f disk output is revealed. let kept = leaves_is_kept r refl f disk is revealed in (inr kept.0, kept.1);
+    sure = λ f disk output memory is revealed. (leaves_is_kept r refl f disk is revealed).0;
+    none = λ revealed never. let one = gave.opens.this_one revealed in absurd (never (record { shape = v.shape; records = one.records; end = v.end; ledger = one.ledger }));
+    padded = λ differs revealed.
+        let one = gave.opens.this_one revealed in
         by_reading reading v (old.files 0) one (λ shape records. KeepsPadded shape (IsBlockIn shape (nodes_of records)) old.files new.files)
         (subst (λ (n : ℕ). KeepsPadded v.shape (IsBlockIn v.shape n) old.files new.files) one.has.lattice.n
-        (subst (λ (c : Files). KeepsPadded v.shape (IsBlockIn v.shape v.lattice.n) c new.files) (gave.opens.reads.contents told) (gave.padded (λ e. differs (ap answer_of e)) told)));
-    takes = λ told.
-        let one = gave.opens.this_one told in
+        (subst (λ (c : Files). KeepsPadded v.shape (IsBlockIn v.shape v.lattice.n) c new.files) (gave.opens.reads.contents revealed) (gave.padded (λ e. differs (ap answer_of e)) revealed)));
+    takes = λ revealed.
+        let one = gave.opens.this_one revealed in
         by_reading reading v (old.files 0) one (λ shape records. TakesAtMost left rest ((limit_of records - nodes_of records) * shape.block + 1))
         (subst (λ (n : ℕ). TakesAtMost left rest ((limit_of one.records - n) * v.shape.block + 1)) one.has.lattice.n
         (subst (λ (n : ℕ). TakesAtMost left rest ((n - v.lattice.n) * v.shape.block + 1)) (ap limit_when one.has.raised) gave.reads));
-    in_room = λ told ready fits.
-        let sure = putting_frame.sure told ready fits in
+    in_room = λ revealed ready fits.
+        let sure = putting_frame.sure revealed ready fits in
         (λ is. sure.0 (answer_disk r is), sure.1);
-    refused_in_room = λ told why early cause ready roomy.
-        let first = gave.opens.reads.sure told ready roomy in
-        let same = gave.opens.reads.contents told in
-        let goes = gave.opens.reads.goes told ready (inl roomy) in
-        let put_sure = gave.refused_in_room told (reason_of reading count free tells v name old mid gave.opens told why early cause) (ready_later old mid same goes ready) (roomy_later old mid same gave.opens.reads.time roomy) in
+    refused_in_room = λ revealed why early cause ready roomy.
+        let first = gave.opens.reads.sure revealed ready roomy in
+        let same = gave.opens.reads.contents revealed in
+        let goes = gave.opens.reads.goes revealed ready (inl roomy) in
+        let put_sure = gave.refused_in_room revealed (reason_of reading count free reveals v name old mid gave.opens revealed why early cause) (ready_later old mid same goes ready) (roomy_later old mid same gave.opens.reads.time roomy) in
         (λ is. put_sure.0 (answer_disk r is), put_sure.1 ∙ first.1);
   }
 
@@ -311,21 +311,21 @@ module _ (reading : HasOneReading) (counts : DigestsAreCounted) (survivors : Sur
   sites_few : (f : ℕ) → (f ≤ greatest_sites → ⊥) → IsBesides v.shape f
   sites_few f past = elim (cases_lt v.shape.sites f) [ inl besides ↦ besides | inr within ↦ absurd (past (let few = sites_most v.shape in omega (arith, within, few))) ]
 
-  pub putting_rest : KeepsOtherFiles tells (answer_of r ≡ Err failure.Disk) old new
+  pub putting_rest : KeepsOtherFiles reveals (answer_of r ≡ Err failure.Disk) old new
   putting_rest = record {
-    others = writes_where tells _ _ _ (changes v) _ old new (λ c d step f past. step.stay f (sites_few f past)) putting_frame;
-    opens = λ told.
-        opening_then tells v old mid new gave.opens told (KeepsFiles (λ file. file ≤ greatest_sites → ⊥) old.files) (λ c stays f past. stays f) late
-        (λ t c from to here f past. (changed tells v old mid new gave.opens told _ _ _ gave.writes t c from to here).stay f (sites_few f past));
+    others = writes_where reveals _ _ _ (changes v) _ old new (λ c d step f past. step.stay f (sites_few f past)) putting_frame;
+    opens = λ revealed.
+        opening_then reveals v old mid new gave.opens revealed (KeepsFiles (λ file. file ≤ greatest_sites → ⊥) old.files) (λ c stays f past. stays f) late
+        (λ t c from to here f past. (changed reveals v old mid new gave.opens revealed _ _ _ gave.writes t c from to here).stay f (sites_few f past));
     time = putting_frame.time;
     kept = putting_frame.kept;
     cause = λ is. putting_frame.cause (answer_disk r is);
     still = λ fine. putting_frame.still (λ is. fine (ap answer_of is));
-    beneath = λ told ready is. putting_frame.beneath told ready (answer_disk r is);
+    beneath = λ revealed ready is. putting_frame.beneath revealed ready (answer_disk r is);
   }
 
   -- the line of the object that was stored
-  pub putting_line : (s : Stored) → r ≡ Ok s → IsStoredLine name tells (old.files 0) left rest (stored_text s.nodes s.length s.digest name)
+  pub putting_line : (s : Stored) → r ≡ Ok s → IsStoredLine name reveals (old.files 0) left rest (stored_text s.nodes s.length s.digest name)
   putting_line s is =
       let has = put_of s is in
       let o = has.0 in
@@ -337,5 +337,5 @@ module _ (reading : HasOneReading) (counts : DigestsAreCounted) (survivors : Sur
             ∙ ap (λ (n : ℕ). stored_text (nodes_for v.shape (length o.bytes)) n s.digest name) has.2.size
             ∙ ap (λ (d : List ℕ). stored_text (nodes_for v.shape (length o.bytes)) (length o.bytes) d name) has.2.digest
             ∙ ap (λ (n : List ℕ). stored_text (nodes_for v.shape (length o.bytes)) (length o.bytes) (sha256 o.bytes) n) (sym has.1.name_is);
-        is_shape = λ told other records ledger. by_reading reading v (old.files 0) (gave.opens.this_one told) (λ shape list. v.shape ≡ shape) refl other records ledger;
+        is_shape = λ revealed other records ledger. by_reading reading v (old.files 0) (gave.opens.this_one revealed) (λ shape list. v.shape ≡ shape) refl other records ledger;
       }

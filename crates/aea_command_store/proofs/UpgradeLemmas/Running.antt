@@ -14,18 +14,18 @@ use Rattle.aea_command_store.proofs.CreateLemmas.{IsPrinting, printing_done}
 use Rattle.aea_command.proofs.Texts.{text_unused}
 
 -- the limit was not raised
-pub upgrades_failed : {T : Type 0} (tells : Type 0) (old new : State) (out : SinkState) (f : Failure) → f ≢ failure.Output → AddsRecord {T = T} next_raise tells old new (Err f) → Upgrades tells old new out out (Err f)
-upgrades_failed {T} tells old new out f output adds = record {
+pub upgrades_failed : {T : Type 0} (reveals : Type 0) (old new : State) (out : SinkState) (f : Failure) → f ≢ failure.Output → AddsRecord {T = T} next_raise reveals old new (Err f) → Upgrades reveals old new out out (Err f)
+upgrades_failed {T} reveals old new out f output adds = record {
   done = tt;
-  adds = adds_as next_raise tells old new (Err f) (Err f) (agrees_failed f) adds;
+  adds = adds_as next_raise reveals old new (Err f) (Err f) (agrees_failed f) adds;
   prints = text_unused out f upgraded_line output;
 }
 
 -- it was, and then the line was printed, or the output failed
-pub upgrades_added : {T : Type 0} (tells : Type 0) (old new : State) (before after : SinkState) (value : T) (answer : Answer) → IsPrinting answer
-    → AddsRecord next_raise tells old new (Ok value) → PrintsText before after answer upgraded_line → Upgrades tells old new before after answer
-upgrades_added tells old new before after value answer printing adds prints = record {
+pub upgrades_added : {T : Type 0} (reveals : Type 0) (old new : State) (before after : SinkState) (value : T) (answer : Answer) → IsPrinting answer
+    → AddsRecord next_raise reveals old new (Ok value) → PrintsText before after answer upgraded_line → Upgrades reveals old new before after answer
+upgrades_added reveals old new before after value answer printing adds prints = record {
   done = printing_done answer printing;
-  adds = adds_as next_raise tells old new (Ok value) answer (agrees_printed value answer printing) adds;
+  adds = adds_as next_raise reveals old new (Ok value) answer (agrees_printed value answer printing) adds;
   prints = prints;
 }

@@ -37,15 +37,15 @@ pub fn create<D: Disk, O: Sink>(
     disk: &mut D,
     out: &mut O,
 ) -> Result<Status, Failure>
-    ensures creates { Creates shape.now D.tells (D.state disk.old) (D.state disk.new) (O.state out.old) (O.state out.new) result }
-    ensures refuses { Refuses D.tells (CreateCauses ((D.state disk.old).files 0)) result }
+    ensures creates { Creates shape.now D.reveals (D.state disk.old) (D.state disk.new) (O.state out.old) (O.state out.new) result }
+    ensures refuses { Refuses D.reveals (CreateCauses ((D.state disk.old).files 0)) result }
     ensures words { result ≢ Err Failure.Words }
     ensures clash { NeverClashes result }
     ensures input { result ≢ Err Failure.Input }
     ensures flushed { OnOk result (IsFlushed (O.state out.new)) }
 
     // The disk and the output in any case.
-    ensures writes { OnlyWrites D.tells (IsReady (D.state disk.old)) (FitsMaking (D.state disk.old) shape.now) (result ≡ Err Failure.Disk) (ChangesOnly 0) (D.state disk.old) (D.state disk.new) }
+    ensures writes { OnlyWrites D.reveals (IsReady (D.state disk.old)) (FitsMaking (D.state disk.old) shape.now) (result ≡ Err Failure.Disk) (ChangesOnly 0) (D.state disk.old) (D.state disk.new) }
     ensures out_kept { (O.state out.old).faults ≤ (O.state out.new).faults }
     ensures out_cause { result ≡ Err Failure.Output → Rose (O.state out.old).faults (O.state out.new).faults }
     ensures out_still { result ≢ Err Failure.Output → (O.state out.new).faults ≡ (O.state out.old).faults }

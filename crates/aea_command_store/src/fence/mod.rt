@@ -24,15 +24,15 @@ use std::alloc::Global;
 
 // Opens the archive, and adds a fence after its last node, which is the answer.
 fn add_fence<D: Disk>(alloc: Global, disk: &mut D) -> Result<u32, Failure>
-    ensures adds { AddsRecord next_fence D.tells (D.state disk.old) (D.state disk.new) result }
-    ensures refuses { Refuses D.tells (FenceCauses ((D.state disk.old).files 0)) result }
+    ensures adds { AddsRecord next_fence D.reveals (D.state disk.old) (D.state disk.new) result }
+    ensures refuses { Refuses D.reveals (FenceCauses ((D.state disk.old).files 0)) result }
     ensures small { IfOk result (λ n. n ≤ raised_limit) }
-    ensures nodes { IfOk result (λ n. D.tells → (shape : Shape) (records : List Record) → HasLedger shape records ((D.state disk.old).files 0) → n ≡ nodes_of records) }
+    ensures nodes { IfOk result (λ n. D.reveals → (shape : Shape) (records : List Record) → HasLedger shape records ((D.state disk.old).files 0) → n ≡ nodes_of records) }
     ensures words { result ≢ Err Failure.Words }
     ensures clash { NeverClashes result }
     ensures input { result ≢ Err Failure.Input }
     ensures output { result ≢ Err Failure.Output }
-    ensures rest { KeepsTheRest D.tells (result ≡ Err Failure.Disk) (D.state disk.old) (D.state disk.new) }
+    ensures rest { KeepsTheRest D.reveals (result ≡ Err Failure.Disk) (D.state disk.old) (D.state disk.new) }
 {
     ledgers_are_archives();
     ledgers_are_not_bad();
@@ -66,15 +66,15 @@ fn write_line<O: Sink>(out: &mut O, nodes: u32) -> Result<(), WriteFault>
 /// Adds a fence after the last node of the archive, and then prints `fence N` with N the number of nodes. It takes no
 /// memory once the archive is opened.
 pub fn fence<D: Disk, O: Sink>(alloc: Global, disk: &mut D, out: &mut O) -> Result<Status, Failure>
-    ensures fences { Fences D.tells (D.state disk.old) (D.state disk.new) (O.state out.old) (O.state out.new) result }
-    ensures refuses { Refuses D.tells (FenceCauses ((D.state disk.old).files 0)) result }
+    ensures fences { Fences D.reveals (D.state disk.old) (D.state disk.new) (O.state out.old) (O.state out.new) result }
+    ensures refuses { Refuses D.reveals (FenceCauses ((D.state disk.old).files 0)) result }
     ensures words { result ≢ Err Failure.Words }
     ensures clash { NeverClashes result }
     ensures input { result ≢ Err Failure.Input }
     ensures flushed { OnOk result (IsFlushed (O.state out.new)) }
 
     // The disk and the output in any case.
-    ensures rest { KeepsTheRest D.tells (result ≡ Err Failure.Disk) (D.state disk.old) (D.state disk.new) }
+    ensures rest { KeepsTheRest D.reveals (result ≡ Err Failure.Disk) (D.state disk.old) (D.state disk.new) }
     ensures out_kept { (O.state out.old).faults ≤ (O.state out.new).faults }
     ensures out_cause { result ≡ Err Failure.Output → Rose (O.state out.old).faults (O.state out.new).faults }
     ensures out_still { result ≢ Err Failure.Output → (O.state out.new).faults ≡ (O.state out.old).faults }

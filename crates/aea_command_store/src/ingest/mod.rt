@@ -24,7 +24,7 @@ use aea_command::{Failure, Status, open};
 use aea_disk::Disk;
 use aea_envelope::{cells_have_lengths, cells_have_parts};
 use aea_io::{Page, Sink, Source, WriteFault, finish, print, print_number};
-use aea_lattice::numbers_tell_blocks;
+use aea_lattice::numbers_reveal_blocks;
 use aea_ledger::Ledger;
 use aea_records::{
     digests_are_counted, ledgers_have_one_reading, new_names_are_free, objects_are_counted,
@@ -61,17 +61,17 @@ fn put_frames<D: Disk, S: Source, O: Sink>(
 ) -> Result<Status, Failure>
     requires opened { HasSomeRecords ledger.old }
     requires live { ledger.old.live ≡ true }
-    requires this { D.tells → IsThisOne ledger.old ((D.state disk.old).files 0) }
-    requires synced { D.tells → IsSynced (D.state disk.old) }
-    ensures ingests { IngestsOpened D.tells ledger.old (D.state disk.old) (D.state disk.new) (S.state input.old).left (S.state input.new).left (O.state out.old) (O.state out.new) result }
-    ensures refuses { result ≢ Err Failure.Output → Refuses (D.tells × IsSome (S.state input.old).left) (OpenedCauses (D.state disk.old).files (unwrap_or (S.state input.old).left [])) result }
+    requires this { D.reveals → IsThisOne ledger.old ((D.state disk.old).files 0) }
+    requires synced { D.reveals → IsSynced (D.state disk.old) }
+    ensures ingests { IngestsOpened D.reveals ledger.old (D.state disk.old) (D.state disk.new) (S.state input.old).left (S.state input.new).left (O.state out.old) (O.state out.new) result }
+    ensures refuses { result ≢ Err Failure.Output → Refuses (D.reveals × IsSome (S.state input.old).left) (OpenedCauses (D.state disk.old).files (unwrap_or (S.state input.old).left [])) result }
     ensures after { (why : Refusal) → result ≡ Err (Failure.Refused why) → IsAfterOpening why }
     ensures words { result ≢ Err Failure.Words }
     ensures clash { NeverClashes result }
     ensures flushed { OnOk result (IsFlushed (O.state out.new)) }
 
     // The disk and the streams in any case.
-    ensures writes { OnlyWrites D.tells (IsReady (D.state disk.old)) (FitsFrames ledger.old (S.state input.old).left (D.state disk.old)) (result ≡ Err Failure.Disk) (ChangesArchive ledger.old.shape (limit_when ledger.old.raised) (IsBlockIn ledger.old.shape ledger.old.lattice.n) (IsBesides ledger.old.shape)) (D.state disk.old) (D.state disk.new) }
+    ensures writes { OnlyWrites D.reveals (IsReady (D.state disk.old)) (FitsFrames ledger.old (S.state input.old).left (D.state disk.old)) (result ≡ Err Failure.Disk) (ChangesArchive ledger.old.shape (limit_when ledger.old.raised) (IsBlockIn ledger.old.shape ledger.old.lattice.n) (IsBesides ledger.old.shape)) (D.state disk.old) (D.state disk.new) }
     ensures input_kept { (S.state input.old).faults ≤ (S.state input.new).faults }
     ensures input_cause { result ≡ Err Failure.Input → Rose (S.state input.old).faults (S.state input.new).faults }
     ensures input_still { result ≢ Err Failure.Input → (S.state input.new).faults ≡ (S.state input.old).faults }
@@ -82,7 +82,7 @@ fn put_frames<D: Disk, S: Source, O: Sink>(
     ledgers_have_one_reading();
     objects_are_counted();
     new_names_are_free();
-    numbers_tell_blocks();
+    numbers_reveal_blocks();
     digests_are_counted();
     cells_have_lengths();
     cells_have_parts();
@@ -112,14 +112,14 @@ pub fn ingest<D: Disk, S: Source, O: Sink>(
     input: &mut S,
     out: &mut O,
 ) -> Result<Status, Failure>
-    ensures ingests { Ingests D.tells (D.state disk.old) (D.state disk.new) (S.state input.old).left (S.state input.new).left (O.state out.old) (O.state out.new) result }
-    ensures refuses { result ≢ Err Failure.Output → RefusesBy (IsDecided D.tells (IsSome (S.state input.old).left) IsAfterOpening) (IngestCauses (D.state disk.old).files (unwrap_or (S.state input.old).left [])) result }
+    ensures ingests { Ingests D.reveals (D.state disk.old) (D.state disk.new) (S.state input.old).left (S.state input.new).left (O.state out.old) (O.state out.new) result }
+    ensures refuses { result ≢ Err Failure.Output → RefusesBy (IsDecided D.reveals (IsSome (S.state input.old).left) IsAfterOpening) (IngestCauses (D.state disk.old).files (unwrap_or (S.state input.old).left [])) result }
     ensures words { result ≢ Err Failure.Words }
     ensures clash { NeverClashes result }
     ensures flushed { OnOk result (IsFlushed (O.state out.new)) }
 
     // The disk and the streams in any case.
-    ensures rest { KeepsOtherFiles D.tells (result ≡ Err Failure.Disk) (D.state disk.old) (D.state disk.new) }
+    ensures rest { KeepsOtherFiles D.reveals (result ≡ Err Failure.Disk) (D.state disk.old) (D.state disk.new) }
     ensures input_kept { (S.state input.old).faults ≤ (S.state input.new).faults }
     ensures input_cause { result ≡ Err Failure.Input → Rose (S.state input.old).faults (S.state input.new).faults }
     ensures input_still { result ≢ Err Failure.Input → (S.state input.new).faults ≡ (S.state input.old).faults }

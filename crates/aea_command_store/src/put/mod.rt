@@ -14,7 +14,7 @@ use aea_archive::survivors_stay_honest;
 use aea_command::{Failure, Status, open};
 use aea_disk::Disk;
 use aea_io::{Page, Sink, Source};
-use aea_lattice::numbers_tell_blocks;
+use aea_lattice::numbers_reveal_blocks;
 use aea_records::{
     digests_are_counted, ledgers_have_one_reading, new_names_are_free, objects_are_counted,
 };
@@ -28,13 +28,13 @@ fn add_object<D: Disk, S: Source>(
     disk: &mut D,
     input: &mut S,
 ) -> Result<Stored, Failure>
-    ensures stores { Stores name.now D.tells (D.state disk.old) (D.state disk.new) (S.state input.old).left (S.state input.new).left result }
-    ensures line { IfOk result (λ stored. IsStoredLine name.now D.tells ((D.state disk.old).files 0) (S.state input.old).left (S.state input.new).left (stored_text stored.nodes stored.length stored.digest name.now)) }
-    ensures refuses { RefusesBy (IsDecided D.tells (IsSome (S.state input.old).left) IsByInput) (PutCauses name.now (D.state disk.old).files (unwrap_or (S.state input.old).left [])) result }
+    ensures stores { Stores name.now D.reveals (D.state disk.old) (D.state disk.new) (S.state input.old).left (S.state input.new).left result }
+    ensures line { IfOk result (λ stored. IsStoredLine name.now D.reveals ((D.state disk.old).files 0) (S.state input.old).left (S.state input.new).left (stored_text stored.nodes stored.length stored.digest name.now)) }
+    ensures refuses { RefusesBy (IsDecided D.reveals (IsSome (S.state input.old).left) IsByInput) (PutCauses name.now (D.state disk.old).files (unwrap_or (S.state input.old).left [])) result }
     ensures words { result ≢ Err Failure.Words }
     ensures clash { NeverClashes result }
     ensures output { result ≢ Err Failure.Output }
-    ensures rest { KeepsOtherFiles D.tells (result ≡ Err Failure.Disk) (D.state disk.old) (D.state disk.new) }
+    ensures rest { KeepsOtherFiles D.reveals (result ≡ Err Failure.Disk) (D.state disk.old) (D.state disk.new) }
     ensures input_kept { (S.state input.old).faults ≤ (S.state input.new).faults }
     ensures input_cause { result ≡ Err Failure.Input → Rose (S.state input.old).faults (S.state input.new).faults }
     ensures input_still { result ≢ Err Failure.Input → (S.state input.new).faults ≡ (S.state input.old).faults }
@@ -42,7 +42,7 @@ fn add_object<D: Disk, S: Source>(
     ledgers_have_one_reading();
     objects_are_counted();
     new_names_are_free();
-    numbers_tell_blocks();
+    numbers_reveal_blocks();
     digests_are_counted();
     survivors_stay_honest();
     let mut ledger = open(alloc, disk)?;
@@ -59,14 +59,14 @@ pub fn put_input<D: Disk, S: Source, O: Sink>(
     input: &mut S,
     out: &mut O,
 ) -> Result<Status, Failure>
-    ensures puts { Puts name.now D.tells (D.state disk.old) (D.state disk.new) (S.state input.old).left (S.state input.new).left (O.state out.old) (O.state out.new) result }
-    ensures refuses { RefusesBy (IsDecided D.tells (IsSome (S.state input.old).left) IsByInput) (PutCauses name.now (D.state disk.old).files (unwrap_or (S.state input.old).left [])) result }
+    ensures puts { Puts name.now D.reveals (D.state disk.old) (D.state disk.new) (S.state input.old).left (S.state input.new).left (O.state out.old) (O.state out.new) result }
+    ensures refuses { RefusesBy (IsDecided D.reveals (IsSome (S.state input.old).left) IsByInput) (PutCauses name.now (D.state disk.old).files (unwrap_or (S.state input.old).left [])) result }
     ensures words { result ≢ Err Failure.Words }
     ensures clash { NeverClashes result }
     ensures flushed { OnOk result (IsFlushed (O.state out.new)) }
 
     // The disk and the streams in any case.
-    ensures rest { KeepsOtherFiles D.tells (result ≡ Err Failure.Disk) (D.state disk.old) (D.state disk.new) }
+    ensures rest { KeepsOtherFiles D.reveals (result ≡ Err Failure.Disk) (D.state disk.old) (D.state disk.new) }
     ensures input_kept { (S.state input.old).faults ≤ (S.state input.new).faults }
     ensures input_cause { result ≡ Err Failure.Input → Rose (S.state input.old).faults (S.state input.new).faults }
     ensures input_still { result ≢ Err Failure.Input → (S.state input.new).faults ≡ (S.state input.old).faults }

@@ -16,13 +16,13 @@ use std::alloc::Global;
 
 // Opens the archive, and raises its limit on nodes.
 fn add_raise<D: Disk>(alloc: Global, disk: &mut D) -> Result<(), Failure>
-    ensures adds { AddsRecord next_raise D.tells (D.state disk.old) (D.state disk.new) result }
-    ensures refuses { Refuses D.tells (UpgradeCauses ((D.state disk.old).files 0)) result }
+    ensures adds { AddsRecord next_raise D.reveals (D.state disk.old) (D.state disk.new) result }
+    ensures refuses { Refuses D.reveals (UpgradeCauses ((D.state disk.old).files 0)) result }
     ensures words { result ≢ Err Failure.Words }
     ensures clash { NeverClashes result }
     ensures input { result ≢ Err Failure.Input }
     ensures output { result ≢ Err Failure.Output }
-    ensures rest { KeepsTheRest D.tells (result ≡ Err Failure.Disk) (D.state disk.old) (D.state disk.new) }
+    ensures rest { KeepsTheRest D.reveals (result ≡ Err Failure.Disk) (D.state disk.old) (D.state disk.new) }
 {
     ledgers_are_archives();
     ledgers_are_not_bad();
@@ -37,15 +37,15 @@ pub fn upgrade<D: Disk, O: Sink>(
     disk: &mut D,
     out: &mut O,
 ) -> Result<Status, Failure>
-    ensures upgrades { Upgrades D.tells (D.state disk.old) (D.state disk.new) (O.state out.old) (O.state out.new) result }
-    ensures refuses { Refuses D.tells (UpgradeCauses ((D.state disk.old).files 0)) result }
+    ensures upgrades { Upgrades D.reveals (D.state disk.old) (D.state disk.new) (O.state out.old) (O.state out.new) result }
+    ensures refuses { Refuses D.reveals (UpgradeCauses ((D.state disk.old).files 0)) result }
     ensures words { result ≢ Err Failure.Words }
     ensures clash { NeverClashes result }
     ensures input { result ≢ Err Failure.Input }
     ensures flushed { OnOk result (IsFlushed (O.state out.new)) }
 
     // The disk and the output in any case.
-    ensures rest { KeepsTheRest D.tells (result ≡ Err Failure.Disk) (D.state disk.old) (D.state disk.new) }
+    ensures rest { KeepsTheRest D.reveals (result ≡ Err Failure.Disk) (D.state disk.old) (D.state disk.new) }
     ensures out_kept { (O.state out.old).faults ≤ (O.state out.new).faults }
     ensures out_cause { result ≡ Err Failure.Output → Rose (O.state out.old).faults (O.state out.new).faults }
     ensures out_still { result ≢ Err Failure.Output → (O.state out.new).faults ≡ (O.state out.old).faults }

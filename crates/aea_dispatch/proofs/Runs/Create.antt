@@ -16,19 +16,19 @@ use Rattle.aea_dispatch.specs.Does.{Runs}
 use Rattle.aea_dispatch.proofs.Runs.Unrefused.{none_held}
 use Rattle.aea_command.specs.Worlds.{world}
 use Rattle.aea_command.proofs.OpeningCases.{opening_more}
-use Rattle.aea_command.proofs.Refusing.{refuses_by_told}
+use Rattle.aea_command.proofs.Refusing.{refuses_by_revealed}
 
 -- what `create` did, when it is refused, and that it changes the ledger's file alone give what holds of its run
-pub create_runs : (shape : Shape) (tells : Type 0) (old new : State) (input : SourceState) (before after : SinkState) (answer : Answer)
-    → Creates shape tells old new before after answer → Refuses tells (CreateCauses (old.files 0)) answer → OnlyWrites tells (IsReady old) (FitsMaking old shape) (answer ≡ Err failure.Disk) (ChangesOnly 0) old new
+pub create_runs : (shape : Shape) (reveals : Type 0) (old new : State) (input : SourceState) (before after : SinkState) (answer : Answer)
+    → Creates shape reveals old new before after answer → Refuses reveals (CreateCauses (old.files 0)) answer → OnlyWrites reveals (IsReady old) (FitsMaking old shape) (answer ≡ Err failure.Disk) (ChangesOnly 0) old new
     → NeverClashes answer
-    → Runs (Create shape) (world tells old input before) (world tells new input after) answer
-create_runs shape tells old new input before after answer creates refuses writes honest = record {
+    → Runs (Create shape) (world reveals old input before) (world reveals new input after) answer
+create_runs shape reveals old new input before after answer creates refuses writes honest = record {
   does = creates;
-  refuses = λ early. refuses_by_told _ _ _ _ (λ why told. told.0 tt) refuses;
-  disk_fits = λ told ready room. (creates.in_room told ready room).0;
-  output_fits = λ told fits e. let room = fits (none_held _ _ answer refuses (λ why. told.disk tt) e) in (creates.prints.in_room room.room room.told room.enough).0 e;
-  honest = λ told is. honest;
-  stays = writes_where tells _ _ _ _ _ old new (λ c d keeps f keep. keeps f keep) writes;
-  opens = λ told. opening_more old new _ _ (λ c makes. makes.others) (creates.stops told);
+  refuses = λ early. refuses_by_revealed _ _ _ _ (λ why revealed. revealed.0 tt) refuses;
+  disk_fits = λ revealed ready room. (creates.in_room revealed ready room).0;
+  output_fits = λ revealed fits e. let room = fits (none_held _ _ answer refuses (λ why. revealed.disk tt) e) in (creates.prints.in_room room.room room.revealed room.enough).0 e;
+  honest = λ revealed is. honest;
+  stays = writes_where reveals _ _ _ _ _ old new (λ c d keeps f keep. keeps f keep) writes;
+  opens = λ revealed. opening_more old new _ _ (λ c makes. makes.others) (creates.stops revealed);
 }

@@ -23,7 +23,7 @@ use Rattle.aea_command_read.specs.Get.{Gets, GetCauses, Fetches, HasObject, Fits
 use Rattle.aea_command.specs.Worlds.{world}
 use Rattle.aea_command_read.proofs.GetLemmas.Causing.{object_here}
 use Rattle.aea_command.proofs.OpeningCases.{opening_more, images_same, opening_not_output}
-use Rattle.aea_command.proofs.Refusing.{refuses_by_told, refuses_by_stopped}
+use Rattle.aea_command.proofs.Refusing.{refuses_by_revealed, refuses_by_stopped}
 
 -- something is there, or nothing
 pub some_or_none : (o : Option Placed) → ((p : Placed) × (o ≡ Some p)) ⊎ (o ≡ None)
@@ -31,52 +31,52 @@ some_or_none None = inr refl
 some_or_none (Some p) = inl (p, refl)
 
 -- where the output has space for the object, it does not fail
-fetched_fits : (name : List ℕ) (tells : Type 0) (v : Opened) (c : Files) (before after : SinkState) (answer : Answer) → HasOneReading → IsThisOne v (c 0) → Fetches name tells v c before after answer
+fetched_fits : (name : List ℕ) (reveals : Type 0) (v : Opened) (c : Files) (before after : SinkState) (answer : Answer) → HasOneReading → IsThisOne v (c 0) → Fetches name reveals v c before after answer
     → ((shape : Shape) (records : List Record) (p : Placed) → HasObject c name shape records p → FitsBytes before p.object.length) → answer ≢ Err failure.Output
-fetched_fits name tells v c before after answer reading one does fits e = elim (some_or_none (get v.objects name)) [
+fetched_fits name reveals v c before after answer reading one does fits e = elim (some_or_none (get v.objects name)) [
   | inl (p, is) ↦
       let room = fits v.shape one.records p (object_here reading v c one name p is) in
-      (does.in_room p room.room is room.told room.enough).0 e
+      (does.in_room p room.room is room.revealed room.enough).0 e
   | inr none ↦
       let refused = does.unknown.1 none in
       let h : Err (failure.Refused UnknownName) ≡ Err failure.Output = sym refused ∙ e in cc
 ]
 
-get_fits : (name : List ℕ) (tells : Type 0) (c : Files) (before after : SinkState) (answer : Answer) (gave : Result Opened Failure) → HasOneReading → tells
-    → IfOk gave (λ v. tells → IsThisOne v (c 0)) → IfErr gave (λ f. (fault : OpenFault) × (f ≡ opening_failure fault)) → IfErr gave (λ f. (answer ≡ Err f) × (after ≡ before))
-    → IfOk gave (λ v. Fetches name tells v c before after answer)
+get_fits : (name : List ℕ) (reveals : Type 0) (c : Files) (before after : SinkState) (answer : Answer) (gave : Result Opened Failure) → HasOneReading → reveals
+    → IfOk gave (λ v. reveals → IsThisOne v (c 0)) → IfErr gave (λ f. (fault : OpenFault) × (f ≡ opening_failure fault)) → IfErr gave (λ f. (answer ≡ Err f) × (after ≡ before))
+    → IfOk gave (λ v. Fetches name reveals v c before after answer)
     → ((shape : Shape) (records : List Record) (p : Placed) → HasObject c name shape records p → FitsBytes before p.object.length) → answer ≢ Err failure.Output
-get_fits name tells c before after answer (Ok v) reading told one kinds unopened does fits e = fetched_fits name tells v c before after answer reading (one told) does fits e
-get_fits name tells c before after answer (Err f) reading told one kinds unopened does fits e =
+get_fits name reveals c before after answer (Ok v) reading revealed one kinds unopened does fits e = fetched_fits name reveals v c before after answer reading (one revealed) does fits e
+get_fits name reveals c before after answer (Err f) reading revealed one kinds unopened does fits e =
     let h : Err f ≡ Err failure.Output = sym unopened.0 ∙ e in
     let is : f ≡ failure.Output = cc in
     opening_not_output kinds.0 (sym kinds.1 ∙ is)
 
 -- what `get` did and when it is refused give what holds of its run
-pub get_runs : HasOneReading → (name : List ℕ) (tells : Type 0) (old new : State) (input : SourceState) (before after : SinkState) (answer : Answer)
-    → Gets name tells old new before after answer → Refuses tells (GetCauses name old.files) answer
+pub get_runs : HasOneReading → (name : List ℕ) (reveals : Type 0) (old new : State) (input : SourceState) (before after : SinkState) (answer : Answer)
+    → Gets name reveals old new before after answer → Refuses reveals (GetCauses name old.files) answer
     → NeverClashes answer
-    → Runs (Get name) (world tells old input before) (world tells new input after) answer
-get_runs reading name tells old new input before after answer gets refuses honest =
+    → Runs (Get name) (world reveals old input before) (world reveals new input after) answer
+get_runs reading name reveals old new input before after answer gets refuses honest =
     let opens = gets.opens in
     record {
       does = inr gets;
-      refuses = λ early. refuses_by_told _ _ _ _ (λ why told. told.0 tt) refuses;
-      disk_fits = λ told ready room. (gets.reads.sure told ready room).0;
-      output_fits = λ told fits. get_fits name tells old.files before after answer gets.opening reading (told.disk tt) opens.this_one opens.kinds gets.unopened gets.fetches fits;
-      honest = λ told is. honest;
-      stays = where_kept tells _ old old new (passes_none old) gets.reads.time gets.reads.crash gets.reads.contents (where_none tells _ old);
-      opens = λ told. opening_more old new _ _ (λ c stays f keep. stays f) (opens.stops told);
+      refuses = λ early. refuses_by_revealed _ _ _ _ (λ why revealed. revealed.0 tt) refuses;
+      disk_fits = λ revealed ready room. (gets.reads.sure revealed ready room).0;
+      output_fits = λ revealed fits. get_fits name reveals old.files before after answer gets.opening reading (revealed.disk tt) opens.this_one opens.kinds gets.unopened gets.fetches fits;
+      honest = λ revealed is. honest;
+      stays = where_kept reveals _ old old new (passes_none old) gets.reads.time gets.reads.crash gets.reads.contents (where_none reveals _ old);
+      opens = λ revealed. opening_more old new _ _ (λ c stays f keep. stays f) (opens.stops revealed);
     }
 
 -- memory ran out for the name
-pub unnamed_runs : (name : List ℕ) (tells : Type 0) (s : State) (input : SourceState) (out : SinkState) → Runs (Get name) (world tells s input out) (world tells s input out) (Err failure.Memory)
-unnamed_runs name tells s input out = record {
+pub unnamed_runs : (name : List ℕ) (reveals : Type 0) (s : State) (input : SourceState) (out : SinkState) → Runs (Get name) (world reveals s input out) (world reveals s input out) (Err failure.Memory)
+unnamed_runs name reveals s input out = record {
   does = inl (record { is = refl; images = images_same s; files = refl; disk = refl; out = refl });
   refuses = λ early. refuses_by_stopped _ _ (Err failure.Memory) (inr (inr refl));
-  disk_fits = λ told ready room e. let h : (let answer : Answer = Err failure.Memory in answer ≡ Err failure.Disk) = e in cc;
-  output_fits = λ told fits e. let h : (let answer : Answer = Err failure.Memory in answer ≡ Err failure.Output) = e in cc;
-  honest = λ told is b recorded computed e. let h : (let answer : Answer = Err failure.Memory in answer ≡ Err (failure.Clash b recorded computed)) = e in cc;
-  stays = where_none tells _ s;
-  opens = λ told. inl (images_same s);
+  disk_fits = λ revealed ready room e. let h : (let answer : Answer = Err failure.Memory in answer ≡ Err failure.Disk) = e in cc;
+  output_fits = λ revealed fits e. let h : (let answer : Answer = Err failure.Memory in answer ≡ Err failure.Output) = e in cc;
+  honest = λ revealed is b recorded computed e. let h : (let answer : Answer = Err failure.Memory in answer ≡ Err (failure.Clash b recorded computed)) = e in cc;
+  stays = where_none reveals _ s;
+  opens = λ revealed. inl (images_same s);
 }

@@ -12,25 +12,25 @@ use Rattle.aea_command.specs.Failures.{Answer, NeverClashes}
 use Rattle.aea_command_store.specs.Ingest.{IngestCauses, Ingests}
 use Rattle.aea_command_store.specs.Put.{KeepsOtherFiles}
 use Rattle.aea_command.specs.Worlds.{world}
-use Rattle.aea_command.proofs.Refusing.{refuses_by_told}
+use Rattle.aea_command.proofs.Refusing.{refuses_by_revealed}
 
 -- an input whose bytes are known is these
 pub is_known : (left : Option (List ℕ)) → IsSome left → left ≡ Some (unwrap_or left [])
 is_known None some = let h : false ≡ true = some in cc
 is_known (Some xs) some = refl
 
-pub ingest_runs : (tells : Type 0) (old new : State) (input input_after : SourceState) (before after : SinkState) (answer : Answer)
-    → Ingests tells old new input.left input_after.left before after answer
-    → (answer ≢ Err failure.Output → RefusesBy (IsDecided tells (IsSome input.left) IsAfterOpening) (IngestCauses old.files (unwrap_or input.left [])) answer)
-    → KeepsOtherFiles tells (answer ≡ Err failure.Disk) old new
+pub ingest_runs : (reveals : Type 0) (old new : State) (input input_after : SourceState) (before after : SinkState) (answer : Answer)
+    → Ingests reveals old new input.left input_after.left before after answer
+    → (answer ≢ Err failure.Output → RefusesBy (IsDecided reveals (IsSome input.left) IsAfterOpening) (IngestCauses old.files (unwrap_or input.left [])) answer)
+    → KeepsOtherFiles reveals (answer ≡ Err failure.Disk) old new
     → NeverClashes answer
-    → Runs Ingest (world tells old input before) (world tells new input_after after) answer
-ingest_runs tells old new input input_after before after answer does refuses rest honest = record {
+    → Runs Ingest (world reveals old input before) (world reveals new input_after after) answer
+ingest_runs reveals old new input input_after before after answer does refuses rest honest = record {
   does = does;
-  refuses = λ early. refuses_by_told _ _ _ _ (λ why told. (told.0 tt, told.1)) (refuses (early tt));
-  disk_fits = λ told ready fits. (does.stores.in_room told ready fits).0;
-  output_fits = λ told fits. does.lines_in_room (told.disk tt) (unwrap_or input.left []) (is_known input.left (told.input tt)) fits;
-  honest = λ told is. honest;
+  refuses = λ early. refuses_by_revealed _ _ _ _ (λ why revealed. (revealed.0 tt, revealed.1)) (refuses (early tt));
+  disk_fits = λ revealed ready fits. (does.stores.in_room revealed ready fits).0;
+  output_fits = λ revealed fits. does.lines_in_room (revealed.disk tt) (unwrap_or input.left []) (is_known input.left (revealed.input tt)) fits;
+  honest = λ revealed is. honest;
   stays = rest.others;
   opens = rest.opens;
 }

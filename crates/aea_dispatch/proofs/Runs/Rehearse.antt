@@ -14,19 +14,19 @@ use Rattle.aea_command.proofs.OpeningCases.{images_same}
 use Rattle.aea_command.proofs.Refusing.{refuses_by_none}
 
 -- what `rehearse` did, that it is never refused, and that no fault of the disk is returned give what holds of its run
-pub rehearse_runs : (number nodes permille : ℕ) (tells : Type 0) (disk : State) (input : SourceState) (before after : SinkState) (answer : Answer)
+pub rehearse_runs : (number nodes permille : ℕ) (reveals : Type 0) (disk : State) (input : SourceState) (before after : SinkState) (answer : Answer)
     → Rehearses number nodes permille before after answer → ((why : Refusal) → answer ≢ Err (failure.Refused why)) → answer ≢ Err failure.Disk
     → NeverClashes answer
-    → Runs (Rehearse number nodes permille) (world tells disk input before) (world tells disk input after) answer
-rehearse_runs number nodes permille tells disk input before after answer rehearses never fine honest = record {
+    → Runs (Rehearse number nodes permille) (world reveals disk input before) (world reveals disk input after) answer
+rehearse_runs number nodes permille reveals disk input before after answer rehearses never fine honest = record {
   does = rehearses;
-  refuses = λ early. refuses_by_none _ NeverRefused answer never (λ why told first. first.stands);
-  disk_fits = λ told ready fits. fine;
-  output_fits = λ told fits e.
+  refuses = λ early. refuses_by_none _ NeverRefused answer never (λ why revealed first. first.stands);
+  disk_fits = λ revealed ready fits. fine;
+  output_fits = λ revealed fits e.
       let by = rehearses.rehearsed (inr e) in
       let room = fits by.0 by.1 in
-      (by.2.prints.in_room room.room room.told room.enough).0 e;
-  honest = λ told is. honest;
-  stays = where_none tells _ disk;
-  opens = λ told. inl (images_same disk);
+      (by.2.prints.in_room room.room room.revealed room.enough).0 e;
+  honest = λ revealed is. honest;
+  stays = where_none reveals _ disk;
+  opens = λ revealed. inl (images_same disk);
 }

@@ -9,24 +9,24 @@ use Rattle.aea_command.specs.Causes.{RefusesBy, IsDecided}
 use Rattle.aea_dispatch.specs.Does.{Runs}
 use Rattle.aea_command.specs.Failures.{Answer, NeverClashes}
 use Rattle.aea_command.specs.Worlds.{world}
-use Rattle.aea_command.proofs.Refusing.{refuses_by_told}
+use Rattle.aea_command.proofs.Refusing.{refuses_by_revealed}
 use Rattle.aea_command_store.specs.Put.{KeepsOtherFiles}
 use Rattle.aea_command_session.specs.Causes.{SessionCauses, IsByInput}
 use Rattle.aea_command_session.specs.Session.{Sessions}
 use Rattle.aea_dispatch.proofs.Runs.Ingest.{is_known}
 
-pub session_runs : (tells : Type 0) (old new : State) (input input_after : SourceState) (before after : SinkState) (answer : Answer)
-    → Sessions tells old new input.left input_after.left before after answer
-    → (answer ≢ Err failure.Output → RefusesBy (IsDecided tells (IsSome input.left) IsByInput) (SessionCauses old.files (unwrap_or input.left [])) answer)
-    → KeepsOtherFiles tells (answer ≡ Err failure.Disk) old new
+pub session_runs : (reveals : Type 0) (old new : State) (input input_after : SourceState) (before after : SinkState) (answer : Answer)
+    → Sessions reveals old new input.left input_after.left before after answer
+    → (answer ≢ Err failure.Output → RefusesBy (IsDecided reveals (IsSome input.left) IsByInput) (SessionCauses old.files (unwrap_or input.left [])) answer)
+    → KeepsOtherFiles reveals (answer ≡ Err failure.Disk) old new
     → NeverClashes answer
-    → Runs Session (world tells old input before) (world tells new input_after after) answer
-session_runs tells old new input input_after before after answer does refuses rest honest = record {
+    → Runs Session (world reveals old input before) (world reveals new input_after after) answer
+session_runs reveals old new input input_after before after answer does refuses rest honest = record {
   does = does;
-  refuses = λ early. refuses_by_told _ _ _ _ (λ why told. (told.0 tt, told.1)) (refuses (early tt));
-  disk_fits = λ told ready fits. (does.in_room told ready fits).0;
-  output_fits = λ told fits. does.replies_in_room (told.disk tt) (unwrap_or input.left []) (is_known input.left (told.input tt)) fits;
-  honest = λ told is. honest;
+  refuses = λ early. refuses_by_revealed _ _ _ _ (λ why revealed. (revealed.0 tt, revealed.1)) (refuses (early tt));
+  disk_fits = λ revealed ready fits. (does.in_room revealed ready fits).0;
+  output_fits = λ revealed fits. does.replies_in_room (revealed.disk tt) (unwrap_or input.left []) (is_known input.left (revealed.input tt)) fits;
+  honest = λ revealed is. honest;
   stays = rest.others;
   opens = rest.opens;
 }

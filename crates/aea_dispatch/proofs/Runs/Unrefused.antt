@@ -5,7 +5,7 @@ use Rattle.aea_command.specs.Failures.{Answer}
 use Rattle.aea_command.specs.declared.refusal.Failure.TheVariants as failure
 use Rattle.aea_command.specs.declared.refusal.Refusal.{Refusal}
 
-module _ (told causes : Refusal → Type 0) (answer : Answer) (refuses : RefusesBy told causes answer) (knows : (why : Refusal) → told why) (failed : answer ≡ Err failure.Output) where
+module _ (revealed causes : Refusal → Type 0) (answer : Answer) (refuses : RefusesBy revealed causes answer) (knows : (why : Refusal) → revealed why) (failed : answer ≡ Err failure.Output) where
   -- the first of them would have been the answer
   none_below : (place : ℕ) (why : Refusal) → place_of why < place → causes why → ⊥
   none_below zero why early cause = omega (arith, early)

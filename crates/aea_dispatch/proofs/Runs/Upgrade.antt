@@ -12,19 +12,19 @@ use Rattle.aea_command.specs.Failures.{Answer, NeverClashes}
 use Rattle.aea_command_store.specs.Upgrade.{next_raise, UpgradeCauses, Upgrades}
 use Rattle.aea_command.specs.Worlds.{world}
 use Rattle.aea_command_store.proofs.Adding.Running.{rest_stays, adds_opens}
-use Rattle.aea_command.proofs.Refusing.{refuses_by_told}
+use Rattle.aea_command.proofs.Refusing.{refuses_by_revealed}
 
 -- what `upgrade` did, when it is refused, and that it keeps each other file give what holds of its run
-pub upgrade_runs : (tells : Type 0) (old new : State) (input : SourceState) (before after : SinkState) (answer : Answer)
-    → Upgrades tells old new before after answer → Refuses tells (UpgradeCauses (old.files 0)) answer → KeepsTheRest tells (answer ≡ Err failure.Disk) old new
+pub upgrade_runs : (reveals : Type 0) (old new : State) (input : SourceState) (before after : SinkState) (answer : Answer)
+    → Upgrades reveals old new before after answer → Refuses reveals (UpgradeCauses (old.files 0)) answer → KeepsTheRest reveals (answer ≡ Err failure.Disk) old new
     → NeverClashes answer
-    → Runs Upgrade (world tells old input before) (world tells new input after) answer
-upgrade_runs tells old new input before after answer upgrades refuses rest honest = record {
+    → Runs Upgrade (world reveals old input before) (world reveals new input after) answer
+upgrade_runs reveals old new input before after answer upgrades refuses rest honest = record {
   does = upgrades;
-  refuses = λ early. refuses_by_told _ _ _ _ (λ why told. told.0 tt) refuses;
-  disk_fits = λ told ready fits. (upgrades.adds.in_room told ready fits).0;
-  output_fits = λ told fits e. let room = fits (none_held _ _ answer refuses (λ why. told.disk tt) e) in (upgrades.prints.in_room room.room room.told room.enough).0 e;
-  honest = λ told is. honest;
-  stays = rest_stays tells _ old new rest;
-  opens = adds_opens next_raise tells old new answer upgrades.adds;
+  refuses = λ early. refuses_by_revealed _ _ _ _ (λ why revealed. revealed.0 tt) refuses;
+  disk_fits = λ revealed ready fits. (upgrades.adds.in_room revealed ready fits).0;
+  output_fits = λ revealed fits e. let room = fits (none_held _ _ answer refuses (λ why. revealed.disk tt) e) in (upgrades.prints.in_room room.room room.revealed room.enough).0 e;
+  honest = λ revealed is. honest;
+  stays = rest_stays reveals _ old new rest;
+  opens = adds_opens next_raise reveals old new answer upgrades.adds;
 }

@@ -9,7 +9,7 @@ use Rattle.aea_records.specs.Format.{nodes_of}
 use Rattle.aea_records.specs.Laws.{HasOneReading}
 use Rattle.aea_ledger.specs.declared.open.OpenFault.{OpenFault}
 use Rattle.aea_ledger.specs.Values.{Opened, IsThisOne}
-use Rattle.aea_archive.specs.Blocks.{TellsSurvivors}
+use Rattle.aea_archive.specs.Blocks.{RevealsSurvivors}
 use Rattle.aea_verify.specs.declared.verdict.Verdict.{Verdict}
 use Rattle.aea_verify.specs.declared.verdict.VerifyFault.{VerifyFault}
 use Rattle.aea_verify.specs.Answers.{IsJudged}
@@ -23,10 +23,10 @@ use Rattle.aea_command.specs.Failures.{Answer, opening_failure, verify_failure, 
 use Rattle.aea_command.specs.Printed.{FitsText}
 use Rattle.aea_command_loss.specs.Verify.{Judges, Verifies, IsUnread, IsVerdictText, VerifyCauses, verdict_text}
 use Rattle.aea_command.specs.Worlds.{world}
-use Rattle.aea_command_loss.proofs.DrillLemmas.Refused.{told_is}
+use Rattle.aea_command_loss.proofs.DrillLemmas.Refused.{revealed_is}
 use Rattle.aea_command.proofs.OpeningCases.{opening_more, opening_not_output}
 use Rattle.aea_command.proofs.Reading.{has_ledger_of}
-use Rattle.aea_command.proofs.Refusing.{refuses_by_told}
+use Rattle.aea_command.proofs.Refusing.{refuses_by_revealed}
 use Rattle.aea_command_loss.proofs.VerifyLemmas.Answering.{never_output}
 
 -- the text of the verdict on the input is that of a verdict in the archive's words
@@ -44,49 +44,49 @@ text_there reading v files input verdict here judged = record {
   verdict_is = λ intact survivors.
       rw here.has.seal at
       judged.verdict_is intact
-      (subst (λ (n : ℕ). TellsSurvivors v.shape n v.digests files intact) (sym here.has.lattice.n)
-      (subst (λ (ds : List (List ℕ)). TellsSurvivors v.shape (nodes_of here.records) ds files intact) (sym here.has.digests) survivors));
+      (subst (λ (n : ℕ). RevealsSurvivors v.shape n v.digests files intact) (sym here.has.lattice.n)
+      (subst (λ (ds : List (List ℕ)). RevealsSurvivors v.shape (nodes_of here.records) ds files intact) (sym here.has.digests) survivors));
   is = refl;
 }
 
 -- where the output has space for the verdict, it does not fail
-judged_fits : HasOneReading → (tells : Type 0) (v : Opened) (files : Files) (input rest : SourceState) (before after : SinkState) (r : Result Verdict VerifyFault) (answer : Answer)
-    → tells → IsSome input.left → IsThisOne v (files 0) → Judges tells v files input rest before after r answer
+judged_fits : HasOneReading → (reveals : Type 0) (v : Opened) (files : Files) (input rest : SourceState) (before after : SinkState) (r : Result Verdict VerifyFault) (answer : Answer)
+    → reveals → IsSome input.left → IsThisOne v (files 0) → Judges reveals v files input rest before after r answer
     → ((text : List ℕ) → IsVerdictText files (unwrap_or input.left []) text → FitsText before text) → answer ≢ Err failure.Output
-judged_fits reading tells v files input rest before after (Ok verdict) answer told some here judges fits e =
+judged_fits reading reveals v files input rest before after (Ok verdict) answer revealed some here judges fits e =
     let report = unwrap_or input.left [] in
-    let judged : IsJudged v files report verdict = judges.answers told report (told_is input.left some) in
+    let judged : IsJudged v files report verdict = judges.answers revealed report (revealed_is input.left some) in
     let room = fits (verdict_text verdict) (text_there reading v files report verdict here judged) in
-    (judges.prints.prints.in_room room.room room.told room.enough).0 e
-judged_fits reading tells v files input rest before after (Err fault) answer told some here judges fits e =
+    (judges.prints.prints.in_room room.room room.revealed room.enough).0 e
+judged_fits reading reveals v files input rest before after (Err fault) answer revealed some here judges fits e =
     let h : Err (verify_failure fault) ≡ Err failure.Output = sym judges.unjudged.0 ∙ e in
     never_output fault cc
 
-verify_fits : HasOneReading → (tells : Type 0) (files : Files) (input rest : SourceState) (before after : SinkState) (answer : Answer) (gave : Result Opened Failure) → tells → IsSome input.left
-    → IfOk gave (λ v. tells → IsThisOne v (files 0)) → IfErr gave (λ f. (fault : OpenFault) × (f ≡ opening_failure fault))
+verify_fits : HasOneReading → (reveals : Type 0) (files : Files) (input rest : SourceState) (before after : SinkState) (answer : Answer) (gave : Result Opened Failure) → reveals → IsSome input.left
+    → IfOk gave (λ v. reveals → IsThisOne v (files 0)) → IfErr gave (λ f. (fault : OpenFault) × (f ≡ opening_failure fault))
     → IfErr gave (λ f. IsUnread f input rest before after answer)
-    → IfOk gave (λ v. (result : Result Verdict VerifyFault) × Judges tells v files input rest before after result answer)
+    → IfOk gave (λ v. (result : Result Verdict VerifyFault) × Judges reveals v files input rest before after result answer)
     → ((text : List ℕ) → IsVerdictText files (unwrap_or input.left []) text → FitsText before text) → answer ≢ Err failure.Output
-verify_fits reading tells files input rest before after answer (Ok v) told some one kinds unopened judges fits =
-    judged_fits reading tells v files input rest before after judges.0 answer told some (one told) judges.1 fits
-verify_fits reading tells files input rest before after answer (Err f) told some one kinds unopened judges fits = λ e.
+verify_fits reading reveals files input rest before after answer (Ok v) revealed some one kinds unopened judges fits =
+    judged_fits reading reveals v files input rest before after judges.0 answer revealed some (one revealed) judges.1 fits
+verify_fits reading reveals files input rest before after answer (Err f) revealed some one kinds unopened judges fits = λ e.
     let h : Err f ≡ Err failure.Output = sym unopened.is ∙ e in
     let is : f ≡ failure.Output = cc in
     opening_not_output kinds.0 (sym kinds.1 ∙ is)
 
 -- what `verify` did and when it is refused give what holds of its run
-pub verify_runs : HasOneReading → (tells : Type 0) (old new : State) (input rest : SourceState) (before after : SinkState) (answer : Answer)
-    → Verifies tells old new input rest before after answer → RefusesBy (IsDecided tells (IsSome input.left) IsAfterOpening) (VerifyCauses (old.files 0) (unwrap_or input.left [])) answer
+pub verify_runs : HasOneReading → (reveals : Type 0) (old new : State) (input rest : SourceState) (before after : SinkState) (answer : Answer)
+    → Verifies reveals old new input rest before after answer → RefusesBy (IsDecided reveals (IsSome input.left) IsAfterOpening) (VerifyCauses (old.files 0) (unwrap_or input.left [])) answer
     → NeverClashes answer
-    → Runs Verify (world tells old input before) (world tells new rest after) answer
-verify_runs reading tells old new input rest before after answer verifies refuses honest =
+    → Runs Verify (world reveals old input before) (world reveals new rest after) answer
+verify_runs reading reveals old new input rest before after answer verifies refuses honest =
     let opens = verifies.opens in
     record {
       does = verifies;
-      refuses = λ early. refuses_by_told _ _ _ _ (λ why told. (told.0 tt, told.1)) refuses;
-      disk_fits = λ told ready room. (verifies.reads.sure told ready room).0;
-      output_fits = λ told fits. verify_fits reading tells old.files input rest before after answer verifies.opening (told.disk tt) (told.input tt) opens.this_one opens.kinds verifies.unopened verifies.judges fits;
-      honest = λ told is. honest;
-      stays = where_kept tells _ old old new (passes_none old) verifies.reads.time verifies.reads.crash verifies.reads.contents (where_none tells _ old);
-      opens = λ told. opening_more old new _ _ (λ c stays f keep. stays f) (opens.stops told);
+      refuses = λ early. refuses_by_revealed _ _ _ _ (λ why revealed. (revealed.0 tt, revealed.1)) refuses;
+      disk_fits = λ revealed ready room. (verifies.reads.sure revealed ready room).0;
+      output_fits = λ revealed fits. verify_fits reading reveals old.files input rest before after answer verifies.opening (revealed.disk tt) (revealed.input tt) opens.this_one opens.kinds verifies.unopened verifies.judges fits;
+      honest = λ revealed is. honest;
+      stays = where_kept reveals _ old old new (passes_none old) verifies.reads.time verifies.reads.crash verifies.reads.contents (where_none reveals _ old);
+      opens = λ revealed. opening_more old new _ _ (λ c stays f keep. stays f) (opens.stops revealed);
     }

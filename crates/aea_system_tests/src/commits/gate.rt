@@ -10,8 +10,8 @@ use aea_disk::{Disk, DiskFault};
 
 /// Writes a closed gate at the start, and syncs.
 pub fn begin<D: Disk>(disk: &mut D) -> Result<(), DiskFault>
-    ensures closed { OnOk result (D.tells → IsClosed 0 ((D.state disk.new).files 0)) }
-    ensures fixed { OnOk result (D.tells → IsFixed (D.state disk.new) 0) }
+    ensures closed { OnOk result (D.reveals → IsClosed 0 ((D.state disk.new).files 0)) }
+    ensures fixed { OnOk result (D.reveals → IsFixed (D.state disk.new) 0) }
     ensures cause { HasCause (D.state disk.old).faults (D.state disk.new).faults result }
 {
     disk.write(0, 0, &[0])?;
@@ -21,19 +21,19 @@ pub fn begin<D: Disk>(disk: &mut D) -> Result<(), DiskFault>
 /// Writes a body after a closed gate, and syncs.
 pub fn write_body<D: Disk>(disk: &mut D, gate: u64, body: &[u8]) -> Result<(), DiskFault>
     requires range { gate + 1 + length body.now ≤ 2 ^ 62 }
-    requires closed { D.tells → IsClosed gate ((D.state disk.old).files 0) }
-    requires fixed { D.tells → IsFixed (D.state disk.old) 0 }
+    requires closed { D.reveals → IsClosed gate ((D.state disk.old).files 0) }
+    requires fixed { D.reveals → IsFixed (D.state disk.old) 0 }
 
-    ensures any_moment { D.tells → During (D.state disk.old) (D.state disk.new) (λ c. HasOld gate ((D.state disk.old).files 0) (c 0)) }
-    ensures stays { D.tells → Stays (D.state disk.old) (D.state disk.new) (λ c. HasNew gate body.now ((D.state disk.old).files 0) (c 0)) }
-    ensures reads { D.tells → HasOld gate ((D.state disk.old).files 0) ((D.state disk.new).files 0) }
-    ensures written { OnOk result (D.tells → (D.state disk.new).files 0 ≡ overwritten ((D.state disk.old).files 0) (gate + 1) body.now) }
-    ensures fixed { OnOk result (D.tells → IsFixed (D.state disk.new) 0) }
+    ensures any_moment { D.reveals → During (D.state disk.old) (D.state disk.new) (λ c. HasOld gate ((D.state disk.old).files 0) (c 0)) }
+    ensures stays { D.reveals → Stays (D.state disk.old) (D.state disk.new) (λ c. HasNew gate body.now ((D.state disk.old).files 0) (c 0)) }
+    ensures reads { D.reveals → HasOld gate ((D.state disk.old).files 0) ((D.state disk.new).files 0) }
+    ensures written { OnOk result (D.reveals → (D.state disk.new).files 0 ≡ overwritten ((D.state disk.old).files 0) (gate + 1) body.now) }
+    ensures fixed { OnOk result (D.reveals → IsFixed (D.state disk.new) 0) }
 
-    ensures others { KeepsOthers D.tells 0 (D.state disk.old) (D.state disk.new) }
+    ensures others { KeepsOthers D.reveals 0 (D.state disk.old) (D.state disk.new) }
     ensures time { Passes (D.state disk.old) (D.state disk.new) }
     ensures cause { HasCause (D.state disk.old).faults (D.state disk.new).faults result }
-    ensures sure { IsSure (D.tells × TakesWrite (D.state disk.old) 0 (gate + 1) body.now) (FitsWrite (D.state disk.old) 0 (gate + 1) body.now) (D.state disk.old) (D.state disk.new) result }
+    ensures sure { IsSure (D.reveals × TakesWrite (D.state disk.old) 0 (gate + 1) body.now) (FitsWrite (D.state disk.old) 0 (gate + 1) body.now) (D.state disk.old) (D.state disk.new) result }
 {
     disk.write(0, gate + 1, body)?;
     disk.sync()
@@ -42,20 +42,20 @@ pub fn write_body<D: Disk>(disk: &mut D, gate: u64, body: &[u8]) -> Result<(), D
 /// Opens a closed gate, and syncs.
 pub fn open_gate<D: Disk>(disk: &mut D, gate: u64, body: &[u8]) -> Result<(), DiskFault>
     requires range { gate + 1 ≤ 2 ^ 62 }
-    requires closed { D.tells → IsClosed gate ((D.state disk.old).files 0) }
-    requires staged { D.tells → HasRange 0 (gate + 1) body.now (D.state disk.old).files }
-    requires fixed { D.tells → IsFixed (D.state disk.old) 0 }
+    requires closed { D.reveals → IsClosed gate ((D.state disk.old).files 0) }
+    requires staged { D.reveals → HasRange 0 (gate + 1) body.now (D.state disk.old).files }
+    requires fixed { D.reveals → IsFixed (D.state disk.old) 0 }
 
-    ensures any_moment { D.tells → During (D.state disk.old) (D.state disk.new) (λ c. HasOldOrNew gate body.now ((D.state disk.old).files 0) (c 0)) }
-    ensures stays { D.tells → Stays (D.state disk.old) (D.state disk.new) (λ c. HasNew gate body.now ((D.state disk.old).files 0) (c 0)) }
-    ensures reads { D.tells → HasOldOrNew gate body.now ((D.state disk.old).files 0) ((D.state disk.new).files 0) }
-    ensures opened { OnOk result (D.tells → HasNew gate body.now ((D.state disk.old).files 0) ((D.state disk.new).files 0)) }
-    ensures fixed { OnOk result (D.tells → IsFixed (D.state disk.new) 0) }
+    ensures any_moment { D.reveals → During (D.state disk.old) (D.state disk.new) (λ c. HasOldOrNew gate body.now ((D.state disk.old).files 0) (c 0)) }
+    ensures stays { D.reveals → Stays (D.state disk.old) (D.state disk.new) (λ c. HasNew gate body.now ((D.state disk.old).files 0) (c 0)) }
+    ensures reads { D.reveals → HasOldOrNew gate body.now ((D.state disk.old).files 0) ((D.state disk.new).files 0) }
+    ensures opened { OnOk result (D.reveals → HasNew gate body.now ((D.state disk.old).files 0) ((D.state disk.new).files 0)) }
+    ensures fixed { OnOk result (D.reveals → IsFixed (D.state disk.new) 0) }
 
-    ensures others { KeepsOthers D.tells 0 (D.state disk.old) (D.state disk.new) }
+    ensures others { KeepsOthers D.reveals 0 (D.state disk.old) (D.state disk.new) }
     ensures time { Passes (D.state disk.old) (D.state disk.new) }
     ensures cause { HasCause (D.state disk.old).faults (D.state disk.new).faults result }
-    ensures sure { IsSure (D.tells × TakesWrite (D.state disk.old) 0 gate (1 ∷ [])) (FitsWrite (D.state disk.old) 0 gate (1 ∷ [])) (D.state disk.old) (D.state disk.new) result }
+    ensures sure { IsSure (D.reveals × TakesWrite (D.state disk.old) 0 gate (1 ∷ [])) (FitsWrite (D.state disk.old) 0 gate (1 ∷ [])) (D.state disk.old) (D.state disk.new) result }
 {
     disk.write(0, gate, &[1])?;
     disk.sync()
@@ -64,19 +64,19 @@ pub fn open_gate<D: Disk>(disk: &mut D, gate: u64, body: &[u8]) -> Result<(), Di
 /// Commits a body: at `Ok` every crash leaves it, and at any moment a crash leaves the old bytes or the new.
 pub fn commit<D: Disk>(disk: &mut D, gate: u64, body: &[u8]) -> Result<(), DiskFault>
     requires range { gate + 1 + length body.now ≤ 2 ^ 62 }
-    requires closed { D.tells → IsClosed gate ((D.state disk.old).files 0) }
-    requires fixed { D.tells → IsFixed (D.state disk.old) 0 }
+    requires closed { D.reveals → IsClosed gate ((D.state disk.old).files 0) }
+    requires fixed { D.reveals → IsFixed (D.state disk.old) 0 }
 
-    ensures any_moment { D.tells → During (D.state disk.old) (D.state disk.new) (λ c. HasOldOrNew gate body.now ((D.state disk.old).files 0) (c 0)) }
-    ensures stays { D.tells → Stays (D.state disk.old) (D.state disk.new) (λ c. HasNew gate body.now ((D.state disk.old).files 0) (c 0)) }
-    ensures reads { D.tells → HasOldOrNew gate body.now ((D.state disk.old).files 0) ((D.state disk.new).files 0) }
-    ensures committed { OnOk result (D.tells → EveryImage (D.state disk.new) (λ c. HasNew gate body.now ((D.state disk.old).files 0) (c 0))) }
-    ensures opened { OnOk result (D.tells → HasNew gate body.now ((D.state disk.old).files 0) ((D.state disk.new).files 0)) }
+    ensures any_moment { D.reveals → During (D.state disk.old) (D.state disk.new) (λ c. HasOldOrNew gate body.now ((D.state disk.old).files 0) (c 0)) }
+    ensures stays { D.reveals → Stays (D.state disk.old) (D.state disk.new) (λ c. HasNew gate body.now ((D.state disk.old).files 0) (c 0)) }
+    ensures reads { D.reveals → HasOldOrNew gate body.now ((D.state disk.old).files 0) ((D.state disk.new).files 0) }
+    ensures committed { OnOk result (D.reveals → EveryImage (D.state disk.new) (λ c. HasNew gate body.now ((D.state disk.old).files 0) (c 0))) }
+    ensures opened { OnOk result (D.reveals → HasNew gate body.now ((D.state disk.old).files 0) ((D.state disk.new).files 0)) }
 
-    ensures others { KeepsOthers D.tells 0 (D.state disk.old) (D.state disk.new) }
+    ensures others { KeepsOthers D.reveals 0 (D.state disk.old) (D.state disk.new) }
     ensures time { Passes (D.state disk.old) (D.state disk.new) }
     ensures cause { HasCause (D.state disk.old).faults (D.state disk.new).faults result }
-    ensures sure { IsSure (D.tells × TakesGate (D.state disk.old) gate body.now) (FitsGate (D.state disk.old) gate body.now) (D.state disk.old) (D.state disk.new) result }
+    ensures sure { IsSure (D.reveals × TakesGate (D.state disk.old) gate body.now) (FitsGate (D.state disk.old) gate body.now) (D.state disk.old) (D.state disk.new) result }
 {
     write_body(disk, gate, body)?;
     open_gate(disk, gate, body)
@@ -87,12 +87,12 @@ pub fn write_apart<D: Disk>(disk: &mut D, file: u8, at: u64, bytes: &[u8]) -> Re
     requires file { file ≤ 66 }
     requires range { at + length bytes.now ≤ 2 ^ 62 }
 
-    ensures durable { OnOk result (D.tells → IsHeld (D.state disk.new) file at bytes.now) }
+    ensures durable { OnOk result (D.reveals → IsHeld (D.state disk.new) file at bytes.now) }
     ensures held { (a : ℕ) (kept : List ℕ) → IsApart a (length kept) at (length bytes.now) → IsHeld (D.state disk.old) file a kept → During (D.state disk.old) (D.state disk.new) (HasRange file a kept) }
-    ensures others { KeepsOthers D.tells file (D.state disk.old) (D.state disk.new) }
+    ensures others { KeepsOthers D.reveals file (D.state disk.old) (D.state disk.new) }
     ensures time { Passes (D.state disk.old) (D.state disk.new) }
     ensures cause { HasCause (D.state disk.old).faults (D.state disk.new).faults result }
-    ensures sure { IsSure (D.tells × TakesWrite (D.state disk.old) file at bytes.now) (FitsWrite (D.state disk.old) file at bytes.now) (D.state disk.old) (D.state disk.new) result }
+    ensures sure { IsSure (D.reveals × TakesWrite (D.state disk.old) file at bytes.now) (FitsWrite (D.state disk.old) file at bytes.now) (D.state disk.old) (D.state disk.new) result }
 {
     disk.write(file, at, bytes)?;
     disk.sync()

@@ -19,13 +19,13 @@ pub enum Kind {
 
 /// What a run says.
 #[derive(Drop)]
-pub struct Told {
+pub struct Revealed {
     status: Status,
     out: String,
     err: String,
 }
 
-impl Told {
+impl Revealed {
     /// Whether it is what this run left.
     pub fn is_of(&self, left: &Left) -> bool {
         left.status == self.status
@@ -36,8 +36,8 @@ impl Told {
 }
 
 // What a refused run says that has printed this.
-fn refused(out: String, err: String) -> Told {
-    Told {
+fn refused(out: String, err: String) -> Revealed {
+    Revealed {
         status: Status::Refused,
         out,
         err,
@@ -45,8 +45,8 @@ fn refused(out: String, err: String) -> Told {
 }
 
 // What a run says that was not refused.
-fn ended(alloc: Global, status: Status, out: String) -> Told {
-    Told {
+fn ended(alloc: Global, status: Status, out: String) -> Revealed {
+    Revealed {
         status,
         out,
         err: String::new(alloc),
@@ -54,7 +54,7 @@ fn ended(alloc: Global, status: Status, out: String) -> Told {
 }
 
 // Of a damage list: its last line need not end with a newline, but it has to be the text of a block.
-fn told_of_list(alloc: Global, case: &Case, part: &str) -> Result<Told, Fail> {
+fn revealed_of_list(alloc: Global, case: &Case, part: &str) -> Result<Revealed, Fail> {
     let last = match part.rsplit_once('\n') {
         Some((_lines, last)) => last,
         None => part,
@@ -72,7 +72,7 @@ fn told_of_list(alloc: Global, case: &Case, part: &str) -> Result<Told, Fail> {
 }
 
 // Of an object: each part of it is one, in blocks of 16 bytes.
-fn told_of_object(alloc: Global, part: &[u8]) -> Result<Told, AllocError> {
+fn revealed_of_object(alloc: Global, part: &[u8]) -> Result<Revealed, AllocError> {
     let count = part.len();
     let nodes = count.div_ceil(16);
     let mut line = format!(in alloc; "stored {nodes} {count} ")?;
@@ -97,7 +97,7 @@ pub fn commits_in(case: &Case, bytes: usize) -> usize {
 }
 
 // Of frames: those that are whole are stored, and the stream may end after each.
-fn told_of_frames(alloc: Global, case: &Case, end: usize) -> Result<Told, AllocError> {
+fn revealed_of_frames(alloc: Global, case: &Case, end: usize) -> Result<Revealed, AllocError> {
     let commits = commits_in(case, end);
     let mut out = printed(alloc, case, commits)?;
     if end == 0 || case.commits.iter().any(|commit| commit.reads == end) {
@@ -109,7 +109,7 @@ fn told_of_frames(alloc: Global, case: &Case, end: usize) -> Result<Told, AllocE
 }
 
 // Of a report of restored blocks alone: it may end after the fourth line and each later one, but it is short of blocks then.
-fn told_of_report(alloc: Global, part: &str, is_whole: bool) -> Result<Told, AllocError> {
+fn revealed_of_report(alloc: Global, part: &str, is_whole: bool) -> Result<Revealed, AllocError> {
     let lines = lines_in(part.as_bytes());
     if 4 <= lines && part.ends_with('\n') {
         let (status, line) = if is_whole {
@@ -125,14 +125,14 @@ fn told_of_report(alloc: Global, part: &str, is_whole: bool) -> Result<Told, All
 }
 
 /// What the run of this case says whose input is this first part of the whole.
-pub fn told_of(alloc: Global, case: &Case, kind: Kind, part: &[u8]) -> Result<Told, Fail> {
+pub fn revealed_of(alloc: Global, case: &Case, kind: Kind, part: &[u8]) -> Result<Revealed, Fail> {
     match kind {
-        Kind::DamageList => told_of_list(alloc, case, text_of(part)?),
-        Kind::Object => Ok(told_of_object(alloc, part)?),
-        Kind::Frames => Ok(told_of_frames(alloc, case, part.len())?),
+        Kind::DamageList => revealed_of_list(alloc, case, text_of(part)?),
+        Kind::Object => Ok(revealed_of_object(alloc, part)?),
+        Kind::Frames => Ok(revealed_of_frames(alloc, case, part.len())?),
         Kind::Report => {
             let is_whole = part.len() == case.input.len();
-            Ok(told_of_report(alloc, text_of(part)?, is_whole)?)
+            Ok(revealed_of_report(alloc, text_of(part)?, is_whole)?)
         }
     }
 }

@@ -1,7 +1,7 @@
 //! Inputs that end early, come a byte at a time or fail: each reader with its input cut at each place, and with each of its reads
 //! failing.
 
-use super::ends::{Kind, commits_in, lines_in, told_of};
+use super::ends::{Kind, commits_in, lines_in, revealed_of};
 use crate::cases::{Case, DRILL, INGEST, PUT, VERIFY, cases};
 use crate::standing::{is_got, is_whole, prepared, printed, stands};
 use aea_cli::Status;
@@ -44,14 +44,14 @@ fn stores(
 // Whether the run over this first part of its input says and stores what it should, and the same where the part comes a byte at
 // a time.
 fn ends_well(alloc: Global, case: &Case, kind: Kind, part: &[u8]) -> Result<bool, Fail> {
-    let told = told_of(alloc, case, kind, part)?;
+    let revealed = revealed_of(alloc, case, kind, part)?;
     let mut disk = prepared(alloc, case)?;
     let at_once = run_input(alloc, case.line, &mut disk, part)?;
     let is_stored = stores(alloc, &mut disk, case, kind, part)?;
     let mut disk = prepared(alloc, case)?;
     let slowly = run_slowly(alloc, case.line, &mut disk, part, 0)?;
     let is_same = stores(alloc, &mut disk, case, kind, part)?;
-    Ok(told.is_of(&at_once) && told.is_of(&slowly) && is_stored && is_same)
+    Ok(revealed.is_of(&at_once) && revealed.is_of(&slowly) && is_stored && is_same)
 }
 
 // The first place where the input may be cut so that the run does not end as it should.
@@ -75,7 +75,7 @@ fn inputs_are_cut_at_each_place(rt: HostRuntime) -> Result<(), Fail> {
 }
 
 // Whether a run whose input has failed after so many commits says so, and has printed what they print.
-fn tells_fault(
+fn reveals_fault(
     alloc: Global,
     case: &Case,
     status: Status,
@@ -83,8 +83,8 @@ fn tells_fault(
     err: &[u8],
     commits: usize,
 ) -> Result<bool, AllocError> {
-    let is_told = status == Status::Input && err == b"fault: input\n".as_slice();
-    Ok(is_told && out == printed(alloc, case, commits)?.as_bytes())
+    let is_revealed = status == Status::Input && err == b"fault: input\n".as_slice();
+    Ok(is_revealed && out == printed(alloc, case, commits)?.as_bytes())
 }
 
 // Whether the run whose read of this number fails, of an input that gives a byte at a time, ends as it should, and leaves what it
@@ -97,8 +97,8 @@ fn bears_slow_read(alloc: Global, case: &Case, read: usize) -> Result<bool, Fail
         return Ok(is_whole(case, left.status, out, err));
     }
     let commits = commits_in(case, read.saturating_sub(1));
-    let is_told = tells_fault(alloc, case, left.status, out, err, commits)?;
-    Ok(is_told && stands(alloc, &mut disk, case, commits, commits)?)
+    let is_revealed = reveals_fault(alloc, case, left.status, out, err, commits)?;
+    Ok(is_revealed && stands(alloc, &mut disk, case, commits, commits)?)
 }
 
 // The first such read that the run does not bear.
@@ -131,8 +131,8 @@ fn bears_read(alloc: Global, case: &Case, read: u32) -> Result<Option<bool>, Fai
         return Ok(None);
     }
     let commits = lines_in(out);
-    let is_told = tells_fault(alloc, case, left.status, out, err, commits)?;
-    Ok(Some(is_told && stands(alloc, &mut disk, case, commits, commits)?))
+    let is_revealed = reveals_fault(alloc, case, left.status, out, err, commits)?;
+    Ok(Some(is_revealed && stands(alloc, &mut disk, case, commits, commits)?))
 }
 
 // The number of reads that the run makes, where it bears each; none where it does not.

@@ -21,11 +21,11 @@ fn bears_output(
     let mut disk = prepared(alloc, case)?;
     let left = run_failing(alloc, case.line, &mut disk, case.input.as_bytes(), faults)?;
     let (out, err) = (left.out.bytes(), left.err.bytes());
-    let is_told = left.status == Status::Output && err == b"fault: output\n".as_slice();
+    let is_revealed = left.status == Status::Output && err == b"fault: output\n".as_slice();
     let is_first_part = out.len() == length && case.out.as_bytes().starts_with(out);
     let commits = commits.min(case.commits.len());
     let is_kept = commits == 0 || stands(alloc, &mut disk, case, commits, commits)?;
-    Ok(is_told && is_first_part && is_kept)
+    Ok(is_revealed && is_first_part && is_kept)
 }
 
 // How many bytes the first pieces that are printed have.

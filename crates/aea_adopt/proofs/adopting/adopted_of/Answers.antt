@@ -3,8 +3,8 @@ use Rattle.std.proofs.lemmas.Bool.{ltb-true, lt-ltb}
 use Rattle.aea_copy_writer.proofs.Filling.{text_some}
 use Rattle.aea_adopt.proofs.adopting.adopted_of.Goals as goal
 
-pub returns-clause-told : goal.returns-clause-told
-returns-clause-told c files pieces known = record {
+pub returns-clause-revealed : goal.returns-clause-revealed
+returns-clause-revealed c files pieces known = record {
   on = lt-ltb 0 c.args.kept.now.standing.text (let some = text_some pieces known.good.valid known.good.some in omega (arith, some, known.text));
   end = known.text;
   gates = ap (λ (n : ℕ). n ∷ n ∷ []) known.place;

@@ -12,46 +12,46 @@ use Rattle.aea_adopt.proofs.Stages.{IsMade, is_made, IsHalf, is_half, all_kept, 
 use Rattle.aea_adopt.proofs.adopting.keep.Goals as goal
 
 pub renew-requires-clause-synced : goal.renew-requires-clause-synced
-renew-requires-clause-synced g c told =
-    let pieces = (c.requires.known told).0 in
-    let known = (c.requires.known told).1 in
-    c.in_ok-mend_ledger.ensures.durable told pieces known.kept
+renew-requires-clause-synced g c revealed =
+    let pieces = (c.requires.known revealed).0 in
+    let known = (c.requires.known revealed).1 in
+    c.in_ok-mend_ledger.ensures.durable revealed pieces known.kept
 
 pub renew-requires-2-clause-synced : goal.renew-requires-2-clause-synced
-renew-requires-2-clause-synced g c told =
+renew-requires-2-clause-synced g c revealed =
     let first = g.D.Disk.state c.args.disk.now in
     let second = g.D.Disk.state c.mend_ledger.new.disk in
     let third = g.D.Disk.state c.renew.new.disk in
     let j = c.args.judgement.now in
     let k = c.args.kept.now in
-    let pieces = (c.requires.known told).0 in
-    let known = (c.requires.known told).1 in
-    let made : IsMade pieces first.files second.files j k.standing.text = is_made pieces first.files second.files j k known (c.in_ok-mend_ledger.ensures.mended told pieces known.kept) (c.mend_ledger.ensures.writes.contents told) (c.mend_ledger.ensures.reads told pieces known.kept) in
-    c.in_ok-renew.ensures.durable told pieces made.can
+    let pieces = (c.requires.known revealed).0 in
+    let known = (c.requires.known revealed).1 in
+    let made : IsMade pieces first.files second.files j k.standing.text = is_made pieces first.files second.files j k known (c.in_ok-mend_ledger.ensures.mended revealed pieces known.kept) (c.mend_ledger.ensures.writes.contents revealed) (c.mend_ledger.ensures.reads revealed pieces known.kept) in
+    c.in_ok-renew.ensures.durable revealed pieces made.can
 
 pub returns-in_err-mend_ledger-clause-any_moment : goal.returns-in_err-mend_ledger-clause-any_moment
-returns-in_err-mend_ledger-clause-any_moment g c told pieces known =
+returns-in_err-mend_ledger-clause-any_moment g c revealed pieces known =
     let first = g.D.Disk.state c.args.disk.now in
     let second = g.D.Disk.state c.mend_ledger.new.disk in
     let j = c.args.judgement.now in
     let k = c.args.kept.now in
-    ledger_stage pieces first second k.source known.kept.is known.kept.good (c.requires.synced told) c.mend_ledger.ensures.writes.crash (c.mend_ledger.ensures.any_moment told pieces known.kept)
+    ledger_stage pieces first second k.source known.kept.is known.kept.good (c.requires.synced revealed) c.mend_ledger.ensures.writes.crash (c.mend_ledger.ensures.any_moment revealed pieces known.kept)
 
 pub returns-in_err-mend_ledger-clause-reads : goal.returns-in_err-mend_ledger-clause-reads
-returns-in_err-mend_ledger-clause-reads g c told pieces known =
+returns-in_err-mend_ledger-clause-reads g c revealed pieces known =
     let first = g.D.Disk.state c.args.disk.now in
     let second = g.D.Disk.state c.mend_ledger.new.disk in
     let j = c.args.judgement.now in
     let k = c.args.kept.now in
-    ledger_kept pieces first.files second.files k.source known.kept.is known.kept.good (c.mend_ledger.ensures.writes.contents told) (c.mend_ledger.ensures.reads told pieces known.kept)
+    ledger_kept pieces first.files second.files k.source known.kept.is known.kept.good (c.mend_ledger.ensures.writes.contents revealed) (c.mend_ledger.ensures.reads revealed pieces known.kept)
 
 pub returns-in_err-mend_ledger-clause-idle : goal.returns-in_err-mend_ledger-clause-idle
-returns-in_err-mend_ledger-clause-idle g c told pieces known all =
+returns-in_err-mend_ledger-clause-idle g c revealed pieces known all =
     let first = g.D.Disk.state c.args.disk.now in
     let second = g.D.Disk.state c.mend_ledger.new.disk in
     let j = c.args.judgement.now in
     let k = c.args.kept.now in
-    (c.mend_ledger.ensures.idle told pieces known.kept (sym all.ledger), ledger_stays pieces first.files second.files all (c.mend_ledger.ensures.writes.contents told) (c.mend_ledger.ensures.reads told pieces known.kept))
+    (c.mend_ledger.ensures.idle revealed pieces known.kept (sym all.ledger), ledger_stays pieces first.files second.files all (c.mend_ledger.ensures.writes.contents revealed) (c.mend_ledger.ensures.reads revealed pieces known.kept))
 
 pub returns-in_err-mend_ledger-clause-writes : goal.returns-in_err-mend_ledger-clause-writes
 returns-in_err-mend_ledger-clause-writes g c =
@@ -59,41 +59,41 @@ returns-in_err-mend_ledger-clause-writes g c =
     let second = g.D.Disk.state c.mend_ledger.new.disk in
     let j = c.args.judgement.now in
     let k = c.args.kept.now in
-    sites_first g.D.Disk.tells _ (FitsChange first 0 (k.standing.text + 1)) (FitsKeeping first j k) 0 first second (λ site. omega (arith, site.from)) (λ told fit. fits_ledger first j k fit)
-    (writes_faulted g.D.Disk.tells first.free (FitsChange first 0 (k.standing.text + 1)) _ _ (ChangesOnly 0) first second c.in_err-mend_ledger.ensures.writes (refl {a = true}) (cc))
+    sites_first g.D.Disk.reveals _ (FitsChange first 0 (k.standing.text + 1)) (FitsKeeping first j k) 0 first second (λ site. omega (arith, site.from)) (λ revealed fit. fits_ledger first j k fit)
+    (writes_faulted g.D.Disk.reveals first.free (FitsChange first 0 (k.standing.text + 1)) _ _ (ChangesOnly 0) first second c.in_err-mend_ledger.ensures.writes (refl {a = true}) (cc))
 
 pub returns-in_err-renew-clause-any_moment : goal.returns-in_err-renew-clause-any_moment
-returns-in_err-renew-clause-any_moment g c told pieces known =
+returns-in_err-renew-clause-any_moment g c revealed pieces known =
     let first = g.D.Disk.state c.args.disk.now in
     let second = g.D.Disk.state c.mend_ledger.new.disk in
     let third = g.D.Disk.state c.renew.new.disk in
     let j = c.args.judgement.now in
     let k = c.args.kept.now in
-    let made : IsMade pieces first.files second.files j k.standing.text = is_made pieces first.files second.files j k known (c.in_ok-mend_ledger.ensures.mended told pieces known.kept) (c.mend_ledger.ensures.writes.contents told) (c.mend_ledger.ensures.reads told pieces known.kept) in
+    let made : IsMade pieces first.files second.files j k.standing.text = is_made pieces first.files second.files j k known (c.in_ok-mend_ledger.ensures.mended revealed pieces known.kept) (c.mend_ledger.ensures.writes.contents revealed) (c.mend_ledger.ensures.reads revealed pieces known.kept) in
     during_both first second third (λ (d : Files). MayBeKept pieces first.files d) c.mend_ledger.ensures.writes.time c.renew.ensures.writes.time
-    (ledger_stage pieces first second k.source known.kept.is known.kept.good (c.requires.synced told) c.mend_ledger.ensures.writes.crash (c.mend_ledger.ensures.any_moment told pieces known.kept))
-    (copy_stage pieces first.files second third 65 66 k.standing.text j.first (inl refl) (inr refl) (λ e. omega (arith, e)) made.kept (c.in_ok-mend_ledger.ensures.durable told pieces known.kept) c.renew.ensures.writes.crash (c.renew.ensures.any_moment told pieces made.can) (λ up. (c.renew.ensures.up up).1) made.first made.other)
+    (ledger_stage pieces first second k.source known.kept.is known.kept.good (c.requires.synced revealed) c.mend_ledger.ensures.writes.crash (c.mend_ledger.ensures.any_moment revealed pieces known.kept))
+    (copy_stage pieces first.files second third 65 66 k.standing.text j.first (inl refl) (inr refl) (λ e. omega (arith, e)) made.kept (c.in_ok-mend_ledger.ensures.durable revealed pieces known.kept) c.renew.ensures.writes.crash (c.renew.ensures.any_moment revealed pieces made.can) (λ up. (c.renew.ensures.up up).1) made.first made.other)
 
 pub returns-in_err-renew-clause-reads : goal.returns-in_err-renew-clause-reads
-returns-in_err-renew-clause-reads g c told pieces known =
+returns-in_err-renew-clause-reads g c revealed pieces known =
     let first = g.D.Disk.state c.args.disk.now in
     let second = g.D.Disk.state c.mend_ledger.new.disk in
     let third = g.D.Disk.state c.renew.new.disk in
     let j = c.args.judgement.now in
     let k = c.args.kept.now in
-    let made : IsMade pieces first.files second.files j k.standing.text = is_made pieces first.files second.files j k known (c.in_ok-mend_ledger.ensures.mended told pieces known.kept) (c.mend_ledger.ensures.writes.contents told) (c.mend_ledger.ensures.reads told pieces known.kept) in
-    copy_kept pieces first.files second.files third.files 65 66 k.standing.text j.first (inl refl) (inr refl) (λ e. omega (arith, e)) made.kept (c.renew.ensures.writes.contents told) (c.renew.ensures.reads told pieces made.can)
-    (λ up. ap (λ (d : Files). d 65) ((c.renew.ensures.up up).0 told)) made.first made.other
+    let made : IsMade pieces first.files second.files j k.standing.text = is_made pieces first.files second.files j k known (c.in_ok-mend_ledger.ensures.mended revealed pieces known.kept) (c.mend_ledger.ensures.writes.contents revealed) (c.mend_ledger.ensures.reads revealed pieces known.kept) in
+    copy_kept pieces first.files second.files third.files 65 66 k.standing.text j.first (inl refl) (inr refl) (λ e. omega (arith, e)) made.kept (c.renew.ensures.writes.contents revealed) (c.renew.ensures.reads revealed pieces made.can)
+    (λ up. ap (λ (d : Files). d 65) ((c.renew.ensures.up up).0 revealed)) made.first made.other
 
 pub returns-in_err-renew-clause-idle : goal.returns-in_err-renew-clause-idle
-returns-in_err-renew-clause-idle g c told pieces known all =
+returns-in_err-renew-clause-idle g c revealed pieces known all =
     let first = g.D.Disk.state c.args.disk.now in
     let second = g.D.Disk.state c.mend_ledger.new.disk in
     let third = g.D.Disk.state c.renew.new.disk in
     let j = c.args.judgement.now in
     let k = c.args.kept.now in
     let one = c.renew.ensures.up (first_up pieces first.files j k known all) in
-    (during_then_kept first second third (first.image first.moment) c.mend_ledger.ensures.writes.time c.renew.ensures.writes.time one.1 (c.mend_ledger.ensures.idle told pieces known.kept (sym all.ledger)), one.0 told ∙ ledger_stays pieces first.files second.files all (c.mend_ledger.ensures.writes.contents told) (c.mend_ledger.ensures.reads told pieces known.kept))
+    (during_then_kept first second third (first.image first.moment) c.mend_ledger.ensures.writes.time c.renew.ensures.writes.time one.1 (c.mend_ledger.ensures.idle revealed pieces known.kept (sym all.ledger)), one.0 revealed ∙ ledger_stays pieces first.files second.files all (c.mend_ledger.ensures.writes.contents revealed) (c.mend_ledger.ensures.reads revealed pieces known.kept))
 
 pub returns-in_err-renew-clause-writes : goal.returns-in_err-renew-clause-writes
 returns-in_err-renew-clause-writes g c =
@@ -102,39 +102,39 @@ returns-in_err-renew-clause-writes g c =
     let third = g.D.Disk.state c.renew.new.disk in
     let j = c.args.judgement.now in
     let k = c.args.kept.now in
-    sites_both g.D.Disk.tells (false ≡ true) _ (FitsKeeping first j k) (FitsCopy second 65 k.standing.text) 65 first second third (λ site. omega (arith, site.to)) false≢true
-    (λ told fit passes. fits_copy first second j k 65 (inl refl) fit passes (λ pieces known. (is_made pieces first.files second.files j k known (c.in_ok-mend_ledger.ensures.mended told pieces known.kept) (c.mend_ledger.ensures.writes.contents told) (c.mend_ledger.ensures.reads told pieces known.kept)).can))
-    (sites_first g.D.Disk.tells (false ≡ true) (FitsChange first 0 (k.standing.text + 1)) (FitsKeeping first j k) 0 first second (λ site. omega (arith, site.from)) (λ told fit. fits_ledger first j k fit)
+    sites_both g.D.Disk.reveals (false ≡ true) _ (FitsKeeping first j k) (FitsCopy second 65 k.standing.text) 65 first second third (λ site. omega (arith, site.to)) false≢true
+    (λ revealed fit passes. fits_copy first second j k 65 (inl refl) fit passes (λ pieces known. (is_made pieces first.files second.files j k known (c.in_ok-mend_ledger.ensures.mended revealed pieces known.kept) (c.mend_ledger.ensures.writes.contents revealed) (c.mend_ledger.ensures.reads revealed pieces known.kept)).can))
+    (sites_first g.D.Disk.reveals (false ≡ true) (FitsChange first 0 (k.standing.text + 1)) (FitsKeeping first j k) 0 first second (λ site. omega (arith, site.from)) (λ revealed fit. fits_ledger first j k fit)
     c.in_ok-mend_ledger.ensures.writes)
-    (writes_faulted g.D.Disk.tells second.free (FitsCopy second 65 k.standing.text) _ _ (ChangesOnly 65) second third c.in_err-renew.ensures.writes (refl {a = true}) (cc))
+    (writes_faulted g.D.Disk.reveals second.free (FitsCopy second 65 k.standing.text) _ _ (ChangesOnly 65) second third c.in_err-renew.ensures.writes (refl {a = true}) (cc))
 
 pub returns-clause-any_moment : goal.returns-clause-any_moment
-returns-clause-any_moment g c told pieces known =
+returns-clause-any_moment g c revealed pieces known =
     let first = g.D.Disk.state c.args.disk.now in
     let second = g.D.Disk.state c.mend_ledger.new.disk in
     let third = g.D.Disk.state c.renew.new.disk in
     let fourth = g.D.Disk.state c.renew-2.new.disk in
     let j = c.args.judgement.now in
     let k = c.args.kept.now in
-    let made : IsMade pieces first.files second.files j k.standing.text = is_made pieces first.files second.files j k known (c.in_ok-mend_ledger.ensures.mended told pieces known.kept) (c.mend_ledger.ensures.writes.contents told) (c.mend_ledger.ensures.reads told pieces known.kept) in
-    let half : IsHalf pieces first.files third.files j k.standing.text = is_half pieces first.files second.files third.files j k.standing.text made (c.renew.ensures.writes.contents told) (c.renew.ensures.reads told pieces made.can) (λ up. (c.renew.ensures.up up).0 told) (c.in_ok-renew.ensures.renewed told pieces made.can) in
+    let made : IsMade pieces first.files second.files j k.standing.text = is_made pieces first.files second.files j k known (c.in_ok-mend_ledger.ensures.mended revealed pieces known.kept) (c.mend_ledger.ensures.writes.contents revealed) (c.mend_ledger.ensures.reads revealed pieces known.kept) in
+    let half : IsHalf pieces first.files third.files j k.standing.text = is_half pieces first.files second.files third.files j k.standing.text made (c.renew.ensures.writes.contents revealed) (c.renew.ensures.reads revealed pieces made.can) (λ up. (c.renew.ensures.up up).0 revealed) (c.in_ok-renew.ensures.renewed revealed pieces made.can) in
     during_both first third fourth (λ (d : Files). MayBeKept pieces first.files d) (passes_both first second third c.mend_ledger.ensures.writes.time c.renew.ensures.writes.time) c.renew-2.ensures.writes.time
     (during_both first second third (λ (d : Files). MayBeKept pieces first.files d) c.mend_ledger.ensures.writes.time c.renew.ensures.writes.time
-    (ledger_stage pieces first second k.source known.kept.is known.kept.good (c.requires.synced told) c.mend_ledger.ensures.writes.crash (c.mend_ledger.ensures.any_moment told pieces known.kept))
-    (copy_stage pieces first.files second third 65 66 k.standing.text j.first (inl refl) (inr refl) (λ e. omega (arith, e)) made.kept (c.in_ok-mend_ledger.ensures.durable told pieces known.kept) c.renew.ensures.writes.crash (c.renew.ensures.any_moment told pieces made.can) (λ up. (c.renew.ensures.up up).1) made.first made.other))
-    (copy_stage pieces first.files third fourth 66 65 k.standing.text j.second (inr refl) (inl refl) (λ e. omega (arith, e)) half.kept (c.in_ok-renew.ensures.durable told pieces made.can) c.renew-2.ensures.writes.crash (c.renew-2.ensures.any_moment told pieces half.can) (λ up. (c.renew-2.ensures.up up).1) half.second (λ no. half.first))
+    (ledger_stage pieces first second k.source known.kept.is known.kept.good (c.requires.synced revealed) c.mend_ledger.ensures.writes.crash (c.mend_ledger.ensures.any_moment revealed pieces known.kept))
+    (copy_stage pieces first.files second third 65 66 k.standing.text j.first (inl refl) (inr refl) (λ e. omega (arith, e)) made.kept (c.in_ok-mend_ledger.ensures.durable revealed pieces known.kept) c.renew.ensures.writes.crash (c.renew.ensures.any_moment revealed pieces made.can) (λ up. (c.renew.ensures.up up).1) made.first made.other))
+    (copy_stage pieces first.files third fourth 66 65 k.standing.text j.second (inr refl) (inl refl) (λ e. omega (arith, e)) half.kept (c.in_ok-renew.ensures.durable revealed pieces made.can) c.renew-2.ensures.writes.crash (c.renew-2.ensures.any_moment revealed pieces half.can) (λ up. (c.renew-2.ensures.up up).1) half.second (λ no. half.first))
 
 pub returns-clause-reads : goal.returns-clause-reads
-returns-clause-reads g c told pieces known =
+returns-clause-reads g c revealed pieces known =
     let first = g.D.Disk.state c.args.disk.now in
     let second = g.D.Disk.state c.mend_ledger.new.disk in
     let third = g.D.Disk.state c.renew.new.disk in
     let fourth = g.D.Disk.state c.renew-2.new.disk in
     let j = c.args.judgement.now in
     let k = c.args.kept.now in
-    let made : IsMade pieces first.files second.files j k.standing.text = is_made pieces first.files second.files j k known (c.in_ok-mend_ledger.ensures.mended told pieces known.kept) (c.mend_ledger.ensures.writes.contents told) (c.mend_ledger.ensures.reads told pieces known.kept) in
-    let half : IsHalf pieces first.files third.files j k.standing.text = is_half pieces first.files second.files third.files j k.standing.text made (c.renew.ensures.writes.contents told) (c.renew.ensures.reads told pieces made.can) (λ up. (c.renew.ensures.up up).0 told) (c.in_ok-renew.ensures.renewed told pieces made.can) in
-    last_kept pieces first.files third.files fourth.files j k.standing.text half (c.renew-2.ensures.writes.contents told) (c.renew-2.ensures.reads told pieces half.can) (λ up. (c.renew-2.ensures.up up).0 told)
+    let made : IsMade pieces first.files second.files j k.standing.text = is_made pieces first.files second.files j k known (c.in_ok-mend_ledger.ensures.mended revealed pieces known.kept) (c.mend_ledger.ensures.writes.contents revealed) (c.mend_ledger.ensures.reads revealed pieces known.kept) in
+    let half : IsHalf pieces first.files third.files j k.standing.text = is_half pieces first.files second.files third.files j k.standing.text made (c.renew.ensures.writes.contents revealed) (c.renew.ensures.reads revealed pieces made.can) (λ up. (c.renew.ensures.up up).0 revealed) (c.in_ok-renew.ensures.renewed revealed pieces made.can) in
+    last_kept pieces first.files third.files fourth.files j k.standing.text half (c.renew-2.ensures.writes.contents revealed) (c.renew-2.ensures.reads revealed pieces half.can) (λ up. (c.renew-2.ensures.up up).0 revealed)
 
 pub returns-clause-kept : goal.returns-clause-kept
 returns-clause-kept g c =
@@ -145,14 +145,14 @@ returns-clause-kept g c =
     let j = c.args.judgement.now in
     let k = c.args.kept.now in
     on_ok_weaker c.renew-2.result
-    (λ renewed told pieces known.
-    let made : IsMade pieces first.files second.files j k.standing.text = is_made pieces first.files second.files j k known (c.in_ok-mend_ledger.ensures.mended told pieces known.kept) (c.mend_ledger.ensures.writes.contents told) (c.mend_ledger.ensures.reads told pieces known.kept) in
-    let half : IsHalf pieces first.files third.files j k.standing.text = is_half pieces first.files second.files third.files j k.standing.text made (c.renew.ensures.writes.contents told) (c.renew.ensures.reads told pieces made.can) (λ up. (c.renew.ensures.up up).0 told) (c.in_ok-renew.ensures.renewed told pieces made.can) in
-    all_kept pieces first.files third.files fourth.files j k.standing.text half (c.renew-2.ensures.writes.contents told) (λ up. (c.renew-2.ensures.up up).0 told) (renewed told pieces half.can))
+    (λ renewed revealed pieces known.
+    let made : IsMade pieces first.files second.files j k.standing.text = is_made pieces first.files second.files j k known (c.in_ok-mend_ledger.ensures.mended revealed pieces known.kept) (c.mend_ledger.ensures.writes.contents revealed) (c.mend_ledger.ensures.reads revealed pieces known.kept) in
+    let half : IsHalf pieces first.files third.files j k.standing.text = is_half pieces first.files second.files third.files j k.standing.text made (c.renew.ensures.writes.contents revealed) (c.renew.ensures.reads revealed pieces made.can) (λ up. (c.renew.ensures.up up).0 revealed) (c.in_ok-renew.ensures.renewed revealed pieces made.can) in
+    all_kept pieces first.files third.files fourth.files j k.standing.text half (c.renew-2.ensures.writes.contents revealed) (λ up. (c.renew-2.ensures.up up).0 revealed) (renewed revealed pieces half.can))
     c.renew-2.ensures.renewed
 
 pub returns-clause-idle : goal.returns-clause-idle
-returns-clause-idle g c told pieces known all =
+returns-clause-idle g c revealed pieces known all =
     let first = g.D.Disk.state c.args.disk.now in
     let second = g.D.Disk.state c.mend_ledger.new.disk in
     let third = g.D.Disk.state c.renew.new.disk in
@@ -162,8 +162,8 @@ returns-clause-idle g c told pieces known all =
     let one = c.renew.ensures.up (first_up pieces first.files j k known all) in
     let two = c.renew-2.ensures.up (second_up pieces first.files j k known all) in (
       during_then_kept first third fourth (first.image first.moment) (passes_both first second third c.mend_ledger.ensures.writes.time c.renew.ensures.writes.time) c.renew-2.ensures.writes.time two.1
-          (during_then_kept first second third (first.image first.moment) c.mend_ledger.ensures.writes.time c.renew.ensures.writes.time one.1 (c.mend_ledger.ensures.idle told pieces known.kept (sym all.ledger))),
-      two.0 told ∙ (one.0 told ∙ ledger_stays pieces first.files second.files all (c.mend_ledger.ensures.writes.contents told) (c.mend_ledger.ensures.reads told pieces known.kept)),
+          (during_then_kept first second third (first.image first.moment) c.mend_ledger.ensures.writes.time c.renew.ensures.writes.time one.1 (c.mend_ledger.ensures.idle revealed pieces known.kept (sym all.ledger))),
+      two.0 revealed ∙ (one.0 revealed ∙ ledger_stays pieces first.files second.files all (c.mend_ledger.ensures.writes.contents revealed) (c.mend_ledger.ensures.reads revealed pieces known.kept)),
     )
 
 pub returns-clause-durable : goal.returns-clause-durable
@@ -175,12 +175,12 @@ returns-clause-durable g c =
     let j = c.args.judgement.now in
     let k = c.args.kept.now in
     on_ok_weaker c.renew-2.result
-    (λ durable told.
-    let pieces = (c.requires.known told).0 in
-    let known = (c.requires.known told).1 in
-    let made : IsMade pieces first.files second.files j k.standing.text = is_made pieces first.files second.files j k known (c.in_ok-mend_ledger.ensures.mended told pieces known.kept) (c.mend_ledger.ensures.writes.contents told) (c.mend_ledger.ensures.reads told pieces known.kept) in
-    let half : IsHalf pieces first.files third.files j k.standing.text = is_half pieces first.files second.files third.files j k.standing.text made (c.renew.ensures.writes.contents told) (c.renew.ensures.reads told pieces made.can) (λ up. (c.renew.ensures.up up).0 told) (c.in_ok-renew.ensures.renewed told pieces made.can) in
-    durable told pieces half.can)
+    (λ durable revealed.
+    let pieces = (c.requires.known revealed).0 in
+    let known = (c.requires.known revealed).1 in
+    let made : IsMade pieces first.files second.files j k.standing.text = is_made pieces first.files second.files j k known (c.in_ok-mend_ledger.ensures.mended revealed pieces known.kept) (c.mend_ledger.ensures.writes.contents revealed) (c.mend_ledger.ensures.reads revealed pieces known.kept) in
+    let half : IsHalf pieces first.files third.files j k.standing.text = is_half pieces first.files second.files third.files j k.standing.text made (c.renew.ensures.writes.contents revealed) (c.renew.ensures.reads revealed pieces made.can) (λ up. (c.renew.ensures.up up).0 revealed) (c.in_ok-renew.ensures.renewed revealed pieces made.can) in
+    durable revealed pieces half.can)
     c.renew-2.ensures.durable
 
 pub returns-clause-writes : goal.returns-clause-writes
@@ -191,15 +191,15 @@ returns-clause-writes g c =
     let fourth = g.D.Disk.state c.renew-2.new.disk in
     let j = c.args.judgement.now in
     let k = c.args.kept.now in
-    sites_both g.D.Disk.tells (false ≡ true) _ (FitsKeeping first j k) (FitsCopy third 66 k.standing.text) 66 first third fourth (λ site. omega (arith, site.to)) false≢true
-    (λ told fit passes. fits_copy first third j k 66 (inr refl) fit passes
+    sites_both g.D.Disk.reveals (false ≡ true) _ (FitsKeeping first j k) (FitsCopy third 66 k.standing.text) 66 first third fourth (λ site. omega (arith, site.to)) false≢true
+    (λ revealed fit passes. fits_copy first third j k 66 (inr refl) fit passes
     (λ pieces known.
-    let made : IsMade pieces first.files second.files j k.standing.text = is_made pieces first.files second.files j k known (c.in_ok-mend_ledger.ensures.mended told pieces known.kept) (c.mend_ledger.ensures.writes.contents told) (c.mend_ledger.ensures.reads told pieces known.kept) in
-    let half : IsHalf pieces first.files third.files j k.standing.text = is_half pieces first.files second.files third.files j k.standing.text made (c.renew.ensures.writes.contents told) (c.renew.ensures.reads told pieces made.can) (λ up. (c.renew.ensures.up up).0 told) (c.in_ok-renew.ensures.renewed told pieces made.can) in
+    let made : IsMade pieces first.files second.files j k.standing.text = is_made pieces first.files second.files j k known (c.in_ok-mend_ledger.ensures.mended revealed pieces known.kept) (c.mend_ledger.ensures.writes.contents revealed) (c.mend_ledger.ensures.reads revealed pieces known.kept) in
+    let half : IsHalf pieces first.files third.files j k.standing.text = is_half pieces first.files second.files third.files j k.standing.text made (c.renew.ensures.writes.contents revealed) (c.renew.ensures.reads revealed pieces made.can) (λ up. (c.renew.ensures.up up).0 revealed) (c.in_ok-renew.ensures.renewed revealed pieces made.can) in
     half.can))
-    (sites_both g.D.Disk.tells (false ≡ true) _ (FitsKeeping first j k) (FitsCopy second 65 k.standing.text) 65 first second third (λ site. omega (arith, site.to)) false≢true
-    (λ told fit passes. fits_copy first second j k 65 (inl refl) fit passes (λ pieces known. (is_made pieces first.files second.files j k known (c.in_ok-mend_ledger.ensures.mended told pieces known.kept) (c.mend_ledger.ensures.writes.contents told) (c.mend_ledger.ensures.reads told pieces known.kept)).can))
-    (sites_first g.D.Disk.tells (false ≡ true) (FitsChange first 0 (k.standing.text + 1)) (FitsKeeping first j k) 0 first second (λ site. omega (arith, site.from)) (λ told fit. fits_ledger first j k fit)
+    (sites_both g.D.Disk.reveals (false ≡ true) _ (FitsKeeping first j k) (FitsCopy second 65 k.standing.text) 65 first second third (λ site. omega (arith, site.to)) false≢true
+    (λ revealed fit passes. fits_copy first second j k 65 (inl refl) fit passes (λ pieces known. (is_made pieces first.files second.files j k known (c.in_ok-mend_ledger.ensures.mended revealed pieces known.kept) (c.mend_ledger.ensures.writes.contents revealed) (c.mend_ledger.ensures.reads revealed pieces known.kept)).can))
+    (sites_first g.D.Disk.reveals (false ≡ true) (FitsChange first 0 (k.standing.text + 1)) (FitsKeeping first j k) 0 first second (λ site. omega (arith, site.from)) (λ revealed fit. fits_ledger first j k fit)
     c.in_ok-mend_ledger.ensures.writes)
     c.in_ok-renew.ensures.writes)
     c.renew-2.ensures.writes

@@ -7,7 +7,7 @@ use Rattle.aea_io.specs.Taken.{TakesFirst}
 use Rattle.aea_records.specs.TableLaws.{AreBytes}
 use Rattle.aea_append.specs.Frames.{frame_head}
 use Rattle.aea_append.proofs.Takings.{counts_more, counts_then}
-use Rattle.aea_append.proofs.Frames.{halves, told_cut, told_whole, taken_whole, byte_below, same_long, same_size}
+use Rattle.aea_append.proofs.Frames.{halves, revealed_cut, revealed_whole, taken_whole, byte_below, same_long, same_size}
 use Rattle.aea_append.proofs.frame.read_head.Goals as goal
 
 pub returns-in-Err-read_full-clause-counted : goal.returns-in-Err-read_full-clause-counted
@@ -40,18 +40,18 @@ returns-clause-counted g c =
     (counts_then (g.S.Source.state c.args.source.now).left (g.S.Source.state c.read_full.new.source).left (g.S.Source.state c.read_full-2.new.source).left c.args.at.now c.read_full.new.at c.read_full-2.new.at (length c.read_full.new.buf) (length c.read_full-2.new.buf) c.read_full.ensures.counted c.read_full-2.ensures.counted)
     (omega (arith, two, more, most.1))
 
-pub returns-then-taken-end-clause-told : goal.returns-then-taken-end-clause-told
-returns-then-taken-end-clause-told g c stream is =
+pub returns-then-taken-end-clause-revealed : goal.returns-then-taken-end-clause-revealed
+returns-then-taken-end-clause-revealed g c stream is =
     let number : c.from-long.result ≡ from_be_bytes w16 c.read_full.new.buf = c.from-long.ensures ∙ c.from_be_bytes.ensures in
     let most = c.is_no_length.ensures.no c.if-is_no_length.false in
     let two : length c.read_full.new.buf ≡ 2 = c.read_full.auto.buf in
     let more : length c.read_full-2.new.buf ≡ c.from-long.result + 8 = omega (arith, c.read_full-2.auto.buf, length-take (c.from-long.result + 8) c.args.buffer.now, c.requires.buffer, most.1) in
     let full : 2 ≤ c.in-Ok.count = grind (arith, nat_tests, c.if-count-lt2.false) in
     let short : c.in-Ok-read_full.taken < c.from-long.result + 8 = grind (arith, nat_tests, c.if-taken-end.true) in
-    told_cut (g.S.Source.state c.args.source.now).left (g.S.Source.state c.read_full.new.source).left (g.S.Source.state c.read_full-2.new.source).left stream c.read_full.new.buf c.read_full-2.new.buf c.in-Ok.count c.in-Ok-read_full.taken c.from-long.result is c.in-Ok.ensures.fills two full number most.0 most.1 c.in-Ok-read_full.ensures.fills more short
+    revealed_cut (g.S.Source.state c.args.source.now).left (g.S.Source.state c.read_full.new.source).left (g.S.Source.state c.read_full-2.new.source).left stream c.read_full.new.buf c.read_full-2.new.buf c.in-Ok.count c.in-Ok-read_full.taken c.from-long.result is c.in-Ok.ensures.fills two full number most.0 most.1 c.in-Ok-read_full.ensures.fills more short
 
-pub returns-clause-told : goal.returns-clause-told
-returns-clause-told g c stream is =
+pub returns-clause-revealed : goal.returns-clause-revealed
+returns-clause-revealed g c stream is =
     let number : c.from-long.result ≡ from_be_bytes w16 c.read_full.new.buf = c.from-long.ensures ∙ c.from_be_bytes.ensures in
     let most = c.is_no_length.ensures.no c.if-is_no_length.false in
     let two : length c.read_full.new.buf ≡ 2 = c.read_full.auto.buf in
@@ -63,7 +63,7 @@ returns-clause-told g c stream is =
     let second : TakesFirst (g.S.Source.state c.read_full.new.source).left (g.S.Source.state c.read_full-2.new.source).left c.in-Ok-read_full.taken (take c.from-long.result c.read_full-2.new.buf ++ drop c.from-long.result c.read_full-2.new.buf) =
     subst (TakesFirst (g.S.Source.state c.read_full.new.source).left (g.S.Source.state c.read_full-2.new.source).left c.in-Ok-read_full.taken) (sym parts.0) c.in-Ok-read_full.ensures.fills in
     let value : c.number_at-size.result ≡ from_be_bytes w64 (drop c.from-long.result c.read_full-2.new.buf) = c.number_at-size.ensures.number ∙ ap (from_be_bytes w64) parts.4 in
-    let t = told_whole (g.S.Source.state c.args.source.now).left (g.S.Source.state c.read_full.new.source).left (g.S.Source.state c.read_full-2.new.source).left stream c.read_full.new.buf (take c.from-long.result c.read_full-2.new.buf) (drop c.from-long.result c.read_full-2.new.buf) c.in-Ok.count c.in-Ok-read_full.taken c.from-long.result c.number_at-size.result is c.in-Ok.ensures.fills two full number most.0 most.1
+    let t = revealed_whole (g.S.Source.state c.args.source.now).left (g.S.Source.state c.read_full.new.source).left (g.S.Source.state c.read_full-2.new.source).left stream c.read_full.new.buf (take c.from-long.result c.read_full-2.new.buf) (drop c.from-long.result c.read_full-2.new.buf) c.in-Ok.count c.in-Ok-read_full.taken c.from-long.result c.number_at-size.result is c.in-Ok.ensures.fills two full number most.0 most.1
     second parts.1 parts.2 whole value in
     (t.0, parts.3 ∙ t.1, t.2, t.3)
 

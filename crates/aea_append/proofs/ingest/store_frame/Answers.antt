@@ -16,14 +16,14 @@ use Rattle.aea_append.proofs.ingest.store_frame.Goals as goal
 
 pub returns-in-Err-BadName-clause-writes : goal.returns-in-Err-BadName-clause-writes
 returns-in-Err-BadName-clause-writes g c =
-    nothing_written g.D.Disk.tells _ _ _ c.args.ledger.now (g.D.Disk.state c.args.disk.now) (λ is. absurd (let e = is in cc))
+    nothing_written g.D.Disk.reveals _ _ _ c.args.ledger.now (g.D.Disk.state c.args.disk.now) (λ is. absurd (let e = is in cc))
 
 pub returns-in-Err-BadName-clause-refused_leaves : goal.returns-in-Err-BadName-clause-refused_leaves
-returns-in-Err-BadName-clause-refused_leaves g c fine other told =
-    leaves_same g.D.Disk.tells told c.args.ledger.now (g.D.Disk.state c.args.disk.now) (c.requires.fixed told)
+returns-in-Err-BadName-clause-refused_leaves g c fine other revealed =
+    leaves_same g.D.Disk.reveals revealed c.args.ledger.now (g.D.Disk.state c.args.disk.now) (c.requires.fixed revealed)
 
 pub returns-in-Err-BadName-clause-padded : goal.returns-in-Err-BadName-clause-padded
-returns-in-Err-BadName-clause-padded g c fine told =
+returns-in-Err-BadName-clause-padded g c fine revealed =
     padded_none c.args.ledger.now.shape (IsBlockIn c.args.ledger.now.shape c.args.ledger.now.lattice.n) (g.D.Disk.state c.args.disk.now).files
 
 pub returns-in-Err-BadName-clause-counted : goal.returns-in-Err-BadName-clause-counted
@@ -32,14 +32,14 @@ returns-in-Err-BadName-clause-counted g c =
 
 pub returns-in-Err-NameTaken-clause-writes : goal.returns-in-Err-NameTaken-clause-writes
 returns-in-Err-NameTaken-clause-writes g c =
-    nothing_written g.D.Disk.tells _ _ _ c.args.ledger.now (g.D.Disk.state c.args.disk.now) (λ is. absurd (let e = is in cc))
+    nothing_written g.D.Disk.reveals _ _ _ c.args.ledger.now (g.D.Disk.state c.args.disk.now) (λ is. absurd (let e = is in cc))
 
 pub returns-in-Err-NameTaken-clause-refused_leaves : goal.returns-in-Err-NameTaken-clause-refused_leaves
-returns-in-Err-NameTaken-clause-refused_leaves g c fine other told =
-    leaves_same g.D.Disk.tells told c.args.ledger.now (g.D.Disk.state c.args.disk.now) (c.requires.fixed told)
+returns-in-Err-NameTaken-clause-refused_leaves g c fine other revealed =
+    leaves_same g.D.Disk.reveals revealed c.args.ledger.now (g.D.Disk.state c.args.disk.now) (c.requires.fixed revealed)
 
 pub returns-in-Err-NameTaken-clause-padded : goal.returns-in-Err-NameTaken-clause-padded
-returns-in-Err-NameTaken-clause-padded g c fine told =
+returns-in-Err-NameTaken-clause-padded g c fine revealed =
     padded_none c.args.ledger.now.shape (IsBlockIn c.args.ledger.now.shape c.args.ledger.now.lattice.n) (g.D.Disk.state c.args.disk.now).files
 
 pub returns-in-Err-NameTaken-clause-counted : goal.returns-in-Err-NameTaken-clause-counted
@@ -48,14 +48,14 @@ returns-in-Err-NameTaken-clause-counted g c =
 
 pub returns-in-Err-CatalogFull-clause-writes : goal.returns-in-Err-CatalogFull-clause-writes
 returns-in-Err-CatalogFull-clause-writes g c =
-    nothing_written g.D.Disk.tells _ _ _ c.args.ledger.now (g.D.Disk.state c.args.disk.now) (λ is. absurd (let e = is in cc))
+    nothing_written g.D.Disk.reveals _ _ _ c.args.ledger.now (g.D.Disk.state c.args.disk.now) (λ is. absurd (let e = is in cc))
 
 pub returns-in-Err-CatalogFull-clause-refused_leaves : goal.returns-in-Err-CatalogFull-clause-refused_leaves
-returns-in-Err-CatalogFull-clause-refused_leaves g c fine other told =
-    leaves_same g.D.Disk.tells told c.args.ledger.now (g.D.Disk.state c.args.disk.now) (c.requires.fixed told)
+returns-in-Err-CatalogFull-clause-refused_leaves g c fine other revealed =
+    leaves_same g.D.Disk.reveals revealed c.args.ledger.now (g.D.Disk.state c.args.disk.now) (c.requires.fixed revealed)
 
 pub returns-in-Err-CatalogFull-clause-padded : goal.returns-in-Err-CatalogFull-clause-padded
-returns-in-Err-CatalogFull-clause-padded g c fine told =
+returns-in-Err-CatalogFull-clause-padded g c fine revealed =
     padded_none c.args.ledger.now.shape (IsBlockIn c.args.ledger.now.shape c.args.ledger.now.lattice.n) (g.D.Disk.state c.args.disk.now).files
 
 pub returns-in-Err-CatalogFull-clause-counted : goal.returns-in-Err-CatalogFull-clause-counted
@@ -64,14 +64,14 @@ returns-in-Err-CatalogFull-clause-counted g c =
 
 pub returns-in-Err-copied-clause-writes : goal.returns-in-Err-copied-clause-writes
 returns-in-Err-copied-clause-writes g c =
-    nothing_written g.D.Disk.tells _ _ _ c.args.ledger.now (g.D.Disk.state c.args.disk.now) (λ is. absurd (let e = is in cc))
+    nothing_written g.D.Disk.reveals _ _ _ c.args.ledger.now (g.D.Disk.state c.args.disk.now) (λ is. absurd (let e = is in cc))
 
 pub returns-in-Err-copied-clause-refused_leaves : goal.returns-in-Err-copied-clause-refused_leaves
-returns-in-Err-copied-clause-refused_leaves g c fine other told =
-    leaves_same g.D.Disk.tells told c.args.ledger.now (g.D.Disk.state c.args.disk.now) (c.requires.fixed told)
+returns-in-Err-copied-clause-refused_leaves g c fine other revealed =
+    leaves_same g.D.Disk.reveals revealed c.args.ledger.now (g.D.Disk.state c.args.disk.now) (c.requires.fixed revealed)
 
 pub returns-in-Err-copied-clause-padded : goal.returns-in-Err-copied-clause-padded
-returns-in-Err-copied-clause-padded g c fine told =
+returns-in-Err-copied-clause-padded g c fine revealed =
     padded_none c.args.ledger.now.shape (IsBlockIn c.args.ledger.now.shape c.args.ledger.now.lattice.n) (g.D.Disk.state c.args.disk.now).files
 
 pub returns-in-Err-copied-clause-counted : goal.returns-in-Err-copied-clause-counted
@@ -82,14 +82,14 @@ returns-in-Err-copied-clause-counted g c =
 
 pub returns-in-Ok-Some-clause-writes : goal.returns-in-Ok-Some-clause-writes
 returns-in-Ok-Some-clause-writes g c =
-    writes_as g.D.Disk.tells _ _ _ _ _ (g.D.Disk.state c.args.disk.now) (g.D.Disk.state c.put_wanted.new.disk) (λ is. absurd (let e = is in cc)) (λ is. absurd (cc)) c.put_wanted.ensures.writes
+    writes_as g.D.Disk.reveals _ _ _ _ _ (g.D.Disk.state c.args.disk.now) (g.D.Disk.state c.put_wanted.new.disk) (λ is. absurd (let e = is in cc)) (λ is. absurd (cc)) c.put_wanted.ensures.writes
 
 pub returns-in-Ok-Some-clause-padded : goal.returns-in-Ok-Some-clause-padded
-returns-in-Ok-Some-clause-padded g c fine told =
-    (ended_as (c.in-Ok-Some.is ∙ ap Ok c.in-Ok-Some.field-0-is) c.put_wanted.ensures.stores).padded told
+returns-in-Ok-Some-clause-padded g c fine revealed =
+    (ended_as (c.in-Ok-Some.is ∙ ap Ok c.in-Ok-Some.field-0-is) c.put_wanted.ensures.stores).padded revealed
 
 pub returns-in-Ok-Some-clause-refused_leaves : goal.returns-in-Ok-Some-clause-refused_leaves
-returns-in-Ok-Some-clause-refused_leaves g c fine other told =
+returns-in-Ok-Some-clause-refused_leaves g c fine other revealed =
     absurd (other _ _ refl)
 
 pub returns-in-Ok-Some-clause-full_refused : goal.returns-in-Ok-Some-clause-full_refused
@@ -97,20 +97,20 @@ returns-in-Ok-Some-clause-full_refused g c may past =
     absurd (kept_within _ (ended_as (c.in-Ok-Some.is ∙ ap Ok c.in-Ok-Some.field-0-is) c.put_wanted.ensures.stores) c.args.size refl (over_room c.records_are_few.ensures c.args.ledger.now c.args.size c.in-Ok.ensures.opened past))
 
 pub returns-in-Ok-Some-clause-complete : goal.returns-in-Ok-Some-clause-complete
-returns-in-Ok-Some-clause-complete g c told bytes is may there intact fits disk source =
+returns-in-Ok-Some-clause-complete g c revealed bytes is may there intact fits disk source =
     inl (_, _, refl)
 
 pub returns-in-Ok-Some-clause-stored : goal.returns-in-Ok-Some-clause-stored
 returns-in-Ok-Some-clause-stored g c text stored is =
-    (sym (same_text _ text _ stored is) ∙ c.in-Ok-copied.ensures, subst (HasKept g.D.Disk.tells c.args.ledger.now c.put_wanted.new.ledger c.args.name.now (Some c.args.size) (g.S.Source.state c.args.source.now).left (g.S.Source.state c.put_wanted.new.source).left (g.D.Disk.state c.args.disk.now) (g.D.Disk.state c.put_wanted.new.disk)) (sym c.in-Ok-Some.stored-is ∙ same_stored _ text _ stored is) (ended_as (c.in-Ok-Some.is ∙ ap Ok c.in-Ok-Some.field-0-is) c.put_wanted.ensures.stores).kept)
+    (sym (same_text _ text _ stored is) ∙ c.in-Ok-copied.ensures, subst (HasKept g.D.Disk.reveals c.args.ledger.now c.put_wanted.new.ledger c.args.name.now (Some c.args.size) (g.S.Source.state c.args.source.now).left (g.S.Source.state c.put_wanted.new.source).left (g.D.Disk.state c.args.disk.now) (g.D.Disk.state c.put_wanted.new.disk)) (sym c.in-Ok-Some.stored-is ∙ same_stored _ text _ stored is) (ended_as (c.in-Ok-Some.is ∙ ap Ok c.in-Ok-Some.field-0-is) c.put_wanted.ensures.stores).kept)
 
 pub returns-in-Ok-Some-clause-exact : goal.returns-in-Ok-Some-clause-exact
 returns-in-Ok-Some-clause-exact g c text stored is =
     subst (λ (s : Stored). c.put_wanted.new.at ≡ c.args.at.now + s.length) (sym c.in-Ok-Some.stored-is ∙ same_stored _ text _ stored is) (ended_as (c.in-Ok-Some.is ∙ ap Ok c.in-Ok-Some.field-0-is) c.put_wanted.ensures.stores).exact
 
 pub returns-in-Ok-Some-clause-ledger : goal.returns-in-Ok-Some-clause-ledger
-returns-in-Ok-Some-clause-ledger g c text stored is told =
-    subst (λ (s : Stored). length ((g.D.Disk.state c.put_wanted.new.disk).files 0) ≤ max (length ((g.D.Disk.state c.args.disk.now).files 0)) (next_end c.args.ledger.now.end (length c.args.name.now) (s.nodes * (1 + c.args.ledger.now.shape.alpha)) + 1)) (sym c.in-Ok-Some.stored-is ∙ same_stored _ text _ stored is) ((ended_as (c.in-Ok-Some.is ∙ ap Ok c.in-Ok-Some.field-0-is) c.put_wanted.ensures.stores).long told)
+returns-in-Ok-Some-clause-ledger g c text stored is revealed =
+    subst (λ (s : Stored). length ((g.D.Disk.state c.put_wanted.new.disk).files 0) ≤ max (length ((g.D.Disk.state c.args.disk.now).files 0)) (next_end c.args.ledger.now.end (length c.args.name.now) (s.nodes * (1 + c.args.ledger.now.shape.alpha)) + 1)) (sym c.in-Ok-Some.stored-is ∙ same_stored _ text _ stored is) ((ended_as (c.in-Ok-Some.is ∙ ap Ok c.in-Ok-Some.field-0-is) c.put_wanted.ensures.stores).long revealed)
 
 pub returns-in-Ok-Some-clause-bad_stream_refused : goal.returns-in-Ok-Some-clause-bad_stream_refused
 returns-in-Ok-Some-clause-bad_stream_refused g c bytes is may within short =
@@ -119,26 +119,26 @@ returns-in-Ok-Some-clause-bad_stream_refused g c bytes is may within short =
     absurd (let all = kept.1.long in omega (arith, long, all, short))
 
 pub returns-in-Ok-Some-clause-head_refused : goal.returns-in-Ok-Some-clause-head_refused
-returns-in-Ok-Some-clause-head_refused g c told may a damaged =
-    absurd (damaged.damaged ((ended_as (c.in-Ok-Some.is ∙ ap Ok c.in-Ok-Some.field-0-is) c.put_wanted.ensures.stores).heads told a damaged.last))
+returns-in-Ok-Some-clause-head_refused g c revealed may a damaged =
+    absurd (damaged.damaged ((ended_as (c.in-Ok-Some.is ∙ ap Ok c.in-Ok-Some.field-0-is) c.put_wanted.ensures.stores).heads revealed a damaged.last))
 
 -- ---- where the stream ended
 
 pub returns-in-Ok-None-clause-writes : goal.returns-in-Ok-None-clause-writes
 returns-in-Ok-None-clause-writes g c =
-    writes_as g.D.Disk.tells _ _ _ _ _ (g.D.Disk.state c.args.disk.now) (g.D.Disk.state c.put_wanted.new.disk) (λ is. absurd (let e = is in cc)) (λ is. absurd (cc)) c.put_wanted.ensures.writes
+    writes_as g.D.Disk.reveals _ _ _ _ _ (g.D.Disk.state c.args.disk.now) (g.D.Disk.state c.put_wanted.new.disk) (λ is. absurd (let e = is in cc)) (λ is. absurd (cc)) c.put_wanted.ensures.writes
 
 pub returns-in-Ok-None-clause-padded : goal.returns-in-Ok-None-clause-padded
-returns-in-Ok-None-clause-padded g c fine told =
-    (ended_as (c.in-Ok-None.is ∙ ap Ok c.in-Ok-None.field-0-is) c.put_wanted.ensures.stores).none.padded told
+returns-in-Ok-None-clause-padded g c fine revealed =
+    (ended_as (c.in-Ok-None.is ∙ ap Ok c.in-Ok-None.field-0-is) c.put_wanted.ensures.stores).none.padded revealed
 
 pub returns-in-Ok-None-clause-refused : goal.returns-in-Ok-None-clause-refused
 returns-in-Ok-None-clause-refused g c fine other =
     (ended_as (c.in-Ok-None.is ∙ ap Ok c.in-Ok-None.field-0-is) c.put_wanted.ensures.stores).none.same
 
 pub returns-in-Ok-None-clause-refused_leaves : goal.returns-in-Ok-None-clause-refused_leaves
-returns-in-Ok-None-clause-refused_leaves g c fine other told =
-    (ended_as (c.in-Ok-None.is ∙ ap Ok c.in-Ok-None.field-0-is) c.put_wanted.ensures.stores).none.leaves told
+returns-in-Ok-None-clause-refused_leaves g c fine other revealed =
+    (ended_as (c.in-Ok-None.is ∙ ap Ok c.in-Ok-None.field-0-is) c.put_wanted.ensures.stores).none.leaves revealed
 
 pub returns-in-Ok-None-clause-full_refused : goal.returns-in-Ok-None-clause-full_refused
 returns-in-Ok-None-clause-full_refused g c may past =
@@ -146,7 +146,7 @@ returns-in-Ok-None-clause-full_refused g c may past =
     absurd (let over = over_room c.records_are_few.ensures c.args.ledger.now c.args.size c.in-Ok.ensures.opened past in omega (arith, fits, over))
 
 pub returns-in-Ok-None-clause-complete : goal.returns-in-Ok-None-clause-complete
-returns-in-Ok-None-clause-complete g c told bytes is may there intact fits disk source =
+returns-in-Ok-None-clause-complete g c revealed bytes is may there intact fits disk source =
     absurd (ended_short (ended_as (c.in-Ok-None.is ∙ ap Ok c.in-Ok-None.field-0-is) c.put_wanted.ensures.stores) bytes is there)
 
 pub returns-in-Ok-None-clause-bad_stream : goal.returns-in-Ok-None-clause-bad_stream
@@ -155,18 +155,18 @@ returns-in-Ok-None-clause-bad_stream g c n is =
     (sym (same_at _ n is), c.in-Ok.ensures.may, room_fits c.records_are_few.ensures c.args.ledger.now c.args.size c.in-Ok.ensures.opened (e.fits c.args.size refl), e.ended)
 
 pub returns-in-Ok-None-clause-bad_stream_intact : goal.returns-in-Ok-None-clause-bad_stream_intact
-returns-in-Ok-None-clause-bad_stream_intact g c n is told =
-    (ended_as (c.in-Ok-None.is ∙ ap Ok c.in-Ok-None.field-0-is) c.put_wanted.ensures.stores).heads told
+returns-in-Ok-None-clause-bad_stream_intact g c n is revealed =
+    (ended_as (c.in-Ok-None.is ∙ ap Ok c.in-Ok-None.field-0-is) c.put_wanted.ensures.stores).heads revealed
 
 pub returns-in-Ok-None-clause-head_refused : goal.returns-in-Ok-None-clause-head_refused
-returns-in-Ok-None-clause-head_refused g c told may a damaged =
-    absurd (damaged.damaged ((ended_as (c.in-Ok-None.is ∙ ap Ok c.in-Ok-None.field-0-is) c.put_wanted.ensures.stores).heads told a damaged.last))
+returns-in-Ok-None-clause-head_refused g c revealed may a damaged =
+    absurd (damaged.damaged ((ended_as (c.in-Ok-None.is ∙ ap Ok c.in-Ok-None.field-0-is) c.put_wanted.ensures.stores).heads revealed a damaged.last))
 
 -- ---- where it was not stored
 
 pub returns-in-Err-put_wanted-clause-writes : goal.returns-in-Err-put_wanted-clause-writes
 returns-in-Err-put_wanted-clause-writes g c =
-    writes_as g.D.Disk.tells _ _ _ _ _ (g.D.Disk.state c.args.disk.now) (g.D.Disk.state c.put_wanted.new.disk) (λ is. c.in-Err-put_wanted.is ∙ ap Err (came c.from.ensures DiskFault is)) (λ is. went c.from.ensures (fault_is c.in-Err-put_wanted.fault DiskFault (sym c.in-Err-put_wanted.is ∙ is))) c.put_wanted.ensures.writes
+    writes_as g.D.Disk.reveals _ _ _ _ _ (g.D.Disk.state c.args.disk.now) (g.D.Disk.state c.put_wanted.new.disk) (λ is. c.in-Err-put_wanted.is ∙ ap Err (came c.from.ensures DiskFault is)) (λ is. went c.from.ensures (fault_is c.in-Err-put_wanted.fault DiskFault (sym c.in-Err-put_wanted.is ∙ is))) c.put_wanted.ensures.writes
 
 pub returns-in-Err-put_wanted-clause-bad_name : goal.returns-in-Err-put_wanted-clause-bad_name
 returns-in-Err-put_wanted-clause-bad_name g c =
@@ -209,8 +209,8 @@ returns-in-Err-put_wanted-clause-head_enters g c b is =
     c.in-Ok.ensures.may
 
 pub returns-in-Err-put_wanted-clause-head_refused : goal.returns-in-Err-put_wanted-clause-head_refused
-returns-in-Err-put_wanted-clause-head_refused g c told may a damaged =
-    head_fault c.from.ensures (head_refused_by c.in-Err-put_wanted.fault c.in-Err-put_wanted.is c.put_wanted.ensures.stores told a damaged)
+returns-in-Err-put_wanted-clause-head_refused g c revealed may a damaged =
+    head_fault c.from.ensures (head_refused_by c.in-Err-put_wanted.fault c.in-Err-put_wanted.is c.put_wanted.ensures.stores revealed a damaged)
 
 pub returns-in-Err-put_wanted-clause-full : goal.returns-in-Err-put_wanted-clause-full
 returns-in-Err-put_wanted-clause-full g c nodes is =
@@ -227,7 +227,7 @@ returns-in-Err-put_wanted-clause-bad_stream g c n is =
     absurd (never_cut c.in-Err-put_wanted.fault c.from.ensures is)
 
 pub returns-in-Err-put_wanted-clause-bad_stream_intact : goal.returns-in-Err-put_wanted-clause-bad_stream_intact
-returns-in-Err-put_wanted-clause-bad_stream_intact g c n is told =
+returns-in-Err-put_wanted-clause-bad_stream_intact g c n is revealed =
     absurd (never_cut c.in-Err-put_wanted.fault c.from.ensures is)
 
 pub returns-in-Err-put_wanted-clause-bad_stream_refused : goal.returns-in-Err-put_wanted-clause-bad_stream_refused
@@ -236,8 +236,8 @@ returns-in-Err-put_wanted-clause-bad_stream_refused g c bytes is may within shor
     (λ rest. ⊎_elim (λ read. inl (went c.from.ensures read)) (λ head. inr (head_fault c.from.ensures head)) rest) (full_refused_by c.in-Err-put_wanted.fault c.in-Err-put_wanted.is c.put_wanted.ensures.stores))
 
 pub returns-in-Err-put_wanted-clause-complete : goal.returns-in-Err-put_wanted-clause-complete
-returns-in-Err-put_wanted-clause-complete g c told bytes is may there intact fits disk source =
-    inr (went c.from.ensures (complete_by c.in-Err-put_wanted.fault c.in-Err-put_wanted.is c.put_wanted.ensures.stores told bytes is intact fits
+returns-in-Err-put_wanted-clause-complete g c revealed bytes is may there intact fits disk source =
+    inr (went c.from.ensures (complete_by c.in-Err-put_wanted.fault c.in-Err-put_wanted.is c.put_wanted.ensures.stores revealed bytes is intact fits
     (λ bad. disk (c.put_wanted.ensures.writes.cause (c.in-Err-put_wanted.is ∙ ap Err bad))) (λ bad. source (c.put_wanted.ensures.read_cause (c.in-Err-put_wanted.is ∙ ap Err bad)))))
 
 pub returns-in-Err-put_wanted-clause-refused : goal.returns-in-Err-put_wanted-clause-refused
@@ -245,20 +245,20 @@ returns-in-Err-put_wanted-clause-refused g c fine other =
     (none_by c.in-Err-put_wanted.fault c.in-Err-put_wanted.is c.put_wanted.ensures.stores (λ bad. fine (went c.from.ensures bad))).same
 
 pub returns-in-Err-put_wanted-clause-refused_leaves : goal.returns-in-Err-put_wanted-clause-refused_leaves
-returns-in-Err-put_wanted-clause-refused_leaves g c fine other told =
-    (none_by c.in-Err-put_wanted.fault c.in-Err-put_wanted.is c.put_wanted.ensures.stores (λ bad. fine (went c.from.ensures bad))).leaves told
+returns-in-Err-put_wanted-clause-refused_leaves g c fine other revealed =
+    (none_by c.in-Err-put_wanted.fault c.in-Err-put_wanted.is c.put_wanted.ensures.stores (λ bad. fine (went c.from.ensures bad))).leaves revealed
 
 pub returns-in-Err-put_wanted-clause-padded : goal.returns-in-Err-put_wanted-clause-padded
-returns-in-Err-put_wanted-clause-padded g c fine told =
-    (none_by c.in-Err-put_wanted.fault c.in-Err-put_wanted.is c.put_wanted.ensures.stores (λ bad. fine (went c.from.ensures bad))).padded told
+returns-in-Err-put_wanted-clause-padded g c fine revealed =
+    (none_by c.in-Err-put_wanted.fault c.in-Err-put_wanted.is c.put_wanted.ensures.stores (λ bad. fine (went c.from.ensures bad))).padded revealed
 
 pub returns-in-Err-put_wanted-clause-dead : goal.returns-in-Err-put_wanted-clause-dead
 returns-in-Err-put_wanted-clause-dead g c is =
     (ended_as (c.in-Err-put_wanted.is ∙ ap Err (came c.from.ensures DiskFault is)) c.put_wanted.ensures.stores).dead
 
 pub returns-in-Err-put_wanted-clause-stopped : goal.returns-in-Err-put_wanted-clause-stopped
-returns-in-Err-put_wanted-clause-stopped g c is told =
-    (ended_as (c.in-Err-put_wanted.is ∙ ap Err (came c.from.ensures DiskFault is)) c.put_wanted.ensures.stores).stopped told
+returns-in-Err-put_wanted-clause-stopped g c is revealed =
+    (ended_as (c.in-Err-put_wanted.is ∙ ap Err (came c.from.ensures DiskFault is)) c.put_wanted.ensures.stores).stopped revealed
 
 pub returns-in-Err-put_wanted-clause-short : goal.returns-in-Err-put_wanted-clause-short
 returns-in-Err-put_wanted-clause-short g c is =

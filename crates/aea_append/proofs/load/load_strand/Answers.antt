@@ -30,19 +30,19 @@ returns-in-Ok-Intact-clause-loaded g c is =
     let v = c.args.ledger.now in
     let b = block_of c.in-Some.node c.args.class in
     let intact = c.in-Ok-Intact.field-0-is in
-    subst (IsLoaded g.D.Disk.tells v (g.D.Disk.state c.args.disk.now).files c.args.class (head_of c.set_head.new.self c.args.class c.args.strand)) (sym (is_last g c)) (
+    subst (IsLoaded g.D.Disk.reveals v (g.D.Disk.state c.args.disk.now).files c.args.class (head_of c.set_head.new.self c.args.class c.args.strand)) (sym (is_last g c)) (
       (subst (λ (p : List ℕ). block_digest b p ≡ recorded_in v.shape v.digests b) (head_is g c) (c.in-Ok-Intact.ensures.digest intact)),
       (ap length (sym (head_is g c)) ∙ omega (arith, length-take v.shape.block (drop 16 c.read_block.new.cell), length-drop 16 c.read_block.new.cell, c.read_block.auto.cell, c.requires.buffer)),
-      λ told. subst (λ (p : List ℕ). HasAtHome v.shape b (cell_of b p) (g.D.Disk.state c.args.disk.now).files) (head_is g c)
-          (subst (λ (p : List ℕ). HasAtHome v.shape b p (g.D.Disk.state c.args.disk.now).files) (c.in-Ok-Intact.ensures.cell intact) (c.in-Ok-Intact.ensures.bytes intact told)),
+      λ revealed. subst (λ (p : List ℕ). HasAtHome v.shape b (cell_of b p) (g.D.Disk.state c.args.disk.now).files) (head_is g c)
+          (subst (λ (p : List ℕ). HasAtHome v.shape b p (g.D.Disk.state c.args.disk.now).files) (c.in-Ok-Intact.ensures.cell intact) (c.in-Ok-Intact.ensures.bytes intact revealed)),
     )
 
 pub returns-in-Ok-Intact-clause-found : goal.returns-in-Ok-Intact-clause-found
-returns-in-Ok-Intact-clause-found g c told b last class strand =
+returns-in-Ok-Intact-clause-found g c revealed b last class strand =
     let v = c.args.ledger.now in
     subst (λ (a : BlockId). IsIntactBy v.shape v.digests (g.D.Disk.state c.args.disk.now).files a)
     (sym (same_last v.lattice b c.args.class c.args.strand c.in-Some.node (is_last g c) last class strand))
-    ((c.in-Ok-Intact.ensures.intact told).0 c.in-Ok-Intact.field-0-is)
+    ((c.in-Ok-Intact.ensures.intact revealed).0 c.in-Ok-Intact.field-0-is)
 
 pub returns-in-Ok-Intact-clause-others : goal.returns-in-Ok-Intact-clause-others
 returns-in-Ok-Intact-clause-others g c class other parity below apart =
@@ -62,4 +62,4 @@ pub returns-in-Err-clause-earlier : goal.returns-in-Err-clause-earlier
 returns-in-Err-clause-earlier g c = earlier_kept (g.D.Disk.state c.args.disk.now) (g.D.Disk.state c.read_block.new.disk) c.read_block.ensures.reads.crash c.read_block.ensures.settled c.read_block.ensures.reads.time
 
 pub returns-in_default-clause-reads : goal.returns-in_default-clause-reads
-returns-in_default-clause-reads g c = reads_none g.D.Disk.tells _ (g.D.Disk.state c.args.disk.now) (λ is. absurd (let e = is in cc))
+returns-in_default-clause-reads g c = reads_none g.D.Disk.reveals _ (g.D.Disk.state c.args.disk.now) (λ is. absurd (let e = is in cc))

@@ -15,9 +15,9 @@ pub loop-place-init : goal.loop-place-init
 loop-place-init g c = record {
   within = omega arith;
   cell = c.requires.buffer;
-  loaded = load_none g.D.Disk.tells c.args.ledger.now (g.D.Disk.state c.args.disk.now).files c.args.heads.now c.requires.lattice c.requires.size c.requires.zeros;
+  loaded = load_none g.D.Disk.reveals c.args.ledger.now (g.D.Disk.state c.args.disk.now).files c.args.heads.now c.requires.lattice c.requires.size c.requires.zeros;
   earlier = earlier_none (g.D.Disk.state c.args.disk.now);
-  reads = reads_none g.D.Disk.tells ⊥ (g.D.Disk.state c.args.disk.now) (λ none. none);
+  reads = reads_none g.D.Disk.reveals ⊥ (g.D.Disk.state c.args.disk.now) (λ none. none);
 }
 
 pub returns-in-Err-clause-earlier : goal.returns-in-Err-clause-earlier
@@ -26,12 +26,12 @@ returns-in-Err-clause-earlier g c =
 
 pub returns-in-Err-clause-reads : goal.returns-in-Err-clause-reads
 returns-in-Err-clause-reads g c =
-    reads_as g.D.Disk.tells (IsErr c.load_strand.result) _ (g.D.Disk.state c.args.disk.now) (g.D.Disk.state c.load_strand.new.disk) (λ is. subst IsErr (sym c.in-Err.is) refl) (λ _. refl)
-    (reads_both g.D.Disk.tells ⊥ (IsErr c.load_strand.result) (g.D.Disk.state c.args.disk.now) (g.D.Disk.state c.loop-place.disk) (g.D.Disk.state c.load_strand.new.disk) (λ none. none) c.loop-place.invariant.reads c.load_strand.ensures.reads)
+    reads_as g.D.Disk.reveals (IsErr c.load_strand.result) _ (g.D.Disk.state c.args.disk.now) (g.D.Disk.state c.load_strand.new.disk) (λ is. subst IsErr (sym c.in-Err.is) refl) (λ _. refl)
+    (reads_both g.D.Disk.reveals ⊥ (IsErr c.load_strand.result) (g.D.Disk.state c.args.disk.now) (g.D.Disk.state c.loop-place.disk) (g.D.Disk.state c.load_strand.new.disk) (λ none. none) c.loop-place.invariant.reads c.load_strand.ensures.reads)
 
 pub returns-clause-reads : goal.returns-clause-reads
 returns-clause-reads g c =
-    reads_as g.D.Disk.tells ⊥ _ (g.D.Disk.state c.args.disk.now) (g.D.Disk.state c.loop-place.disk) (λ is. absurd (let e = is in cc)) (λ none. absurd none) c.loop-place.invariant.reads
+    reads_as g.D.Disk.reveals ⊥ _ (g.D.Disk.state c.args.disk.now) (g.D.Disk.state c.loop-place.disk) (λ is. absurd (let e = is in cc)) (λ none. absurd none) c.loop-place.invariant.reads
 
 pub loop-place-preserved : goal.loop-place-preserved
 loop-place-preserved g c =
@@ -39,7 +39,7 @@ loop-place-preserved g c =
     let old = g.D.Disk.state c.args.disk.now in
     let mid = g.D.Disk.state c.loop-place.disk in
     let new = g.D.Disk.state c.load_strand.new.disk in
-    let tells = g.D.Disk.tells in
+    let reveals = g.D.Disk.reveals in
     let l = c.lattice-lattice.ensures.value in
     let same = c.loop-place.invariant.reads.contents in
     let class = c.strand_at-class.result.0 in
@@ -48,25 +48,25 @@ loop-place-preserved g c =
     record {
       within = omega (arith, lt);
       cell = c.load_strand.auto.cell ∙ c.loop-place.invariant.cell;
-      loaded = load_next tells v old.files c.loop-place.heads c.load_strand.new.heads class strand c.loop-place.place c.loop-place.found c.in-Ok.next c.lesser-found.result
+      loaded = load_next reveals v old.files c.loop-place.heads c.load_strand.new.heads class strand c.loop-place.place c.loop-place.found c.in-Ok.next c.lesser-found.result
           (subst (λ (m : Lattice). HasParity m class) l c.strand_at-class.ensures.class)
           (subst (λ (m : Lattice). strand < strands_of m class) l c.strand_at-class.ensures.strand)
           (subst (λ (m : Lattice). strands_before m class + strand ≡ c.loop-place.place) l c.strand_at-class.ensures.place)
           (sym (ap (λ (l : Lattice). l.alpha) c.lattice-lattice.ensures.value) ∙ c.lattice-lattice.ensures.of_shape.alpha)
           c.loop-place.invariant.loaded
-          (λ none. loaded_same tells v mid.files old.files class (head_of c.load_strand.new.heads class strand) same (last_open v.lattice class strand) (c.in-Ok.ensures.loaded none))
-          (found_same tells v mid.files old.files class strand same c.in-Ok.next c.in-Ok.ensures.found)
+          (λ none. loaded_same reveals v mid.files old.files class (head_of c.load_strand.new.heads class strand) same (last_open v.lattice class strand) (c.in-Ok.ensures.loaded none))
+          (found_same reveals v mid.files old.files class strand same c.in-Ok.next c.in-Ok.ensures.found)
           c.load_strand.ensures.lattice c.load_strand.ensures.size c.load_strand.ensures.others
           (subst (λ (m : Lattice). IsLesser m c.loop-place.found c.in-Ok.next c.lesser-found.result) l c.lesser-found.ensures);
       earlier = earlier_both old mid new c.loop-place.invariant.reads.time c.load_strand.ensures.reads.time c.loop-place.invariant.earlier c.load_strand.ensures.earlier;
-      reads = reads_as tells (IsErr c.load_strand.result) ⊥ old new (λ none. absurd none) (λ is. absurd (ok_fine c.in-Ok.is is)) (reads_both tells ⊥ (IsErr c.load_strand.result) old mid new (λ none. none) c.loop-place.invariant.reads c.load_strand.ensures.reads);
+      reads = reads_as reveals (IsErr c.load_strand.result) ⊥ old new (λ none. absurd none) (λ is. absurd (ok_fine c.in-Ok.is is)) (reads_both reveals ⊥ (IsErr c.load_strand.result) old mid new (λ none. none) c.loop-place.invariant.reads c.load_strand.ensures.reads);
     }
 
 pub lesser-found-requires-clause-a : goal.lesser-found-requires-clause-a
 lesser-found-requires-clause-a g c =
-    subst (λ (l : Lattice). IfSome c.loop-place.found (HasBlock l)) (sym c.lattice-lattice.ensures.value) (found_inside g.D.Disk.tells c.args.ledger.now (g.D.Disk.state c.args.disk.now).files c.loop-place.place c.loop-place.found c.loop-place.invariant.loaded.least)
+    subst (λ (l : Lattice). IfSome c.loop-place.found (HasBlock l)) (sym c.lattice-lattice.ensures.value) (found_inside g.D.Disk.reveals c.args.ledger.now (g.D.Disk.state c.args.disk.now).files c.loop-place.place c.loop-place.found c.loop-place.invariant.loaded.least)
 
 pub lesser-found-requires-clause-b : goal.lesser-found-requires-clause-b
 lesser-found-requires-clause-b g c =
     subst (λ (l : Lattice). IfSome c.in-Ok.next (HasBlock l)) (sym c.lattice-lattice.ensures.value)
-    (found_on_inside g.D.Disk.tells c.args.ledger.now (g.D.Disk.state c.loop-place.disk).files c.strand_at-class.result.0 c.strand_at-class.result.1 c.in-Ok.next c.in-Ok.ensures.found)
+    (found_on_inside g.D.Disk.reveals c.args.ledger.now (g.D.Disk.state c.loop-place.disk).files c.strand_at-class.result.0 c.strand_at-class.result.1 c.in-Ok.next c.in-Ok.ensures.found)

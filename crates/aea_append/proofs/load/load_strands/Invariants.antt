@@ -9,9 +9,9 @@ abbrev pub invariant-loop-place : goal.invariant-loop-place
 invariant-loop-place g l = record {
   within : l.place ≤ l.count;
   cell : length l.cell ≡ cell_size l.ledger.shape;
-  loaded : HasLoaded g.D.Disk.tells l.ledger (g.D.Disk.state l.fn.disk).files l.heads l.place l.found;
+  loaded : HasLoaded g.D.Disk.reveals l.ledger (g.D.Disk.state l.fn.disk).files l.heads l.place l.found;
   earlier : HasEarlier (g.D.Disk.state l.fn.disk) (g.D.Disk.state l.disk);
-  reads : OnlyReads g.D.Disk.tells ⊥ (g.D.Disk.state l.fn.disk) (g.D.Disk.state l.disk);
+  reads : OnlyReads g.D.Disk.reveals ⊥ (g.D.Disk.state l.fn.disk) (g.D.Disk.state l.disk);
 }
 
 abbrev pub decreases-loop-place : goal.decreases-loop-place

@@ -42,7 +42,7 @@ has_more-requires g c =
 
 pub returns-then-room-most-clause-writes : goal.returns-then-room-most-clause-writes
 returns-then-room-most-clause-writes g c =
-    cells_none g.D.Disk.tells _ c.args.ledger.now.shape (limit_when c.args.ledger.now.raised) (IsBlockIn c.args.ledger.now.shape c.args.ledger.now.lattice.n) (g.D.Disk.state c.args.disk.now) (λ is. absurd (let e = is in cc))
+    cells_none g.D.Disk.reveals _ c.args.ledger.now.shape (limit_when c.args.ledger.now.raised) (IsBlockIn c.args.ledger.now.shape c.args.ledger.now.lattice.n) (g.D.Disk.state c.args.disk.now) (λ is. absurd (let e = is in cc))
 
 pub returns-then-room-most-clause-counted : goal.returns-then-room-most-clause-counted
 returns-then-room-most-clause-counted g c =
@@ -62,13 +62,13 @@ returns-in-Err-clause-writes g c =
     let room = limit_is c.args.ledger.now c.limit.result c.n-nodes.result c.from.result c.block.result c.from-2.result c.lattice.result c.shape-shape.result c.limit.ensures.value c.lattice.ensures.value c.n-nodes.ensures c.from.ensures c.shape-shape.ensures.value c.block.ensures c.from-2.ensures in
     let most : c.greatest_length-most.result ≡ limit_of c.args.want (room_left c.args.ledger.now) = c.greatest_length-most.ensures ∙ ap (limit_of c.args.want) room in
     let within : c.greatest_length-most.result ≤ room_left c.args.ledger.now = (let w : c.greatest_length-most.result ≤ c.from.result * c.from-2.result = grind (arith, nat_tests, c.if-room-most.false) in omega (arith, w, room)) in
-    all_writes c.records_are_few.ensures g.D.Disk.tells (c.weave_all.result ≡ Err DiskFault) _ c.args.ledger.now c.shape-shape.result c.args.heads.lattice c.greatest_length-most.result (g.D.Disk.state c.args.disk.now) (g.D.Disk.state c.weave_all.new.disk)
+    all_writes c.records_are_few.ensures g.D.Disk.reveals (c.weave_all.result ≡ Err DiskFault) _ c.args.ledger.now c.shape-shape.result c.args.heads.lattice c.greatest_length-most.result (g.D.Disk.state c.args.disk.now) (g.D.Disk.state c.weave_all.new.disk)
     c.shape-shape.ensures.records c.shape-shape.ensures.value c.requires.lattice within (λ is. c.in-Err.is ∙ fault_as c.in-Err.fault DiskFault is) (λ is. cc) c.weave_all.ensures.writes
 
 pub returns-in-Err-clause-padded : goal.returns-in-Err-clause-padded
-returns-in-Err-clause-padded g c fine told =
+returns-in-Err-clause-padded g c fine revealed =
     all_padded c.args.ledger.now c.shape-shape.result c.args.heads.lattice (g.D.Disk.state c.args.disk.now).files (g.D.Disk.state c.weave_all.new.disk).files c.shape-shape.ensures.value c.requires.lattice
-    (c.weave_all.ensures.padded (λ bad. fine (fault_as c.in-Err.fault DiskFault (sym c.in-Err.is ∙ bad))) told)
+    (c.weave_all.ensures.padded (λ bad. fine (fault_as c.in-Err.fault DiskFault (sym c.in-Err.is ∙ bad))) revealed)
 
 pub returns-in-Err-clause-over : goal.returns-in-Err-clause-over
 returns-in-Err-clause-over g c n is past =
@@ -90,13 +90,13 @@ returns-in-Ok-true-clause-writes g c =
     let room = limit_is c.args.ledger.now c.limit.result c.n-nodes.result c.from.result c.block.result c.from-2.result c.lattice.result c.shape-shape.result c.limit.ensures.value c.lattice.ensures.value c.n-nodes.ensures c.from.ensures c.shape-shape.ensures.value c.block.ensures c.from-2.ensures in
     let most : c.greatest_length-most.result ≡ limit_of c.args.want (room_left c.args.ledger.now) = c.greatest_length-most.ensures ∙ ap (limit_of c.args.want) room in
     let within : c.greatest_length-most.result ≤ room_left c.args.ledger.now = (let w : c.greatest_length-most.result ≤ c.from.result * c.from-2.result = grind (arith, nat_tests, c.if-room-most.false) in omega (arith, w, room)) in
-    all_writes c.records_are_few.ensures g.D.Disk.tells (c.weave_all.result ≡ Err DiskFault) _ c.args.ledger.now c.shape-shape.result c.args.heads.lattice c.greatest_length-most.result (g.D.Disk.state c.args.disk.now) (g.D.Disk.state c.weave_all.new.disk)
+    all_writes c.records_are_few.ensures g.D.Disk.reveals (c.weave_all.result ≡ Err DiskFault) _ c.args.ledger.now c.shape-shape.result c.args.heads.lattice c.greatest_length-most.result (g.D.Disk.state c.args.disk.now) (g.D.Disk.state c.weave_all.new.disk)
     c.shape-shape.ensures.records c.shape-shape.ensures.value c.requires.lattice within (λ is. absurd (let e = is in cc)) (λ is. absurd (ok_no_fault c.in-Ok.is is)) c.weave_all.ensures.writes
 
 pub returns-in-Ok-true-clause-padded : goal.returns-in-Ok-true-clause-padded
-returns-in-Ok-true-clause-padded g c fine told =
+returns-in-Ok-true-clause-padded g c fine revealed =
     all_padded c.args.ledger.now c.shape-shape.result c.args.heads.lattice (g.D.Disk.state c.args.disk.now).files (g.D.Disk.state c.weave_all.new.disk).files c.shape-shape.ensures.value c.requires.lattice
-    (c.weave_all.ensures.padded (λ bad. (let is = c.in-Ok.is in cc)) told)
+    (c.weave_all.ensures.padded (λ bad. (let is = c.in-Ok.is in cc)) revealed)
 
 pub returns-in-Ok-true-clause-over : goal.returns-in-Ok-true-clause-over
 returns-in-Ok-true-clause-over g c n is past =
@@ -122,13 +122,13 @@ returns-in-Ok-false-clause-writes g c =
     let room = limit_is c.args.ledger.now c.limit.result c.n-nodes.result c.from.result c.block.result c.from-2.result c.lattice.result c.shape-shape.result c.limit.ensures.value c.lattice.ensures.value c.n-nodes.ensures c.from.ensures c.shape-shape.ensures.value c.block.ensures c.from-2.ensures in
     let most : c.greatest_length-most.result ≡ limit_of c.args.want (room_left c.args.ledger.now) = c.greatest_length-most.ensures ∙ ap (limit_of c.args.want) room in
     let within : c.greatest_length-most.result ≤ room_left c.args.ledger.now = (let w : c.greatest_length-most.result ≤ c.from.result * c.from-2.result = grind (arith, nat_tests, c.if-room-most.false) in omega (arith, w, room)) in
-    all_writes c.records_are_few.ensures g.D.Disk.tells (c.weave_all.result ≡ Err DiskFault) _ c.args.ledger.now c.shape-shape.result c.args.heads.lattice c.greatest_length-most.result (g.D.Disk.state c.args.disk.now) (g.D.Disk.state c.weave_all.new.disk)
+    all_writes c.records_are_few.ensures g.D.Disk.reveals (c.weave_all.result ≡ Err DiskFault) _ c.args.ledger.now c.shape-shape.result c.args.heads.lattice c.greatest_length-most.result (g.D.Disk.state c.args.disk.now) (g.D.Disk.state c.weave_all.new.disk)
     c.shape-shape.ensures.records c.shape-shape.ensures.value c.requires.lattice within (λ is. absurd (let e = is in cc)) (λ is. absurd (ok_no_fault c.in-Ok.is is)) c.weave_all.ensures.writes
 
 pub returns-in-Ok-false-clause-padded : goal.returns-in-Ok-false-clause-padded
-returns-in-Ok-false-clause-padded g c fine told =
+returns-in-Ok-false-clause-padded g c fine revealed =
     all_padded c.args.ledger.now c.shape-shape.result c.args.heads.lattice (g.D.Disk.state c.args.disk.now).files (g.D.Disk.state c.weave_all.new.disk).files c.shape-shape.ensures.value c.requires.lattice
-    (c.weave_all.ensures.padded (λ bad. (let is = c.in-Ok.is in cc)) told)
+    (c.weave_all.ensures.padded (λ bad. (let is = c.in-Ok.is in cc)) revealed)
 
 pub returns-in-Ok-false-clause-over : goal.returns-in-Ok-false-clause-over
 returns-in-Ok-false-clause-over g c n is past =
@@ -154,13 +154,13 @@ returns-in-Err-has_more-clause-writes g c =
     let room = limit_is c.args.ledger.now c.limit.result c.n-nodes.result c.from.result c.block.result c.from-2.result c.lattice.result c.shape-shape.result c.limit.ensures.value c.lattice.ensures.value c.n-nodes.ensures c.from.ensures c.shape-shape.ensures.value c.block.ensures c.from-2.ensures in
     let most : c.greatest_length-most.result ≡ limit_of c.args.want (room_left c.args.ledger.now) = c.greatest_length-most.ensures ∙ ap (limit_of c.args.want) room in
     let within : c.greatest_length-most.result ≤ room_left c.args.ledger.now = (let w : c.greatest_length-most.result ≤ c.from.result * c.from-2.result = grind (arith, nat_tests, c.if-room-most.false) in omega (arith, w, room)) in
-    all_writes c.records_are_few.ensures g.D.Disk.tells (c.weave_all.result ≡ Err DiskFault) _ c.args.ledger.now c.shape-shape.result c.args.heads.lattice c.greatest_length-most.result (g.D.Disk.state c.args.disk.now) (g.D.Disk.state c.weave_all.new.disk)
+    all_writes c.records_are_few.ensures g.D.Disk.reveals (c.weave_all.result ≡ Err DiskFault) _ c.args.ledger.now c.shape-shape.result c.args.heads.lattice c.greatest_length-most.result (g.D.Disk.state c.args.disk.now) (g.D.Disk.state c.weave_all.new.disk)
     c.shape-shape.ensures.records c.shape-shape.ensures.value c.requires.lattice within (λ is. absurd (let e = is in cc)) (λ is. absurd (ok_no_fault c.in-Ok.is is)) c.weave_all.ensures.writes
 
 pub returns-in-Err-has_more-clause-padded : goal.returns-in-Err-has_more-clause-padded
-returns-in-Err-has_more-clause-padded g c fine told =
+returns-in-Err-has_more-clause-padded g c fine revealed =
     all_padded c.args.ledger.now c.shape-shape.result c.args.heads.lattice (g.D.Disk.state c.args.disk.now).files (g.D.Disk.state c.weave_all.new.disk).files c.shape-shape.ensures.value c.requires.lattice
-    (c.weave_all.ensures.padded (λ bad. (let is = c.in-Ok.is in cc)) told)
+    (c.weave_all.ensures.padded (λ bad. (let is = c.in-Ok.is in cc)) revealed)
 
 pub returns-in-Err-has_more-clause-over : goal.returns-in-Err-has_more-clause-over
 returns-in-Err-has_more-clause-over g c n is past =
@@ -206,7 +206,7 @@ returns-in-Ok-true-clause-full_leaves g c nodes n is some =
 pub returns-in-Ok-false-clause-took : goal.returns-in-Ok-false-clause-took
 returns-in-Ok-false-clause-took g c first start =
     let v = c.args.ledger.now in
-    takes_object g.D.Disk.tells v c.shape-shape.result c.shape-shape.ensures.value c.in-Ok.length (g.S.Source.state c.args.source.now).left (g.S.Source.state c.weave_all.new.source).left (g.S.Source.state c.has_more.new.source).left c.new-hasher.result c.weave_all.new.hasher
+    takes_object g.D.Disk.reveals v c.shape-shape.result c.shape-shape.ensures.value c.in-Ok.length (g.S.Source.state c.args.source.now).left (g.S.Source.state c.weave_all.new.source).left (g.S.Source.state c.has_more.new.source).left c.new-hasher.result c.weave_all.new.hasher
     c.args.heads c.weave_all.new.heads c.new-digests.result.items c.weave_all.new.digests.items first (g.D.Disk.state c.args.disk.now).files (g.D.Disk.state c.weave_all.new.disk).files c.finalize.result
     c.in-Ok.ensures.took start c.new-digests.ensures.items c.new-hasher.ensures c.finalize.ensures c.requires.lattice c.requires.size (c.in-Ok-false.ensures.none (let t = c.in-Ok-false.field-0-test in ap Ok t))
 

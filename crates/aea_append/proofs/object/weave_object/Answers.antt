@@ -16,7 +16,7 @@ use Rattle.aea_append.proofs.object.weave_object.Goals as goal
 
 pub returns-in-Err-clause-writes : goal.returns-in-Err-clause-writes
 returns-in-Err-clause-writes g c =
-    cells_none g.D.Disk.tells _ c.args.ledger.now.shape (limit_when c.args.ledger.now.raised) (IsBlockIn c.args.ledger.now.shape c.args.ledger.now.lattice.n) (g.D.Disk.state c.args.disk.now) (λ is. absurd (let e = is in cc))
+    cells_none g.D.Disk.reveals _ c.args.ledger.now.shape (limit_when c.args.ledger.now.raised) (IsBlockIn c.args.ledger.now.shape c.args.ledger.now.lattice.n) (g.D.Disk.state c.args.disk.now) (λ is. absurd (let e = is in cc))
 
 pub returns-in-Err-HeadDamaged-clause-writes : goal.returns-in-Err-HeadDamaged-clause-writes
 returns-in-Err-HeadDamaged-clause-writes g c =
@@ -24,8 +24,8 @@ returns-in-Err-HeadDamaged-clause-writes g c =
     let old = g.D.Disk.state c.args.disk.now in
     let mid = g.D.Disk.state c.next_heads.new.disk in
     let keep = IsBlockIn c.args.ledger.now.shape c.args.ledger.now.lattice.n in
-    writes_as g.D.Disk.tells _ (FitsRows v.shape (limit_when v.raised) old) (c.next_heads.result ≡ Err loading.DiskFault) _ (ChangesArchive v.shape (limit_when v.raised) (IsBlockIn v.shape v.lattice.n) (IsNoSite v.shape)) old mid (λ is. absurd (let e = is in cc)) (λ is. absurd (let e = met_fault c.in-Err-HeadDamaged.is c.in-Err-HeadDamaged.field-0-is is in cc))
-    (reads_writes g.D.Disk.tells _ (FitsRows v.shape (limit_when v.raised) old) (c.next_heads.result ≡ Err loading.DiskFault) (ChangesArchive v.shape (limit_when v.raised) (IsBlockIn v.shape v.lattice.n) (IsNoSite v.shape)) old mid (λ is. is)
+    writes_as g.D.Disk.reveals _ (FitsRows v.shape (limit_when v.raised) old) (c.next_heads.result ≡ Err loading.DiskFault) _ (ChangesArchive v.shape (limit_when v.raised) (IsBlockIn v.shape v.lattice.n) (IsNoSite v.shape)) old mid (λ is. absurd (let e = is in cc)) (λ is. absurd (let e = met_fault c.in-Err-HeadDamaged.is c.in-Err-HeadDamaged.field-0-is is in cc))
+    (reads_writes g.D.Disk.reveals _ (FitsRows v.shape (limit_when v.raised) old) (c.next_heads.result ≡ Err loading.DiskFault) (ChangesArchive v.shape (limit_when v.raised) (IsBlockIn v.shape v.lattice.n) (IsNoSite v.shape)) old mid (λ is. is)
     (λ room. rows_roomy c.homes_are_on_its_sites.ensures v.shape (limit_when v.raised) old room) (λ d. changes_none v.shape (limit_when v.raised) (IsBlockIn v.shape v.lattice.n) (IsNoSite v.shape) d) c.next_heads.ensures.reads)
 
 pub returns-in-Err-DiskFault-clause-writes : goal.returns-in-Err-DiskFault-clause-writes
@@ -34,8 +34,8 @@ returns-in-Err-DiskFault-clause-writes g c =
     let old = g.D.Disk.state c.args.disk.now in
     let mid = g.D.Disk.state c.next_heads.new.disk in
     let keep = IsBlockIn c.args.ledger.now.shape c.args.ledger.now.lattice.n in
-    writes_as g.D.Disk.tells _ (FitsRows v.shape (limit_when v.raised) old) (c.next_heads.result ≡ Err loading.DiskFault) _ (ChangesArchive v.shape (limit_when v.raised) (IsBlockIn v.shape v.lattice.n) (IsNoSite v.shape)) old mid (λ is. c.in-Err-DiskFault.is ∙ ap Err c.in-Err-DiskFault.field-0-is) (λ is. cc)
-    (reads_writes g.D.Disk.tells _ (FitsRows v.shape (limit_when v.raised) old) (c.next_heads.result ≡ Err loading.DiskFault) (ChangesArchive v.shape (limit_when v.raised) (IsBlockIn v.shape v.lattice.n) (IsNoSite v.shape)) old mid (λ is. is)
+    writes_as g.D.Disk.reveals _ (FitsRows v.shape (limit_when v.raised) old) (c.next_heads.result ≡ Err loading.DiskFault) _ (ChangesArchive v.shape (limit_when v.raised) (IsBlockIn v.shape v.lattice.n) (IsNoSite v.shape)) old mid (λ is. c.in-Err-DiskFault.is ∙ ap Err c.in-Err-DiskFault.field-0-is) (λ is. cc)
+    (reads_writes g.D.Disk.reveals _ (FitsRows v.shape (limit_when v.raised) old) (c.next_heads.result ≡ Err loading.DiskFault) (ChangesArchive v.shape (limit_when v.raised) (IsBlockIn v.shape v.lattice.n) (IsNoSite v.shape)) old mid (λ is. is)
     (λ room. rows_roomy c.homes_are_on_its_sites.ensures v.shape (limit_when v.raised) old room) (λ d. changes_none v.shape (limit_when v.raised) (IsBlockIn v.shape v.lattice.n) (IsNoSite v.shape) d) c.next_heads.ensures.reads)
 
 pub returns-in-Err-NoMemory-clause-writes : goal.returns-in-Err-NoMemory-clause-writes
@@ -44,8 +44,8 @@ returns-in-Err-NoMemory-clause-writes g c =
     let old = g.D.Disk.state c.args.disk.now in
     let mid = g.D.Disk.state c.next_heads.new.disk in
     let keep = IsBlockIn c.args.ledger.now.shape c.args.ledger.now.lattice.n in
-    writes_as g.D.Disk.tells _ (FitsRows v.shape (limit_when v.raised) old) (c.next_heads.result ≡ Err loading.DiskFault) _ (ChangesArchive v.shape (limit_when v.raised) (IsBlockIn v.shape v.lattice.n) (IsNoSite v.shape)) old mid (λ is. absurd (let e = is in cc)) (λ is. absurd (let e = met_fault c.in-Err-NoMemory.is c.in-Err-NoMemory.field-0-is is in cc))
-    (reads_writes g.D.Disk.tells _ (FitsRows v.shape (limit_when v.raised) old) (c.next_heads.result ≡ Err loading.DiskFault) (ChangesArchive v.shape (limit_when v.raised) (IsBlockIn v.shape v.lattice.n) (IsNoSite v.shape)) old mid (λ is. is)
+    writes_as g.D.Disk.reveals _ (FitsRows v.shape (limit_when v.raised) old) (c.next_heads.result ≡ Err loading.DiskFault) _ (ChangesArchive v.shape (limit_when v.raised) (IsBlockIn v.shape v.lattice.n) (IsNoSite v.shape)) old mid (λ is. absurd (let e = is in cc)) (λ is. absurd (let e = met_fault c.in-Err-NoMemory.is c.in-Err-NoMemory.field-0-is is in cc))
+    (reads_writes g.D.Disk.reveals _ (FitsRows v.shape (limit_when v.raised) old) (c.next_heads.result ≡ Err loading.DiskFault) (ChangesArchive v.shape (limit_when v.raised) (IsBlockIn v.shape v.lattice.n) (IsNoSite v.shape)) old mid (λ is. is)
     (λ room. rows_roomy c.homes_are_on_its_sites.ensures v.shape (limit_when v.raised) old room) (λ d. changes_none v.shape (limit_when v.raised) (IsBlockIn v.shape v.lattice.n) (IsNoSite v.shape) d) c.next_heads.ensures.reads)
 
 pub returns-in-Ok-take_object-clause-writes : goal.returns-in-Ok-take_object-clause-writes
@@ -55,8 +55,8 @@ returns-in-Ok-take_object-clause-writes g c =
     let mid = g.D.Disk.state c.next_heads.new.disk in
     let keep = IsBlockIn c.args.ledger.now.shape c.args.ledger.now.lattice.n in
     let new = g.D.Disk.state c.take_object.new.disk in
-    writes_as g.D.Disk.tells _ (FitsRows v.shape (limit_when v.raised) old) (c.take_object.result ≡ Err DiskFault) _ (ChangesArchive v.shape (limit_when v.raised) (IsBlockIn v.shape v.lattice.n) (IsNoSite v.shape)) old new (λ is. absurd (let e = is in cc)) (λ is. absurd (ok_no_fault c.in-Ok-take_object.is is))
-    (reads_then_writes g.D.Disk.tells _ _ (FitsRows v.shape (limit_when v.raised) old) (FitsRows v.shape (limit_when v.raised) mid) (c.next_heads.result ≡ Err loading.DiskFault) (c.take_object.result ≡ Err DiskFault) (ChangesArchive v.shape (limit_when v.raised) (IsBlockIn v.shape v.lattice.n) (IsNoSite v.shape)) old mid new (ok_no_fault c.in-Ok-next_heads.is)
+    writes_as g.D.Disk.reveals _ (FitsRows v.shape (limit_when v.raised) old) (c.take_object.result ≡ Err DiskFault) _ (ChangesArchive v.shape (limit_when v.raised) (IsBlockIn v.shape v.lattice.n) (IsNoSite v.shape)) old new (λ is. absurd (let e = is in cc)) (λ is. absurd (ok_no_fault c.in-Ok-take_object.is is))
+    (reads_then_writes g.D.Disk.reveals _ _ (FitsRows v.shape (limit_when v.raised) old) (FitsRows v.shape (limit_when v.raised) mid) (c.next_heads.result ≡ Err loading.DiskFault) (c.take_object.result ≡ Err DiskFault) (ChangesArchive v.shape (limit_when v.raised) (IsBlockIn v.shape v.lattice.n) (IsNoSite v.shape)) old mid new (ok_no_fault c.in-Ok-next_heads.is)
     (λ d. changes_none v.shape (limit_when v.raised) (IsBlockIn v.shape v.lattice.n) (IsNoSite v.shape) d) (λ is. is) (λ _ is same goes. ready_later old mid same goes is)
     (λ room. rows_roomy c.homes_are_on_its_sites.ensures v.shape (limit_when v.raised) old room) (λ _ room same time. rows_later v.shape (limit_when v.raised) old mid (ap (λ (f : ℕ → List ℕ). f 0) same) time room) c.next_heads.ensures.reads c.take_object.ensures.writes)
 
@@ -67,8 +67,8 @@ returns-clause-writes g c =
     let mid = g.D.Disk.state c.next_heads.new.disk in
     let keep = IsBlockIn c.args.ledger.now.shape c.args.ledger.now.lattice.n in
     let new = g.D.Disk.state c.take_object.new.disk in
-    writes_as g.D.Disk.tells _ (FitsRows v.shape (limit_when v.raised) old) (c.take_object.result ≡ Err DiskFault) _ (ChangesArchive v.shape (limit_when v.raised) (IsBlockIn v.shape v.lattice.n) (IsNoSite v.shape)) old new (λ is. c.in-Err-take_object.is ∙ fault_as c.in-Err-take_object.fault DiskFault is) (λ is. cc)
-    (reads_then_writes g.D.Disk.tells _ _ (FitsRows v.shape (limit_when v.raised) old) (FitsRows v.shape (limit_when v.raised) mid) (c.next_heads.result ≡ Err loading.DiskFault) (c.take_object.result ≡ Err DiskFault) (ChangesArchive v.shape (limit_when v.raised) (IsBlockIn v.shape v.lattice.n) (IsNoSite v.shape)) old mid new (ok_no_fault c.in-Ok-next_heads.is)
+    writes_as g.D.Disk.reveals _ (FitsRows v.shape (limit_when v.raised) old) (c.take_object.result ≡ Err DiskFault) _ (ChangesArchive v.shape (limit_when v.raised) (IsBlockIn v.shape v.lattice.n) (IsNoSite v.shape)) old new (λ is. c.in-Err-take_object.is ∙ fault_as c.in-Err-take_object.fault DiskFault is) (λ is. cc)
+    (reads_then_writes g.D.Disk.reveals _ _ (FitsRows v.shape (limit_when v.raised) old) (FitsRows v.shape (limit_when v.raised) mid) (c.next_heads.result ≡ Err loading.DiskFault) (c.take_object.result ≡ Err DiskFault) (ChangesArchive v.shape (limit_when v.raised) (IsBlockIn v.shape v.lattice.n) (IsNoSite v.shape)) old mid new (ok_no_fault c.in-Ok-next_heads.is)
     (λ d. changes_none v.shape (limit_when v.raised) (IsBlockIn v.shape v.lattice.n) (IsNoSite v.shape) d) (λ is. is) (λ _ is same goes. ready_later old mid same goes is)
     (λ room. rows_roomy c.homes_are_on_its_sites.ensures v.shape (limit_when v.raised) old room) (λ _ room same time. rows_later v.shape (limit_when v.raised) old mid (ap (λ (f : ℕ → List ℕ). f 0) same) time room) c.next_heads.ensures.reads c.take_object.ensures.writes)
 
@@ -84,13 +84,13 @@ pub returns-clause-faults : goal.returns-clause-faults
 returns-clause-faults g c = inr c.in-Err-take_object.ensures.faults
 
 pub returns-clause-padded : goal.returns-clause-padded
-returns-clause-padded g c fine told =
+returns-clause-padded g c fine revealed =
     let v = c.args.ledger.now in
     let old = g.D.Disk.state c.args.disk.now in
     let mid = g.D.Disk.state c.next_heads.new.disk in
     let new = g.D.Disk.state c.take_object.new.disk in
-    padded_both v.shape (IsBlockIn v.shape v.lattice.n) old.files mid.files new.files (padded_kept v.shape (IsBlockIn v.shape v.lattice.n) old.files mid.files (c.next_heads.ensures.reads.contents told))
-    (c.take_object.ensures.padded (λ bad. fine (fault_as c.in-Err-take_object.fault DiskFault (sym c.in-Err-take_object.is ∙ bad))) told)
+    padded_both v.shape (IsBlockIn v.shape v.lattice.n) old.files mid.files new.files (padded_kept v.shape (IsBlockIn v.shape v.lattice.n) old.files mid.files (c.next_heads.ensures.reads.contents revealed))
+    (c.take_object.ensures.padded (λ bad. fine (fault_as c.in-Err-take_object.fault DiskFault (sym c.in-Err-take_object.is ∙ bad))) revealed)
 
 pub returns-in-Err-clause-counted : goal.returns-in-Err-clause-counted
 returns-in-Err-clause-counted g c = counts_none (g.S.Source.state c.args.source.now).left c.args.at.now (most_of c.args.want (room_left c.args.ledger.now))
@@ -121,24 +121,24 @@ returns-clause-short g c n some is =
 -- ---- where a last parity is damaged
 
 pub returns-in-Err-clause-head_in_room : goal.returns-in-Err-clause-head_in_room
-returns-in-Err-clause-head_in_room g c told a damaged ready roomy = ((λ is. absurd (let e = is in cc)), refl)
+returns-in-Err-clause-head_in_room g c revealed a damaged ready roomy = ((λ is. absurd (let e = is in cc)), refl)
 
 pub returns-in-Err-HeadDamaged-clause-head_in_room : goal.returns-in-Err-HeadDamaged-clause-head_in_room
-returns-in-Err-HeadDamaged-clause-head_in_room g c told a damaged ready roomy =
-    ((λ is. absurd (let e = is in cc)), (c.next_heads.ensures.reads.sure told ready roomy).1)
+returns-in-Err-HeadDamaged-clause-head_in_room g c revealed a damaged ready roomy =
+    ((λ is. absurd (let e = is in cc)), (c.next_heads.ensures.reads.sure revealed ready roomy).1)
 
 pub returns-in-Err-NoMemory-clause-head_in_room : goal.returns-in-Err-NoMemory-clause-head_in_room
-returns-in-Err-NoMemory-clause-head_in_room g c told a damaged ready roomy =
-    ((λ is. absurd (let e = is in cc)), (c.next_heads.ensures.reads.sure told ready roomy).1)
+returns-in-Err-NoMemory-clause-head_in_room g c revealed a damaged ready roomy =
+    ((λ is. absurd (let e = is in cc)), (c.next_heads.ensures.reads.sure revealed ready roomy).1)
 
 pub returns-in-Err-DiskFault-clause-head_in_room : goal.returns-in-Err-DiskFault-clause-head_in_room
-returns-in-Err-DiskFault-clause-head_in_room g c told a damaged ready roomy =
-    absurd ((c.next_heads.ensures.reads.sure told ready roomy).0 (c.in-Err-DiskFault.is ∙ ap Err c.in-Err-DiskFault.field-0-is))
+returns-in-Err-DiskFault-clause-head_in_room g c revealed a damaged ready roomy =
+    absurd ((c.next_heads.ensures.reads.sure revealed ready roomy).0 (c.in-Err-DiskFault.is ∙ ap Err c.in-Err-DiskFault.field-0-is))
 
 pub returns-in-Ok-take_object-clause-head_in_room : goal.returns-in-Ok-take_object-clause-head_in_room
-returns-in-Ok-take_object-clause-head_in_room g c told a damaged ready roomy =
-    absurd (none_damaged c.args.ledger.now (g.D.Disk.state c.args.disk.now) (c.in-Ok-next_heads.ensures.intact told) a damaged)
+returns-in-Ok-take_object-clause-head_in_room g c revealed a damaged ready roomy =
+    absurd (none_damaged c.args.ledger.now (g.D.Disk.state c.args.disk.now) (c.in-Ok-next_heads.ensures.intact revealed) a damaged)
 
 pub returns-clause-head_in_room : goal.returns-clause-head_in_room
-returns-clause-head_in_room g c told a damaged ready roomy =
-    absurd (none_damaged c.args.ledger.now (g.D.Disk.state c.args.disk.now) (c.in-Ok-next_heads.ensures.intact told) a damaged)
+returns-clause-head_in_room g c revealed a damaged ready roomy =
+    absurd (none_damaged c.args.ledger.now (g.D.Disk.state c.args.disk.now) (c.in-Ok-next_heads.ensures.intact revealed) a damaged)

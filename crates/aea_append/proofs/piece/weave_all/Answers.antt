@@ -23,64 +23,64 @@ loop-done-init g c = record {
   size = c.requires.size;
   block = c.requires.block;
   cell = c.requires.buffer;
-  took = takes_none g.D.Disk.tells c.args.shape.now (g.S.Source.state c.args.source.now).left c.args.hasher.now c.args.heads.now c.args.digests.now.items (g.D.Disk.state c.args.disk.now).files;
-  writes = λ nodes within. cells_none g.D.Disk.tells ⊥ c.args.shape.now nodes (IsBlockIn c.args.shape.now c.args.heads.now.lattice.n) (g.D.Disk.state c.args.disk.now) (λ none. none);
-  padded = λ told. padded_none c.args.shape.now (IsBlockIn c.args.shape.now c.args.heads.now.lattice.n) (g.D.Disk.state c.args.disk.now).files;
+  took = takes_none g.D.Disk.reveals c.args.shape.now (g.S.Source.state c.args.source.now).left c.args.hasher.now c.args.heads.now c.args.digests.now.items (g.D.Disk.state c.args.disk.now).files;
+  writes = λ nodes within. cells_none g.D.Disk.reveals ⊥ c.args.shape.now nodes (IsBlockIn c.args.shape.now c.args.heads.now.lattice.n) (g.D.Disk.state c.args.disk.now) (λ none. none);
+  padded = λ revealed. padded_none c.args.shape.now (IsBlockIn c.args.shape.now c.args.heads.now.lattice.n) (g.D.Disk.state c.args.disk.now).files;
   exact = omega arith;
   counted = counts_none (g.S.Source.state c.args.source.now).left c.args.at.now 0;
   still = refl;
 }
 
 -- what was written and taken then
-writes_err : (g : Over) (c : In-Err g) (nodes : ℕ) → c.args.heads.now.lattice.n + nodes_for c.args.shape.now c.args.limit ≤ nodes → WritesCells g.D.Disk.tells c.args.shape.now nodes (IsBlockIn c.args.shape.now c.args.heads.now.lattice.n) (c.weave_piece.result ≡ Err DiskFault) (g.D.Disk.state c.args.disk.now) (g.D.Disk.state c.weave_piece.new.disk)
+writes_err : (g : Over) (c : In-Err g) (nodes : ℕ) → c.args.heads.now.lattice.n + nodes_for c.args.shape.now c.args.limit ≤ nodes → WritesCells g.D.Disk.reveals c.args.shape.now nodes (IsBlockIn c.args.shape.now c.args.heads.now.lattice.n) (c.weave_piece.result ≡ Err DiskFault) (g.D.Disk.state c.args.disk.now) (g.D.Disk.state c.weave_piece.new.disk)
 writes_err g c nodes within =
     let keep = IsBlockIn c.args.shape.now c.args.heads.now.lattice.n in
     let lt : c.loop-done.done < c.args.limit = grind (arith, nat_tests, c.loop-done-test.true) in
     let whole = c.loop-done.invariant.whole lt in
     let past = nodes-past c.args.shape.now whole.0 c.args.limit (omega (arith, whole.1, lt)) in
-    cells_then g.D.Disk.tells ⊥ (c.weave_piece.result ≡ Err DiskFault) c.args.shape.now nodes (IsBlockIn c.args.shape.now c.args.heads.now.lattice.n) (λ a. a.node ≢ c.loop-done.heads.lattice.n + 1) (g.D.Disk.state c.args.disk.now) (g.D.Disk.state c.loop-done.disk) (g.D.Disk.state c.weave_piece.new.disk) (λ none. none)
+    cells_then g.D.Disk.reveals ⊥ (c.weave_piece.result ≡ Err DiskFault) c.args.shape.now nodes (IsBlockIn c.args.shape.now c.args.heads.now.lattice.n) (λ a. a.node ≢ c.loop-done.heads.lattice.n + 1) (g.D.Disk.state c.args.disk.now) (g.D.Disk.state c.loop-done.disk) (g.D.Disk.state c.weave_piece.new.disk) (λ none. none)
     (λ a block same. (let most = block.most in omega (arith, most, same, whole.2)))
     (c.loop-done.invariant.writes nodes within) (c.weave_piece.ensures.writes nodes (omega (arith, within, whole.2, past)))
 
-padded_err : (g : Over) (c : In-Err g) → (c.weave_piece.result ≢ Err DiskFault) → g.D.Disk.tells → KeepsPadded c.args.shape.now (IsBlockIn c.args.shape.now c.args.heads.now.lattice.n) (g.D.Disk.state c.args.disk.now).files (g.D.Disk.state c.weave_piece.new.disk).files
-padded_err g c fine told =
+padded_err : (g : Over) (c : In-Err g) → (c.weave_piece.result ≢ Err DiskFault) → g.D.Disk.reveals → KeepsPadded c.args.shape.now (IsBlockIn c.args.shape.now c.args.heads.now.lattice.n) (g.D.Disk.state c.args.disk.now).files (g.D.Disk.state c.weave_piece.new.disk).files
+padded_err g c fine revealed =
     let lt : c.loop-done.done < c.args.limit = grind (arith, nat_tests, c.loop-done-test.true) in
     let whole = c.loop-done.invariant.whole lt in
     padded_both c.args.shape.now (IsBlockIn c.args.shape.now c.args.heads.now.lattice.n) (g.D.Disk.state c.args.disk.now).files (g.D.Disk.state c.loop-done.disk).files (g.D.Disk.state c.weave_piece.new.disk).files
-    (c.loop-done.invariant.padded told)
+    (c.loop-done.invariant.padded revealed)
     (padded_less c.args.shape.now (λ a. a.node ≢ c.loop-done.heads.lattice.n + 1) (IsBlockIn c.args.shape.now c.args.heads.now.lattice.n) (g.D.Disk.state c.loop-done.disk).files (g.D.Disk.state c.weave_piece.new.disk).files
-    (λ a block same. (let most = block.most in omega (arith, most, same, whole.2))) (c.weave_piece.ensures.padded fine told))
+    (λ a block same. (let most = block.most in omega (arith, most, same, whole.2))) (c.weave_piece.ensures.padded fine revealed))
 
 -- what was written and taken then
-writes_then : (g : Over) (c : Then-count-want g) (nodes : ℕ) → c.args.heads.now.lattice.n + nodes_for c.args.shape.now c.args.limit ≤ nodes → WritesCells g.D.Disk.tells c.args.shape.now nodes (IsBlockIn c.args.shape.now c.args.heads.now.lattice.n) (c.weave_piece.result ≡ Err DiskFault) (g.D.Disk.state c.args.disk.now) (g.D.Disk.state c.weave_piece.new.disk)
+writes_then : (g : Over) (c : Then-count-want g) (nodes : ℕ) → c.args.heads.now.lattice.n + nodes_for c.args.shape.now c.args.limit ≤ nodes → WritesCells g.D.Disk.reveals c.args.shape.now nodes (IsBlockIn c.args.shape.now c.args.heads.now.lattice.n) (c.weave_piece.result ≡ Err DiskFault) (g.D.Disk.state c.args.disk.now) (g.D.Disk.state c.weave_piece.new.disk)
 writes_then g c nodes within =
     let keep = IsBlockIn c.args.shape.now c.args.heads.now.lattice.n in
     let lt : c.loop-done.done < c.args.limit = grind (arith, nat_tests, c.loop-done-test.true) in
     let whole = c.loop-done.invariant.whole lt in
     let past = nodes-past c.args.shape.now whole.0 c.args.limit (omega (arith, whole.1, lt)) in
-    cells_then g.D.Disk.tells ⊥ (c.weave_piece.result ≡ Err DiskFault) c.args.shape.now nodes (IsBlockIn c.args.shape.now c.args.heads.now.lattice.n) (λ a. a.node ≢ c.loop-done.heads.lattice.n + 1) (g.D.Disk.state c.args.disk.now) (g.D.Disk.state c.loop-done.disk) (g.D.Disk.state c.weave_piece.new.disk) (λ none. none)
+    cells_then g.D.Disk.reveals ⊥ (c.weave_piece.result ≡ Err DiskFault) c.args.shape.now nodes (IsBlockIn c.args.shape.now c.args.heads.now.lattice.n) (λ a. a.node ≢ c.loop-done.heads.lattice.n + 1) (g.D.Disk.state c.args.disk.now) (g.D.Disk.state c.loop-done.disk) (g.D.Disk.state c.weave_piece.new.disk) (λ none. none)
     (λ a block same. (let most = block.most in omega (arith, most, same, whole.2)))
     (c.loop-done.invariant.writes nodes within) (c.weave_piece.ensures.writes nodes (omega (arith, within, whole.2, past)))
 
-padded_then : (g : Over) (c : Then-count-want g) → (c.weave_piece.result ≢ Err DiskFault) → g.D.Disk.tells → KeepsPadded c.args.shape.now (IsBlockIn c.args.shape.now c.args.heads.now.lattice.n) (g.D.Disk.state c.args.disk.now).files (g.D.Disk.state c.weave_piece.new.disk).files
-padded_then g c fine told =
+padded_then : (g : Over) (c : Then-count-want g) → (c.weave_piece.result ≢ Err DiskFault) → g.D.Disk.reveals → KeepsPadded c.args.shape.now (IsBlockIn c.args.shape.now c.args.heads.now.lattice.n) (g.D.Disk.state c.args.disk.now).files (g.D.Disk.state c.weave_piece.new.disk).files
+padded_then g c fine revealed =
     let lt : c.loop-done.done < c.args.limit = grind (arith, nat_tests, c.loop-done-test.true) in
     let whole = c.loop-done.invariant.whole lt in
     padded_both c.args.shape.now (IsBlockIn c.args.shape.now c.args.heads.now.lattice.n) (g.D.Disk.state c.args.disk.now).files (g.D.Disk.state c.loop-done.disk).files (g.D.Disk.state c.weave_piece.new.disk).files
-    (c.loop-done.invariant.padded told)
+    (c.loop-done.invariant.padded revealed)
     (padded_less c.args.shape.now (λ a. a.node ≢ c.loop-done.heads.lattice.n + 1) (IsBlockIn c.args.shape.now c.args.heads.now.lattice.n) (g.D.Disk.state c.loop-done.disk).files (g.D.Disk.state c.weave_piece.new.disk).files
-    (λ a block same. (let most = block.most in omega (arith, most, same, whole.2))) (c.weave_piece.ensures.padded fine told))
+    (λ a block same. (let most = block.most in omega (arith, most, same, whole.2))) (c.weave_piece.ensures.padded fine revealed))
 
-took_then : (g : Over) (c : Then-count-want g) → Takes g.D.Disk.tells c.args.shape.now (c.loop-done.done + c.in-Ok.count) (g.S.Source.state c.args.source.now).left (g.S.Source.state c.weave_piece.new.source).left c.args.hasher.now c.weave_piece.new.hasher c.args.heads.now c.weave_piece.new.heads c.args.digests.now.items c.weave_piece.new.digests.items (g.D.Disk.state c.args.disk.now).files (g.D.Disk.state c.weave_piece.new.disk).files
+took_then : (g : Over) (c : Then-count-want g) → Takes g.D.Disk.reveals c.args.shape.now (c.loop-done.done + c.in-Ok.count) (g.S.Source.state c.args.source.now).left (g.S.Source.state c.weave_piece.new.source).left c.args.hasher.now c.weave_piece.new.hasher c.args.heads.now c.weave_piece.new.heads c.args.digests.now.items c.weave_piece.new.digests.items (g.D.Disk.state c.args.disk.now).files (g.D.Disk.state c.weave_piece.new.disk).files
 took_then g c =
     let lt : c.loop-done.done < c.args.limit = grind (arith, nat_tests, c.loop-done-test.true) in
     let whole = c.loop-done.invariant.whole lt in
     let piece = c.in-Ok.ensures.took in
     let narrow : c.min-want.result ≤ c.args.shape.now.block = omega (arith, c.min-want.ensures, c.block.ensures, c.from.ensures) in
-    let first = subst (λ (k : ℕ). Takes g.D.Disk.tells c.args.shape.now k (g.S.Source.state c.args.source.now).left (g.S.Source.state c.loop-done.source).left c.args.hasher.now c.loop-done.hasher c.args.heads.now c.loop-done.heads c.args.digests.now.items c.loop-done.digests.items (g.D.Disk.state c.args.disk.now).files (g.D.Disk.state c.loop-done.disk).files) whole.1 c.loop-done.invariant.took in
-    subst (λ (k : ℕ). Takes g.D.Disk.tells c.args.shape.now k (g.S.Source.state c.args.source.now).left (g.S.Source.state c.weave_piece.new.source).left c.args.hasher.now c.weave_piece.new.hasher c.args.heads.now c.weave_piece.new.heads c.args.digests.now.items c.weave_piece.new.digests.items (g.D.Disk.state c.args.disk.now).files (g.D.Disk.state c.weave_piece.new.disk).files)
+    let first = subst (λ (k : ℕ). Takes g.D.Disk.reveals c.args.shape.now k (g.S.Source.state c.args.source.now).left (g.S.Source.state c.loop-done.source).left c.args.hasher.now c.loop-done.hasher c.args.heads.now c.loop-done.heads c.args.digests.now.items c.loop-done.digests.items (g.D.Disk.state c.args.disk.now).files (g.D.Disk.state c.loop-done.disk).files) whole.1 c.loop-done.invariant.took in
+    subst (λ (k : ℕ). Takes g.D.Disk.reveals c.args.shape.now k (g.S.Source.state c.args.source.now).left (g.S.Source.state c.weave_piece.new.source).left c.args.hasher.now c.weave_piece.new.hasher c.args.heads.now c.weave_piece.new.heads c.args.digests.now.items c.weave_piece.new.digests.items (g.D.Disk.state c.args.disk.now).files (g.D.Disk.state c.weave_piece.new.disk).files)
     (ap (λ (k : ℕ). k + c.in-Ok.count) (sym whole.1))
-    (takes_both g.D.Disk.tells c.args.shape.now whole.0 c.in-Ok.count (g.S.Source.state c.args.source.now).left (g.S.Source.state c.loop-done.source).left (g.S.Source.state c.weave_piece.new.source).left c.args.hasher.now c.loop-done.hasher c.weave_piece.new.hasher
+    (takes_both g.D.Disk.reveals c.args.shape.now whole.0 c.in-Ok.count (g.S.Source.state c.args.source.now).left (g.S.Source.state c.loop-done.source).left (g.S.Source.state c.weave_piece.new.source).left c.args.hasher.now c.loop-done.hasher c.weave_piece.new.hasher
     c.args.heads.now c.loop-done.heads c.weave_piece.new.heads c.args.digests.now.items c.loop-done.digests.items c.weave_piece.new.digests.items (g.D.Disk.state c.args.disk.now).files (g.D.Disk.state c.loop-done.disk).files (g.D.Disk.state c.weave_piece.new.disk).files
     (let most = piece.most in omega (arith, most, narrow)) first piece.takes)
 
@@ -88,35 +88,35 @@ fine_then : (g : Over) (c : Then-count-want g) → c.weave_piece.result ≢ Err 
 fine_then g c bad = let is = c.in-Ok.is in cc
 
 -- what was written and taken then
-writes_else : (g : Over) (c : Else-count-want g) (nodes : ℕ) → c.args.heads.now.lattice.n + nodes_for c.args.shape.now c.args.limit ≤ nodes → WritesCells g.D.Disk.tells c.args.shape.now nodes (IsBlockIn c.args.shape.now c.args.heads.now.lattice.n) (c.weave_piece.result ≡ Err DiskFault) (g.D.Disk.state c.args.disk.now) (g.D.Disk.state c.weave_piece.new.disk)
+writes_else : (g : Over) (c : Else-count-want g) (nodes : ℕ) → c.args.heads.now.lattice.n + nodes_for c.args.shape.now c.args.limit ≤ nodes → WritesCells g.D.Disk.reveals c.args.shape.now nodes (IsBlockIn c.args.shape.now c.args.heads.now.lattice.n) (c.weave_piece.result ≡ Err DiskFault) (g.D.Disk.state c.args.disk.now) (g.D.Disk.state c.weave_piece.new.disk)
 writes_else g c nodes within =
     let keep = IsBlockIn c.args.shape.now c.args.heads.now.lattice.n in
     let lt : c.loop-done.done < c.args.limit = grind (arith, nat_tests, c.loop-done-test.true) in
     let whole = c.loop-done.invariant.whole lt in
     let past = nodes-past c.args.shape.now whole.0 c.args.limit (omega (arith, whole.1, lt)) in
-    cells_then g.D.Disk.tells ⊥ (c.weave_piece.result ≡ Err DiskFault) c.args.shape.now nodes (IsBlockIn c.args.shape.now c.args.heads.now.lattice.n) (λ a. a.node ≢ c.loop-done.heads.lattice.n + 1) (g.D.Disk.state c.args.disk.now) (g.D.Disk.state c.loop-done.disk) (g.D.Disk.state c.weave_piece.new.disk) (λ none. none)
+    cells_then g.D.Disk.reveals ⊥ (c.weave_piece.result ≡ Err DiskFault) c.args.shape.now nodes (IsBlockIn c.args.shape.now c.args.heads.now.lattice.n) (λ a. a.node ≢ c.loop-done.heads.lattice.n + 1) (g.D.Disk.state c.args.disk.now) (g.D.Disk.state c.loop-done.disk) (g.D.Disk.state c.weave_piece.new.disk) (λ none. none)
     (λ a block same. (let most = block.most in omega (arith, most, same, whole.2)))
     (c.loop-done.invariant.writes nodes within) (c.weave_piece.ensures.writes nodes (omega (arith, within, whole.2, past)))
 
-padded_else : (g : Over) (c : Else-count-want g) → (c.weave_piece.result ≢ Err DiskFault) → g.D.Disk.tells → KeepsPadded c.args.shape.now (IsBlockIn c.args.shape.now c.args.heads.now.lattice.n) (g.D.Disk.state c.args.disk.now).files (g.D.Disk.state c.weave_piece.new.disk).files
-padded_else g c fine told =
+padded_else : (g : Over) (c : Else-count-want g) → (c.weave_piece.result ≢ Err DiskFault) → g.D.Disk.reveals → KeepsPadded c.args.shape.now (IsBlockIn c.args.shape.now c.args.heads.now.lattice.n) (g.D.Disk.state c.args.disk.now).files (g.D.Disk.state c.weave_piece.new.disk).files
+padded_else g c fine revealed =
     let lt : c.loop-done.done < c.args.limit = grind (arith, nat_tests, c.loop-done-test.true) in
     let whole = c.loop-done.invariant.whole lt in
     padded_both c.args.shape.now (IsBlockIn c.args.shape.now c.args.heads.now.lattice.n) (g.D.Disk.state c.args.disk.now).files (g.D.Disk.state c.loop-done.disk).files (g.D.Disk.state c.weave_piece.new.disk).files
-    (c.loop-done.invariant.padded told)
+    (c.loop-done.invariant.padded revealed)
     (padded_less c.args.shape.now (λ a. a.node ≢ c.loop-done.heads.lattice.n + 1) (IsBlockIn c.args.shape.now c.args.heads.now.lattice.n) (g.D.Disk.state c.loop-done.disk).files (g.D.Disk.state c.weave_piece.new.disk).files
-    (λ a block same. (let most = block.most in omega (arith, most, same, whole.2))) (c.weave_piece.ensures.padded fine told))
+    (λ a block same. (let most = block.most in omega (arith, most, same, whole.2))) (c.weave_piece.ensures.padded fine revealed))
 
-took_else : (g : Over) (c : Else-count-want g) → Takes g.D.Disk.tells c.args.shape.now (c.loop-done.done + c.in-Ok.count) (g.S.Source.state c.args.source.now).left (g.S.Source.state c.weave_piece.new.source).left c.args.hasher.now c.weave_piece.new.hasher c.args.heads.now c.weave_piece.new.heads c.args.digests.now.items c.weave_piece.new.digests.items (g.D.Disk.state c.args.disk.now).files (g.D.Disk.state c.weave_piece.new.disk).files
+took_else : (g : Over) (c : Else-count-want g) → Takes g.D.Disk.reveals c.args.shape.now (c.loop-done.done + c.in-Ok.count) (g.S.Source.state c.args.source.now).left (g.S.Source.state c.weave_piece.new.source).left c.args.hasher.now c.weave_piece.new.hasher c.args.heads.now c.weave_piece.new.heads c.args.digests.now.items c.weave_piece.new.digests.items (g.D.Disk.state c.args.disk.now).files (g.D.Disk.state c.weave_piece.new.disk).files
 took_else g c =
     let lt : c.loop-done.done < c.args.limit = grind (arith, nat_tests, c.loop-done-test.true) in
     let whole = c.loop-done.invariant.whole lt in
     let piece = c.in-Ok.ensures.took in
     let narrow : c.min-want.result ≤ c.args.shape.now.block = omega (arith, c.min-want.ensures, c.block.ensures, c.from.ensures) in
-    let first = subst (λ (k : ℕ). Takes g.D.Disk.tells c.args.shape.now k (g.S.Source.state c.args.source.now).left (g.S.Source.state c.loop-done.source).left c.args.hasher.now c.loop-done.hasher c.args.heads.now c.loop-done.heads c.args.digests.now.items c.loop-done.digests.items (g.D.Disk.state c.args.disk.now).files (g.D.Disk.state c.loop-done.disk).files) whole.1 c.loop-done.invariant.took in
-    subst (λ (k : ℕ). Takes g.D.Disk.tells c.args.shape.now k (g.S.Source.state c.args.source.now).left (g.S.Source.state c.weave_piece.new.source).left c.args.hasher.now c.weave_piece.new.hasher c.args.heads.now c.weave_piece.new.heads c.args.digests.now.items c.weave_piece.new.digests.items (g.D.Disk.state c.args.disk.now).files (g.D.Disk.state c.weave_piece.new.disk).files)
+    let first = subst (λ (k : ℕ). Takes g.D.Disk.reveals c.args.shape.now k (g.S.Source.state c.args.source.now).left (g.S.Source.state c.loop-done.source).left c.args.hasher.now c.loop-done.hasher c.args.heads.now c.loop-done.heads c.args.digests.now.items c.loop-done.digests.items (g.D.Disk.state c.args.disk.now).files (g.D.Disk.state c.loop-done.disk).files) whole.1 c.loop-done.invariant.took in
+    subst (λ (k : ℕ). Takes g.D.Disk.reveals c.args.shape.now k (g.S.Source.state c.args.source.now).left (g.S.Source.state c.weave_piece.new.source).left c.args.hasher.now c.weave_piece.new.hasher c.args.heads.now c.weave_piece.new.heads c.args.digests.now.items c.weave_piece.new.digests.items (g.D.Disk.state c.args.disk.now).files (g.D.Disk.state c.weave_piece.new.disk).files)
     (ap (λ (k : ℕ). k + c.in-Ok.count) (sym whole.1))
-    (takes_both g.D.Disk.tells c.args.shape.now whole.0 c.in-Ok.count (g.S.Source.state c.args.source.now).left (g.S.Source.state c.loop-done.source).left (g.S.Source.state c.weave_piece.new.source).left c.args.hasher.now c.loop-done.hasher c.weave_piece.new.hasher
+    (takes_both g.D.Disk.reveals c.args.shape.now whole.0 c.in-Ok.count (g.S.Source.state c.args.source.now).left (g.S.Source.state c.loop-done.source).left (g.S.Source.state c.weave_piece.new.source).left c.args.hasher.now c.loop-done.hasher c.weave_piece.new.hasher
     c.args.heads.now c.loop-done.heads c.weave_piece.new.heads c.args.digests.now.items c.loop-done.digests.items c.weave_piece.new.digests.items (g.D.Disk.state c.args.disk.now).files (g.D.Disk.state c.loop-done.disk).files (g.D.Disk.state c.weave_piece.new.disk).files
     (let most = piece.most in omega (arith, most, narrow)) first piece.takes)
 
@@ -125,11 +125,11 @@ fine_else g c bad = let is = c.in-Ok.is in cc
 
 pub returns-in-Err-clause-writes : goal.returns-in-Err-clause-writes
 returns-in-Err-clause-writes g c nodes within =
-    cells_as g.D.Disk.tells (c.weave_piece.result ≡ Err DiskFault) _ c.args.shape.now nodes (IsBlockIn c.args.shape.now c.args.heads.now.lattice.n) (g.D.Disk.state c.args.disk.now) (g.D.Disk.state c.weave_piece.new.disk)
+    cells_as g.D.Disk.reveals (c.weave_piece.result ≡ Err DiskFault) _ c.args.shape.now nodes (IsBlockIn c.args.shape.now c.args.heads.now.lattice.n) (g.D.Disk.state c.args.disk.now) (g.D.Disk.state c.weave_piece.new.disk)
     (λ is. c.in-Err.is ∙ fault_as c.in-Err.fault DiskFault is) (λ is. cc) (writes_err g c nodes within)
 
 pub returns-in-Err-clause-padded : goal.returns-in-Err-clause-padded
-returns-in-Err-clause-padded g c fine told = padded_err g c (λ bad. fine (fault_as c.in-Err.fault DiskFault (sym c.in-Err.is ∙ bad))) told
+returns-in-Err-clause-padded g c fine revealed = padded_err g c (λ bad. fine (fault_as c.in-Err.fault DiskFault (sym c.in-Err.is ∙ bad))) revealed
 
 pub returns-in-Err-clause-counted : goal.returns-in-Err-clause-counted
 returns-in-Err-clause-counted g c =
@@ -139,11 +139,11 @@ returns-in-Err-clause-counted g c =
 
 pub returns-then-count-want-clause-writes : goal.returns-then-count-want-clause-writes
 returns-then-count-want-clause-writes g c nodes within =
-    cells_as g.D.Disk.tells (c.weave_piece.result ≡ Err DiskFault) _ c.args.shape.now nodes (IsBlockIn c.args.shape.now c.args.heads.now.lattice.n) (g.D.Disk.state c.args.disk.now) (g.D.Disk.state c.weave_piece.new.disk)
+    cells_as g.D.Disk.reveals (c.weave_piece.result ≡ Err DiskFault) _ c.args.shape.now nodes (IsBlockIn c.args.shape.now c.args.heads.now.lattice.n) (g.D.Disk.state c.args.disk.now) (g.D.Disk.state c.weave_piece.new.disk)
     (λ is. absurd (let e = is in cc)) (λ is. absurd (fine_then g c is)) (writes_then g c nodes within)
 
 pub returns-then-count-want-clause-padded : goal.returns-then-count-want-clause-padded
-returns-then-count-want-clause-padded g c fine told = padded_then g c (fine_then g c) told
+returns-then-count-want-clause-padded g c fine revealed = padded_then g c (fine_then g c) revealed
 
 pub returns-then-count-want-clause-counted : goal.returns-then-count-want-clause-counted
 returns-then-count-want-clause-counted g c =
@@ -156,7 +156,7 @@ returns-then-count-want-clause-took g c = took_then g c
 
 pub returns-clause-writes : goal.returns-clause-writes
 returns-clause-writes g c nodes within =
-    cells_as g.D.Disk.tells ⊥ _ c.args.shape.now nodes (IsBlockIn c.args.shape.now c.args.heads.now.lattice.n) (g.D.Disk.state c.args.disk.now) (g.D.Disk.state c.loop-done.disk)
+    cells_as g.D.Disk.reveals ⊥ _ c.args.shape.now nodes (IsBlockIn c.args.shape.now c.args.heads.now.lattice.n) (g.D.Disk.state c.args.disk.now) (g.D.Disk.state c.loop-done.disk)
     (λ is. absurd (let e = is in cc)) (λ none. absurd none) (c.loop-done.invariant.writes nodes within)
 
 pub returns-clause-counted : goal.returns-clause-counted
@@ -185,9 +185,9 @@ loop-done-preserved g c =
       block = c.weave_piece.auto.block ∙ c.loop-done.invariant.block;
       cell = c.weave_piece.auto.cell ∙ c.loop-done.invariant.cell;
       took = took_else g c;
-      writes = λ nodes within. cells_as g.D.Disk.tells (c.weave_piece.result ≡ Err DiskFault) ⊥ c.args.shape.now nodes (IsBlockIn c.args.shape.now c.args.heads.now.lattice.n) (g.D.Disk.state c.args.disk.now) (g.D.Disk.state c.weave_piece.new.disk)
+      writes = λ nodes within. cells_as g.D.Disk.reveals (c.weave_piece.result ≡ Err DiskFault) ⊥ c.args.shape.now nodes (IsBlockIn c.args.shape.now c.args.heads.now.lattice.n) (g.D.Disk.state c.args.disk.now) (g.D.Disk.state c.weave_piece.new.disk)
           (λ none. absurd none) (fine_else g c) (writes_else g c nodes within);
-      padded = λ told. padded_else g c (fine_else g c) told;
+      padded = λ revealed. padded_else g c (fine_else g c) revealed;
       exact = (let e = c.in-Ok.ensures.exact in omega (arith, e, c.loop-done.invariant.exact));
       counted = counts_more (g.S.Source.state c.args.source.now).left (g.S.Source.state c.weave_piece.new.source).left c.args.at.now c.weave_piece.new.at (c.loop-done.done + c.min-want.result) (c.loop-done.done + c.in-Ok.count)
           (counts_then (g.S.Source.state c.args.source.now).left (g.S.Source.state c.loop-done.source).left (g.S.Source.state c.weave_piece.new.source).left c.args.at.now c.loop-done.at c.weave_piece.new.at c.loop-done.done c.min-want.result c.loop-done.invariant.counted c.weave_piece.ensures.counted)

@@ -16,9 +16,9 @@ invariant-loop-done g l = record {
   size : l.heads.size ≡ l.shape.block;
   block : length l.block ≡ l.shape.block;
   cell : length l.cell ≡ cell_size l.shape;
-  took : Takes g.D.Disk.tells l.shape l.done (g.S.Source.state l.fn.source).left (g.S.Source.state l.source).left l.fn.hasher l.hasher l.fn.heads l.heads l.fn.digests.items l.digests.items (g.D.Disk.state l.fn.disk).files (g.D.Disk.state l.disk).files;
-  writes : (nodes : ℕ) → l.fn.heads.lattice.n + nodes_for l.shape l.limit ≤ nodes → WritesCells g.D.Disk.tells l.shape nodes (IsBlockIn l.shape l.fn.heads.lattice.n) ⊥ (g.D.Disk.state l.fn.disk) (g.D.Disk.state l.disk);
-  padded : g.D.Disk.tells → KeepsPadded l.shape (IsBlockIn l.shape l.fn.heads.lattice.n) (g.D.Disk.state l.fn.disk).files (g.D.Disk.state l.disk).files;
+  took : Takes g.D.Disk.reveals l.shape l.done (g.S.Source.state l.fn.source).left (g.S.Source.state l.source).left l.fn.hasher l.hasher l.fn.heads l.heads l.fn.digests.items l.digests.items (g.D.Disk.state l.fn.disk).files (g.D.Disk.state l.disk).files;
+  writes : (nodes : ℕ) → l.fn.heads.lattice.n + nodes_for l.shape l.limit ≤ nodes → WritesCells g.D.Disk.reveals l.shape nodes (IsBlockIn l.shape l.fn.heads.lattice.n) ⊥ (g.D.Disk.state l.fn.disk) (g.D.Disk.state l.disk);
+  padded : g.D.Disk.reveals → KeepsPadded l.shape (IsBlockIn l.shape l.fn.heads.lattice.n) (g.D.Disk.state l.fn.disk).files (g.D.Disk.state l.disk).files;
   exact : l.at ≡ l.fn.at + l.done;
   counted : Counts (g.S.Source.state l.fn.source).left (g.S.Source.state l.source).left l.fn.at l.at l.done;
   still : (g.S.Source.state l.source).faults ≡ (g.S.Source.state l.fn.source).faults;

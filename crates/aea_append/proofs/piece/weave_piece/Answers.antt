@@ -13,19 +13,19 @@ use Rattle.aea_append.proofs.piece.weave_piece.Goals as goal
 
 pub returns-in-Err-clause-writes : goal.returns-in-Err-clause-writes
 returns-in-Err-clause-writes g c nodes within =
-    cells_none g.D.Disk.tells _ c.args.shape.now nodes (λ a. a.node ≢ c.args.heads.now.lattice.n + 1) (g.D.Disk.state c.args.disk.now) (λ is. absurd (let e = is in cc))
+    cells_none g.D.Disk.reveals _ c.args.shape.now nodes (λ a. a.node ≢ c.args.heads.now.lattice.n + 1) (g.D.Disk.state c.args.disk.now) (λ is. absurd (let e = is in cc))
 
 pub returns-then-count-eq0-clause-writes : goal.returns-then-count-eq0-clause-writes
 returns-then-count-eq0-clause-writes g c nodes within =
-    cells_none g.D.Disk.tells _ c.args.shape.now nodes (λ a. a.node ≢ c.args.heads.now.lattice.n + 1) (g.D.Disk.state c.args.disk.now) (λ is. absurd (let e = is in cc))
+    cells_none g.D.Disk.reveals _ c.args.shape.now nodes (λ a. a.node ≢ c.args.heads.now.lattice.n + 1) (g.D.Disk.state c.args.disk.now) (λ is. absurd (let e = is in cc))
 
 pub returns-in-Ok-weave_node-clause-writes : goal.returns-in-Ok-weave_node-clause-writes
 returns-in-Ok-weave_node-clause-writes g c nodes within =
-    cells_as g.D.Disk.tells _ _ c.args.shape.now nodes (λ a. a.node ≢ c.args.heads.now.lattice.n + 1) (g.D.Disk.state c.args.disk.now) (g.D.Disk.state c.weave_node.new.disk) (λ is. absurd (let e = is in cc)) (λ is. absurd (cc)) (c.weave_node.ensures.writes nodes within)
+    cells_as g.D.Disk.reveals _ _ c.args.shape.now nodes (λ a. a.node ≢ c.args.heads.now.lattice.n + 1) (g.D.Disk.state c.args.disk.now) (g.D.Disk.state c.weave_node.new.disk) (λ is. absurd (let e = is in cc)) (λ is. absurd (cc)) (c.weave_node.ensures.writes nodes within)
 
 pub returns-in-Err-weave_node-clause-writes : goal.returns-in-Err-weave_node-clause-writes
 returns-in-Err-weave_node-clause-writes g c nodes within =
-    cells_as g.D.Disk.tells _ _ c.args.shape.now nodes (λ a. a.node ≢ c.args.heads.now.lattice.n + 1) (g.D.Disk.state c.args.disk.now) (g.D.Disk.state c.weave_node.new.disk) (λ is. c.in-Err-weave_node.is ∙ fault_as c.in-Err-weave_node.fault DiskFault is) (λ is. cc) (c.weave_node.ensures.writes nodes within)
+    cells_as g.D.Disk.reveals _ _ c.args.shape.now nodes (λ a. a.node ≢ c.args.heads.now.lattice.n + 1) (g.D.Disk.state c.args.disk.now) (g.D.Disk.state c.weave_node.new.disk) (λ is. c.in-Err-weave_node.is ∙ fault_as c.in-Err-weave_node.fault DiskFault is) (λ is. cc) (c.weave_node.ensures.writes nodes within)
 
 pub returns-then-count-eq0-clause-took : goal.returns-then-count-eq0-clause-took
 returns-then-count-eq0-clause-took g c =
@@ -41,7 +41,7 @@ returns-then-count-eq0-clause-took g c =
         long = none;
         holds = λ m h. subst (Holds256 c.args.hasher.now) (sym (ap (λ (l : List ℕ). m ++ l) (nil_of (take c.in-Ok.count c.read_piece.new.block) none) ∙ append-nil m)) h;
         woven = λ l recorded first datas has.
-            subst (λ (d : List (List ℕ)). HasWoven g.D.Disk.tells c.args.shape.now l recorded first (g.D.Disk.state c.args.disk.now).files c.args.heads.now d c.args.digests.now.items)
+            subst (λ (d : List (List ℕ)). HasWoven g.D.Disk.reveals c.args.shape.now l recorded first (g.D.Disk.state c.args.disk.now).files c.args.heads.now d c.args.digests.now.items)
             (sym (ap (λ (d : List (List ℕ)). datas ++ d) (no_blocks c.args.shape.now (take c.in-Ok.count c.read_piece.new.block) none) ∙ append-nil datas)) has;
         grown = grown_same c.args.heads.now.lattice _ (omega (arith, nodes_none c.args.shape.now 0 refl));
         size = refl;
@@ -73,7 +73,7 @@ returns-in-Ok-weave_node-clause-took g c =
         long = long;
         holds = λ m h. c.update.ensures m h;
         woven = λ l recorded first datas has.
-            subst (λ (d : List (List ℕ)). HasWoven g.D.Disk.tells c.args.shape.now l recorded first (g.D.Disk.state c.weave_node.new.disk).files c.weave_node.new.heads (datas ++ d) c.weave_node.new.digests.items)
+            subst (λ (d : List (List ℕ)). HasWoven g.D.Disk.reveals c.args.shape.now l recorded first (g.D.Disk.state c.weave_node.new.disk).files c.weave_node.new.heads (datas ++ d) c.weave_node.new.digests.items)
             (ap (λ (b : List ℕ). b ∷ []) block ∙ sym (one_block c.args.shape.now (take c.in-Ok.count c.read_piece.new.block) some short))
             (c.in-Ok-weave_node.ensures.woven l recorded first datas has);
         grown = record { shape = grown.shape; nodes = omega (arith, nodes, long, nodes_one c.args.shape.now c.in-Ok.count (omega (arith, some, long)) (omega (arith, short, long))); fences = grown.fences };

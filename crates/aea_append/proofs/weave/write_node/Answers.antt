@@ -39,76 +39,76 @@ four f p old d0 d1 d2 d3 e0 e1 e2 e3 =
     ∙ ap (λ (l : List (List ℕ)). old ++ f Datum ∷ l) (sym all)
 
 -- a write of another block's cell leaves one that is at its home
-leaves : CellsHaveLengths → (tells fault : Type 0) → tells → (shape : Shape) (n nodes : ℕ) (c other : Class) (payload : List ℕ) (old new : State) → IsBlockOf shape (block_of n c) → class_number c ≢ class_number other → length payload ≡ shape.block
-    → WritesCells tells shape nodes (λ a. a ≢ block_of n other) fault old new → HasAtHome shape (block_of n c) (cell_of (block_of n c) payload) old.files → HasAtHome shape (block_of n c) (cell_of (block_of n c) payload) new.files
-leaves lengths tells fault told shape n nodes c other payload old new has differ wide writes here =
-    (writes.contents told).homes (block_of n c) (cell_of (block_of n c) payload) has (λ same. differ (ap (λ (b : BlockId). class_number b.class) same))
+leaves : CellsHaveLengths → (reveals fault : Type 0) → reveals → (shape : Shape) (n nodes : ℕ) (c other : Class) (payload : List ℕ) (old new : State) → IsBlockOf shape (block_of n c) → class_number c ≢ class_number other → length payload ≡ shape.block
+    → WritesCells reveals shape nodes (λ a. a ≢ block_of n other) fault old new → HasAtHome shape (block_of n c) (cell_of (block_of n c) payload) old.files → HasAtHome shape (block_of n c) (cell_of (block_of n c) payload) new.files
+leaves lengths reveals fault revealed shape n nodes c other payload old new has differ wide writes here =
+    (writes.contents revealed).homes (block_of n c) (cell_of (block_of n c) payload) has (λ same. differ (ap (λ (b : BlockId). class_number b.class) same))
     (let size = (lengths (block_of n c) payload).2 in omega (arith, size, wide)) here
 
 pub returns-in-Err-clause-writes : goal.returns-in-Err-clause-writes
 returns-in-Err-clause-writes g c nodes within =
     let node : c.next_node-node.result - 1 ≡ c.args.heads.now.lattice.n = omega (arith, c.next_node-node.ensures) in
     let n = c.args.heads.now.lattice.n in
-    let tells = g.D.Disk.tells in
+    let reveals = g.D.Disk.reveals in
     let shape = c.args.shape.now in
     let s0 = g.D.Disk.state c.args.disk.now in
     let s1 = g.D.Disk.state c.write_block.new.disk in
-    let w1 = cells_less tells _ shape nodes (λ a. a ≢ block_of (c.next_node-node.result - 1) Datum) (λ a. a.node ≢ c.args.heads.now.lattice.n) s0 s1 (λ a other same. other (ap (λ (b : BlockId). b.node) same ∙ node)) (c.write_block.ensures.writes nodes (omega (arith, node, within))) in
-    cells_as tells _ _ shape nodes (λ a. a.node ≢ c.args.heads.now.lattice.n) s0 s1 (λ is. c.in-Err.is ∙ is) (λ is. cc) w1
+    let w1 = cells_less reveals _ shape nodes (λ a. a ≢ block_of (c.next_node-node.result - 1) Datum) (λ a. a.node ≢ c.args.heads.now.lattice.n) s0 s1 (λ a other same. other (ap (λ (b : BlockId). b.node) same ∙ node)) (c.write_block.ensures.writes nodes (omega (arith, node, within))) in
+    cells_as reveals _ _ shape nodes (λ a. a.node ≢ c.args.heads.now.lattice.n) s0 s1 (λ is. c.in-Err.is ∙ is) (λ is. cc) w1
 
 pub returns-in-Err-write_parity-clause-writes : goal.returns-in-Err-write_parity-clause-writes
 returns-in-Err-write_parity-clause-writes g c nodes within =
     let node : c.next_node-node.result - 1 ≡ c.args.heads.now.lattice.n = omega (arith, c.next_node-node.ensures) in
     let n = c.args.heads.now.lattice.n in
-    let tells = g.D.Disk.tells in
+    let reveals = g.D.Disk.reveals in
     let shape = c.args.shape.now in
     let s0 = g.D.Disk.state c.args.disk.now in
     let s1 = g.D.Disk.state c.write_block.new.disk in
-    let w1 = cells_less tells _ shape nodes (λ a. a ≢ block_of (c.next_node-node.result - 1) Datum) (λ a. a.node ≢ c.args.heads.now.lattice.n) s0 s1 (λ a other same. other (ap (λ (b : BlockId). b.node) same ∙ node)) (c.write_block.ensures.writes nodes (omega (arith, node, within))) in
+    let w1 = cells_less reveals _ shape nodes (λ a. a ≢ block_of (c.next_node-node.result - 1) Datum) (λ a. a.node ≢ c.args.heads.now.lattice.n) s0 s1 (λ a other same. other (ap (λ (b : BlockId). b.node) same ∙ node)) (c.write_block.ensures.writes nodes (omega (arith, node, within))) in
     let s2 = g.D.Disk.state c.write_parity.new.disk in
-    let w2 = cells_then tells _ _ shape nodes (λ a. a.node ≢ c.args.heads.now.lattice.n) (λ a. a ≢ block_of n Horiz) s0 s1 s2 (λ is. absurd (cc)) (λ a other. apart n Horiz a other) w1 (c.write_parity.ensures.writes nodes within) in
-    cells_as tells _ _ shape nodes (λ a. a.node ≢ c.args.heads.now.lattice.n) s0 s2 (λ is. c.in-Err-write_parity.is ∙ is) (λ is. cc) w2
+    let w2 = cells_then reveals _ _ shape nodes (λ a. a.node ≢ c.args.heads.now.lattice.n) (λ a. a ≢ block_of n Horiz) s0 s1 s2 (λ is. absurd (cc)) (λ a other. apart n Horiz a other) w1 (c.write_parity.ensures.writes nodes within) in
+    cells_as reveals _ _ shape nodes (λ a. a.node ≢ c.args.heads.now.lattice.n) s0 s2 (λ is. c.in-Err-write_parity.is ∙ is) (λ is. cc) w2
 
 pub returns-in-Err-write_parity-2-clause-writes : goal.returns-in-Err-write_parity-2-clause-writes
 returns-in-Err-write_parity-2-clause-writes g c nodes within =
     let node : c.next_node-node.result - 1 ≡ c.args.heads.now.lattice.n = omega (arith, c.next_node-node.ensures) in
     let n = c.args.heads.now.lattice.n in
-    let tells = g.D.Disk.tells in
+    let reveals = g.D.Disk.reveals in
     let shape = c.args.shape.now in
     let s0 = g.D.Disk.state c.args.disk.now in
     let s1 = g.D.Disk.state c.write_block.new.disk in
-    let w1 = cells_less tells _ shape nodes (λ a. a ≢ block_of (c.next_node-node.result - 1) Datum) (λ a. a.node ≢ c.args.heads.now.lattice.n) s0 s1 (λ a other same. other (ap (λ (b : BlockId). b.node) same ∙ node)) (c.write_block.ensures.writes nodes (omega (arith, node, within))) in
+    let w1 = cells_less reveals _ shape nodes (λ a. a ≢ block_of (c.next_node-node.result - 1) Datum) (λ a. a.node ≢ c.args.heads.now.lattice.n) s0 s1 (λ a other same. other (ap (λ (b : BlockId). b.node) same ∙ node)) (c.write_block.ensures.writes nodes (omega (arith, node, within))) in
     let s2 = g.D.Disk.state c.write_parity.new.disk in
-    let w2 = cells_then tells _ _ shape nodes (λ a. a.node ≢ c.args.heads.now.lattice.n) (λ a. a ≢ block_of n Horiz) s0 s1 s2 (λ is. absurd (cc)) (λ a other. apart n Horiz a other) w1 (c.write_parity.ensures.writes nodes within) in
+    let w2 = cells_then reveals _ _ shape nodes (λ a. a.node ≢ c.args.heads.now.lattice.n) (λ a. a ≢ block_of n Horiz) s0 s1 s2 (λ is. absurd (cc)) (λ a other. apart n Horiz a other) w1 (c.write_parity.ensures.writes nodes within) in
     let s3 = g.D.Disk.state c.write_parity-2.new.disk in
-    let w3 = cells_then tells _ _ shape nodes (λ a. a.node ≢ c.args.heads.now.lattice.n) (λ a. a ≢ block_of n Right) s0 s2 s3 (λ is. absurd (cc)) (λ a other. apart n Right a other) w2 (c.write_parity-2.ensures.writes nodes within) in
-    cells_as tells _ _ shape nodes (λ a. a.node ≢ c.args.heads.now.lattice.n) s0 s3 (λ is. c.in-Err-write_parity-2.is ∙ is) (λ is. cc) w3
+    let w3 = cells_then reveals _ _ shape nodes (λ a. a.node ≢ c.args.heads.now.lattice.n) (λ a. a ≢ block_of n Right) s0 s2 s3 (λ is. absurd (cc)) (λ a other. apart n Right a other) w2 (c.write_parity-2.ensures.writes nodes within) in
+    cells_as reveals _ _ shape nodes (λ a. a.node ≢ c.args.heads.now.lattice.n) s0 s3 (λ is. c.in-Err-write_parity-2.is ∙ is) (λ is. cc) w3
 
 pub returns-clause-writes : goal.returns-clause-writes
 returns-clause-writes g c nodes within =
     let node : c.next_node-node.result - 1 ≡ c.args.heads.now.lattice.n = omega (arith, c.next_node-node.ensures) in
     let n = c.args.heads.now.lattice.n in
-    let tells = g.D.Disk.tells in
+    let reveals = g.D.Disk.reveals in
     let shape = c.args.shape.now in
     let s0 = g.D.Disk.state c.args.disk.now in
     let s1 = g.D.Disk.state c.write_block.new.disk in
-    let w1 = cells_less tells _ shape nodes (λ a. a ≢ block_of (c.next_node-node.result - 1) Datum) (λ a. a.node ≢ c.args.heads.now.lattice.n) s0 s1 (λ a other same. other (ap (λ (b : BlockId). b.node) same ∙ node)) (c.write_block.ensures.writes nodes (omega (arith, node, within))) in
+    let w1 = cells_less reveals _ shape nodes (λ a. a ≢ block_of (c.next_node-node.result - 1) Datum) (λ a. a.node ≢ c.args.heads.now.lattice.n) s0 s1 (λ a other same. other (ap (λ (b : BlockId). b.node) same ∙ node)) (c.write_block.ensures.writes nodes (omega (arith, node, within))) in
     let s2 = g.D.Disk.state c.write_parity.new.disk in
-    let w2 = cells_then tells _ _ shape nodes (λ a. a.node ≢ c.args.heads.now.lattice.n) (λ a. a ≢ block_of n Horiz) s0 s1 s2 (λ is. absurd (cc)) (λ a other. apart n Horiz a other) w1 (c.write_parity.ensures.writes nodes within) in
+    let w2 = cells_then reveals _ _ shape nodes (λ a. a.node ≢ c.args.heads.now.lattice.n) (λ a. a ≢ block_of n Horiz) s0 s1 s2 (λ is. absurd (cc)) (λ a other. apart n Horiz a other) w1 (c.write_parity.ensures.writes nodes within) in
     let s3 = g.D.Disk.state c.write_parity-2.new.disk in
-    let w3 = cells_then tells _ _ shape nodes (λ a. a.node ≢ c.args.heads.now.lattice.n) (λ a. a ≢ block_of n Right) s0 s2 s3 (λ is. absurd (cc)) (λ a other. apart n Right a other) w2 (c.write_parity-2.ensures.writes nodes within) in
+    let w3 = cells_then reveals _ _ shape nodes (λ a. a.node ≢ c.args.heads.now.lattice.n) (λ a. a ≢ block_of n Right) s0 s2 s3 (λ is. absurd (cc)) (λ a other. apart n Right a other) w2 (c.write_parity-2.ensures.writes nodes within) in
     let s4 = g.D.Disk.state c.write_parity-3.new.disk in
-    let w4 = cells_then tells _ _ shape nodes (λ a. a.node ≢ c.args.heads.now.lattice.n) (λ a. a ≢ block_of n Left) s0 s3 s4 (λ is. absurd (cc)) (λ a other. apart n Left a other) w3 (c.write_parity-3.ensures.writes nodes within) in
+    let w4 = cells_then reveals _ _ shape nodes (λ a. a.node ≢ c.args.heads.now.lattice.n) (λ a. a ≢ block_of n Left) s0 s3 s4 (λ is. absurd (cc)) (λ a other. apart n Left a other) w3 (c.write_parity-3.ensures.writes nodes within) in
     w4
 
 pub returns-clause-padded : goal.returns-clause-padded
-returns-clause-padded g c fine told a has other =
+returns-clause-padded g c fine revealed a has other =
     let node : c.next_node-node.result - 1 ≡ c.args.heads.now.lattice.n = omega (arith, c.next_node-node.ensures) in
     let n = c.args.heads.now.lattice.n in
-    c.write_parity-3.ensures.padded fine told a has (apart n Left a other)
-    ∙ c.write_parity-2.ensures.padded (λ bad. absurd (let is = c.in-Ok-write_parity-2.is in cc)) told a has (apart n Right a other)
-    ∙ c.write_parity.ensures.padded (λ bad. absurd (let is = c.in-Ok-write_parity.is in cc)) told a has (apart n Horiz a other)
-    ∙ c.write_block.ensures.padded (λ bad. absurd (let is = c.in-Ok.is in cc)) told a has (λ same. other (ap (λ (b : BlockId). b.node) same ∙ node))
+    c.write_parity-3.ensures.padded fine revealed a has (apart n Left a other)
+    ∙ c.write_parity-2.ensures.padded (λ bad. absurd (let is = c.in-Ok-write_parity-2.is in cc)) revealed a has (apart n Right a other)
+    ∙ c.write_parity.ensures.padded (λ bad. absurd (let is = c.in-Ok-write_parity.is in cc)) revealed a has (apart n Horiz a other)
+    ∙ c.write_block.ensures.padded (λ bad. absurd (let is = c.in-Ok.is in cc)) revealed a has (λ same. other (ap (λ (b : BlockId). b.node) same ∙ node))
 
 pub returns-clause-digests : goal.returns-clause-digests
 returns-clause-digests g c =
@@ -128,7 +128,7 @@ returns-clause-cells g c =
     let v = c.args.heads.now in
     let n = v.lattice.n in
     let x = c.args.datum.now in
-    let tells = g.D.Disk.tells in
+    let reveals = g.D.Disk.reveals in
     let shape = c.args.shape.now in
     let s1 = g.D.Disk.state c.write_block.new.disk in
     let s2 = g.D.Disk.state c.write_parity.new.disk in
@@ -141,21 +141,21 @@ returns-clause-cells g c =
     let w3 = c.write_parity-2.ensures.writes n (omega arith) in
     let w4 = c.write_parity-3.ensures.writes n (omega arith) in
     on_ok_weaker c.write_parity-3.result
-    (λ last told.
-    let d1 = subst (λ (k : ℕ). HasAtHome shape (block_of k Datum) (cell_of (block_of k Datum) x) s1.files) node (c.in-Ok.ensures.home told) in
+    (λ last revealed.
+    let d1 = subst (λ (k : ℕ). HasAtHome shape (block_of k Datum) (cell_of (block_of k Datum) x) s1.files) node (c.in-Ok.ensures.home revealed) in
     elim [
       | Datum ↦ λ used.
-          leaves lengths tells _ told shape n n Datum Left x s3 s4 (has Datum used) (λ e. absurd (omega (arith, e))) c.requires.datum w4
-          (leaves lengths tells _ told shape n n Datum Right x s2 s3 (has Datum used) (λ e. absurd (omega (arith, e))) c.requires.datum w3
-          (leaves lengths tells _ told shape n n Datum Horiz x s1 s2 (has Datum used) (λ e. absurd (omega (arith, e))) c.requires.datum w2 d1))
+          leaves lengths reveals _ revealed shape n n Datum Left x s3 s4 (has Datum used) (λ e. absurd (omega (arith, e))) c.requires.datum w4
+          (leaves lengths reveals _ revealed shape n n Datum Right x s2 s3 (has Datum used) (λ e. absurd (omega (arith, e))) c.requires.datum w3
+          (leaves lengths reveals _ revealed shape n n Datum Horiz x s1 s2 (has Datum used) (λ e. absurd (omega (arith, e))) c.requires.datum w2 d1))
       | Horiz ↦ λ used.
-          leaves lengths tells _ told shape n n Horiz Left (last_payload v x Horiz) s3 s4 (has Horiz used) (λ e. absurd (omega (arith, e))) (c.write_parity.ensures.wide used) w4
-          (leaves lengths tells _ told shape n n Horiz Right (last_payload v x Horiz) s2 s3 (has Horiz used) (λ e. absurd (omega (arith, e))) (c.write_parity.ensures.wide used) w3
-          (c.in-Ok-write_parity.ensures.home told used x))
+          leaves lengths reveals _ revealed shape n n Horiz Left (last_payload v x Horiz) s3 s4 (has Horiz used) (λ e. absurd (omega (arith, e))) (c.write_parity.ensures.wide used) w4
+          (leaves lengths reveals _ revealed shape n n Horiz Right (last_payload v x Horiz) s2 s3 (has Horiz used) (λ e. absurd (omega (arith, e))) (c.write_parity.ensures.wide used) w3
+          (c.in-Ok-write_parity.ensures.home revealed used x))
       | Right ↦ λ used.
-          leaves lengths tells _ told shape n n Right Left (last_payload v x Right) s3 s4 (has Right used) (λ e. absurd (omega (arith, e))) (c.write_parity-2.ensures.wide used) w4
-          (c.in-Ok-write_parity-2.ensures.home told used x)
-      | Left ↦ λ used. last told used x
+          leaves lengths reveals _ revealed shape n n Right Left (last_payload v x Right) s3 s4 (has Right used) (λ e. absurd (omega (arith, e))) (c.write_parity-2.ensures.wide used) w4
+          (c.in-Ok-write_parity-2.ensures.home revealed used x)
+      | Left ↦ λ used. last revealed used x
     ])
     c.write_parity-3.ensures.home
 

@@ -8,16 +8,16 @@ pub returns-in_err-adopted-clause-beneath : goal.returns-in_err-adopted-clause-b
 returns-in_err-adopted-clause-beneath g c =
     let f = c.in_err-adopted.field-0.0 in
     let given = c.in_err-adopted.ensures.adopts in
-    let un = unadopted_from g.D.Disk.tells (g.D.Disk.state c.args.disk.now) (g.D.Disk.state c.adopt_copies.new.disk) f given.0 given.1 given.2 in
+    let un = unadopted_from g.D.Disk.reveals (g.D.Disk.state c.args.disk.now) (g.D.Disk.state c.adopt_copies.new.disk) f given.0 given.1 given.2 in
     rw (err_with c.from_residual.result f c.from_residual.ensures.1)
     (inr (inl (record { fault = un.0; adopts = un.1; is = ap Err un.2; input = refl; out = refl })))
 
 pub carry_out_mirrored-requires-clause-synced : goal.carry_out_mirrored-requires-clause-synced
-carry_out_mirrored-requires-clause-synced g c told =
+carry_out_mirrored-requires-clause-synced g c revealed =
     let m = c.new-mirror.ensures in
     let a = c.in_ok-adopted.adopted in
     rw (m.now, m.on, m.end, m.alive, m.none)
-    (made_synced g.D.Disk.tells (g.D.Disk.state c.adopt_copies.new.disk) a c.new-mirror.result.disk.ghost_name c.in_ok-adopted.ensures.synced c.in_ok-adopted.ensures.told)
+    (made_synced g.D.Disk.reveals (g.D.Disk.state c.adopt_copies.new.disk) a c.new-mirror.result.disk.ghost_name c.in_ok-adopted.ensures.synced c.in_ok-adopted.ensures.revealed)
 
 pub returns-clause-beneath : goal.returns-clause-beneath
 returns-clause-beneath g c =
@@ -30,7 +30,7 @@ returns-clause-beneath g c =
     (inr (inr (record {
       mid = c.adopt_copies.new.disk;
       adopted = a;
-      adopts = adopted_from g.D.Disk.tells (g.D.Disk.state c.args.disk.now) (g.D.Disk.state c.adopt_copies.new.disk) a given.0 given.1 given.2;
+      adopts = adopted_from g.D.Disk.reveals (g.D.Disk.state c.args.disk.now) (g.D.Disk.state c.adopt_copies.new.disk) a given.0 given.1 given.2;
       name = c.new-mirror.result.disk.ghost_name;
       kept = record { name = w.disk.ghost_name; on = w.on; end = w.end; dead = w.dead; own = w.own };
       runs = rw (m.now, m.on, m.end, m.alive, m.none) at e.runs;

@@ -41,7 +41,7 @@ returns-in_err-open-clause-begins g c =
     let n = c.open.new.disk in
     let f = c.in_err-open.field-0.0 in
     rw (err_with c.from_residual.result f c.from_residual.ensures.1)
-    (unbegun_over g.D.Disk.tells (g.D.Disk.state m.disk.now) (g.D.Disk.state n.disk.now)
+    (unbegun_over g.D.Disk.reveals (g.D.Disk.state m.disk.now) (g.D.Disk.state n.disk.now)
     (record { name = m.disk.ghost_name; on = m.on; end = m.end; dead = m.dead; own = m.own })
     (record { name = n.disk.ghost_name; on = n.on; end = n.end; dead = n.dead; own = n.own })
     m.first m.second c.requires.synced (m.guards c.requires.alive) (Err f) c.in_err-open.ensures
@@ -51,7 +51,7 @@ returns-in_err-open-clause-begins g c =
 pub returns-in_err-open-clause-refuses : goal.returns-in_err-open-clause-refuses
 returns-in_err-open-clause-refuses g c =
     let f = c.in_err-open.field-0.0 in
-    rw (err_with c.from_residual.result f c.from_residual.ensures.1) (unopened_refused g.D.Disk.tells _ _ f c.args.mirror.now.on c.in_err-open.ensures)
+    rw (err_with c.from_residual.result f c.from_residual.ensures.1) (unopened_refused g.D.Disk.reveals _ _ f c.args.mirror.now.on c.in_err-open.ensures)
 
 pub returns-in-Ok-clause-begins : goal.returns-in-Ok-clause-begins
 returns-in-Ok-clause-begins g c =
@@ -67,15 +67,15 @@ returns-in-Ok-clause-begins g c =
     let new = g.D.Disk.state w.disk.now in
     let off : n.on ≡ false = not_on n.on (λ on. ok_not u starting.AlreadyOn (sym ok ∙ s.already.1 on)) in
     let differs : c.start.result ≢ Err starting.AlreadyOn = λ e. ok_not u starting.AlreadyOn (sym ok ∙ e) in
-    over_as g.D.Disk.tells m.on (c.start.result ≡ Err starting.DiskFault) (IsOk c.start.result)
+    over_as g.D.Disk.reveals m.on (c.start.result ≡ Err starting.DiskFault) (IsOk c.start.result)
     (let r : Result (Unit {0}) Failure = Ok u in r ≡ Err failure.Disk) (let r : Result (Unit {0}) Failure = Ok u in IsOk r)
     (g.D.Disk.state m.disk.now) new _ _
     (λ e. absurd (done_not u e)) (λ e. absurd (ok_not u starting.DiskFault (sym ok ∙ e))) (λ is. rw ok refl)
-    (begun_over g.D.Disk.tells (g.D.Disk.state m.disk.now) mid
+    (begun_over g.D.Disk.reveals (g.D.Disk.state m.disk.now) mid
     (record { name = m.disk.ghost_name; on = m.on; end = m.end; dead = m.dead; own = m.own }) j
     m.first m.second c.requires.synced (m.guards c.requires.alive) c.in_ok-open.field-0 c.in_ok-open.ensures new l
     (c.start.result ≡ Err starting.DiskFault) (IsOk c.start.result) c.requires.fresh
-    (starts_by g.D.Disk.tells mid new j l c.start.result differs (record {
+    (starts_by g.D.Disk.reveals mid new j l c.start.result differs (record {
       off = off;
       others = s.others;
       crash = s.crash;
@@ -83,11 +83,11 @@ returns-in-Ok-clause-begins g c =
       time = s.time;
       counts = s.counts differs;
       dead = λ dead. ap g.D.Disk.state (s.refused off dead).beneath;
-      any_moment = λ told alive. s.any_moment told off alive;
-      handed = λ told alive. s.handed told off alive;
-      sure = λ told alive. s.sure told off alive;
+      any_moment = λ revealed alive. s.any_moment revealed off alive;
+      handed = λ revealed alive. s.handed revealed off alive;
+      sure = λ revealed alive. s.sure revealed off alive;
       set = rw ok (rw ok at s.started).0;
-      made = rw ok (λ told. let made = rw ok at s.made in let at = made told in (at.0, at.1, at.2.whole));
+      made = rw ok (λ revealed. let made = rw ok at s.made in let at = made revealed in (at.0, at.1, at.2.whole));
       synced = s.synced;
     })))
 
@@ -96,7 +96,7 @@ returns-in-Ok-clause-refuses g c =
     let n = c.open.new.disk in
     let u = c.in-Ok.field-0 in
     let off : n.on ≡ false = not_on n.on (λ on. ok_not u starting.AlreadyOn (sym c.in-Ok.is ∙ c.start.ensures.already.1 on)) in
-    refused_none g.D.Disk.tells _ _ c.in_ok-open.field-0 c.in_ok-open.ensures c.args.mirror.now.on u (sym (lasts_lent _ _ c.in_ok-open.ensures.reads.time.lasts).set ∙ off)
+    refused_none g.D.Disk.reveals _ _ c.in_ok-open.field-0 c.in_ok-open.ensures c.args.mirror.now.on u (sym (lasts_lent _ _ c.in_ok-open.ensures.reads.time.lasts).set ∙ off)
 
 pub returns-in-Err-AlreadyOn-clause-begins : goal.returns-in-Err-AlreadyOn-clause-begins
 returns-in-Err-AlreadyOn-clause-begins g c =
@@ -105,7 +105,7 @@ returns-in-Err-AlreadyOn-clause-begins g c =
     let s = c.start.ensures in
     let is = s.idle (s.already.0 (c.in-Err-AlreadyOn.is ∙ ap Err c.in-Err-AlreadyOn.field-0-is)) in
     rw (is.0, is.1, is.2, is.3, is.6, s.lent)
-    (unbegun_over g.D.Disk.tells (g.D.Disk.state m.disk.now) (g.D.Disk.state n.disk.now)
+    (unbegun_over g.D.Disk.reveals (g.D.Disk.state m.disk.now) (g.D.Disk.state n.disk.now)
     (record { name = m.disk.ghost_name; on = m.on; end = m.end; dead = m.dead; own = m.own })
     (record { name = n.disk.ghost_name; on = n.on; end = n.end; dead = n.dead; own = n.own })
     m.first m.second c.requires.synced (m.guards c.requires.alive) (Ok c.in_ok-open.field-0) c.in_ok-open.ensures
@@ -115,7 +115,7 @@ returns-in-Err-AlreadyOn-clause-begins g c =
 pub returns-in-Err-AlreadyOn-clause-refuses : goal.returns-in-Err-AlreadyOn-clause-refuses
 returns-in-Err-AlreadyOn-clause-refuses g c =
     let on = c.start.ensures.already.0 (c.in-Err-AlreadyOn.is ∙ ap Err c.in-Err-AlreadyOn.field-0-is) in
-    refused_on g.D.Disk.tells _ _ c.in_ok-open.field-0 c.in_ok-open.ensures c.args.mirror.now.on (sym (lasts_lent _ _ c.in_ok-open.ensures.reads.time.lasts).set ∙ on)
+    refused_on g.D.Disk.reveals _ _ c.in_ok-open.field-0 c.in_ok-open.ensures c.args.mirror.now.on (sym (lasts_lent _ _ c.in_ok-open.ensures.reads.time.lasts).set ∙ on)
 
 pub returns-in-Err-DiskFault-clause-begins : goal.returns-in-Err-DiskFault-clause-begins
 returns-in-Err-DiskFault-clause-begins g c =
@@ -130,15 +130,15 @@ returns-in-Err-DiskFault-clause-begins g c =
     let new = g.D.Disk.state w.disk.now in
     let differs : c.start.result ≢ Err starting.AlreadyOn = λ e. apart (sym fails ∙ e) in
     let off : n.on ≡ false = not_on n.on (λ on. differs (s.already.1 on)) in
-    over_as g.D.Disk.tells m.on (c.start.result ≡ Err starting.DiskFault) (IsOk c.start.result)
+    over_as g.D.Disk.reveals m.on (c.start.result ≡ Err starting.DiskFault) (IsOk c.start.result)
     (let r : Result (Unit {0}) Failure = Err failure.Disk in r ≡ Err failure.Disk) (let r : Result (Unit {0}) Failure = Err failure.Disk in IsOk r)
     (g.D.Disk.state m.disk.now) new _ _
     (λ e. fails) (λ e. refl) (λ is. absurd (false≢true is))
-    (begun_over g.D.Disk.tells (g.D.Disk.state m.disk.now) mid
+    (begun_over g.D.Disk.reveals (g.D.Disk.state m.disk.now) mid
     (record { name = m.disk.ghost_name; on = m.on; end = m.end; dead = m.dead; own = m.own }) j
     m.first m.second c.requires.synced (m.guards c.requires.alive) c.in_ok-open.field-0 c.in_ok-open.ensures new l
     (c.start.result ≡ Err starting.DiskFault) (IsOk c.start.result) c.requires.fresh
-    (starts_by g.D.Disk.tells mid new j l c.start.result differs (record {
+    (starts_by g.D.Disk.reveals mid new j l c.start.result differs (record {
       off = off;
       others = s.others;
       crash = s.crash;
@@ -146,16 +146,16 @@ returns-in-Err-DiskFault-clause-begins g c =
       time = s.time;
       counts = s.counts differs;
       dead = λ dead. ap g.D.Disk.state (s.refused off dead).beneath;
-      any_moment = λ told alive. s.any_moment told off alive;
-      handed = λ told alive. s.handed told off alive;
-      sure = λ told alive. s.sure told off alive;
+      any_moment = λ revealed alive. s.any_moment revealed off alive;
+      handed = λ revealed alive. s.handed revealed off alive;
+      sure = λ revealed alive. s.sure revealed off alive;
       set = rw fails tt;
       made = rw fails tt;
       synced = s.synced;
     })))
 
 pub returns-in-Err-DiskFault-clause-refuses : goal.returns-in-Err-DiskFault-clause-refuses
-returns-in-Err-DiskFault-clause-refuses g c = refuses_stopped g.D.Disk.tells _ (Err failure.Disk) (inl refl)
+returns-in-Err-DiskFault-clause-refuses g c = refuses_stopped g.D.Disk.reveals _ (Err failure.Disk) (inl refl)
 
 pub returns-in_err-open-clause-lent : goal.returns-in_err-open-clause-lent
 returns-in_err-open-clause-lent g c = (lasts_lent _ _ c.in_err-open.ensures.reads.time.lasts).name

@@ -20,11 +20,11 @@ pub returns-in_err-ledger-clause-refuses : goal.returns-in_err-ledger-clause-ref
 returns-in_err-ledger-clause-refuses g c =
     let f = c.in_err-ledger.field-0.0 in
     rw (err_with c.from_residual.result f c.from_residual.ensures.1)
-    (unopened_explain c.args.word.now g.D.Disk.tells (g.D.Disk.state c.args.disk.now) (g.D.Disk.state c.open.new.disk) f c.in_err-ledger.ensures)
+    (unopened_explain c.args.word.now g.D.Disk.reveals (g.D.Disk.state c.args.disk.now) (g.D.Disk.state c.open.new.disk) f c.in_err-ledger.ensures)
 
 pub returns-in_default-clause-refuses : goal.returns-in_default-clause-refuses
 returns-in_default-clause-refuses g c =
-    unnamed_refuses c.ledgers_have_one_reading.ensures c.args.word.now g.D.Disk.tells c.in_ok-ledger.ledger (g.D.Disk.state c.args.disk.now) (g.D.Disk.state c.open.new.disk) c.in_ok-ledger.ensures
+    unnamed_refuses c.ledgers_have_one_reading.ensures c.args.word.now g.D.Disk.reveals c.in_ok-ledger.ledger (g.D.Disk.state c.args.disk.now) (g.D.Disk.state c.open.new.disk) c.in_ok-ledger.ensures
     (Err (failure.Refused NoSuchBlock)) refl
     (λ names. c.in_default.ensures.none (subst (λ (l : Lattice). NamesBlock l c.args.word.now) (sym c.lattice.ensures.value) names))
 
@@ -33,7 +33,7 @@ returns-in_err-explanation-clause-explains g c =
     let fault = c.in_err-explanation.field-0.0 in
     let names : NamesBlock c.in_ok-ledger.ledger.lattice c.args.word.now = names_in c.lattice.result c.in_ok-ledger.ledger.lattice c.args.word.now c.in-Some.block c.lattice.ensures.value c.in-Some.ensures.block c.in-Some.ensures.text in
     rw (err_with c.from_residual-in_err-explanation.result (explain_failure fault) c.from_residual-in_err-explanation.ensures.1)
-    (explains_failed c.args.word.now g.D.Disk.tells (let r : Result Explanation ExplainFault = Err fault in r ≡ Err is.DiskFault) c.in_ok-ledger.ledger (g.D.Disk.state c.args.disk.now) (g.D.Disk.state c.open.new.disk) (g.D.Disk.state c.explain.new.disk) (g.O.Sink.state c.args.out.now) (explain_failure fault)
+    (explains_failed c.args.word.now g.D.Disk.reveals (let r : Result Explanation ExplainFault = Err fault in r ≡ Err is.DiskFault) c.in_ok-ledger.ledger (g.D.Disk.state c.args.disk.now) (g.D.Disk.state c.open.new.disk) (g.D.Disk.state c.explain.new.disk) (g.O.Sink.state c.args.out.now) (explain_failure fault)
     c.in_ok-ledger.ensures names c.in_err-explanation.ensures.reads (λ e. ap Err (failure_disk fault e)) (λ e. let h : (let r : Result Explanation ExplainFault = Err fault in r ≡ Err is.DiskFault) = e in fault_disk fault cc) (failure_kinds fault))
 
 pub returns-in_err-explanation-clause-refuses : goal.returns-in_err-explanation-clause-refuses
@@ -41,7 +41,7 @@ returns-in_err-explanation-clause-refuses g c =
     let fault = c.in_err-explanation.field-0.0 in
     let names : NamesBlock c.in_ok-ledger.ledger.lattice c.args.word.now = names_in c.lattice.result c.in_ok-ledger.ledger.lattice c.args.word.now c.in-Some.block c.lattice.ensures.value c.in-Some.ensures.block c.in-Some.ensures.text in
     rw (err_with c.from_residual-in_err-explanation.result (explain_failure fault) c.from_residual-in_err-explanation.ensures.1)
-    (named_refuses c.ledgers_have_one_reading.ensures c.args.word.now g.D.Disk.tells c.in_ok-ledger.ledger (g.D.Disk.state c.args.disk.now) (g.D.Disk.state c.open.new.disk) c.in_ok-ledger.ensures
+    (named_refuses c.ledgers_have_one_reading.ensures c.args.word.now g.D.Disk.reveals c.in_ok-ledger.ledger (g.D.Disk.state c.args.disk.now) (g.D.Disk.state c.open.new.disk) c.in_ok-ledger.ensures
     (Err (explain_failure fault)) names (failure_never fault))
 
 pub returns-in_err-explanation-clause-reads : goal.returns-in_err-explanation-clause-reads
@@ -54,9 +54,9 @@ returns-in_err-put_explanation-clause-explains g c =
     let new = g.D.Disk.state c.explain.new.disk in
     let before = g.O.Sink.state c.args.out.now in
     let after = g.O.Sink.state c.put_explanation.new.out in
-    let gave : HasExplanation c.args.word.now g.D.Disk.tells v (g.D.Disk.state c.args.disk.now) mid new before after (Err failure.Output) = record {
+    let gave : HasExplanation c.args.word.now g.D.Disk.reveals v (g.D.Disk.state c.args.disk.now) mid new before after (Err failure.Output) = record {
       opens = c.in_ok-ledger.ensures;
-      reads = reads_as g.D.Disk.tells _ ⊥ mid new (λ none. absurd none) (λ is. absurd (cc)) c.in_ok-explanation.ensures.reads;
+      reads = reads_as g.D.Disk.reveals _ ⊥ mid new (λ none. absurd none) (λ is. absurd (cc)) c.in_ok-explanation.ensures.reads;
       block = c.in-Some.block;
       inside = subst (λ (l : Lattice). HasBlock l c.in-Some.block) c.lattice.ensures.value c.in-Some.ensures.block;
       named = c.in-Some.ensures.text;
@@ -66,13 +66,13 @@ returns-in_err-put_explanation-clause-explains g c =
       ends = inr refl;
     } in
     rw (err_with c.from_residual-in_err-put_explanation.result failure.Output c.from_residual-in_err-put_explanation.ensures.1)
-    (explains_printed c.explanations_are_one.ensures c.args.word.now g.D.Disk.tells v (g.D.Disk.state c.args.disk.now) mid new before after (Err failure.Output) gave)
+    (explains_printed c.explanations_are_one.ensures c.args.word.now g.D.Disk.reveals v (g.D.Disk.state c.args.disk.now) mid new before after (Err failure.Output) gave)
 
 pub returns-in_err-put_explanation-clause-refuses : goal.returns-in_err-put_explanation-clause-refuses
 returns-in_err-put_explanation-clause-refuses g c =
     let names : NamesBlock c.in_ok-ledger.ledger.lattice c.args.word.now = names_in c.lattice.result c.in_ok-ledger.ledger.lattice c.args.word.now c.in-Some.block c.lattice.ensures.value c.in-Some.ensures.block c.in-Some.ensures.text in
     rw (err_with c.from_residual-in_err-put_explanation.result failure.Output c.from_residual-in_err-put_explanation.ensures.1)
-    (named_refuses c.ledgers_have_one_reading.ensures c.args.word.now g.D.Disk.tells c.in_ok-ledger.ledger (g.D.Disk.state c.args.disk.now) (g.D.Disk.state c.open.new.disk) c.in_ok-ledger.ensures
+    (named_refuses c.ledgers_have_one_reading.ensures c.args.word.now g.D.Disk.reveals c.in_ok-ledger.ledger (g.D.Disk.state c.args.disk.now) (g.D.Disk.state c.open.new.disk) c.in_ok-ledger.ensures
     (Err failure.Output) names (λ why e. let h : Err failure.Output ≡ Err (failure.Refused why) = e in cc))
 
 pub returns-in_err-put_explanation-clause-reads : goal.returns-in_err-put_explanation-clause-reads
@@ -86,9 +86,9 @@ returns-clause-explains g c =
     let before = g.O.Sink.state c.args.out.now in
     let after = g.O.Sink.state c.put_explanation.new.out in
     let status = c.in_ok-put_explanation.field-0 in
-    let gave : HasExplanation c.args.word.now g.D.Disk.tells v (g.D.Disk.state c.args.disk.now) mid new before after (Ok status) = record {
+    let gave : HasExplanation c.args.word.now g.D.Disk.reveals v (g.D.Disk.state c.args.disk.now) mid new before after (Ok status) = record {
       opens = c.in_ok-ledger.ensures;
-      reads = reads_as g.D.Disk.tells _ ⊥ mid new (λ none. absurd none) (λ is. absurd (cc)) c.in_ok-explanation.ensures.reads;
+      reads = reads_as g.D.Disk.reveals _ ⊥ mid new (λ none. absurd none) (λ is. absurd (cc)) c.in_ok-explanation.ensures.reads;
       block = c.in-Some.block;
       inside = subst (λ (l : Lattice). HasBlock l c.in-Some.block) c.lattice.ensures.value c.in-Some.ensures.block;
       named = c.in-Some.ensures.text;
@@ -97,12 +97,12 @@ returns-clause-explains g c =
       printed = record { prints = text_printed status c.in_ok-put_explanation.ensures.prints; status = c.in_ok-put_explanation.ensures.status };
       ends = inl (ap Ok c.in_ok-put_explanation.ensures.status);
     } in
-    explains_printed c.explanations_are_one.ensures c.args.word.now g.D.Disk.tells v (g.D.Disk.state c.args.disk.now) mid new before after (Ok status) gave
+    explains_printed c.explanations_are_one.ensures c.args.word.now g.D.Disk.reveals v (g.D.Disk.state c.args.disk.now) mid new before after (Ok status) gave
 
 pub returns-clause-refuses : goal.returns-clause-refuses
 returns-clause-refuses g c =
     let names : NamesBlock c.in_ok-ledger.ledger.lattice c.args.word.now = names_in c.lattice.result c.in_ok-ledger.ledger.lattice c.args.word.now c.in-Some.block c.lattice.ensures.value c.in-Some.ensures.block c.in-Some.ensures.text in
-    named_refuses c.ledgers_have_one_reading.ensures c.args.word.now g.D.Disk.tells c.in_ok-ledger.ledger (g.D.Disk.state c.args.disk.now) (g.D.Disk.state c.open.new.disk) c.in_ok-ledger.ensures
+    named_refuses c.ledgers_have_one_reading.ensures c.args.word.now g.D.Disk.reveals c.in_ok-ledger.ledger (g.D.Disk.state c.args.disk.now) (g.D.Disk.state c.open.new.disk) c.in_ok-ledger.ensures
     (Ok c.in_ok-put_explanation.field-0) names (λ why e. let h : Ok c.in_ok-put_explanation.field-0 ≡ Err (failure.Refused why) = e in cc)
 
 pub returns-clause-reads : goal.returns-clause-reads

@@ -12,19 +12,19 @@ pub returns-in_err-ledger-clause-repairs : goal.returns-in_err-ledger-clause-rep
 returns-in_err-ledger-clause-repairs g c =
     let f = c.in_err-ledger.field-0.0 in
     rw (err_with c.from_residual.result f c.from_residual.ensures.1)
-    (repairs_unopened g.D.Disk.tells (g.D.Disk.state c.args.disk.now) (g.D.Disk.state c.open.new.disk) (g.O.Sink.state c.args.out.now) f c.in_err-ledger.ensures)
+    (repairs_unopened g.D.Disk.reveals (g.D.Disk.state c.args.disk.now) (g.D.Disk.state c.open.new.disk) (g.O.Sink.state c.args.out.now) f c.in_err-ledger.ensures)
 
 pub returns-in_err-ledger-clause-refuses : goal.returns-in_err-ledger-clause-refuses
 returns-in_err-ledger-clause-refuses g c =
     let f = c.in_err-ledger.field-0.0 in
     rw (err_with c.from_residual.result f c.from_residual.ensures.1)
-    (refuses_as g.D.Disk.tells (OpeningCauses ((g.D.Disk.state c.args.disk.now).files 0)) f (Err f) refl c.in_err-ledger.ensures.refuses)
+    (refuses_as g.D.Disk.reveals (OpeningCauses ((g.D.Disk.state c.args.disk.now).files 0)) f (Err f) refl c.in_err-ledger.ensures.refuses)
 
 pub returns-in_err-ledger-clause-rest : goal.returns-in_err-ledger-clause-rest
 returns-in_err-ledger-clause-rest g c =
     let f = c.in_err-ledger.field-0.0 in
     rw (err_with c.from_residual.result f c.from_residual.ensures.1)
-    (unopened_repair g.D.Disk.tells (g.D.Disk.state c.args.disk.now) (g.D.Disk.state c.open.new.disk) (g.O.Sink.state c.args.out.now) f c.in_err-ledger.ensures)
+    (unopened_repair g.D.Disk.reveals (g.D.Disk.state c.args.disk.now) (g.D.Disk.state c.open.new.disk) (g.O.Sink.state c.args.out.now) f c.in_err-ledger.ensures)
 
 pub returns-in_err-outcome-clause-repairs : goal.returns-in_err-outcome-clause-repairs
 returns-in_err-outcome-clause-repairs g c =
@@ -36,10 +36,10 @@ returns-in_err-outcome-clause-repairs g c =
     let v = c.in_ok-ledger.ledger in
     let fault = c.in_err-outcome.field-0.0 in
     let gave = c.in_err-outcome.ensures in
-    let has : HasRepaired g.D.Disk.tells v mid new before after (Err fault) = record {
-      restores = λ told known is. (gave.repairs told known is).restores;
+    let has : HasRepaired g.D.Disk.reveals v mid new before after (Err fault) = record {
+      restores = λ revealed known is. (gave.repairs revealed known is).restores;
       durable = gave.durable;
-      alone = λ told known is. (gave.repairs told known is).alone;
+      alone = λ revealed known is. (gave.repairs revealed known is).alone;
       held = gave.held;
       reports = gave.reports;
       unused = λ is differs. ap g.O.Sink.state (gave.unused is differs);
@@ -50,13 +50,13 @@ returns-in_err-outcome-clause-repairs g c =
       in_room = gave.in_room;
     } in
     rw (err_with c.from_residual-in_err-outcome.result (repair_failure fault) c.from_residual-in_err-outcome.ensures.1)
-    (repairs_done c.ledgers_have_one_reading.ensures g.D.Disk.tells v old mid new before after (Err fault) c.in_ok-ledger.ensures has)
+    (repairs_done c.ledgers_have_one_reading.ensures g.D.Disk.reveals v old mid new before after (Err fault) c.in_ok-ledger.ensures has)
 
 pub returns-in_err-outcome-clause-refuses : goal.returns-in_err-outcome-clause-refuses
 returns-in_err-outcome-clause-refuses g c =
     let fault = c.in_err-outcome.field-0.0 in
     rw (err_with c.from_residual-in_err-outcome.result (repair_failure fault) c.from_residual-in_err-outcome.ensures.1)
-    (refuses_done g.D.Disk.tells (OpeningCauses ((g.D.Disk.state c.args.disk.now).files 0)) c.in_ok-ledger.ledger (repair_answer (Err fault)) (never_refused (Err fault)) c.in_ok-ledger.ensures.refuses)
+    (refuses_done g.D.Disk.reveals (OpeningCauses ((g.D.Disk.state c.args.disk.now).files 0)) c.in_ok-ledger.ledger (repair_answer (Err fault)) (never_refused (Err fault)) c.in_ok-ledger.ensures.refuses)
 
 pub returns-in_err-outcome-clause-rest : goal.returns-in_err-outcome-clause-rest
 returns-in_err-outcome-clause-rest g c =
@@ -68,7 +68,7 @@ returns-in_err-outcome-clause-rest g c =
     let v = c.in_ok-ledger.ledger in
     let fault = c.in_err-outcome.field-0.0 in
     rw (err_with c.from_residual-in_err-outcome.result (repair_failure fault) c.from_residual-in_err-outcome.ensures.1)
-    (repairing_rest g.D.Disk.tells v old mid new before after (Err fault) c.in_ok-ledger.ensures c.in_err-outcome.ensures.writes)
+    (repairing_rest g.D.Disk.reveals v old mid new before after (Err fault) c.in_ok-ledger.ensures c.in_err-outcome.ensures.writes)
 
 pub returns-clause-repairs : goal.returns-clause-repairs
 returns-clause-repairs g c =
@@ -80,10 +80,10 @@ returns-clause-repairs g c =
     let v = c.in_ok-ledger.ledger in
     let outcome = c.in_ok-outcome.outcome in
     let gave = c.in_ok-outcome.ensures in
-    let has : HasRepaired g.D.Disk.tells v mid new before after (Ok outcome) = record {
-      restores = λ told known is. (gave.repairs told known is).restores;
+    let has : HasRepaired g.D.Disk.reveals v mid new before after (Ok outcome) = record {
+      restores = λ revealed known is. (gave.repairs revealed known is).restores;
       durable = gave.durable;
-      alone = λ told known is. (gave.repairs told known is).alone;
+      alone = λ revealed known is. (gave.repairs revealed known is).alone;
       held = gave.held;
       reports = gave.reports;
       unused = λ is differs. ap g.O.Sink.state (gave.unused is differs);
@@ -93,7 +93,7 @@ returns-clause-repairs g c =
       writes = gave.writes;
       in_room = gave.in_room;
     } in
-    rw c.by_damage.ensures (repairs_done c.ledgers_have_one_reading.ensures g.D.Disk.tells v old mid new before after (Ok outcome) c.in_ok-ledger.ensures has)
+    rw c.by_damage.ensures (repairs_done c.ledgers_have_one_reading.ensures g.D.Disk.reveals v old mid new before after (Ok outcome) c.in_ok-ledger.ensures has)
 
 pub returns-clause-rest : goal.returns-clause-rest
 returns-clause-rest g c =
@@ -103,4 +103,4 @@ returns-clause-rest g c =
     let before = g.O.Sink.state c.args.out.now in
     let after = g.O.Sink.state c.repair.new.out in
     let outcome = c.in_ok-outcome.outcome in
-    rw c.by_damage.ensures (repairing_rest g.D.Disk.tells c.in_ok-ledger.ledger old mid new before after (Ok outcome) c.in_ok-ledger.ensures c.in_ok-outcome.ensures.writes)
+    rw c.by_damage.ensures (repairing_rest g.D.Disk.reveals c.in_ok-ledger.ledger old mid new before after (Ok outcome) c.in_ok-ledger.ensures c.in_ok-outcome.ensures.writes)

@@ -13,13 +13,13 @@ pub returns-in_err-ledger-clause-fetches : goal.returns-in_err-ledger-clause-fet
 returns-in_err-ledger-clause-fetches g c =
     let f = c.in_err-ledger.field-0.0 in
     rw (err_with c.from_residual.result f c.from_residual.ensures.1)
-    (fetches_unopened c.args.name.now g.D.Disk.tells (g.D.Disk.state c.args.disk.now) (g.D.Disk.state c.open.new.disk) (g.O.Sink.state c.args.out.now) f c.in_err-ledger.ensures)
+    (fetches_unopened c.args.name.now g.D.Disk.reveals (g.D.Disk.state c.args.disk.now) (g.D.Disk.state c.open.new.disk) (g.O.Sink.state c.args.out.now) f c.in_err-ledger.ensures)
 
 pub returns-in_err-ledger-clause-refuses : goal.returns-in_err-ledger-clause-refuses
 returns-in_err-ledger-clause-refuses g c =
     let f = c.in_err-ledger.field-0.0 in
     rw (err_with c.from_residual.result f c.from_residual.ensures.1)
-    (unopened_fetch c.args.name.now g.D.Disk.tells (g.D.Disk.state c.args.disk.now) (g.D.Disk.state c.open.new.disk) f c.in_err-ledger.ensures)
+    (unopened_fetch c.args.name.now g.D.Disk.reveals (g.D.Disk.state c.args.disk.now) (g.D.Disk.state c.open.new.disk) f c.in_err-ledger.ensures)
 
 pub returns-in_err-ledger-clause-reads : goal.returns-in_err-ledger-clause-reads
 returns-in_err-ledger-clause-reads g c = (returns-in_err-ledger-clause-fetches g c).reads
@@ -27,7 +27,7 @@ returns-in_err-ledger-clause-reads g c = (returns-in_err-ledger-clause-fetches g
 pub returns-in_err-fetch-clause-fetches : goal.returns-in_err-fetch-clause-fetches
 returns-in_err-fetch-clause-fetches g c =
     let gave = c.in_err-fetch.ensures in
-    let has : HasFetching c.args.name.now g.D.Disk.tells c.in_ok-ledger.ledger (g.D.Disk.state c.args.disk.now) (g.D.Disk.state c.open.new.disk) (g.D.Disk.state c.fetch.new.disk) (g.O.Sink.state c.args.out.now) (g.O.Sink.state c.fetch.new.out) (Err c.in_err-fetch.field-0.0) = record {
+    let has : HasFetching c.args.name.now g.D.Disk.reveals c.in_ok-ledger.ledger (g.D.Disk.state c.args.disk.now) (g.D.Disk.state c.open.new.disk) (g.D.Disk.state c.fetch.new.disk) (g.O.Sink.state c.args.out.now) (g.O.Sink.state c.fetch.new.out) (Err c.in_err-fetch.field-0.0) = record {
       opens = c.in_ok-ledger.ensures;
       fetched = tt;
       own = tt;
@@ -35,7 +35,7 @@ returns-in_err-fetch-clause-fetches g c =
       undetermined = λ b nodes e. let by = gave.undetermined b nodes e in (by.0, by.1, by.2, by.3, ap g.O.Sink.state by.4, by.5);
       open_refused = gave.open_refused;
       clash = gave.clash;
-      computed = λ tell known tests b told computed e. let by = gave.computed tell known tests b told computed e in (by.0, by.1, by.2, ap g.O.Sink.state by.3);
+      computed = λ reveal known tests b revealed computed e. let by = gave.computed reveal known tests b revealed computed e in (by.0, by.1, by.2, ap g.O.Sink.state by.3);
       no_clash = gave.no_clash;
       unused = λ is. ap g.O.Sink.state (gave.unused is);
       part = λ p is. elim (gave.part p is) [ inl none ↦ inl (ap g.O.Sink.state none) | inr part ↦ inr part ];
@@ -43,12 +43,12 @@ returns-in_err-fetch-clause-fetches g c =
       in_room = gave.in_room;
     } in
     rw (err_with c.from_residual-in_err-fetch.result (fetch_failure c.in_err-fetch.field-0.0) c.from_residual-in_err-fetch.ensures.1)
-    (fetches_fetched c.args.name.now g.D.Disk.tells c.in_ok-ledger.ledger (g.D.Disk.state c.args.disk.now) (g.D.Disk.state c.open.new.disk) (g.D.Disk.state c.fetch.new.disk) (g.O.Sink.state c.args.out.now) (g.O.Sink.state c.fetch.new.out) (Err c.in_err-fetch.field-0.0) has)
+    (fetches_fetched c.args.name.now g.D.Disk.reveals c.in_ok-ledger.ledger (g.D.Disk.state c.args.disk.now) (g.D.Disk.state c.open.new.disk) (g.D.Disk.state c.fetch.new.disk) (g.O.Sink.state c.args.out.now) (g.O.Sink.state c.fetch.new.out) (Err c.in_err-fetch.field-0.0) has)
 
 pub returns-in_err-fetch-clause-refuses : goal.returns-in_err-fetch-clause-refuses
 returns-in_err-fetch-clause-refuses g c =
     let gave = c.in_err-fetch.ensures in
-    let has : HasFetching c.args.name.now g.D.Disk.tells c.in_ok-ledger.ledger (g.D.Disk.state c.args.disk.now) (g.D.Disk.state c.open.new.disk) (g.D.Disk.state c.fetch.new.disk) (g.O.Sink.state c.args.out.now) (g.O.Sink.state c.fetch.new.out) (Err c.in_err-fetch.field-0.0) = record {
+    let has : HasFetching c.args.name.now g.D.Disk.reveals c.in_ok-ledger.ledger (g.D.Disk.state c.args.disk.now) (g.D.Disk.state c.open.new.disk) (g.D.Disk.state c.fetch.new.disk) (g.O.Sink.state c.args.out.now) (g.O.Sink.state c.fetch.new.out) (Err c.in_err-fetch.field-0.0) = record {
       opens = c.in_ok-ledger.ensures;
       fetched = tt;
       own = tt;
@@ -56,7 +56,7 @@ returns-in_err-fetch-clause-refuses g c =
       undetermined = λ b nodes e. let by = gave.undetermined b nodes e in (by.0, by.1, by.2, by.3, ap g.O.Sink.state by.4, by.5);
       open_refused = gave.open_refused;
       clash = gave.clash;
-      computed = λ tell known tests b told computed e. let by = gave.computed tell known tests b told computed e in (by.0, by.1, by.2, ap g.O.Sink.state by.3);
+      computed = λ reveal known tests b revealed computed e. let by = gave.computed reveal known tests b revealed computed e in (by.0, by.1, by.2, ap g.O.Sink.state by.3);
       no_clash = gave.no_clash;
       unused = λ is. ap g.O.Sink.state (gave.unused is);
       part = λ p is. elim (gave.part p is) [ inl none ↦ inl (ap g.O.Sink.state none) | inr part ↦ inr part ];
@@ -64,7 +64,7 @@ returns-in_err-fetch-clause-refuses g c =
       in_room = gave.in_room;
     } in
     rw (err_with c.from_residual-in_err-fetch.result (fetch_failure c.in_err-fetch.field-0.0) c.from_residual-in_err-fetch.ensures.1)
-    (fetched_refuses c.ledgers_have_one_reading.ensures c.new_names_are_free.ensures c.survivors_are_told.ensures c.args.name.now g.D.Disk.tells c.in_ok-ledger.ledger (g.D.Disk.state c.args.disk.now) (g.D.Disk.state c.open.new.disk) (g.D.Disk.state c.fetch.new.disk) (g.O.Sink.state c.args.out.now) (g.O.Sink.state c.fetch.new.out) (Err c.in_err-fetch.field-0.0) has)
+    (fetched_refuses c.ledgers_have_one_reading.ensures c.new_names_are_free.ensures c.survivors_are_revealed.ensures c.args.name.now g.D.Disk.reveals c.in_ok-ledger.ledger (g.D.Disk.state c.args.disk.now) (g.D.Disk.state c.open.new.disk) (g.D.Disk.state c.fetch.new.disk) (g.O.Sink.state c.args.out.now) (g.O.Sink.state c.fetch.new.out) (Err c.in_err-fetch.field-0.0) has)
 
 pub returns-in_err-fetch-clause-reads : goal.returns-in_err-fetch-clause-reads
 returns-in_err-fetch-clause-reads g c = (returns-in_err-fetch-clause-fetches g c).reads
@@ -72,7 +72,7 @@ returns-in_err-fetch-clause-reads g c = (returns-in_err-fetch-clause-fetches g c
 pub returns-clause-fetches : goal.returns-clause-fetches
 returns-clause-fetches g c =
     let gave = c.in_ok-fetch.ensures in
-    let has : HasFetching c.args.name.now g.D.Disk.tells c.in_ok-ledger.ledger (g.D.Disk.state c.args.disk.now) (g.D.Disk.state c.open.new.disk) (g.D.Disk.state c.fetch.new.disk) (g.O.Sink.state c.args.out.now) (g.O.Sink.state c.fetch.new.out) (Ok c.in_ok-fetch.field-0) = record {
+    let has : HasFetching c.args.name.now g.D.Disk.reveals c.in_ok-ledger.ledger (g.D.Disk.state c.args.disk.now) (g.D.Disk.state c.open.new.disk) (g.D.Disk.state c.fetch.new.disk) (g.O.Sink.state c.args.out.now) (g.O.Sink.state c.fetch.new.out) (Ok c.in_ok-fetch.field-0) = record {
       opens = c.in_ok-ledger.ensures;
       fetched = gave.fetched;
       own = gave.own;
@@ -80,19 +80,19 @@ returns-clause-fetches g c =
       undetermined = λ b nodes e. let by = gave.undetermined b nodes e in (by.0, by.1, by.2, by.3, ap g.O.Sink.state by.4, by.5);
       open_refused = gave.open_refused;
       clash = gave.clash;
-      computed = λ tell known tests b told computed e. let by = gave.computed tell known tests b told computed e in (by.0, by.1, by.2, ap g.O.Sink.state by.3);
+      computed = λ reveal known tests b revealed computed e. let by = gave.computed reveal known tests b revealed computed e in (by.0, by.1, by.2, ap g.O.Sink.state by.3);
       no_clash = gave.no_clash;
       unused = λ is. ap g.O.Sink.state (gave.unused is);
       part = tt;
       reads = gave.reads;
       in_room = gave.in_room;
     } in
-    fetches_fetched c.args.name.now g.D.Disk.tells c.in_ok-ledger.ledger (g.D.Disk.state c.args.disk.now) (g.D.Disk.state c.open.new.disk) (g.D.Disk.state c.fetch.new.disk) (g.O.Sink.state c.args.out.now) (g.O.Sink.state c.fetch.new.out) (Ok c.in_ok-fetch.field-0) has
+    fetches_fetched c.args.name.now g.D.Disk.reveals c.in_ok-ledger.ledger (g.D.Disk.state c.args.disk.now) (g.D.Disk.state c.open.new.disk) (g.D.Disk.state c.fetch.new.disk) (g.O.Sink.state c.args.out.now) (g.O.Sink.state c.fetch.new.out) (Ok c.in_ok-fetch.field-0) has
 
 pub returns-clause-refuses : goal.returns-clause-refuses
 returns-clause-refuses g c =
     let gave = c.in_ok-fetch.ensures in
-    let has : HasFetching c.args.name.now g.D.Disk.tells c.in_ok-ledger.ledger (g.D.Disk.state c.args.disk.now) (g.D.Disk.state c.open.new.disk) (g.D.Disk.state c.fetch.new.disk) (g.O.Sink.state c.args.out.now) (g.O.Sink.state c.fetch.new.out) (Ok c.in_ok-fetch.field-0) = record {
+    let has : HasFetching c.args.name.now g.D.Disk.reveals c.in_ok-ledger.ledger (g.D.Disk.state c.args.disk.now) (g.D.Disk.state c.open.new.disk) (g.D.Disk.state c.fetch.new.disk) (g.O.Sink.state c.args.out.now) (g.O.Sink.state c.fetch.new.out) (Ok c.in_ok-fetch.field-0) = record {
       opens = c.in_ok-ledger.ensures;
       fetched = gave.fetched;
       own = gave.own;
@@ -100,14 +100,14 @@ returns-clause-refuses g c =
       undetermined = λ b nodes e. let by = gave.undetermined b nodes e in (by.0, by.1, by.2, by.3, ap g.O.Sink.state by.4, by.5);
       open_refused = gave.open_refused;
       clash = gave.clash;
-      computed = λ tell known tests b told computed e. let by = gave.computed tell known tests b told computed e in (by.0, by.1, by.2, ap g.O.Sink.state by.3);
+      computed = λ reveal known tests b revealed computed e. let by = gave.computed reveal known tests b revealed computed e in (by.0, by.1, by.2, ap g.O.Sink.state by.3);
       no_clash = gave.no_clash;
       unused = λ is. ap g.O.Sink.state (gave.unused is);
       part = tt;
       reads = gave.reads;
       in_room = gave.in_room;
     } in
-    fetched_refuses c.ledgers_have_one_reading.ensures c.new_names_are_free.ensures c.survivors_are_told.ensures c.args.name.now g.D.Disk.tells c.in_ok-ledger.ledger (g.D.Disk.state c.args.disk.now) (g.D.Disk.state c.open.new.disk) (g.D.Disk.state c.fetch.new.disk) (g.O.Sink.state c.args.out.now) (g.O.Sink.state c.fetch.new.out) (Ok c.in_ok-fetch.field-0) has
+    fetched_refuses c.ledgers_have_one_reading.ensures c.new_names_are_free.ensures c.survivors_are_revealed.ensures c.args.name.now g.D.Disk.reveals c.in_ok-ledger.ledger (g.D.Disk.state c.args.disk.now) (g.D.Disk.state c.open.new.disk) (g.D.Disk.state c.fetch.new.disk) (g.O.Sink.state c.args.out.now) (g.O.Sink.state c.fetch.new.out) (Ok c.in_ok-fetch.field-0) has
 
 pub returns-clause-reads : goal.returns-clause-reads
 returns-clause-reads g c = (returns-clause-fetches g c).reads

@@ -11,11 +11,11 @@ use Rattle.aea_command_store.proofs.ingest.put_frames.Given as goal
 abbrev pub invariant-loop-page : goal.invariant-loop-page
 invariant-loop-page g l = record {
   objects : List NewObject;
-  gone : HasGone g.D.Disk.tells (l.disk ≡ l.fn.disk) l.fn.ledger l.ledger (g.S.Source.state l.fn.input).left (g.S.Source.state l.input).left
+  gone : HasGone g.D.Disk.reveals (l.disk ≡ l.fn.disk) l.fn.ledger l.ledger (g.S.Source.state l.fn.input).left (g.S.Source.state l.input).left
       (g.D.Disk.state l.fn.disk) (g.D.Disk.state l.disk) (g.O.Sink.state l.fn.out) (g.O.Sink.state l.out) objects;
   counted : l.count ≡ length objects;
   few : l.count ≤ greatest_objects;
-  kept : HasKeptHeads g.D.Disk.tells l.ledger (g.D.Disk.state l.disk).files l.kept;
+  kept : HasKeptHeads g.D.Disk.reveals l.ledger (g.D.Disk.state l.disk).files l.kept;
   page : l.page ≡ [];
   at : l.at ≤ l.count * most_of_frame;
   exact : l.at ≡ length (frames_of objects);

@@ -18,7 +18,7 @@ pub returns-in_err-stored-clause-puts : goal.returns-in_err-stored-clause-puts
 returns-in_err-stored-clause-puts g c =
     let f = c.in_err-stored.field-0.0 in
     rw (err_with c.from_residual.result f c.from_residual.ensures.1)
-    (puts_failed c.args.name.now g.D.Disk.tells (g.D.Disk.state c.args.disk.now) (g.D.Disk.state c.add_object.new.disk) (g.S.Source.state c.args.input.now).left (g.S.Source.state c.add_object.new.input).left (g.O.Sink.state c.args.out.now) f
+    (puts_failed c.args.name.now g.D.Disk.reveals (g.D.Disk.state c.args.disk.now) (g.D.Disk.state c.add_object.new.disk) (g.S.Source.state c.args.input.now).left (g.S.Source.state c.add_object.new.input).left (g.O.Sink.state c.args.out.now) f
     (not_output f c.in_err-stored.ensures.output) c.in_err-stored.ensures.stores)
 
 pub returns-in_err-stored-clause-refuses : goal.returns-in_err-stored-clause-refuses
@@ -31,7 +31,7 @@ pub returns-in_err-write_line-clause-puts : goal.returns-in_err-write_line-claus
 returns-in_err-write_line-clause-puts g c =
     let stored = c.in_ok-stored.stored in
     rw (err_with c.from_residual-in_err-write_line.result failure.Output c.from_residual-in_err-write_line.ensures.1)
-    (puts_stored c.args.name.now g.D.Disk.tells (g.D.Disk.state c.args.disk.now) (g.D.Disk.state c.add_object.new.disk) (g.S.Source.state c.args.input.now).left (g.S.Source.state c.add_object.new.input).left (g.O.Sink.state c.args.out.now) (g.O.Sink.state c.write_line.new.out)
+    (puts_stored c.args.name.now g.D.Disk.reveals (g.D.Disk.state c.args.disk.now) (g.D.Disk.state c.add_object.new.disk) (g.S.Source.state c.args.input.now).left (g.S.Source.state c.add_object.new.input).left (g.O.Sink.state c.args.out.now) (g.O.Sink.state c.write_line.new.out)
     stored (Err failure.Output) (stored_text stored.nodes stored.length stored.digest c.args.name.now) (inr refl)
     c.in_ok-stored.ensures.stores c.in_ok-stored.ensures.line (text_broken c.in_err-write_line.ensures.prints))
 
@@ -43,7 +43,7 @@ returns-in_err-write_line-clause-refuses g c =
 pub returns-clause-puts : goal.returns-clause-puts
 returns-clause-puts g c =
     let stored = c.in_ok-stored.stored in
-    puts_stored c.args.name.now g.D.Disk.tells (g.D.Disk.state c.args.disk.now) (g.D.Disk.state c.add_object.new.disk) (g.S.Source.state c.args.input.now).left (g.S.Source.state c.add_object.new.input).left (g.O.Sink.state c.args.out.now) (g.O.Sink.state c.write_line.new.out)
+    puts_stored c.args.name.now g.D.Disk.reveals (g.D.Disk.state c.args.disk.now) (g.D.Disk.state c.add_object.new.disk) (g.S.Source.state c.args.input.now).left (g.S.Source.state c.add_object.new.input).left (g.O.Sink.state c.args.out.now) (g.O.Sink.state c.write_line.new.out)
     stored (Ok Done) (stored_text stored.nodes stored.length stored.digest c.args.name.now) (inl refl)
     c.in_ok-stored.ensures.stores c.in_ok-stored.ensures.line (text_printed Done c.in_ok-write_line.ensures.prints)
 

@@ -5,12 +5,12 @@ use Rattle.sha2.specs.Sha256.{sha256}
 use Rattle.aea_copy_reader.proofs.hashing.link_at.Goals as goal
 
 pub returns-clause-link : goal.returns-clause-link
-returns-clause-link g c = λ tells.
+returns-clause-link g c = λ reveals.
     let file = (g.D.Disk.state c.args.disk.now).files c.args.range.file in
     let count = c.args.range.count in
     let link = c.args.link.now in
     let piece = take count (drop c.args.range.at file) in
-    let taken = c.in_ok-hash_range.ensures.whole c.if-not-branch.false tells in
+    let taken = c.in_ok-hash_range.ensures.whole c.if-not-branch.false reveals in
     let there : c.args.range.at + count ≤ length file = omega (arith, taken.there, c.requires.some.0) in
     let long : length piece ≡ count = omega (arith, length-take count (drop c.args.range.at file), length-drop c.args.range.at file, there) in
     let number : c.to_be_bytes.result ≡ to_be_bytes w32 count = c.to_be_bytes.ensures in

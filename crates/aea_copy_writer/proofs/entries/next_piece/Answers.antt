@@ -12,10 +12,10 @@ as_u32 : {E : Type 0} (r : Result ℕ E) (len : ℕ) → OkIff r (len < 42949672
 as_u32 r len iff small = ap result_ok (Ok-from_Ok_iff r (len < 4294967296) len iff small)
 
 pub returns-clause-found : goal.returns-clause-found
-returns-clause-found g c = λ tells piece others has.
+returns-clause-found g c = λ reveals piece others has.
     let file = (g.D.Disk.state c.args.disk.now).files 0 in
     let shaped = has.shaped.0 in
-    let read = first_read piece c.read_part.new.part file c.args.at (some_bytes (eqb c.args.at 0) piece shaped) (first_there (eqb c.args.at 0) piece others c.args.at c.args.until file has) (c.in_ok-read_part.ensures.whole c.if-not-branch.false tells) in
+    let read = first_read piece c.read_part.new.part file c.args.at (some_bytes (eqb c.args.at 0) piece shaped) (first_there (eqb c.args.at 0) piece others c.args.at c.args.until file has) (c.in_ok-read_part.ensures.whole c.if-not-branch.false reveals) in
     let size : c.if-at-eq0.len ≡ length piece =
     elim c.if-at-eq0.branch [
       | then-at-eq0 w ↦ len_read c.args.at c.if-at-eq0.len piece c.read_part.new.part shaped read (λ is. w.len-is) (λ other. absurd (other w.if-at-eq0.true))

@@ -13,9 +13,9 @@ invariant-entries g l = record {
   gate : l.fn.gate ≤ l.last.gate;
   near : l.last.gate ≤ 2 ^ 58;
   buffer : length l.buffer ≡ 4133;
-  there : g.D.Disk.tells → IsThere ((g.D.Disk.state l.fn.disk).files 0) l.fn.from (l.at - l.fn.from);
-  on : g.D.Disk.tells → (pieces : List (List ℕ)) → HasPieces (eqb l.fn.from 0) pieces l.fn.from l.fn.until ((g.D.Disk.state l.fn.disk).files 0) → IsOn l.fn.file l.fn.gate l.fn.link pieces l.fn.from l.fn.until l.at l.last (g.D.Disk.state l.fn.disk).files (g.D.Disk.state l.disk).files;
-  writes : OnlyWrites g.D.Disk.tells (g.D.Disk.state l.fn.disk).free (FitsEntries (g.D.Disk.state l.fn.disk) l.fn.file l.fn.gate l.fn.link l.fn.from l.fn.until) ⊥ (ChangesFile l.fn.file (KeepsFront (l.fn.gate + 1))) (g.D.Disk.state l.fn.disk) (g.D.Disk.state l.disk);
+  there : g.D.Disk.reveals → IsThere ((g.D.Disk.state l.fn.disk).files 0) l.fn.from (l.at - l.fn.from);
+  on : g.D.Disk.reveals → (pieces : List (List ℕ)) → HasPieces (eqb l.fn.from 0) pieces l.fn.from l.fn.until ((g.D.Disk.state l.fn.disk).files 0) → IsOn l.fn.file l.fn.gate l.fn.link pieces l.fn.from l.fn.until l.at l.last (g.D.Disk.state l.fn.disk).files (g.D.Disk.state l.disk).files;
+  writes : OnlyWrites g.D.Disk.reveals (g.D.Disk.state l.fn.disk).free (FitsEntries (g.D.Disk.state l.fn.disk) l.fn.file l.fn.gate l.fn.link l.fn.from l.fn.until) ⊥ (ChangesFile l.fn.file (KeepsFront (l.fn.gate + 1))) (g.D.Disk.state l.fn.disk) (g.D.Disk.state l.disk);
 }
 
 abbrev pub decreases-entries : goal.decreases-entries

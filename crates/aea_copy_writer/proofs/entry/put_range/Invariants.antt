@@ -9,10 +9,10 @@ abbrev pub invariant-parts : goal.invariant-parts
 invariant-parts g l = record {
   few : l.done ≤ l.fn.count;
   buffer : length l.buffer ≡ 4133;
-  there : g.D.Disk.tells → IsThere ((g.D.Disk.state l.fn.disk).files 0) l.fn.from l.done;
-  put : g.D.Disk.tells → ChangesFile l.fn.file (Holds l.fn.to (part_of ((g.D.Disk.state l.fn.disk).files 0) l.fn.from l.done)) (g.D.Disk.state l.fn.disk).files (g.D.Disk.state l.disk).files;
-  taken : g.D.Disk.tells → Takes l.fn.hasher (part_of ((g.D.Disk.state l.fn.disk).files 0) l.fn.from l.done) l.hasher;
-  writes : OnlyWrites g.D.Disk.tells (g.D.Disk.state l.fn.disk).free (FitsChange (g.D.Disk.state l.fn.disk) l.fn.file (l.fn.to + l.fn.count)) ⊥ (ChangesFile l.fn.file (KeepsFront l.fn.to)) (g.D.Disk.state l.fn.disk) (g.D.Disk.state l.disk);
+  there : g.D.Disk.reveals → IsThere ((g.D.Disk.state l.fn.disk).files 0) l.fn.from l.done;
+  put : g.D.Disk.reveals → ChangesFile l.fn.file (Holds l.fn.to (part_of ((g.D.Disk.state l.fn.disk).files 0) l.fn.from l.done)) (g.D.Disk.state l.fn.disk).files (g.D.Disk.state l.disk).files;
+  taken : g.D.Disk.reveals → Takes l.fn.hasher (part_of ((g.D.Disk.state l.fn.disk).files 0) l.fn.from l.done) l.hasher;
+  writes : OnlyWrites g.D.Disk.reveals (g.D.Disk.state l.fn.disk).free (FitsChange (g.D.Disk.state l.fn.disk) l.fn.file (l.fn.to + l.fn.count)) ⊥ (ChangesFile l.fn.file (KeepsFront l.fn.to)) (g.D.Disk.state l.fn.disk) (g.D.Disk.state l.disk);
 }
 
 abbrev pub decreases-parts : goal.decreases-parts

@@ -38,7 +38,7 @@ returns-then-piece-gt4096-clause-entry g c =
     let first = g.D.Disk.state c.args.disk.now in
     let second = g.D.Disk.state c.write_long.new.disk in
     found_weaker c.write_long.result _ _
-    (λ link has tells. all_of c.args.file c.args.last.now c.args.piece.now (take 4 c.begin-hasher.new.buffer) link c.begin-hasher.result first.files second.files c.begin-hasher.ensures.number c.begin-hasher.ensures.hashed (has tells))
+    (λ link has reveals. all_of c.args.file c.args.last.now c.args.piece.now (take 4 c.begin-hasher.new.buffer) link c.begin-hasher.result first.files second.files c.begin-hasher.ensures.number c.begin-hasher.ensures.hashed (has reveals))
     c.write_long.ensures.entry
 
 pub returns-clause-entry : goal.returns-clause-entry
@@ -46,5 +46,5 @@ returns-clause-entry g c =
     let first = g.D.Disk.state c.args.disk.now in
     let second = g.D.Disk.state c.write_short.new.disk in
     found_weaker c.write_short.result _ _
-    (λ link has tells. all_of c.args.file c.args.last.now c.args.piece.now (take 4 c.begin-hasher.new.buffer) link c.begin-hasher.result first.files second.files c.begin-hasher.ensures.number c.begin-hasher.ensures.hashed (has tells))
+    (λ link has reveals. all_of c.args.file c.args.last.now c.args.piece.now (take 4 c.begin-hasher.new.buffer) link c.begin-hasher.result first.files second.files c.begin-hasher.ensures.number c.begin-hasher.ensures.hashed (has reveals))
     c.write_short.ensures.entry

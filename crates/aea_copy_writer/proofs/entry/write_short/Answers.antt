@@ -31,16 +31,16 @@ returns-clause-entry g c =
     let buf = c.args.buffer.now in
     let size = piece_size buf piece.len c.requires.short c.requires.buffer in
     found_all c.put_last.result _ _ _ _
-    (λ link there put linked tells. record {
-      there = subst (IsThere (first.files 0) piece.at) size (there tells);
-      digest = subst (λ (n : ℕ). IsLinkOf c.args.hasher (part_of (first.files 0) piece.at n) link) size (linked tells);
-      step = all_put c.args.file c.args.gate piece.at piece.len buf link (first.files 0) (gate_byte piece.more) first.files second.files c.requires.short c.requires.buffer (put tells);
+    (λ link there put linked reveals. record {
+      there = subst (IsThere (first.files 0) piece.at) size (there reveals);
+      digest = subst (λ (n : ℕ). IsLinkOf c.args.hasher (part_of (first.files 0) piece.at n) link) size (linked reveals);
+      step = all_put c.args.file c.args.gate piece.at piece.len buf link (first.files 0) (gate_byte piece.more) first.files second.files c.requires.short c.requires.buffer (put reveals);
     })
     c.put_last.ensures.there c.put_last.ensures.put c.put_last.ensures.link
 
 pub returns-clause-short : goal.returns-clause-short
 returns-clause-short g c =
-    none_weaker c.put_last.result _ _ (λ short tells. omega (arith, short tells, piece_size c.args.buffer.now c.args.piece.now.len c.requires.short c.requires.buffer)) c.put_last.ensures.short
+    none_weaker c.put_last.result _ _ (λ short reveals. omega (arith, short reveals, piece_size c.args.buffer.now c.args.piece.now.len c.requires.short c.requires.buffer)) c.put_last.ensures.short
 
 pub returns-clause-writes : goal.returns-clause-writes
 returns-clause-writes g c =
@@ -49,5 +49,5 @@ returns-clause-writes g c =
     let gate = c.args.gate in
     let n = length (take (c.args.piece.now.len + 37) c.args.buffer.now) in
     let size : n ≡ c.args.piece.now.len + 37 = used c.args.buffer.now c.args.piece.now.len c.requires.short c.requires.buffer in
-    more_freely g.D.Disk.tells _ c.args.file (gate + (37 + c.args.piece.now.len) + 1) (gate + 1 + n) (Torn (gate + 1) n) (KeepsFront (gate + 1)) first second
+    more_freely g.D.Disk.reveals _ c.args.file (gate + (37 + c.args.piece.now.len) + 1) (gate + 1 + n) (Torn (gate + 1) n) (KeepsFront (gate + 1)) first second
     (λ x y. front_torn (gate + 1) (gate + 1) n x y (omega arith)) (g.met.D.Disk.smaller_fits c.args.disk.now) (omega (arith, size)) c.put_last.ensures.writes

@@ -9,9 +9,9 @@ abbrev pub invariant-parts : goal.invariant-parts
 invariant-parts g l = record {
   few : l.done ≤ l.fn.count;
   buffer : length l.buffer ≡ 4096;
-  there : g.D.Disk.tells → IsThere ((g.D.Disk.state l.fn.disk).files l.fn.source) l.fn.from l.done;
-  moved : g.D.Disk.tells → ChangesFile 0 (Holds l.fn.to (part_of ((g.D.Disk.state l.fn.disk).files l.fn.source) l.fn.from l.done)) (g.D.Disk.state l.fn.disk).files (g.D.Disk.state l.disk).files;
-  writes : OnlyWrites g.D.Disk.tells (g.D.Disk.state l.fn.disk).free (FitsChange (g.D.Disk.state l.fn.disk) 0 (l.fn.to + l.fn.count)) ⊥ (ChangesFile 0 (KeepsFront l.fn.to)) (g.D.Disk.state l.fn.disk) (g.D.Disk.state l.disk);
+  there : g.D.Disk.reveals → IsThere ((g.D.Disk.state l.fn.disk).files l.fn.source) l.fn.from l.done;
+  moved : g.D.Disk.reveals → ChangesFile 0 (Holds l.fn.to (part_of ((g.D.Disk.state l.fn.disk).files l.fn.source) l.fn.from l.done)) (g.D.Disk.state l.fn.disk).files (g.D.Disk.state l.disk).files;
+  writes : OnlyWrites g.D.Disk.reveals (g.D.Disk.state l.fn.disk).free (FitsChange (g.D.Disk.state l.fn.disk) 0 (l.fn.to + l.fn.count)) ⊥ (ChangesFile 0 (KeepsFront l.fn.to)) (g.D.Disk.state l.fn.disk) (g.D.Disk.state l.disk);
 }
 
 abbrev pub decreases-parts : goal.decreases-parts

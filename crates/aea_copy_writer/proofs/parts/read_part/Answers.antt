@@ -13,20 +13,20 @@ read_all file buf from k n size is bytes = sym (take_all k buf (omega (arith, is
 pub returns-in_err-count-clause-reads : goal.returns-in_err-count-clause-reads
 returns-in_err-count-clause-reads g c =
     let e = c.in_err-count.ensures in
-    reads_failed g.D.Disk.tells _ (g.D.Disk.state c.args.disk.now) (g.D.Disk.state c.read.new.self) _ refl (cc) e.contents e.crash e.settled e.time e.cause e.sure
+    reads_failed g.D.Disk.reveals _ (g.D.Disk.state c.args.disk.now) (g.D.Disk.state c.read.new.self) _ refl (cc) e.contents e.crash e.settled e.time e.cause e.sure
 
 pub returns-clause-reads : goal.returns-clause-reads
 returns-clause-reads g c =
     let e = c.in_ok-count.ensures in
-    reads_made g.D.Disk.tells _ (g.D.Disk.state c.args.disk.now) (g.D.Disk.state c.read.new.self) _ refl (λ is. cc) e.contents e.crash e.settled e.time e.cause e.sure
+    reads_made g.D.Disk.reveals _ (g.D.Disk.state c.args.disk.now) (g.D.Disk.state c.read.new.self) _ refl (λ is. cc) e.contents e.crash e.settled e.time e.cause e.sure
 
 pub returns-clause-whole : goal.returns-clause-whole
-returns-clause-whole g c = λ is tells.
-    read_all ((g.D.Disk.state c.args.disk.now).files c.args.file) c.read.new.buf c.args.from c.in_ok-count.count (length c.args.part.now) c.read.auto.buf (eqb-true c.in_ok-count.count (length c.read.new.buf) is) (c.in_ok-count.ensures.bytes tells)
+returns-clause-whole g c = λ is reveals.
+    read_all ((g.D.Disk.state c.args.disk.now).files c.args.file) c.read.new.buf c.args.from c.in_ok-count.count (length c.args.part.now) c.read.auto.buf (eqb-true c.in_ok-count.count (length c.read.new.buf) is) (c.in_ok-count.ensures.bytes reveals)
 
 pub returns-clause-there : goal.returns-clause-there
-returns-clause-there g c = λ is tells.
+returns-clause-there g c = λ is reveals.
     let file = (g.D.Disk.state c.args.disk.now).files c.args.file in
     let same : c.read.new.buf ≡ part_of file c.args.from (length c.args.part.now) =
-    read_all file c.read.new.buf c.args.from c.in_ok-count.count (length c.args.part.now) c.read.auto.buf (eqb-true c.in_ok-count.count (length c.read.new.buf) is) (c.in_ok-count.ensures.bytes tells) in
+    read_all file c.read.new.buf c.args.from c.in_ok-count.count (length c.args.part.now) c.read.auto.buf (eqb-true c.in_ok-count.count (length c.read.new.buf) is) (c.in_ok-count.ensures.bytes reveals) in
     record { all = sym (ap length same) ∙ c.read.auto.buf; are = subst AreBytes same c.are_bytes.ensures }

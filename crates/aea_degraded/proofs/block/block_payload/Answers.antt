@@ -21,24 +21,24 @@ returns-then-not-get-clause-drawn g c =
     let files = (g.D.Disk.state c.args.disk.now).files in
     let clear : is_marked c.args.damaged.now c.args.b ≡ false = sym c.get.ensures ∙ c.if-not-get.true in
     on_ok_weaker c.read_own.result
-    (λ payload told known found.
+    (λ payload revealed known found.
     let is : IsTrue (known c.args.b) = found.marked ∙ ap not clear in
     let intact = known_intact v c.lattice-lattice.result files known known c.lattice-lattice.ensures.value c.lattice-lattice.ensures.of_shape found.survivors (λ d has marked. marked) c.args.b c.requires.block is in
-    subst (IsDrawn v known files c.args.b) (sym (payload told intact)) (drawn_alone v known files c.args.b c.requires.block is intact))
+    subst (IsDrawn v known files c.args.b) (sym (payload revealed intact)) (drawn_alone v known files c.args.b c.requires.block is intact))
     c.read_own.ensures.intact
 
 pub returns-then-not-get-clause-clash : goal.returns-then-not-get-clause-clash
-returns-then-not-get-clause-clash g c d told computed is = (c.read_own.ensures.found d told computed is).1.other
+returns-then-not-get-clause-clash g c d revealed computed is = (c.read_own.ensures.found d revealed computed is).1.other
 
 pub returns-then-not-get-clause-computed : goal.returns-then-not-get-clause-computed
-returns-then-not-get-clause-computed g c d told computed is tells known found =
+returns-then-not-get-clause-computed g c d revealed computed is reveals known found =
     let v = c.args.ledger.now in
     let files = (g.D.Disk.state c.args.disk.now).files in
     let clear : is_marked c.args.damaged.now c.args.b ≡ false = sym c.get.ensures ∙ c.if-not-get.true in
-    let read = c.read_own.ensures.found d told computed is in
+    let read = c.read_own.ensures.found d revealed computed is in
     let same : IsTrue (known d) = ap known read.0 ∙ found.marked ∙ ap not clear in
     let inside = subst (λ (a : BlockId). HasBlock v.lattice a) (sym read.0) c.requires.block in
-    absurd (read.1.damaged tells (known_intact v c.lattice-lattice.result files known known c.lattice-lattice.ensures.value c.lattice-lattice.ensures.of_shape found.survivors (λ a has marked. marked) d inside same))
+    absurd (read.1.damaged reveals (known_intact v c.lattice-lattice.result files known known c.lattice-lattice.ensures.value c.lattice-lattice.ensures.of_shape found.survivors (λ a has marked. marked) d inside same))
 
 pub unreachable-requires : goal.unreachable-requires
 unreachable-requires g c =
@@ -62,15 +62,15 @@ returns-clause-drawn g c =
     let f = c.in-Some.fate.now in
     let is = there v.lattice fates c.args.b c.args.at f c.requires.block (c.requires.found (sym c.get.ensures ∙ c.if-not-get.false)) c.in-Some.ensures in
     on_ok_weaker c.payload.result
-    (λ summed told known found.
+    (λ summed revealed known found.
     let listed = listed_there v.lattice known fates c.args.b c.args.at f is found.right c.in-Some.ensures in
     let all = known_intact v c.lattice-lattice.result files known (is_summand v.lattice f) c.lattice-lattice.ensures.value c.lattice-lattice.ensures.of_shape found.survivors (listed_sums v.lattice known f is.has listed).1 in
     subst (λ (b : BlockId). IsDrawn v known files b c.payload.new.sum) is.block
-    (subst (IsDrawn v known files (block_of_fate f)) (sym (summed told all)) (sum_drawn v known files f is.has listed)))
+    (subst (IsDrawn v known files (block_of_fate f)) (sym (summed revealed all)) (sum_drawn v known files f is.has listed)))
     c.payload.ensures.sum
 
 pub returns-clause-computed : goal.returns-clause-computed
-returns-clause-computed g c d told computed is_clash tells known found =
+returns-clause-computed g c d revealed computed is_clash reveals known found =
     let v = c.args.ledger.now in
     let files = (g.D.Disk.state c.args.disk.now).files in
     let fates = c.args.fates.now in
@@ -79,23 +79,23 @@ returns-clause-computed g c d told computed is_clash tells known found =
     let is = there v.lattice fates c.args.b c.args.at f c.requires.block (c.requires.found set) c.in-Some.ensures in
     let listed = listed_there v.lattice known fates c.args.b c.args.at f is found.right c.in-Some.ensures in
     let all = known_intact v c.lattice-lattice.result files known (is_summand v.lattice f) c.lattice-lattice.ensures.value c.lattice-lattice.ensures.of_shape found.survivors (listed_sums v.lattice known f is.has listed).1 in
-    let r = c.payload.ensures.computed d told computed is_clash tells all in
-    (r.0 ∙ is.block, (found.marked ∙ ap not set, sum_clash v known files f d told computed is.has listed r.0 r.1 (c.payload.ensures.clash d told computed is_clash)))
+    let r = c.payload.ensures.computed d revealed computed is_clash reveals all in
+    (r.0 ∙ is.block, (found.marked ∙ ap not set, sum_clash v known files f d revealed computed is.has listed r.0 r.1 (c.payload.ensures.clash d revealed computed is_clash)))
 
 pub returns-then-not-get-clause-summed : goal.returns-then-not-get-clause-summed
 returns-then-not-get-clause-summed g c =
     let clear : is_marked c.args.damaged.now c.args.b ≡ false = sym c.get.ensures ∙ c.if-not-get.true in
-    on_ok_weaker c.read_own.result (λ payload told known found set fate here. absurd (true≢false (sym set ∙ clear))) c.read_own.ensures.intact
+    on_ok_weaker c.read_own.result (λ payload revealed known found set fate here. absurd (true≢false (sym set ∙ clear))) c.read_own.ensures.intact
 
 pub returns-then-not-get-clause-summed_clash : goal.returns-then-not-get-clause-summed_clash
-returns-then-not-get-clause-summed_clash g c d told computed is tells known found fate here =
+returns-then-not-get-clause-summed_clash g c d revealed computed is reveals known found fate here =
     let v = c.args.ledger.now in
     let files = (g.D.Disk.state c.args.disk.now).files in
     let clear : is_marked c.args.damaged.now c.args.b ≡ false = sym c.get.ensures ∙ c.if-not-get.true in
-    let read = c.read_own.ensures.found d told computed is in
+    let read = c.read_own.ensures.found d revealed computed is in
     let same : IsTrue (known d) = ap known read.0 ∙ found.marked ∙ ap not clear in
     let inside = subst (λ (a : BlockId). HasBlock v.lattice a) (sym read.0) c.requires.block in
-    absurd (read.1.damaged tells (known_intact v c.lattice-lattice.result files known known c.lattice-lattice.ensures.value c.lattice-lattice.ensures.of_shape found.survivors (λ a has marked. marked) d inside same))
+    absurd (read.1.damaged reveals (known_intact v c.lattice-lattice.result files known known c.lattice-lattice.ensures.value c.lattice-lattice.ensures.of_shape found.survivors (λ a has marked. marked) d inside same))
 
 pub returns-clause-summed : goal.returns-clause-summed
 returns-clause-summed g c =
@@ -105,14 +105,14 @@ returns-clause-summed g c =
     let f = c.in-Some.fate.now in
     let is = there v.lattice fates c.args.b c.args.at f c.requires.block (c.requires.found (sym c.get.ensures ∙ c.if-not-get.false)) c.in-Some.ensures in
     on_ok_weaker c.payload.result
-    (λ summed told known found set fate here.
+    (λ summed revealed known found set fate here.
     let listed = listed_there v.lattice known fates c.args.b c.args.at f is found.right c.in-Some.ensures in
     let all = known_intact v c.lattice-lattice.result files known (is_summand v.lattice f) c.lattice-lattice.ensures.value c.lattice-lattice.ensures.of_shape found.survivors (listed_sums v.lattice known f is.has listed).1 in
-    summed told all ∙ ap (sum_at v.lattice v.shape files) (some_item (slice_get fates c.args.at) f fate c.in-Some.ensures here))
+    summed revealed all ∙ ap (sum_at v.lattice v.shape files) (some_item (slice_get fates c.args.at) f fate c.in-Some.ensures here))
     c.payload.ensures.sum
 
 pub returns-clause-summed_clash : goal.returns-clause-summed_clash
-returns-clause-summed_clash g c d told computed is_clash tells known found fate here =
+returns-clause-summed_clash g c d revealed computed is_clash reveals known found fate here =
     let v = c.args.ledger.now in
     let files = (g.D.Disk.state c.args.disk.now).files in
     let fates = c.args.fates.now in
@@ -120,6 +120,6 @@ returns-clause-summed_clash g c d told computed is_clash tells known found fate 
     let is = there v.lattice fates c.args.b c.args.at f c.requires.block (c.requires.found (sym c.get.ensures ∙ c.if-not-get.false)) c.in-Some.ensures in
     let listed = listed_there v.lattice known fates c.args.b c.args.at f is found.right c.in-Some.ensures in
     let all = known_intact v c.lattice-lattice.result files known (is_summand v.lattice f) c.lattice-lattice.ensures.value c.lattice-lattice.ensures.of_shape found.survivors (listed_sums v.lattice known f is.has listed).1 in
-    (c.payload.ensures.computed d told computed is_clash tells all).1
+    (c.payload.ensures.computed d revealed computed is_clash reveals all).1
     ∙ ap (λ (b : BlockId). block_digest b (sum_at v.lattice v.shape files f)) is.block
     ∙ ap (λ (x : Fate). block_digest c.args.b (sum_at v.lattice v.shape files x)) (some_item (slice_get fates c.args.at) f fate c.in-Some.ensures here)

@@ -12,8 +12,8 @@ abbrev pub invariant-loop-b : goal.invariant-loop-b
 invariant-loop-b g l = record {
   cell : length l.cell ≡ cell_size l.ledger.shape;
   sum : length l.sum ≡ l.ledger.shape.block;
-  seen : HasSeen g.D.Disk.tells (UnderPlan l.ledger (g.D.Disk.state l.fn.disk).files l.damaged l.fates (data_under (get l.ledger.objects l.name))) (data_under (get l.ledger.objects l.name)) l.blocks;
-  reads : OnlyReads g.D.Disk.tells ⊥ (g.D.Disk.state l.fn.disk) (g.D.Disk.state l.disk);
+  seen : HasSeen g.D.Disk.reveals (UnderPlan l.ledger (g.D.Disk.state l.fn.disk).files l.damaged l.fates (data_under (get l.ledger.objects l.name))) (data_under (get l.ledger.objects l.name)) l.blocks;
+  reads : OnlyReads g.D.Disk.reveals ⊥ (g.D.Disk.state l.fn.disk) (g.D.Disk.state l.disk);
 }
 
 abbrev pub decreases-loop-b : goal.decreases-loop-b

@@ -21,13 +21,13 @@ returns-in-Ok-fates-clause-fates g c =
     (subst (λ (fs : List Fate). AreFatesOf l c.in-Ok.search.unknown fs) (sym c.plan_of.ensures.fates) are)
 
 pub returns-in-Ok-fates-clause-right : goal.returns-in-Ok-fates-clause-right
-returns-in-Ok-fates-clause-right g c told known survivors =
+returns-in-Ok-fates-clause-right g c revealed known survivors =
     let v = c.args.ledger.now in
     let l = v.lattice in
     let files = (g.D.Disk.state c.args.disk.now).files in
     let plan = c.plan_of.result in
     let blocks = data_under (get v.objects c.args.name.now) in
-    let right : IsRightBy l known c.in-Ok.search = c.in-Ok.ensures.right told known survivors in
+    let right : IsRightBy l known c.in-Ok.search = c.in-Ok.ensures.right revealed known survivors in
     let inside : All (HasBlock l) blocks = subst (All (HasBlock l)) c.new-blocks.ensures.all c.new-blocks.ensures.inside in
     let fates : All (IsFate l known) c.in-Ok-fates.fates =
     subst (λ (x : Lattice). All (IsFate x known) c.in-Ok-fates.fates) c.lattice.ensures.value

@@ -65,7 +65,7 @@ loop-b-preserved-else-is_lost c =
     record {
       inside = All-tail (HasBlock l) b c.next.new.self inside;
       seen = seen_more (Unit {0}) (IsGiven fates) blocks c.next.new.self b (subst (HasSeen (Unit {0}) (IsGiven fates) blocks) c.in-Some.ensures c.loop-b.invariant.seen)
-          (λ told. given_sum c.lists_are_one.ensures l _ fates b c.in-Some-find.at found.0 (All-head (HasBlock l) b c.next.new.self inside) are.1.each found.1 found.2 sum);
+          (λ revealed. given_sum c.lists_are_one.ensures l _ fates b c.in-Some-find.at found.0 (All-head (HasBlock l) b c.next.new.self inside) are.1.each found.1 found.2 sum);
     }
 
 pub loop-b-preserved : goal.loop-b-preserved
@@ -77,7 +77,7 @@ loop-b-preserved c =
     record {
       inside = All-tail (HasBlock l) b c.next.new.self (subst (All (HasBlock l)) c.in-Some.ensures c.loop-b.invariant.inside);
       seen = seen_more (Unit {0}) (IsGiven fates) blocks c.next.new.self b (subst (HasSeen (Unit {0}) (IsGiven fates) blocks) c.in-Some.ensures c.loop-b.invariant.seen)
-          (λ told. given_none fates b c.in_default-find.ensures);
+          (λ revealed. given_none fates b c.in_default-find.ensures);
     }
 
 pub returns-clause-none : goal.returns-clause-none

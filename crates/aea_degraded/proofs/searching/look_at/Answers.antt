@@ -17,8 +17,8 @@ loop-b-init g c = record {
   same = c.requires.same;
   seen = seen_none (Unit {0}) (λ b. is_marked c.args.search.now.read b ≡ true) c.args.blocks;
   all = c.requires.inside;
-  goes = goes_none g.D.Disk.tells c.args.ledger.now (g.D.Disk.state c.args.disk.now).files c.args.search.now;
-  reads = reads_none g.D.Disk.tells ⊥ (g.D.Disk.state c.args.disk.now) (λ none. none);
+  goes = goes_none g.D.Disk.reveals c.args.ledger.now (g.D.Disk.state c.args.disk.now).files c.args.search.now;
+  reads = reads_none g.D.Disk.reveals ⊥ (g.D.Disk.state c.args.disk.now) (λ none. none);
 }
 
 pub look-requires-clause-block : goal.look-requires-clause-block
@@ -43,22 +43,22 @@ loop-b-preserved g c =
       same = looks.goes.same ∙ c.loop-b.invariant.same;
       seen = seen_more (Unit {0}) (λ b. is_marked c.look.new.self.read b ≡ true) c.args.blocks c.next.new.self c.in-Some.b
           (seen_later (Unit {0}) (HasBlock l) (λ b. is_marked c.loop-b.search.read b ≡ true) (λ b. is_marked c.look.new.self.read b ≡ true) (λ b has is. looks.goes.read b has is) c.args.blocks _ c.loop-b.invariant.all seen)
-          (λ told. c.in-Ok.ensures.read);
+          (λ revealed. c.in-Ok.ensures.read);
       all = c.loop-b.invariant.all;
-      goes = goes_both g.D.Disk.tells v old.files mid.files c.args.search.now c.loop-b.search c.look.new.self c.loop-b.invariant.reads.contents c.loop-b.invariant.goes looks.goes;
-      reads = reads_as g.D.Disk.tells (c.look.result ≡ Err DiskFault) ⊥ old (g.D.Disk.state c.look.new.disk) (λ none. absurd none) (λ is. absurd (let ok = c.in-Ok.is in cc))
-          (reads_both g.D.Disk.tells ⊥ (c.look.result ≡ Err DiskFault) old mid (g.D.Disk.state c.look.new.disk) (λ none. none) c.loop-b.invariant.reads looks.reads);
+      goes = goes_both g.D.Disk.reveals v old.files mid.files c.args.search.now c.loop-b.search c.look.new.self c.loop-b.invariant.reads.contents c.loop-b.invariant.goes looks.goes;
+      reads = reads_as g.D.Disk.reveals (c.look.result ≡ Err DiskFault) ⊥ old (g.D.Disk.state c.look.new.disk) (λ none. absurd none) (λ is. absurd (let ok = c.in-Ok.is in cc))
+          (reads_both g.D.Disk.reveals ⊥ (c.look.result ≡ Err DiskFault) old mid (g.D.Disk.state c.look.new.disk) (λ none. none) c.loop-b.invariant.reads looks.reads);
     }
 
 pub returns-in-Err-clause-goes : goal.returns-in-Err-clause-goes
 returns-in-Err-clause-goes g c =
-    goes_both g.D.Disk.tells c.args.ledger.now (g.D.Disk.state c.args.disk.now).files (g.D.Disk.state c.loop-b.disk).files c.args.search.now c.loop-b.search c.look.new.self c.loop-b.invariant.reads.contents c.loop-b.invariant.goes c.look.ensures.looks.goes
+    goes_both g.D.Disk.reveals c.args.ledger.now (g.D.Disk.state c.args.disk.now).files (g.D.Disk.state c.loop-b.disk).files c.args.search.now c.loop-b.search c.look.new.self c.loop-b.invariant.reads.contents c.loop-b.invariant.goes c.look.ensures.looks.goes
 
 pub returns-in-Err-clause-reads : goal.returns-in-Err-clause-reads
 returns-in-Err-clause-reads g c =
     let mine = c.look.result ≡ Err DiskFault in
-    reads_as g.D.Disk.tells mine _ (g.D.Disk.state c.args.disk.now) (g.D.Disk.state c.look.new.disk) (λ is. c.in-Err.is ∙ (let h : c.in-Err.fault ≡ DiskFault = (let e = is in cc) in ap Err h)) (λ is. cc)
-    (reads_both g.D.Disk.tells ⊥ mine (g.D.Disk.state c.args.disk.now) (g.D.Disk.state c.loop-b.disk) (g.D.Disk.state c.look.new.disk) (λ none. none) c.loop-b.invariant.reads c.look.ensures.looks.reads)
+    reads_as g.D.Disk.reveals mine _ (g.D.Disk.state c.args.disk.now) (g.D.Disk.state c.look.new.disk) (λ is. c.in-Err.is ∙ (let h : c.in-Err.fault ≡ DiskFault = (let e = is in cc) in ap Err h)) (λ is. cc)
+    (reads_both g.D.Disk.reveals ⊥ mine (g.D.Disk.state c.args.disk.now) (g.D.Disk.state c.loop-b.disk) (g.D.Disk.state c.look.new.disk) (λ none. none) c.loop-b.invariant.reads c.look.ensures.looks.reads)
 
 pub returns-clause-read : goal.returns-clause-read
 returns-clause-read g c =
@@ -66,4 +66,4 @@ returns-clause-read g c =
 
 pub returns-clause-reads : goal.returns-clause-reads
 returns-clause-reads g c =
-    reads_as g.D.Disk.tells ⊥ _ (g.D.Disk.state c.args.disk.now) (g.D.Disk.state c.loop-b.disk) (λ is. let e = is in cc) (λ none. absurd none) c.loop-b.invariant.reads
+    reads_as g.D.Disk.reveals ⊥ _ (g.D.Disk.state c.args.disk.now) (g.D.Disk.state c.loop-b.disk) (λ is. let e = is in cc) (λ none. absurd none) c.loop-b.invariant.reads

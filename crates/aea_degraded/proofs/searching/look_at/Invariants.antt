@@ -16,8 +16,8 @@ invariant-loop-b g l = record {
   same : l.search.read.lattice ≡ l.ledger.lattice;
   seen : HasSeen (Unit {0}) (λ b. is_marked l.search.read b ≡ true) l.fn.blocks l.blocks;
   all : All (HasBlock l.ledger.lattice) l.fn.blocks;
-  goes : Goes g.D.Disk.tells l.ledger (g.D.Disk.state l.fn.disk).files l.fn.search l.search;
-  reads : OnlyReads g.D.Disk.tells ⊥ (g.D.Disk.state l.fn.disk) (g.D.Disk.state l.disk);
+  goes : Goes g.D.Disk.reveals l.ledger (g.D.Disk.state l.fn.disk).files l.fn.search l.search;
+  reads : OnlyReads g.D.Disk.reveals ⊥ (g.D.Disk.state l.fn.disk) (g.D.Disk.state l.disk);
 }
 
 abbrev pub decreases-loop-b : goal.decreases-loop-b

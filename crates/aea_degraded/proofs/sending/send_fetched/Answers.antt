@@ -20,7 +20,7 @@ send_payloads-requires-clause-ready g c k b below = (c.requires.planned k b belo
 pub returns-in-Err-Payload-clause-cut : goal.returns-in-Err-Payload-clause-cut
 returns-in-Err-Payload-clause-cut g c =
     let v = c.args.ledger.now in
-    let has = IsFetched g.D.Disk.tells v (g.D.Disk.state c.args.disk.now).files in
+    let has = IsFetched g.D.Disk.reveals v (g.D.Disk.state c.args.disk.now).files in
     cut_as has has (λ b p is. is) (data_under (get v.objects c.args.name.now)) c.args.most (g.O.Sink.state c.args.out.now) (g.O.Sink.state c.send_payloads.new.out) [] _ (c.from.result ≡ WriteFault)
     (λ e. absurd (no_output c.in-Err-Payload.fault (sym c.from.ensures ∙ e))) c.in-Err-Payload.ensures.cut
 
@@ -28,15 +28,15 @@ pub returns-in-Err-Payload-clause-faults : goal.returns-in-Err-Payload-clause-fa
 returns-in-Err-Payload-clause-faults g c = subst IsSendFault (sym c.from.ensures) (send_fault c.in-Err-Payload.fault)
 
 pub returns-in-Err-Payload-clause-clash : goal.returns-in-Err-Payload-clause-clash
-returns-in-Err-Payload-clause-clash g c d told computed is =
-    let fault : c.in-Err-Payload.fault ≡ payload.Clash d told computed = clash_from c.in-Err-Payload.fault d told computed (sym c.from.ensures ∙ (let h = is in cc)) in
+returns-in-Err-Payload-clause-clash g c d revealed computed is =
+    let fault : c.in-Err-Payload.fault ≡ payload.Clash d revealed computed = clash_from c.in-Err-Payload.fault d revealed computed (sym c.from.ensures ∙ (let h = is in cc)) in
     let said = c.send_payloads.ensures.why c.in-Err-Payload.fault (c.in-Err-Payload.is ∙ ap Err c.in-Err-Payload.field-0-is) in
-    subst (IsPlanFault g.D.Disk.tells c.args.ledger.now) fault said.2
+    subst (IsPlanFault g.D.Disk.reveals c.args.ledger.now) fault said.2
 
 pub returns-in-Err-Payload-clause-reads : goal.returns-in-Err-Payload-clause-reads
 returns-in-Err-Payload-clause-reads g c =
     let kind = λ (f : PayloadFault). f ≡ payload.DiskFault in
     let failed = c.in-Err-Payload.is ∙ ap Err c.in-Err-Payload.field-0-is in
-    reads_as g.D.Disk.tells (IsPayloadFault kind c.send_payloads.result) _ (g.D.Disk.state c.args.disk.now) (g.D.Disk.state c.send_payloads.new.disk)
+    reads_as g.D.Disk.reveals (IsPayloadFault kind c.send_payloads.result) _ (g.D.Disk.state c.args.disk.now) (g.D.Disk.state c.send_payloads.new.disk)
     (λ is. subst (IsPayloadFault kind) (sym failed) (disk_from c.in-Err-Payload.fault (sym c.from.ensures ∙ (let h = is in cc))))
     (λ is. ap Err (c.from.ensures ∙ ap fetch_fault (subst (IsPayloadFault kind) failed is))) c.send_payloads.ensures.reads

@@ -7,5 +7,5 @@ pub returns-in-len1 : goal.returns-in-len1
 returns-in-len1 c =
     rw (one_item c.args.words.now c.command-item.result c.in-len1.len_at_least c.in-len1.len_below c.command-item.is)
     (let said = rw c.as_str.ensures.value at c.eq.ensures in
-    let tells = bytes_eq-Decides (string_bytes c.command-item.result) c.args.word.now in
-    (λ yes'. let same = tells.0 (sym said ∙ yes') in cc, λ means. said ∙ tells.1 cc))
+    let reveals = bytes_eq-Decides (string_bytes c.command-item.result) c.args.word.now in
+    (λ yes'. let same = reveals.0 (sym said ∙ yes') in cc, λ means. said ∙ reveals.1 cc))

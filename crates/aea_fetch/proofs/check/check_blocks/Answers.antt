@@ -14,8 +14,8 @@ loop-b-init g c =
     record {
       inside = c.requires.inside;
       buffer = c.requires.buffer;
-      seen = seen_none g.D.Disk.tells (IsIntactBy v.shape v.digests (g.D.Disk.state c.args.disk.now).files) c.args.blocks;
-      reads = reads_none g.D.Disk.tells ⊥ (g.D.Disk.state c.args.disk.now) (λ none. none);
+      seen = seen_none g.D.Disk.reveals (IsIntactBy v.shape v.digests (g.D.Disk.state c.args.disk.now).files) c.args.blocks;
+      reads = reads_none g.D.Disk.reveals ⊥ (g.D.Disk.state c.args.disk.now) (λ none. none);
     }
 
 pub is_block_intact-requires-clause-block : goal.is_block_intact-requires-clause-block
@@ -34,10 +34,10 @@ loop-b-preserved g c =
     record {
       inside = All-tail (HasBlock v.lattice) c.in-Some.b c.next.new.self (subst (All (HasBlock v.lattice)) c.in-Some.ensures c.loop-b.invariant.inside);
       buffer = c.is_block_intact.auto.cell ∙ c.loop-b.invariant.buffer;
-      seen = seen_more g.D.Disk.tells good c.args.blocks c.next.new.self c.in-Some.b (subst (HasSeen g.D.Disk.tells good c.args.blocks) c.in-Some.ensures c.loop-b.invariant.seen)
-          (λ told. subst (λ (f : Files). IsIntactBy v.shape v.digests f c.in-Some.b) (c.loop-b.invariant.reads.contents told) ((c.in-Ok-true.ensures.intact told).0 c.in-Ok-true.field-0-test));
-      reads = reads_as g.D.Disk.tells (IsErr c.is_block_intact.result) ⊥ old (g.D.Disk.state c.is_block_intact.new.disk) (λ none. absurd none) (ok_fine c.in-Ok-true.is)
-          (reads_both g.D.Disk.tells ⊥ (IsErr c.is_block_intact.result) old (g.D.Disk.state c.loop-b.disk) (g.D.Disk.state c.is_block_intact.new.disk) (λ none. none) c.loop-b.invariant.reads c.is_block_intact.ensures.reads);
+      seen = seen_more g.D.Disk.reveals good c.args.blocks c.next.new.self c.in-Some.b (subst (HasSeen g.D.Disk.reveals good c.args.blocks) c.in-Some.ensures c.loop-b.invariant.seen)
+          (λ revealed. subst (λ (f : Files). IsIntactBy v.shape v.digests f c.in-Some.b) (c.loop-b.invariant.reads.contents revealed) ((c.in-Ok-true.ensures.intact revealed).0 c.in-Ok-true.field-0-test));
+      reads = reads_as g.D.Disk.reveals (IsErr c.is_block_intact.result) ⊥ old (g.D.Disk.state c.is_block_intact.new.disk) (λ none. absurd none) (ok_fine c.in-Ok-true.is)
+          (reads_both g.D.Disk.reveals ⊥ (IsErr c.is_block_intact.result) old (g.D.Disk.state c.loop-b.disk) (g.D.Disk.state c.is_block_intact.new.disk) (λ none. none) c.loop-b.invariant.reads c.is_block_intact.ensures.reads);
     }
 
 pub returns-in-Ok-false-clause-found : goal.returns-in-Ok-false-clause-found
@@ -45,29 +45,29 @@ returns-in-Ok-false-clause-found g c =
     let v = c.args.ledger.now in
     let old = g.D.Disk.state c.args.disk.now in
     let good = IsIntactBy v.shape v.digests old.files in
-    let seen = subst (HasSeen g.D.Disk.tells good c.args.blocks) c.in-Some.ensures c.loop-b.invariant.seen in (
-      seen_one g.D.Disk.tells good c.args.blocks c.next.new.self c.in-Some.b seen,
-      λ told.
-          seen_first g.D.Disk.tells good c.args.blocks c.next.new.self c.in-Some.b seen told
-          (subst (λ (f : Files). IsIntactBy v.shape v.digests f c.in-Some.b → ⊥) (c.loop-b.invariant.reads.contents told) (λ is. absurd (let one = (c.in-Ok-false.ensures.intact told).1 is in let other = c.in-Ok-false.field-0-test in cc))),
+    let seen = subst (HasSeen g.D.Disk.reveals good c.args.blocks) c.in-Some.ensures c.loop-b.invariant.seen in (
+      seen_one g.D.Disk.reveals good c.args.blocks c.next.new.self c.in-Some.b seen,
+      λ revealed.
+          seen_first g.D.Disk.reveals good c.args.blocks c.next.new.self c.in-Some.b seen revealed
+          (subst (λ (f : Files). IsIntactBy v.shape v.digests f c.in-Some.b → ⊥) (c.loop-b.invariant.reads.contents revealed) (λ is. absurd (let one = (c.in-Ok-false.ensures.intact revealed).1 is in let other = c.in-Ok-false.field-0-test in cc))),
     )
 
 pub returns-in-Ok-false-clause-reads : goal.returns-in-Ok-false-clause-reads
 returns-in-Ok-false-clause-reads g c =
-    reads_as g.D.Disk.tells (IsErr c.is_block_intact.result) _ (g.D.Disk.state c.args.disk.now) (g.D.Disk.state c.is_block_intact.new.disk) (λ is. let e = is in cc) (λ is. cc)
-    (reads_both g.D.Disk.tells ⊥ (IsErr c.is_block_intact.result) (g.D.Disk.state c.args.disk.now) (g.D.Disk.state c.loop-b.disk) (g.D.Disk.state c.is_block_intact.new.disk) (λ none. none) c.loop-b.invariant.reads c.is_block_intact.ensures.reads)
+    reads_as g.D.Disk.reveals (IsErr c.is_block_intact.result) _ (g.D.Disk.state c.args.disk.now) (g.D.Disk.state c.is_block_intact.new.disk) (λ is. let e = is in cc) (λ is. cc)
+    (reads_both g.D.Disk.reveals ⊥ (IsErr c.is_block_intact.result) (g.D.Disk.state c.args.disk.now) (g.D.Disk.state c.loop-b.disk) (g.D.Disk.state c.is_block_intact.new.disk) (λ none. none) c.loop-b.invariant.reads c.is_block_intact.ensures.reads)
 
 pub returns-in-Err-clause-reads : goal.returns-in-Err-clause-reads
 returns-in-Err-clause-reads g c =
-    reads_as g.D.Disk.tells (IsErr c.is_block_intact.result) _ (g.D.Disk.state c.args.disk.now) (g.D.Disk.state c.is_block_intact.new.disk) (λ is. subst IsErr (sym c.in-Err.is) refl) (λ _. refl)
-    (reads_both g.D.Disk.tells ⊥ (IsErr c.is_block_intact.result) (g.D.Disk.state c.args.disk.now) (g.D.Disk.state c.loop-b.disk) (g.D.Disk.state c.is_block_intact.new.disk) (λ none. none) c.loop-b.invariant.reads c.is_block_intact.ensures.reads)
+    reads_as g.D.Disk.reveals (IsErr c.is_block_intact.result) _ (g.D.Disk.state c.args.disk.now) (g.D.Disk.state c.is_block_intact.new.disk) (λ is. subst IsErr (sym c.in-Err.is) refl) (λ _. refl)
+    (reads_both g.D.Disk.reveals ⊥ (IsErr c.is_block_intact.result) (g.D.Disk.state c.args.disk.now) (g.D.Disk.state c.loop-b.disk) (g.D.Disk.state c.is_block_intact.new.disk) (λ none. none) c.loop-b.invariant.reads c.is_block_intact.ensures.reads)
 
 pub returns-clause-found : goal.returns-clause-found
-returns-clause-found g c told =
+returns-clause-found g c revealed =
     let v = c.args.ledger.now in
     let good = IsIntactBy v.shape v.digests (g.D.Disk.state c.args.disk.now).files in
-    seen_all g.D.Disk.tells good c.args.blocks (subst (HasSeen g.D.Disk.tells good c.args.blocks) c.in_default.ensures.0 c.loop-b.invariant.seen) told
+    seen_all g.D.Disk.reveals good c.args.blocks (subst (HasSeen g.D.Disk.reveals good c.args.blocks) c.in_default.ensures.0 c.loop-b.invariant.seen) revealed
 
 pub returns-clause-reads : goal.returns-clause-reads
 returns-clause-reads g c =
-    reads_as g.D.Disk.tells ⊥ _ (g.D.Disk.state c.args.disk.now) (g.D.Disk.state c.loop-b.disk) (λ is. let e = is in cc) (λ none. absurd none) c.loop-b.invariant.reads
+    reads_as g.D.Disk.reveals ⊥ _ (g.D.Disk.state c.args.disk.now) (g.D.Disk.state c.loop-b.disk) (λ is. let e = is in cc) (λ none. absurd none) c.loop-b.invariant.reads

@@ -12,8 +12,8 @@ abbrev pub invariant-loop-b : goal.invariant-loop-b
 invariant-loop-b g l = record {
   inside : All (HasBlock l.ledger.lattice) l.blocks;
   buffer : length l.cell ≡ cell_size l.ledger.shape;
-  seen : HasSeen g.D.Disk.tells (IsIntactBy l.ledger.shape l.ledger.digests (g.D.Disk.state l.fn.disk).files) l.fn.blocks l.blocks;
-  reads : OnlyReads g.D.Disk.tells ⊥ (g.D.Disk.state l.fn.disk) (g.D.Disk.state l.disk);
+  seen : HasSeen g.D.Disk.reveals (IsIntactBy l.ledger.shape l.ledger.digests (g.D.Disk.state l.fn.disk).files) l.fn.blocks l.blocks;
+  reads : OnlyReads g.D.Disk.reveals ⊥ (g.D.Disk.state l.fn.disk) (g.D.Disk.state l.disk);
 }
 
 abbrev pub decreases-loop-b : goal.decreases-loop-b

@@ -22,9 +22,9 @@ loop-b-init g c =
     record {
       ready = λ d is. is;
       inside = c.requires.inside;
-      reached = reached_none (IsWide v.shape.block (g.P.PayloadSource.has g.D.Disk.tells v (g.D.Disk.state c.args.disk.now).files)) v.shape.block (λ b p is. is.1) c.args.blocks c.args.most (g.O.Sink.state c.args.out.now) c.args.page.now;
+      reached = reached_none (IsWide v.shape.block (g.P.PayloadSource.has g.D.Disk.reveals v (g.D.Disk.state c.args.disk.now).files)) v.shape.block (λ b p is. is.1) c.args.blocks c.args.most (g.O.Sink.state c.args.out.now) c.args.page.now;
       still = refl;
-      reads = reads_none g.D.Disk.tells ⊥ (g.D.Disk.state c.args.disk.now) (λ none. none);
+      reads = reads_none g.D.Disk.reveals ⊥ (g.D.Disk.state c.args.disk.now) (λ none. none);
     }
 
 pub copy_block-requires-clause-block : goal.copy_block-requires-clause-block
@@ -36,8 +36,8 @@ pub copy_block-requires-clause-ready : goal.copy_block-requires-clause-ready
 copy_block-requires-clause-ready g c =
     let v = c.args.ledger.now in
     let files = (g.D.Disk.state c.args.disk.now).files in
-    let has = IsWide v.shape.block (g.P.PayloadSource.has g.D.Disk.tells v files) in
-    let ready = g.P.PayloadSource.ready c.args.payloads.now g.D.Disk.tells v files in
+    let has = IsWide v.shape.block (g.P.PayloadSource.has g.D.Disk.reveals v files) in
+    let ready = g.P.PayloadSource.ready c.args.payloads.now g.D.Disk.reveals v files in
     let sink = g.O.Sink.state c.args.out.now in
     let here = g.O.Sink.state c.loop-b.out in
     let reached = subst (λ (bs : List BlockId). HasReached has v.shape.block c.args.blocks bs c.args.most c.loop-b.left sink c.args.page.now here c.loop-b.page) c.in-Some.ensures c.loop-b.invariant.reached in
@@ -50,14 +50,14 @@ loop-b-smaller g c = let long = ap length c.in-Some.ensures in omega (arith, lon
 pub loop-b-preserved : goal.loop-b-preserved
 loop-b-preserved g c =
     let v = c.args.ledger.now in
-    let tells = g.D.Disk.tells in
+    let reveals = g.D.Disk.reveals in
     let kind = g.P.PayloadSource.is_disk in
     let old = g.D.Disk.state c.args.disk.now in
     let mid = g.D.Disk.state c.loop-b.disk in
     let sink = g.O.Sink.state c.args.out.now in
     let here = g.O.Sink.state c.loop-b.out in
     let later = g.O.Sink.state c.copy_block.new.out in
-    let has = IsWide v.shape.block (g.P.PayloadSource.has tells v old.files) in
+    let has = IsWide v.shape.block (g.P.PayloadSource.has reveals v old.files) in
     let reached = subst (λ (bs : List BlockId). HasReached has v.shape.block c.args.blocks bs c.args.most c.loop-b.left sink c.args.page.now here c.loop-b.page) c.in-Some.ensures c.loop-b.invariant.reached in
     let size : c.block-size.result ≡ v.shape.block = c.block-size.ensures ∙ ap (λ (s : Shape). s.block) c.shape.ensures.value in
     record {
@@ -67,8 +67,8 @@ loop-b-preserved g c =
           (c.in-Ok.ensures.copied old.files c.loop-b.invariant.reads.contents)
           (c.left_behind-left.ensures ∙ ap (λ (n : ℕ). c.loop-b.left - n) size);
       still = c.copy_block.ensures.still (λ failed. let ok = c.in-Ok.is in cc) ∙ c.loop-b.invariant.still;
-      reads = reads_as tells (IsPayloadFault kind c.copy_block.result) ⊥ old (g.D.Disk.state c.copy_block.new.disk) (λ none. absurd none) (fine kind c.in-Ok.is)
-          (reads_both tells ⊥ (IsPayloadFault kind c.copy_block.result) old mid (g.D.Disk.state c.copy_block.new.disk) (λ none. none) c.loop-b.invariant.reads c.copy_block.ensures.reads);
+      reads = reads_as reveals (IsPayloadFault kind c.copy_block.result) ⊥ old (g.D.Disk.state c.copy_block.new.disk) (λ none. absurd none) (fine kind c.in-Ok.is)
+          (reads_both reveals ⊥ (IsPayloadFault kind c.copy_block.result) old mid (g.D.Disk.state c.copy_block.new.disk) (λ none. none) c.loop-b.invariant.reads c.copy_block.ensures.reads);
     }
 
 pub returns-in-Err-clause-cut : goal.returns-in-Err-clause-cut
@@ -78,7 +78,7 @@ returns-in-Err-clause-cut g c =
     let sink = g.O.Sink.state c.args.out.now in
     let here = g.O.Sink.state c.loop-b.out in
     let later = g.O.Sink.state c.copy_block.new.out in
-    let has = IsWide v.shape.block (g.P.PayloadSource.has g.D.Disk.tells v old.files) in
+    let has = IsWide v.shape.block (g.P.PayloadSource.has g.D.Disk.reveals v old.files) in
     let reached = subst (λ (bs : List BlockId). HasReached has v.shape.block c.args.blocks bs c.args.most c.loop-b.left sink c.args.page.now here c.loop-b.page) c.in-Some.ensures c.loop-b.invariant.reached in
     reached_cut has v.shape.block (λ b p is. is.1) c.args.blocks c.next.new.self c.in-Some.b c.args.most c.loop-b.left sink here later c.args.page.now c.loop-b.page (c.in-Err.fault ≡ Output) reached
     (c.in-Err.ensures.cut old.files c.loop-b.invariant.reads.contents)
@@ -89,7 +89,7 @@ returns-in-Err-clause-why g c fault is =
     let old = g.D.Disk.state c.args.disk.now in
     let sink = g.O.Sink.state c.args.out.now in
     let here = g.O.Sink.state c.loop-b.out in
-    let has = IsWide v.shape.block (g.P.PayloadSource.has g.D.Disk.tells v old.files) in
+    let has = IsWide v.shape.block (g.P.PayloadSource.has g.D.Disk.reveals v old.files) in
     let reached = subst (λ (bs : List BlockId). HasReached has v.shape.block c.args.blocks bs c.args.most c.loop-b.left sink c.args.page.now here c.loop-b.page) c.in-Some.ensures c.loop-b.invariant.reached in (
       c.in-Some.b,
       reached_one has v.shape.block (λ b p is. is.1) c.args.blocks c.next.new.self c.in-Some.b c.args.most c.loop-b.left sink here c.args.page.now c.loop-b.page reached,
@@ -100,14 +100,14 @@ pub returns-in-Err-clause-reads : goal.returns-in-Err-clause-reads
 returns-in-Err-clause-reads g c =
     let kind = g.P.PayloadSource.is_disk in
     let mine = IsPayloadFault kind c.copy_block.result in
-    reads_as g.D.Disk.tells mine _ (g.D.Disk.state c.args.disk.now) (g.D.Disk.state c.copy_block.new.disk) (λ is. subst (IsPayloadFault kind) (sym c.in-Err.is) is) (λ is. subst (IsPayloadFault kind) c.in-Err.is is)
-    (reads_both g.D.Disk.tells ⊥ mine (g.D.Disk.state c.args.disk.now) (g.D.Disk.state c.loop-b.disk) (g.D.Disk.state c.copy_block.new.disk) (λ none. none) c.loop-b.invariant.reads c.copy_block.ensures.reads)
+    reads_as g.D.Disk.reveals mine _ (g.D.Disk.state c.args.disk.now) (g.D.Disk.state c.copy_block.new.disk) (λ is. subst (IsPayloadFault kind) (sym c.in-Err.is) is) (λ is. subst (IsPayloadFault kind) c.in-Err.is is)
+    (reads_both g.D.Disk.reveals ⊥ mine (g.D.Disk.state c.args.disk.now) (g.D.Disk.state c.loop-b.disk) (g.D.Disk.state c.copy_block.new.disk) (λ none. none) c.loop-b.invariant.reads c.copy_block.ensures.reads)
 
 pub returns-clause-copied : goal.returns-clause-copied
 returns-clause-copied g c =
     let v = c.args.ledger.now in
     let files = (g.D.Disk.state c.args.disk.now).files in
-    let has = IsWide v.shape.block (g.P.PayloadSource.has g.D.Disk.tells v files) in
+    let has = IsWide v.shape.block (g.P.PayloadSource.has g.D.Disk.reveals v files) in
     let sink = g.O.Sink.state c.args.out.now in
     let here = g.O.Sink.state c.loop-b.out in
     reached_all has v.shape.block (λ b p is. is.1) c.args.blocks c.args.most c.loop-b.left sink here c.args.page.now c.loop-b.page
@@ -115,4 +115,4 @@ returns-clause-copied g c =
 
 pub returns-clause-reads : goal.returns-clause-reads
 returns-clause-reads g c =
-    reads_as g.D.Disk.tells ⊥ _ (g.D.Disk.state c.args.disk.now) (g.D.Disk.state c.loop-b.disk) (λ is. absurd is) (λ none. absurd none) c.loop-b.invariant.reads
+    reads_as g.D.Disk.reveals ⊥ _ (g.D.Disk.state c.args.disk.now) (g.D.Disk.state c.loop-b.disk) (λ is. absurd is) (λ none. absurd none) c.loop-b.invariant.reads

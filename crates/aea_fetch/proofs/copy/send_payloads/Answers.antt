@@ -10,12 +10,12 @@ use Rattle.aea_fetch.proofs.copy.send_payloads.Goals as goal
 
 pub copy_blocks-requires-clause-ready : goal.copy_blocks-requires-clause-ready
 copy_blocks-requires-clause-ready g c =
-    subst (All (g.P.PayloadSource.ready c.args.payloads.now g.D.Disk.tells c.args.ledger.now (g.D.Disk.state c.args.disk.now).files)) (sym c.new-blocks.ensures.all) c.requires.ready
+    subst (All (g.P.PayloadSource.ready c.args.payloads.now g.D.Disk.reveals c.args.ledger.now (g.D.Disk.state c.args.disk.now).files)) (sym c.new-blocks.ensures.all) c.requires.ready
 
 pub returns-in-Err-clause-cut : goal.returns-in-Err-clause-cut
 returns-in-Err-clause-cut g c =
     let v = c.args.ledger.now in
-    let has = g.P.PayloadSource.has g.D.Disk.tells v (g.D.Disk.state c.args.disk.now).files in
+    let has = g.P.PayloadSource.has g.D.Disk.reveals v (g.D.Disk.state c.args.disk.now).files in
     let sink = g.O.Sink.state c.args.out.now in
     let later = g.O.Sink.state c.copy_blocks.new.out in
     let failed = c.in-Err.fault ≡ Output in
@@ -31,7 +31,7 @@ returns-in-Err-clause-why g c fault is =
 pub returns-in-Err-finish-clause-cut : goal.returns-in-Err-finish-clause-cut
 returns-in-Err-finish-clause-cut g c =
     let v = c.args.ledger.now in
-    let has = g.P.PayloadSource.has g.D.Disk.tells v (g.D.Disk.state c.args.disk.now).files in
+    let has = g.P.PayloadSource.has g.D.Disk.reveals v (g.D.Disk.state c.args.disk.now).files in
     let wide = IsWide v.shape.block has in
     let sink = g.O.Sink.state c.args.out.now in
     let mid = g.O.Sink.state c.copy_blocks.new.out in
@@ -44,7 +44,7 @@ returns-in-Err-finish-clause-cut g c =
 pub returns-in-Ok-finish-clause-sent : goal.returns-in-Ok-finish-clause-sent
 returns-in-Ok-finish-clause-sent g c =
     let v = c.args.ledger.now in
-    let has = g.P.PayloadSource.has g.D.Disk.tells v (g.D.Disk.state c.args.disk.now).files in
+    let has = g.P.PayloadSource.has g.D.Disk.reveals v (g.D.Disk.state c.args.disk.now).files in
     let wide = IsWide v.shape.block has in
     let sink = g.O.Sink.state c.args.out.now in
     let mid = g.O.Sink.state c.copy_blocks.new.out in

@@ -1,6 +1,6 @@
 use Rattle.std.proofs.Common.{◌≡◌, ◌*◌, ℕ, List, Option, length}
 use Rattle.aea_gauss_words.specs.Words.{bit_matrix}
-use Rattle.aea_gauss.specs.Told.{AreLeads}
+use Rattle.aea_gauss.specs.Revealed.{AreLeads}
 use Rattle.aea_gauss.proofs.leads.lead_table.Given as goal
 
 -- the first rows are noted

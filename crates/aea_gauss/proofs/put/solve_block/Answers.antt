@@ -25,9 +25,9 @@ returns c =
       inside = c.put_fate.ensures.1;
       here = c.put_fate.ensures.2;
       block = c.in_ok-fate.ensures.block;
-      tells = λ known blocks_are equations_are.
-          c.in_ok-fate.ensures.told l known
-          (c.small_rows_tell_fates.ensures l known part equations (bit_matrix wide c.as_slice.result.now) blocks_are equations_are
+      reveals = λ known blocks_are equations_are.
+          c.in_ok-fate.ensures.revealed l known
+          (c.small_rows_reveal_fates.ensures l known part equations (bit_matrix wide c.as_slice.result.now) blocks_are equations_are
           (subst (λ words. IsReduction (length equations) (length part + length equations) (small_start l part equations) (bit_matrix wide words)) (sym c.as_slice.ensures.value)
           c.requires.reduced.reduction));
       is = c.put_fate.ensures.3;

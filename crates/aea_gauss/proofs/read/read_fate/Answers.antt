@@ -8,8 +8,8 @@ use Rattle.aea_readings.specs.Small.{block_in}
 use Rattle.aea_gauss.proofs.Reading.{at_none, at_some, same_default, lead_narrow, free_narrow}
 use Rattle.aea_gauss.proofs.read.read_fate.Goals as goal
 
-pub returns-in_ok-nodes-in-None-clause-told : goal.returns-in_ok-nodes-in-None-clause-told
-returns-in_ok-nodes-in-None-clause-told c l known tell =
+pub returns-in_ok-nodes-in-None-clause-revealed : goal.returns-in_ok-nodes-in-None-clause-revealed
+returns-in_ok-nodes-in-None-clause-revealed c l known reveal =
     let blocks = c.args.blocks.now in
     let a = c.args.a in
     let rows = length c.args.equations.now in
@@ -24,10 +24,10 @@ returns-in_ok-nodes-in-None-clause-told c l known tell =
     let free = at_none (get_or leads a None) (IsFree rows big m a) (λ i. (i < rows) × IsLead big (m i) a) (c.requires.leads a inside)
     (same_default leads a None _ inside ∙ c.in-None.is) in
     subst (IsWord l known (block_in blocks a)) (sym c.in_ok-nodes-in-None.ensures)
-    (tell.free a less (free_narrow rows cols big m a (omega arith) free))
+    (reveal.free a less (free_narrow rows cols big m a (omega arith) free))
 
-pub returns-in_ok-eqs-in-None-next_column-clause-told : goal.returns-in_ok-eqs-in-None-next_column-clause-told
-returns-in_ok-eqs-in-None-next_column-clause-told c l known tell =
+pub returns-in_ok-eqs-in-None-next_column-clause-revealed : goal.returns-in_ok-eqs-in-None-next_column-clause-revealed
+returns-in_ok-eqs-in-None-next_column-clause-revealed c l known reveal =
     let blocks = c.args.blocks.now in
     let a = c.args.a in
     let rows = length c.args.equations.now in
@@ -41,11 +41,11 @@ returns-in_ok-eqs-in-None-next_column-clause-told c l known tell =
     let got = at_some (get_or leads a None) (IsFree rows big m a) (λ i. (i < rows) × IsLead big (m i) a) c.in-Some.row (c.requires.leads a inside)
     (same_default leads a None _ inside ∙ c.in-Some.is) in
     subst (IsSum l known (block_in blocks a)) (sym c.in_ok-eqs-in-None-next_column.ensures)
-    (tell.sum a c.in-Some.row less got.0 (lead_narrow cols big (m c.in-Some.row) a (omega arith) got.1)
+    (reveal.sum a c.in-Some.row less got.0 (lead_narrow cols big (m c.in-Some.row) a (omega arith) got.1)
     (λ k low high. c.in-None-next_column.ensures k (omega arith) high))
 
-pub returns-in_ok-nodes-in-Some-next_column-clause-told : goal.returns-in_ok-nodes-in-Some-next_column-clause-told
-returns-in_ok-nodes-in-Some-next_column-clause-told c l known tell =
+pub returns-in_ok-nodes-in-Some-next_column-clause-revealed : goal.returns-in_ok-nodes-in-Some-next_column-clause-revealed
+returns-in_ok-nodes-in-Some-next_column-clause-revealed c l known reveal =
     let blocks = c.args.blocks.now in
     let a = c.args.a in
     let rows = length c.args.equations.now in
@@ -62,5 +62,5 @@ returns-in_ok-nodes-in-Some-next_column-clause-told c l known tell =
     let next0 = next.0 in
     let next1 = next.1 in
     subst (IsWord l known (block_in blocks a)) (sym c.in_ok-nodes-in-Some-next_column.ensures)
-    (tell.next a c.in-Some-next_column.f c.in-Some.row less got.0 (lead_narrow cols big (m c.in-Some.row) a (omega arith) got.1)
+    (reveal.next a c.in-Some-next_column.f c.in-Some.row less got.0 (lead_narrow cols big (m c.in-Some.row) a (omega arith) got.1)
     (omega arith) next1 next.2 (λ k low high. next.3 k (omega arith) high))

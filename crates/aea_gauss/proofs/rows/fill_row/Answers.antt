@@ -4,7 +4,7 @@ use Rattle.aea_lattice.specs.declared.blocks.BlockId.{BlockId}
 use Rattle.aea_lattice.specs.Blocks.{HasBlock}
 use Rattle.aea_lattice.specs.Strands.{previous}
 use Rattle.aea_lattice.proofs.Equations.{input_inside}
-use Rattle.aea_gauss.proofs.Turning.{row_turned}
+use Rattle.aea_gauss.proofs.Turning.{row_flipped}
 use Rattle.aea_gauss.proofs.rows.fill_row.Goals as goal
 
 each : (P : BlockId → Type 0) (p : Option BlockId) → IfSome p P → (x : BlockId) → p ≡ Some x → P x
@@ -19,7 +19,7 @@ turn_input-requires-clause-block c =
 
 pub returns : goal.returns
 returns c =
-    row_turned c.args.lattice.now c.args.blocks.now c.args.own c.requires.own c.args.e c.args.begin c.args.wide
+    row_flipped c.args.lattice.now c.args.blocks.now c.args.own c.requires.own c.args.e c.args.begin c.args.wide
     c.args.words.now c.turn_input.new.words c.turn_block.new.words c.turn_block-2.new.words c.turn.new.words c.requires.equation
     c.equation-q.result.input c.equation-q.result.datum c.equation-q.result.output
     c.equation-q.ensures.input c.equation-q.ensures.datum c.equation-q.ensures.output

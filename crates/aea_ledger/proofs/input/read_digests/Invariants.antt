@@ -4,5 +4,5 @@ use Rattle.aea_ledger.proofs.input.read_digests.Given as goal
 
 abbrev pub invariant-loop : goal.invariant-loop
 invariant-loop g l =
-    HasDigests g.D.Disk.tells ((g.D.Disk.state l.fn.disk).files 0) l.fn.input l.input l.counter l.fn.digests.items l.digests.items
-    × OnlyReads g.D.Disk.tells ⊥ (g.D.Disk.state l.fn.disk) (g.D.Disk.state l.disk)
+    HasDigests g.D.Disk.reveals ((g.D.Disk.state l.fn.disk).files 0) l.fn.input l.input l.counter l.fn.digests.items l.digests.items
+    × OnlyReads g.D.Disk.reveals ⊥ (g.D.Disk.state l.fn.disk) (g.D.Disk.state l.disk)

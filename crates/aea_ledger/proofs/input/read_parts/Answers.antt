@@ -6,18 +6,18 @@ use Rattle.aea_ledger.proofs.input.read_parts.Goals as goal
 pub loop-preserved : goal.loop-preserved
 loop-preserved g c =
     let early = c.loop.invariant.1 in (
-      parts_push g.D.Disk.tells _ c.args.input.now c.loop.input c.read_part.new.input c.loop.counter _ _ _ c.loop.invariant.0
-          (parts_in g.D.Disk.tells ((g.D.Disk.state c.loop.disk).files 0) ((g.D.Disk.state c.args.disk.now).files 0) c.loop.input c.read_part.new.input 1 _ _
-          (λ tells. ap (λ (f : ℕ → List ℕ). f 0) (early.contents tells)) (c.in_ok-read_part.ensures.more c.if-not-branch.false)),
-      reads_both g.D.Disk.tells ⊥ ⊥ (g.D.Disk.state c.args.disk.now) (g.D.Disk.state c.loop.disk) (g.D.Disk.state c.read_part.new.disk) (λ none. none) early
-          (reads_as g.D.Disk.tells _ ⊥ _ _ (λ none. absurd none) (λ is. absurd (cc)) c.in_ok-read_part.ensures.reads),
+      parts_push g.D.Disk.reveals _ c.args.input.now c.loop.input c.read_part.new.input c.loop.counter _ _ _ c.loop.invariant.0
+          (parts_in g.D.Disk.reveals ((g.D.Disk.state c.loop.disk).files 0) ((g.D.Disk.state c.args.disk.now).files 0) c.loop.input c.read_part.new.input 1 _ _
+          (λ reveals. ap (λ (f : ℕ → List ℕ). f 0) (early.contents reveals)) (c.in_ok-read_part.ensures.more c.if-not-branch.false)),
+      reads_both g.D.Disk.reveals ⊥ ⊥ (g.D.Disk.state c.args.disk.now) (g.D.Disk.state c.loop.disk) (g.D.Disk.state c.read_part.new.disk) (λ none. none) early
+          (reads_as g.D.Disk.reveals _ ⊥ _ _ (λ none. absurd none) (λ is. absurd (cc)) c.in_ok-read_part.ensures.reads),
     )
 
 pub loop-init : goal.loop-init
-loop-init g c = (search rules, reads_none g.D.Disk.tells ⊥ (g.D.Disk.state c.args.disk.now) (λ none. none))
+loop-init g c = (search rules, reads_none g.D.Disk.reveals ⊥ (g.D.Disk.state c.args.disk.now) (λ none. none))
 
 pub returns-in_err-read_part-clause-reads : goal.returns-in_err-read_part-clause-reads
-returns-in_err-read_part-clause-reads g c = reads_both g.D.Disk.tells ⊥ _ (g.D.Disk.state c.args.disk.now) (g.D.Disk.state c.loop.disk) (g.D.Disk.state c.read_part.new.disk) (λ none. none) c.loop.invariant.1 (reads_as g.D.Disk.tells _ _ _ _ (λ e. search rules) (λ is. search rules) c.in_err-read_part.ensures.reads)
+returns-in_err-read_part-clause-reads g c = reads_both g.D.Disk.reveals ⊥ _ (g.D.Disk.state c.args.disk.now) (g.D.Disk.state c.loop.disk) (g.D.Disk.state c.read_part.new.disk) (λ none. none) c.loop.invariant.1 (reads_as g.D.Disk.reveals _ _ _ _ (λ e. search rules) (λ is. search rules) c.in_err-read_part.ensures.reads)
 
 pub returns-then-not-branch-clause-reads : goal.returns-then-not-branch-clause-reads
-returns-then-not-branch-clause-reads g c = reads_both g.D.Disk.tells ⊥ _ (g.D.Disk.state c.args.disk.now) (g.D.Disk.state c.loop.disk) (g.D.Disk.state c.read_part.new.disk) (λ none. none) c.loop.invariant.1 (reads_as g.D.Disk.tells _ _ _ _ (λ e. absurd (cc)) (λ is. absurd (cc)) c.in_ok-read_part.ensures.reads)
+returns-then-not-branch-clause-reads g c = reads_both g.D.Disk.reveals ⊥ _ (g.D.Disk.state c.args.disk.now) (g.D.Disk.state c.loop.disk) (g.D.Disk.state c.read_part.new.disk) (λ none. none) c.loop.invariant.1 (reads_as g.D.Disk.reveals _ _ _ _ (λ e. absurd (cc)) (λ is. absurd (cc)) c.in_ok-read_part.ensures.reads)

@@ -4,5 +4,5 @@ use Rattle.aea_ledger.proofs.input.read_parts.Given as goal
 
 abbrev pub invariant-loop : goal.invariant-loop
 invariant-loop g l =
-    HasParts g.D.Disk.tells ((g.D.Disk.state l.fn.disk).files 0) l.fn.input l.input l.counter l.fn.parts.items l.parts.items
-    × OnlyReads g.D.Disk.tells ⊥ (g.D.Disk.state l.fn.disk) (g.D.Disk.state l.disk)
+    HasParts g.D.Disk.reveals ((g.D.Disk.state l.fn.disk).files 0) l.fn.input l.input l.counter l.fn.parts.items l.parts.items
+    × OnlyReads g.D.Disk.reveals ⊥ (g.D.Disk.state l.fn.disk) (g.D.Disk.state l.disk)

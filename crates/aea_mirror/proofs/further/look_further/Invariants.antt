@@ -9,8 +9,8 @@ invariant-records g l =
     (l.copy ≤ 2 ^ 58)
     × (l.at ≤ 2 ^ 58)
     × (l.fn.end ≤ l.at)
-    × (g.D.Disk.tells → (before : ℕ) → l.fn.gate ≡ copied_end (before + 1) l.fn.end → Walked ((g.D.Disk.state l.fn.disk).files 0) before l.fn.end l.at l.copy)
-    × OnlyReads g.D.Disk.tells ⊥ (g.D.Disk.state l.fn.disk) (g.D.Disk.state l.disk)
+    × (g.D.Disk.reveals → (before : ℕ) → l.fn.gate ≡ copied_end (before + 1) l.fn.end → Walked ((g.D.Disk.state l.fn.disk).files 0) before l.fn.end l.at l.copy)
+    × OnlyReads g.D.Disk.reveals ⊥ (g.D.Disk.state l.fn.disk) (g.D.Disk.state l.disk)
 
 abbrev pub decreases-records : goal.decreases-records
 decreases-records g l = 2 ^ 58 - l.copy

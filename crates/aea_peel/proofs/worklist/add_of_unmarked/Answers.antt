@@ -4,7 +4,7 @@ use Rattle.aea_lattice.specs.Blocks.{number_of}
 use Rattle.aea_lattice.specs.Equations.{is_in_equation}
 use Rattle.aea_lattice.proofs.Equations.{number_equal}
 use Rattle.aea_peel.proofs.Queues.{still}
-use Rattle.aea_peel.proofs.Around.{AreTurned, not_clear, around_all, IsQueue-turned}
+use Rattle.aea_peel.proofs.Around.{AreFlipped, not_clear, around_all, IsQueue-flipped}
 use Rattle.aea_peel.proofs.worklist.add_of_unmarked.Goals as goal
 
 pub loop-k-init : goal.loop-k-init
@@ -18,7 +18,7 @@ loop-k-preserved c =
     let l = c.args.lattice.now in
     let m = c.args.marks.now in
     let open' = c.in_ok-open.open in
-    let turned : AreTurned l m open' = record { same = c.requires.same; turned = c.in_ok-open.ensures.lattice; marks = c.in_ok-open.ensures.marks; whole = c.in_ok-open.ensures.whole } in
+    let flipped : AreFlipped l m open' = record { same = c.requires.same; flipped = c.in_ok-open.ensures.lattice; marks = c.in_ok-open.ensures.marks; whole = c.in_ok-open.ensures.whole } in
     let next = c.in-Some.ensures.found in
     record {
       inside = λ e contains. elim (c.in_ok-add_around.ensures.adds.inside e contains) [
@@ -30,7 +30,7 @@ loop-k-preserved c =
             still l m.marks 3 c.loop-k.waiting.items c.add_around.new.waiting.items e c.in_ok-add_around.ensures.adds
             (c.loop-k.invariant.rest b has earlier clear e has_e stands)
         | inr past ↦ elim (cases_lt (number_of l b) c.in-Some.k) [
-          | inl between ↦ absurd (not_clear l m open' c.loop-k.from c.in-Some.k turned next.clear b has clear past between)
+          | inl between ↦ absurd (not_clear l m open' c.loop-k.from c.in-Some.k flipped next.clear b has clear past between)
           | inr at ↦
               let number : number_of l b ≡ c.in-Some.k = omega (arith, below, at) in
               let same = number_equal l b c.block.result has c.block.ensures.block (number ∙ sym c.block.ensures.number) in
@@ -44,9 +44,9 @@ returns c =
     let l = c.args.lattice.now in
     let m = c.args.marks.now in
     let open' = c.in_ok-open.open in
-    let turned : AreTurned l m open' = record { same = c.requires.same; turned = c.in_ok-open.ensures.lattice; marks = c.in_ok-open.ensures.marks; whole = c.in_ok-open.ensures.whole } in
-    IsQueue-turned l m.marks c.loop-k.waiting.items c.reverse.new.self.items c.reverse.ensures.permutation
+    let flipped : AreFlipped l m open' = record { same = c.requires.same; flipped = c.in_ok-open.ensures.lattice; marks = c.in_ok-open.ensures.marks; whole = c.in_ok-open.ensures.whole } in
+    IsQueue-flipped l m.marks c.loop-k.waiting.items c.reverse.new.self.items c.reverse.ensures.permutation
     (record {
       inside = c.loop-k.invariant.inside;
-      rest = around_all l m open' c.loop-k.from c.loop-k.waiting.items turned c.in_default.ensures.none c.loop-k.invariant.rest;
+      rest = around_all l m open' c.loop-k.from c.loop-k.waiting.items flipped c.in_default.ensures.none c.loop-k.invariant.rest;
     })

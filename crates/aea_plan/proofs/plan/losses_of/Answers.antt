@@ -1,4 +1,4 @@
-use Rattle.aea_plan.proofs.Turned.{all-marked}
+use Rattle.aea_plan.proofs.Flipped.{all-marked}
 use Rattle.aea_plan.proofs.plan.losses_of.Goals as goal
 
 pub returns-in-None : goal.returns-in-None

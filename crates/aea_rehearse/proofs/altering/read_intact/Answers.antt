@@ -7,7 +7,7 @@ use Rattle.aea_rehearse.proofs.altering.read_intact.Goals as goal
 pub unreachable-requires-in-Err : goal.unreachable-requires-in-Err
 unreachable-requires-in-Err g c =
     let old = g.D.Disk.state c.args.disk.now in
-    (c.read_block.ensures.reads.sure c.requires.tells (willing_ready old (g.met.D.Disk.free_taken c.args.disk.now) c.requires.willing) (willing_roomy old c.requires.willing)).0
+    (c.read_block.ensures.reads.sure c.requires.reveals (willing_ready old (g.met.D.Disk.free_taken c.args.disk.now) c.requires.willing) (willing_roomy old c.requires.willing)).0
     (subst IsErr (sym c.in-Err.is) refl)
 
 pub returns-clause-reads : goal.returns-clause-reads

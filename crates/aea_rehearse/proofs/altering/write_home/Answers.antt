@@ -18,7 +18,7 @@ unreachable-requires g c =
     room_by_number shape b spot.site (spot.cell * 560) (length c.args.cell.now) old (file_by_number shape l b spot c.requires.shape alpha same) (place_by_number shape l b spot c.requires.shape alpha same)
     c.requires.cell c.requires.room in
     let takes = g.met.D.Disk.free_taken c.args.disk.now spot.site (old.files 0) (spot.cell * 560) c.requires.free in
-    let ok = (c.write.ensures.sure.sure (c.requires.tells, takes) room).0 in
+    let ok = (c.write.ensures.sure.sure (c.requires.reveals, takes) room).0 in
     false≢true (subst IsOk c.in-Err.is ok)
 
 pub returns-clause-written : goal.returns-clause-written
@@ -31,4 +31,4 @@ returns-clause-written g c =
     written_by_number shape b spot.site (spot.cell * 560) c.args.cell.now (g.D.Disk.state c.args.disk.now).files (g.D.Disk.state c.write.new.self).files
     (file_by_number shape l b spot c.requires.shape c.lattice-lattice.ensures.of_shape.alpha same)
     (place_by_number shape l b spot c.requires.shape c.lattice-lattice.ensures.of_shape.alpha same)
-    (c.in-Ok.ensures.written c.requires.tells)
+    (c.in-Ok.ensures.written c.requires.reveals)

@@ -28,7 +28,7 @@ returns-in_err-ledger-clause-steady g c =
 pub store-requires-clause-none : goal.store-requires-clause-none
 store-requires-clause-none g c =
     let new = opened_new c.ledgers_have_one_reading.ensures c.rehearsal_shape-shape.result c.in_ok-ledger.ledger ((g.D.Disk.state c.create.new.disk).files 0) c.create.ensures.made c.in_ok-ledger.ensures.this in
-    subst (λ (f : ℕ → List ℕ). AreItsRecords c.in_ok-ledger.ledger [] (f 0)) (sym (c.open.ensures.reads.contents c.requires.tells)) new.its
+    subst (λ (f : ℕ → List ℕ). AreItsRecords c.in_ok-ledger.ledger [] (f 0)) (sym (c.open.ensures.reads.contents c.requires.reveals)) new.its
 
 pub store-requires-clause-room : goal.store-requires-clause-room
 store-requires-clause-room g c =

@@ -21,7 +21,7 @@ unreachable-requires-in-Err-DiskFault g c =
     let old = g.D.Disk.state c.args.disk.now in
     let xs = c.new-source.result.rest.now in
     let room : HasRehearsalRoom (nodes_for v.shape (length xs)) old = subst (λ (bytes : List ℕ). HasRehearsalRoom (nodes_for v.shape (length bytes)) old) (sym c.new-source.ensures) c.requires.room in
-    (c.put.ensures.writes.sure c.requires.tells (willing_ready old (g.met.D.Disk.free_taken c.args.disk.now) (cells_willing old room.cells)) (put_room v xs (Some c.put.new.source.rest.now) old c.requires.shape c.requires.none.has room)).0
+    (c.put.ensures.writes.sure c.requires.reveals (willing_ready old (g.met.D.Disk.free_taken c.args.disk.now) (cells_willing old room.cells)) (put_room v xs (Some c.put.new.source.rest.now) old c.requires.shape c.requires.none.has room)).0
     (c.in-Err-DiskFault.is ∙ ap Err c.in-Err-DiskFault.field-0-is)
 
 pub returns-in-Ok-clause-built : goal.returns-in-Ok-clause-built
@@ -30,8 +30,8 @@ returns-in-Ok-clause-built g c =
     let same = c.new-source.ensures in
     let xs = c.new-source.result.rest.now in
     subst (λ (bytes : List ℕ). IsBuilt bytes c.put.new.ledger (g.D.Disk.state c.put.new.disk).files) same
-    (is_built c.cells_have_lengths.ensures c.cells_have_parts.ensures c.none_record_none.ensures g.D.Disk.tells v c.put.new.ledger xs (Some c.put.new.source.rest.now) (g.D.Disk.state c.args.disk.now) (g.D.Disk.state c.put.new.disk) c.in-Ok.field-0
-    c.requires.tells c.requires.shape c.requires.none c.in-Ok.ensures.stored)
+    (is_built c.cells_have_lengths.ensures c.cells_have_parts.ensures c.none_record_none.ensures g.D.Disk.reveals v c.put.new.ledger xs (Some c.put.new.source.rest.now) (g.D.Disk.state c.args.disk.now) (g.D.Disk.state c.put.new.disk) c.in-Ok.field-0
+    c.requires.reveals c.requires.shape c.requires.none c.in-Ok.ensures.stored)
 
 pub returns-in-Ok-clause-steady : goal.returns-in-Ok-clause-steady
 returns-in-Ok-clause-steady g c =
@@ -39,4 +39,4 @@ returns-in-Ok-clause-steady g c =
     let old = g.D.Disk.state c.args.disk.now in
     let xs = c.new-source.result.rest.now in
     let room : HasRehearsalRoom (nodes_for v.shape (length xs)) old = subst (λ (bytes : List ℕ). HasRehearsalRoom (nodes_for v.shape (length bytes)) old) (sym c.new-source.ensures) c.requires.room in
-    (c.put.ensures.writes.sure c.requires.tells (willing_ready old (g.met.D.Disk.free_taken c.args.disk.now) (cells_willing old room.cells)) (put_room v xs (Some c.put.new.source.rest.now) old c.requires.shape c.requires.none.has room)).1
+    (c.put.ensures.writes.sure c.requires.reveals (willing_ready old (g.met.D.Disk.free_taken c.args.disk.now) (cells_willing old room.cells)) (put_room v xs (Some c.put.new.source.rest.now) old c.requires.shape c.requires.none.has room)).1

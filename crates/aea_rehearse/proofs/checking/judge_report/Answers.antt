@@ -17,10 +17,10 @@ unreachable-requires-in-Err-LineTooLong g c =
 pub unreachable-requires-in-Err-DiskFault : goal.unreachable-requires-in-Err-DiskFault
 unreachable-requires-in-Err-DiskFault g c =
     let old = g.D.Disk.state c.args.disk.now in
-    (c.verify.ensures.reads.sure c.requires.tells (willing_ready old (g.met.D.Disk.free_taken c.args.disk.now) c.requires.willing) (willing_roomy old c.requires.willing)).0
+    (c.verify.ensures.reads.sure c.requires.reveals (willing_ready old (g.met.D.Disk.free_taken c.args.disk.now) c.requires.willing) (willing_roomy old c.requires.willing)).0
     (c.in-Err-DiskFault.is ∙ ap Err c.in-Err-DiskFault.field-0-is)
 
 pub returns-in-Ok-clause-accepted : goal.returns-in-Ok-clause-accepted
-returns-in-Ok-clause-accepted g c intact h lines tells report =
+returns-in-Ok-clause-accepted g c intact h lines reveals report =
     fits_as c.verify.result c.in-Ok.verdict _ c.in-Ok.is
-    ((c.verify.ensures.exactly c.requires.tells c.args.report.now (ap Some c.new-source.ensures)).fits intact h lines tells report (subst IsOk (sym c.in-Ok.is) refl))
+    ((c.verify.ensures.exactly c.requires.reveals c.args.report.now (ap Some c.new-source.ensures)).fits intact h lines reveals report (subst IsOk (sym c.in-Ok.is) refl))

@@ -8,7 +8,7 @@ use Rattle.aea_rehearse.proofs.rehearsing.restore.Goals as goal
 
 pub mend-requires-clause-ready : goal.mend-requires-clause-ready
 mend-requires-clause-ready g c =
-    ready_later g.D.Disk.tells c.in_ok-ledger.ledger (g.D.Disk.state c.args.disk.now) (g.D.Disk.state c.open.new.disk) c.args.report.now.room c.requires.tells c.open.ensures.reads
+    ready_later g.D.Disk.reveals c.in_ok-ledger.ledger (g.D.Disk.state c.args.disk.now) (g.D.Disk.state c.open.new.disk) c.args.report.now.room c.requires.reveals c.open.ensures.reads
     (c.requires.ready c.in_ok-ledger.ledger c.in_ok-ledger.ensures.this)
 
 pub check-requires-clause-willing : goal.check-requires-clause-willing
@@ -37,8 +37,8 @@ returns-clause-restored g c =
       opened = v;
       this = c.in_ok-ledger.ensures.this;
       bytes = bytes;
-      mended = subst (λ (f : Files). IsMended v bytes f new o) (c.open.ensures.reads.contents c.requires.tells)
-          (subst (λ (f : Files). IsMended v bytes mid f o) (sym (c.check.ensures.reads.contents c.requires.tells)) c.in_ok-outcome.ensures.mended);
+      mended = subst (λ (f : Files). IsMended v bytes f new o) (c.open.ensures.reads.contents c.requires.reveals)
+          (subst (λ (f : Files). IsMended v bytes mid f o) (sym (c.check.ensures.reads.contents c.requires.reveals)) c.in_ok-outcome.ensures.mended);
     }
 
 pub returns-in_err-ledger-clause-steady : goal.returns-in_err-ledger-clause-steady

@@ -10,72 +10,72 @@ use Rattle.aea_restore.proofs.Judging.{judged_added, read_never, computed_one, c
 use Rattle.aea_restore.proofs.block.restore_sum.Goals as goal
 
 pub returns-then-get-clause-writes : goal.returns-then-get-clause-writes
-returns-then-get-clause-writes g c = cells_none g.D.Disk.tells _ c.args.ledger.now.shape c.args.ledger.now.lattice.n (λ a. a ≢ c.args.b) (g.D.Disk.state c.args.disk.now) (λ is. absurd (let e = is in cc))
+returns-then-get-clause-writes g c = cells_none g.D.Disk.reveals _ c.args.ledger.now.shape c.args.ledger.now.lattice.n (λ a. a ≢ c.args.b) (g.D.Disk.state c.args.disk.now) (λ is. absurd (let e = is in cc))
 
 pub returns-in-Err-clause-torn : goal.returns-in-Err-clause-torn
-returns-in-Err-clause-torn g c is told =
-    read_failed c.args.ledger.now (is_marked c.args.marks.now) c.args.b (g.D.Disk.state c.args.disk.now).files (g.D.Disk.state c.add_equations.new.disk).files (sym c.get.ensures ∙ c.if-get.false) (c.add_equations.ensures.reads.contents told)
+returns-in-Err-clause-torn g c is revealed =
+    read_failed c.args.ledger.now (is_marked c.args.marks.now) c.args.b (g.D.Disk.state c.args.disk.now).files (g.D.Disk.state c.add_equations.new.disk).files (sym c.get.ensures ∙ c.if-get.false) (c.add_equations.ensures.reads.contents revealed)
 
 pub returns-in-Err-clause-found : goal.returns-in-Err-clause-found
-returns-in-Err-clause-found g c d told computed is = (sym c.get.ensures ∙ c.if-get.false, inl (c.add_equations.ensures.found d told computed (c.in-Err.is ∙ is)))
+returns-in-Err-clause-found g c d revealed computed is = (sym c.get.ensures ∙ c.if-get.false, inl (c.add_equations.ensures.found d revealed computed (c.in-Err.is ∙ is)))
 
 pub returns-in-Err-clause-clash : goal.returns-in-Err-clause-clash
-returns-in-Err-clause-clash g c d told computed is tells known first all =
-    absurd (read_never g.D.Disk.tells c.args.ledger.now (is_marked c.args.marks.now) (g.D.Disk.state c.args.disk.now).files c.args.b d c.args.equations.now told computed tells c.requires.block c.requires.gives (c.add_equations.ensures.found d told computed (c.in-Err.is ∙ is)) all.intact)
+returns-in-Err-clause-clash g c d revealed computed is reveals known first all =
+    absurd (read_never g.D.Disk.reveals c.args.ledger.now (is_marked c.args.marks.now) (g.D.Disk.state c.args.disk.now).files c.args.b d c.args.equations.now revealed computed reveals c.requires.block c.requires.gives (c.add_equations.ensures.found d revealed computed (c.in-Err.is ∙ is)) all.intact)
 
 pub returns-in-Err-clause-writes : goal.returns-in-Err-clause-writes
 returns-in-Err-clause-writes g c =
-    cells_read c.homes_are_on_its_sites.ensures g.D.Disk.tells (c.add_equations.result ≡ Err DiskFault) _ c.args.ledger.now.shape c.args.ledger.now.lattice.n (λ a. a ≢ c.args.b) (g.D.Disk.state c.args.disk.now) (g.D.Disk.state c.add_equations.new.disk) (λ is. c.in-Err.is ∙ is) (λ is. sym c.in-Err.is ∙ is) c.add_equations.ensures.reads
+    cells_read c.homes_are_on_its_sites.ensures g.D.Disk.reveals (c.add_equations.result ≡ Err DiskFault) _ c.args.ledger.now.shape c.args.ledger.now.lattice.n (λ a. a ≢ c.args.b) (g.D.Disk.state c.args.disk.now) (g.D.Disk.state c.add_equations.new.disk) (λ is. c.in-Err.is ∙ is) (λ is. sym c.in-Err.is ∙ is) c.add_equations.ensures.reads
 
 pub returns-clause-way : goal.returns-clause-way
-returns-clause-way g c fine told =
+returns-clause-way g c fine revealed =
     read_then_goes c.args.ledger.now (is_marked c.args.marks.now) (is_marked c.write_block.new.marks) (g.D.Disk.state c.args.disk.now).files (g.D.Disk.state c.add_equations.new.disk).files (g.D.Disk.state c.write_block.new.disk).files
-    (c.add_equations.ensures.reads.contents told) (c.write_block.ensures.way fine told)
+    (c.add_equations.ensures.reads.contents revealed) (c.write_block.ensures.way fine revealed)
 
 pub returns-clause-torn : goal.returns-clause-torn
-returns-clause-torn g c is told =
+returns-clause-torn g c is revealed =
     read_then_torn c.args.ledger.now (is_marked c.args.marks.now) (is_marked c.write_block.new.marks) c.args.b (g.D.Disk.state c.args.disk.now).files (g.D.Disk.state c.add_equations.new.disk).files (g.D.Disk.state c.write_block.new.disk).files
-    (c.add_equations.ensures.reads.contents told) (c.write_block.ensures.torn is told)
+    (c.add_equations.ensures.reads.contents revealed) (c.write_block.ensures.torn is revealed)
 
 pub returns-clause-judged : goal.returns-clause-judged
 returns-clause-judged g c =
     let v = c.args.ledger.now in
     let zeros : c.clear.new.sum ≡ replicate c.args.ledger.now.shape.block 0 = c.clear.ensures ∙ ap (λ n. replicate n 0) c.requires.sum in
     on_ok_weaker c.write_block.result
-    (λ digest unmarked. computed_one g.D.Disk.tells v (g.D.Disk.state c.args.disk.now).files (is_marked c.args.marks.now) c.args.b c.args.equations.now c.clear.new.sum c.add_equations.new.sum zeros c.in-Ok.ensures.judged digest)
+    (λ digest unmarked. computed_one g.D.Disk.reveals v (g.D.Disk.state c.args.disk.now).files (is_marked c.args.marks.now) c.args.b c.args.equations.now c.clear.new.sum c.add_equations.new.sum zeros c.in-Ok.ensures.judged digest)
     c.write_block.ensures.digest
 
 pub returns-clause-found : goal.returns-clause-found
-returns-clause-found g c d told computed is =
+returns-clause-found g c d revealed computed is =
     let v = c.args.ledger.now in
     let zeros : c.clear.new.sum ≡ replicate c.args.ledger.now.shape.block 0 = c.clear.ensures ∙ ap (λ n. replicate n 0) c.requires.sum in
-    let clash = c.write_block.ensures.clash d told computed is in (
+    let clash = c.write_block.ensures.clash d revealed computed is in (
       sym c.get.ensures ∙ c.if-get.false,
-      inr (clash.0, computed_clash g.D.Disk.tells v (g.D.Disk.state c.args.disk.now).files (is_marked c.args.marks.now) c.args.b c.args.equations.now c.clear.new.sum c.add_equations.new.sum told computed zeros c.in-Ok.ensures.judged clash.1.0 clash.1.1),
+      inr (clash.0, computed_clash g.D.Disk.reveals v (g.D.Disk.state c.args.disk.now).files (is_marked c.args.marks.now) c.args.b c.args.equations.now c.clear.new.sum c.add_equations.new.sum revealed computed zeros c.in-Ok.ensures.judged clash.1.0 clash.1.1),
     )
 
 pub returns-clause-drawn : goal.returns-clause-drawn
-returns-clause-drawn g c told =
+returns-clause-drawn g c revealed =
     let v = c.args.ledger.now in
     let zeros : c.clear.new.sum ≡ replicate c.args.ledger.now.shape.block 0 = c.clear.ensures ∙ ap (λ n. replicate n 0) c.requires.sum in
     added_stays v (is_marked c.args.marks.now) (is_marked c.write_block.new.marks) (g.D.Disk.state c.args.disk.now).files (g.D.Disk.state c.add_equations.new.disk).files (g.D.Disk.state c.write_block.new.disk).files
-    c.args.b (c.args.equations.now) c.clear.new.sum c.add_equations.new.sum c.requires.block c.requires.gives zeros (c.add_equations.ensures.reads.contents told)
-    (judged_added g.D.Disk.tells v (is_marked c.args.marks.now) (g.D.Disk.state c.args.disk.now).files c.args.b c.args.equations.now c.clear.new.sum c.add_equations.new.sum told c.requires.block c.requires.gives c.in-Ok.ensures.judged) (c.write_block.ensures.drawn told)
+    c.args.b (c.args.equations.now) c.clear.new.sum c.add_equations.new.sum c.requires.block c.requires.gives zeros (c.add_equations.ensures.reads.contents revealed)
+    (judged_added g.D.Disk.reveals v (is_marked c.args.marks.now) (g.D.Disk.state c.args.disk.now).files c.args.b c.args.equations.now c.clear.new.sum c.add_equations.new.sum revealed c.requires.block c.requires.gives c.in-Ok.ensures.judged) (c.write_block.ensures.drawn revealed)
 
 pub returns-clause-other : goal.returns-clause-other
-returns-clause-other g c d told computed is =
-    let clash = c.write_block.ensures.clash d told computed is in
-    subst (λ (a : BlockId). IsOtherDigest c.args.ledger.now a told computed) (sym clash.0) clash.1.0
+returns-clause-other g c d revealed computed is =
+    let clash = c.write_block.ensures.clash d revealed computed is in
+    subst (λ (a : BlockId). IsOtherDigest c.args.ledger.now a revealed computed) (sym clash.0) clash.1.0
 
 pub returns-clause-clash : goal.returns-clause-clash
-returns-clause-clash g c d told computed is tells known first all =
+returns-clause-clash g c d revealed computed is reveals known first all =
     let v = c.args.ledger.now in
     let zeros : c.clear.new.sum ≡ replicate c.args.ledger.now.shape.block 0 = c.clear.ensures ∙ ap (λ n. replicate n 0) c.requires.sum in
-    let clash = c.write_block.ensures.clash d told computed is in
-    added_clash v known (is_marked c.args.marks.now) first (g.D.Disk.state c.args.disk.now).files c.args.b d (c.args.equations.now) c.clear.new.sum c.add_equations.new.sum told computed c.requires.block c.requires.gives zeros
-    (judged_added g.D.Disk.tells v (is_marked c.args.marks.now) (g.D.Disk.state c.args.disk.now).files c.args.b c.args.equations.now c.clear.new.sum c.add_equations.new.sum tells c.requires.block c.requires.gives c.in-Ok.ensures.judged) all clash.0 clash.1.0 clash.1.1
+    let clash = c.write_block.ensures.clash d revealed computed is in
+    added_clash v known (is_marked c.args.marks.now) first (g.D.Disk.state c.args.disk.now).files c.args.b d (c.args.equations.now) c.clear.new.sum c.add_equations.new.sum revealed computed c.requires.block c.requires.gives zeros
+    (judged_added g.D.Disk.reveals v (is_marked c.args.marks.now) (g.D.Disk.state c.args.disk.now).files c.args.b c.args.equations.now c.clear.new.sum c.add_equations.new.sum reveals c.requires.block c.requires.gives c.in-Ok.ensures.judged) all clash.0 clash.1.0 clash.1.1
 
 pub returns-clause-writes : goal.returns-clause-writes
 returns-clause-writes g c =
-    read_then_cells c.homes_are_on_its_sites.ensures g.D.Disk.tells (c.add_equations.result ≡ Err DiskFault) (c.write_block.result ≡ Err DiskFault) c.args.ledger.now.shape c.args.ledger.now.lattice.n (λ a. a ≢ c.args.b) (g.D.Disk.state c.args.disk.now) (g.D.Disk.state c.add_equations.new.disk) (g.D.Disk.state c.write_block.new.disk)
+    read_then_cells c.homes_are_on_its_sites.ensures g.D.Disk.reveals (c.add_equations.result ≡ Err DiskFault) (c.write_block.result ≡ Err DiskFault) c.args.ledger.now.shape c.args.ledger.now.lattice.n (λ a. a ≢ c.args.b) (g.D.Disk.state c.args.disk.now) (g.D.Disk.state c.add_equations.new.disk) (g.D.Disk.state c.write_block.new.disk)
     (λ is. absurd (let e = sym c.in-Ok.is ∙ is in cc)) c.add_equations.ensures.reads c.write_block.ensures.writes

@@ -24,27 +24,27 @@ returns-in-Sum-clause-done g c =
     c.restore_sum.ensures.done
 
 pub returns-in-Sum-clause-torn : goal.returns-in-Sum-clause-torn
-returns-in-Sum-clause-torn g c is told =
+returns-in-Sum-clause-torn g c is revealed =
     torn_more c.args.ledger.now (λ a. a ≡ c.in-Sum.block) (λ d. IsTrue (is_among (block_summed c.args.fate.now) d)) (is_marked c.args.marks.now) (is_marked c.restore_sum.new.marks) (g.D.Disk.state c.args.disk.now).files (g.D.Disk.state c.restore_sum.new.disk).files
-    (λ d one. summed_one c.args.fate.now c.in-Sum.block c.in-Sum.eqs c.in-Sum.is d one) (c.restore_sum.ensures.torn is told)
+    (λ d one. summed_one c.args.fate.now c.in-Sum.block c.in-Sum.eqs c.in-Sum.is d one) (c.restore_sum.ensures.torn is revealed)
 
 pub returns-in-Sum-clause-clash : goal.returns-in-Sum-clause-clash
-returns-in-Sum-clause-clash g c d told computed is tells known first all =
-    let clash = c.restore_sum.ensures.clash d told computed is tells known first all in
+returns-in-Sum-clause-clash g c d revealed computed is reveals known first all =
+    let clash = c.restore_sum.ensures.clash d revealed computed is reveals known first all in
     (summed_one c.args.fate.now c.in-Sum.block c.in-Sum.eqs c.in-Sum.is d clash.0, clash.1)
 
 pub returns-in-Sum-clause-found : goal.returns-in-Sum-clause-found
-returns-in-Sum-clause-found g c d told computed is =
-    let found = c.restore_sum.ensures.found d told computed is in
+returns-in-Sum-clause-found g c d revealed computed is =
+    let found = c.restore_sum.ensures.found d revealed computed is in
     (c.in-Sum.block, c.in-Sum.eqs, c.in-Sum.is, found.0, found.1)
 
 pub returns-in-Sum-clause-writes : goal.returns-in-Sum-clause-writes
 returns-in-Sum-clause-writes g c =
-    cells_less_as g.D.Disk.tells (c.restore_sum.result ≡ Err DiskFault) _ c.args.ledger.now.shape c.args.ledger.now.lattice.n (λ a. a ≢ c.in-Sum.block) (IsLeft (λ d. IsTrue (is_among (block_summed c.args.fate.now) d))) (g.D.Disk.state c.args.disk.now) (g.D.Disk.state c.restore_sum.new.disk)
+    cells_less_as g.D.Disk.reveals (c.restore_sum.result ≡ Err DiskFault) _ c.args.ledger.now.shape c.args.ledger.now.lattice.n (λ a. a ≢ c.in-Sum.block) (IsLeft (λ d. IsTrue (is_among (block_summed c.args.fate.now) d))) (g.D.Disk.state c.args.disk.now) (g.D.Disk.state c.restore_sum.new.disk)
     (λ d left one. left (summed_one c.args.fate.now c.in-Sum.block c.in-Sum.eqs c.in-Sum.is d one)) (λ is. is) (λ is. is) c.restore_sum.ensures.writes
 
 pub returns-in-Word-clause-done : goal.returns-in-Word-clause-done
 returns-in-Word-clause-done g c d has = summed_none c.args.fate.now _ _ c.in-Word.is (is_marked c.args.marks.now d) d
 
 pub returns-in-Word-clause-writes : goal.returns-in-Word-clause-writes
-returns-in-Word-clause-writes g c = cells_none g.D.Disk.tells _ c.args.ledger.now.shape c.args.ledger.now.lattice.n (IsLeft (λ d. IsTrue (is_among (block_summed c.args.fate.now) d))) (g.D.Disk.state c.args.disk.now) (λ is. absurd (let e = is in cc))
+returns-in-Word-clause-writes g c = cells_none g.D.Disk.reveals _ c.args.ledger.now.shape c.args.ledger.now.lattice.n (IsLeft (λ d. IsTrue (is_among (block_summed c.args.fate.now) d))) (g.D.Disk.state c.args.disk.now) (λ is. absurd (let e = is in cc))

@@ -19,8 +19,8 @@ invariant-loop-k g l = record {
   read : length l.read ≡ cell_size l.ledger.shape;
   write : length l.write ≡ cell_size l.ledger.shape;
   done : (d : BlockId) → HasBlock l.ledger.lattice d → is_marked l.marks d ≡ (is_marked l.fn.marks d || is_among (blocks_summed (take l.k l.fates)) d);
-  way : g.D.Disk.tells → GoesOn l.ledger (is_marked l.fn.marks) (is_marked l.marks) (g.D.Disk.state l.fn.disk).files (g.D.Disk.state l.disk).files;
-  drawn : g.D.Disk.tells → StaysDrawn l.ledger (is_marked l.fn.marks) (is_marked l.marks) (g.D.Disk.state l.fn.disk).files (g.D.Disk.state l.disk).files;
-  writes : WritesBlocks g.D.Disk.tells l.ledger (IsLeft (λ d. IsTrue (is_among (blocks_summed l.fates) d))) ⊥ (g.D.Disk.state l.fn.disk) (g.D.Disk.state l.disk);
-  each : (known : BlockId → Bool) (first : Files) → (g.D.Disk.tells → IsUnderWay l.ledger known (is_marked l.fn.marks) first (g.D.Disk.state l.fn.disk).files) → AreRestoredFrom g.D.Disk.tells l.ledger known (is_marked l.fn.marks) first l.fates l.k;
+  way : g.D.Disk.reveals → GoesOn l.ledger (is_marked l.fn.marks) (is_marked l.marks) (g.D.Disk.state l.fn.disk).files (g.D.Disk.state l.disk).files;
+  drawn : g.D.Disk.reveals → StaysDrawn l.ledger (is_marked l.fn.marks) (is_marked l.marks) (g.D.Disk.state l.fn.disk).files (g.D.Disk.state l.disk).files;
+  writes : WritesBlocks g.D.Disk.reveals l.ledger (IsLeft (λ d. IsTrue (is_among (blocks_summed l.fates) d))) ⊥ (g.D.Disk.state l.fn.disk) (g.D.Disk.state l.disk);
+  each : (known : BlockId → Bool) (first : Files) → (g.D.Disk.reveals → IsUnderWay l.ledger known (is_marked l.fn.marks) first (g.D.Disk.state l.fn.disk).files) → AreRestoredFrom g.D.Disk.reveals l.ledger known (is_marked l.fn.marks) first l.fates l.k;
 }

@@ -10,6 +10,6 @@ abbrev pub invariant-loop-k : goal.invariant-loop-k
 invariant-loop-k g l = record {
   buffer : length l.read ≡ cell_size l.ledger.shape;
   size : length l.sum ≡ l.ledger.shape.block;
-  added : IsJudgedSum g.D.Disk.tells l.ledger (g.D.Disk.state l.fn.disk).files l.fn.sum (other_blocks l.ledger.lattice (is_marked l.marks) l.b (take l.k l.equations)) l.sum;
-  reads : OnlyReads g.D.Disk.tells ⊥ (g.D.Disk.state l.fn.disk) (g.D.Disk.state l.disk);
+  added : IsJudgedSum g.D.Disk.reveals l.ledger (g.D.Disk.state l.fn.disk).files l.fn.sum (other_blocks l.ledger.lattice (is_marked l.marks) l.b (take l.k l.equations)) l.sum;
+  reads : OnlyReads g.D.Disk.reveals ⊥ (g.D.Disk.state l.fn.disk) (g.D.Disk.state l.disk);
 }

@@ -12,11 +12,11 @@ abbrev marks_in : Lattice → List Bool → Marked
 marks_in l marks = record { lattice = l; marks = marks }
 
 -- marks that are flipped twice are as they were
-turned_twice : (m n o : Marked) → n.lattice ≡ m.lattice → n.marks ≡ map not m.marks → o.lattice ≡ n.lattice → o.marks ≡ map not n.marks → o ≡ m
-turned_twice m n o same turned same_again turned_again =
+flipped_twice : (m n o : Marked) → n.lattice ≡ m.lattice → n.marks ≡ map not m.marks → o.lattice ≡ n.lattice → o.marks ≡ map not n.marks → o ≡ m
+flipped_twice m n o same flipped same_again flipped_again =
     ap (λ (l : Lattice). marks_in l o.marks) (same_again ∙ same)
-    ∙ ap (marks_in m.lattice) (turned_again ∙ ap (map not) turned ∙ twice m.marks)
+    ∙ ap (marks_in m.lattice) (flipped_again ∙ ap (map not) flipped ∙ twice m.marks)
 
 pub returns : goal.returns
 returns c =
-    turned_twice c.args.marks.now c.in_ok-turned.turned c.in_ok-back.back c.in_ok-turned.ensures.lattice c.in_ok-turned.ensures.marks c.in_ok-back.ensures.lattice c.in_ok-back.ensures.marks
+    flipped_twice c.args.marks.now c.in_ok-flipped.flipped c.in_ok-back.back c.in_ok-flipped.ensures.lattice c.in_ok-flipped.ensures.marks c.in_ok-back.ensures.lattice c.in_ok-back.ensures.marks

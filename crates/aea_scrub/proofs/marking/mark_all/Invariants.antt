@@ -11,8 +11,8 @@ invariant-loop-k g l = record {
   lattice : l.marks.lattice ≡ l.ledger.lattice;
   whole : IsWhole l.marks;
   buffer : length l.cell ≡ cell_size l.ledger.shape;
-  intact : g.D.Disk.tells → AreIntactTo l.ledger (g.D.Disk.state l.fn.disk).files l.marks l.k;
-  reads : OnlyReads g.D.Disk.tells ⊥ (g.D.Disk.state l.fn.disk) (g.D.Disk.state l.disk);
+  intact : g.D.Disk.reveals → AreIntactTo l.ledger (g.D.Disk.state l.fn.disk).files l.marks l.k;
+  reads : OnlyReads g.D.Disk.reveals ⊥ (g.D.Disk.state l.fn.disk) (g.D.Disk.state l.disk);
 }
 
 abbrev pub decreases-loop-k : goal.decreases-loop-k

@@ -17,37 +17,37 @@ returns-in-Some-clause-steps g c m keeps =
 pub returns-in-Some-clause-writes : goal.returns-in-Some-clause-writes
 returns-in-Some-clause-writes g c =
     let v = c.args.work.now in
-    cells_none g.D.Disk.tells _ v.ledger.shape raised_limit (IsBlockIn v.ledger.shape v.heads.lattice.n) (g.D.Disk.state c.args.disk.now) (λ is. absurd (let e = is in cc))
+    cells_none g.D.Disk.reveals _ v.ledger.shape raised_limit (IsBlockIn v.ledger.shape v.heads.lattice.n) (g.D.Disk.state c.args.disk.now) (λ is. absurd (let e = is in cc))
 
 pub returns-in-Some-clause-padded : goal.returns-in-Some-clause-padded
-returns-in-Some-clause-padded g c fine told =
+returns-in-Some-clause-padded g c fine revealed =
     let v = c.args.work.now in
     padded_none v.ledger.shape (IsBlockIn v.ledger.shape v.heads.lattice.n) (g.D.Disk.state c.args.disk.now).files
 
 pub returns-in-Ok-clause-steps : goal.returns-in-Ok-clause-steps
 returns-in-Ok-clause-steps g c m keeps =
-    chunk_steps g.D.Disk.tells c.args.work.now c.join_bytes.new.work m c.args.slot c.args.bytes.now (g.D.Disk.state c.args.disk.now).files (g.D.Disk.state c.join_bytes.new.disk).files
+    chunk_steps g.D.Disk.reveals c.args.work.now c.join_bytes.new.work m c.args.slot c.args.bytes.now (g.D.Disk.state c.args.disk.now).files (g.D.Disk.state c.join_bytes.new.disk).files
     keeps (c.in-None.ensures m keeps) c.in-Ok.ensures.adds c.names_stay_own.ensures c.limits_stay.ensures c.filled_are_the_machines.ensures c.kept_with_more.ensures c.join_bytes.ensures.ledger
 
 pub returns-in-Ok-clause-this : goal.returns-in-Ok-clause-this
-returns-in-Ok-clause-this g c told this =
-    chunk_this g.D.Disk.tells c.args.work.now c.join_bytes.new.work c.args.slot c.args.bytes.now (g.D.Disk.state c.args.disk.now).files (g.D.Disk.state c.join_bytes.new.disk).files
-    c.in-Ok.ensures.adds c.join_bytes.ensures.ledger (let n = c.requires.keeps.1.grown.nodes in omega (arith, n)) told ((c.join_bytes.ensures.writes.contents told).stay 0 (inl refl)) this
+returns-in-Ok-clause-this g c revealed this =
+    chunk_this g.D.Disk.reveals c.args.work.now c.join_bytes.new.work c.args.slot c.args.bytes.now (g.D.Disk.state c.args.disk.now).files (g.D.Disk.state c.join_bytes.new.disk).files
+    c.in-Ok.ensures.adds c.join_bytes.ensures.ledger (let n = c.requires.keeps.1.grown.nodes in omega (arith, n)) revealed ((c.join_bytes.ensures.writes.contents revealed).stay 0 (inl refl)) this
 
 pub returns-in-Ok-clause-writes : goal.returns-in-Ok-clause-writes
 returns-in-Ok-clause-writes g c =
     let v = c.args.work.now in
-    cells_as g.D.Disk.tells (c.join_bytes.result ≡ Err DiskFault) _ v.ledger.shape raised_limit (IsBlockIn v.ledger.shape v.heads.lattice.n) (g.D.Disk.state c.args.disk.now) (g.D.Disk.state c.join_bytes.new.disk)
+    cells_as g.D.Disk.reveals (c.join_bytes.result ≡ Err DiskFault) _ v.ledger.shape raised_limit (IsBlockIn v.ledger.shape v.heads.lattice.n) (g.D.Disk.state c.args.disk.now) (g.D.Disk.state c.join_bytes.new.disk)
     (λ is. absurd (let e = is in cc)) (λ bad. absurd (let is = c.in-Ok.is in cc)) c.join_bytes.ensures.writes
 
 pub returns-in-Err-clause-writes : goal.returns-in-Err-clause-writes
 returns-in-Err-clause-writes g c =
     let v = c.args.work.now in
-    cells_as g.D.Disk.tells (c.join_bytes.result ≡ Err DiskFault) _ v.ledger.shape raised_limit (IsBlockIn v.ledger.shape v.heads.lattice.n) (g.D.Disk.state c.args.disk.now) (g.D.Disk.state c.join_bytes.new.disk)
+    cells_as g.D.Disk.reveals (c.join_bytes.result ≡ Err DiskFault) _ v.ledger.shape raised_limit (IsBlockIn v.ledger.shape v.heads.lattice.n) (g.D.Disk.state c.args.disk.now) (g.D.Disk.state c.join_bytes.new.disk)
     (λ is. c.in-Err.is ∙ fault_as c.in-Err.fault DiskFault is) (λ bad. fault_as c.in-Err.fault DiskFault (sym c.in-Err.is ∙ bad)) c.join_bytes.ensures.writes
 
 pub returns-in-Ok-clause-padded : goal.returns-in-Ok-clause-padded
-returns-in-Ok-clause-padded g c fine told = c.join_bytes.ensures.padded (λ bad. absurd (let is = c.in-Ok.is in cc)) told
+returns-in-Ok-clause-padded g c fine revealed = c.join_bytes.ensures.padded (λ bad. absurd (let is = c.in-Ok.is in cc)) revealed
 
 pub returns-in-Err-clause-padded : goal.returns-in-Err-clause-padded
-returns-in-Err-clause-padded g c fine told = c.join_bytes.ensures.padded (λ bad. fine (fault_as c.in-Err.fault DiskFault (sym c.in-Err.is ∙ bad))) told
+returns-in-Err-clause-padded g c fine revealed = c.join_bytes.ensures.padded (λ bad. fine (fault_as c.in-Err.fault DiskFault (sym c.in-Err.is ∙ bad))) revealed

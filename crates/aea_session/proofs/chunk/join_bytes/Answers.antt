@@ -91,7 +91,7 @@ returns-in-Ok-clause-adds g c =
           let place : c.from.result ≡ c.args.slot = c.from.ensures in
           slot_read v.slots c.args.slot c.from.result c.index-work-from.result c.in-Some.held place (omega (arith, place, t.inside, k.many)) c.index-work-from.is (c.index-work-from.is ∙ c.in-Some.is));
       slots = ap (λ (k : ℕ). slice_set v.slots k (Some c.gather_counted.new.slot)) c.from.ensures;
-      gathers = subst (λ (s : Shape). Gathers g.D.Disk.tells s c.args.bytes.now v.heads c.gather_counted.new.heads c.in-Some.held c.gather_counted.new.slot v.digests.items c.gather_counted.new.digests.items old new) shape c.in-Ok.ensures.gathers;
+      gathers = subst (λ (s : Shape). Gathers g.D.Disk.reveals s c.args.bytes.now v.heads c.gather_counted.new.heads c.in-Some.held c.gather_counted.new.slot v.digests.items c.gather_counted.new.digests.items old new) shape c.in-Ok.ensures.gathers;
       counted = subst (λ (s : Shape). length c.gather_counted.new.digests.items ≡ length v.digests.items + (c.gather_counted.new.heads.lattice.n - v.heads.lattice.n) * (1 + s.alpha)) shape c.in-Ok.ensures.counted;
       cell = sym (length_refill v.cell.len v.cell.items c.gather_counted.new.cell v.cell.ok.0) ∙ v.cell.ok.0;
     }
@@ -101,28 +101,28 @@ returns-in-Ok-clause-writes g c =
     let v = c.args.work.now in
     let old = g.D.Disk.state c.args.disk.now in
     let new = g.D.Disk.state c.gather_counted.new.disk in
-    cells_as g.D.Disk.tells (c.gather_counted.result ≡ Err put.DiskFault) _ v.ledger.shape raised_limit (IsBlockIn v.ledger.shape v.heads.lattice.n) old new
+    cells_as g.D.Disk.reveals (c.gather_counted.result ≡ Err put.DiskFault) _ v.ledger.shape raised_limit (IsBlockIn v.ledger.shape v.heads.lattice.n) old new
     (λ is. absurd (let e = is in cc)) (λ bad. absurd (let is = c.in-Ok.is in cc))
-    (subst (λ (s : Shape). WritesCells g.D.Disk.tells s raised_limit (IsBlockIn s v.heads.lattice.n) (c.gather_counted.result ≡ Err put.DiskFault) old new) c.shape-shape.ensures.value c.gather_counted.ensures.writes)
+    (subst (λ (s : Shape). WritesCells g.D.Disk.reveals s raised_limit (IsBlockIn s v.heads.lattice.n) (c.gather_counted.result ≡ Err put.DiskFault) old new) c.shape-shape.ensures.value c.gather_counted.ensures.writes)
 
 pub returns-in-Err-clause-writes : goal.returns-in-Err-clause-writes
 returns-in-Err-clause-writes g c =
     let v = c.args.work.now in
     let old = g.D.Disk.state c.args.disk.now in
     let new = g.D.Disk.state c.gather_counted.new.disk in
-    cells_as g.D.Disk.tells (c.gather_counted.result ≡ Err put.DiskFault) _ v.ledger.shape raised_limit (IsBlockIn v.ledger.shape v.heads.lattice.n) old new
+    cells_as g.D.Disk.reveals (c.gather_counted.result ≡ Err put.DiskFault) _ v.ledger.shape raised_limit (IsBlockIn v.ledger.shape v.heads.lattice.n) old new
     (λ is. c.in-Err.is ∙ ap Err (c.step_fault.ensures.disk.0 (fault_is c.step_fault.result step.DiskFault is)))
     (λ bad. ap Err (c.step_fault.ensures.disk.1 (fault_is c.in-Err.fault put.DiskFault (sym c.in-Err.is ∙ bad))))
-    (subst (λ (s : Shape). WritesCells g.D.Disk.tells s raised_limit (IsBlockIn s v.heads.lattice.n) (c.gather_counted.result ≡ Err put.DiskFault) old new) c.shape-shape.ensures.value c.gather_counted.ensures.writes)
+    (subst (λ (s : Shape). WritesCells g.D.Disk.reveals s raised_limit (IsBlockIn s v.heads.lattice.n) (c.gather_counted.result ≡ Err put.DiskFault) old new) c.shape-shape.ensures.value c.gather_counted.ensures.writes)
 
 pub returns-in-Ok-clause-padded : goal.returns-in-Ok-clause-padded
-returns-in-Ok-clause-padded g c fine told =
+returns-in-Ok-clause-padded g c fine revealed =
     let v = c.args.work.now in
     subst (λ (s : Shape). KeepsPadded s (IsBlockIn s v.heads.lattice.n) (g.D.Disk.state c.args.disk.now).files (g.D.Disk.state c.gather_counted.new.disk).files) c.shape-shape.ensures.value
-    (c.gather_counted.ensures.padded (λ bad. absurd (let is = c.in-Ok.is in cc)) told)
+    (c.gather_counted.ensures.padded (λ bad. absurd (let is = c.in-Ok.is in cc)) revealed)
 
 pub returns-in-Err-clause-padded : goal.returns-in-Err-clause-padded
-returns-in-Err-clause-padded g c fine told =
+returns-in-Err-clause-padded g c fine revealed =
     let v = c.args.work.now in
     subst (λ (s : Shape). KeepsPadded s (IsBlockIn s v.heads.lattice.n) (g.D.Disk.state c.args.disk.now).files (g.D.Disk.state c.gather_counted.new.disk).files) c.shape-shape.ensures.value
-    (c.gather_counted.ensures.padded (λ bad. fine (ap Err (c.step_fault.ensures.disk.1 (fault_is c.in-Err.fault put.DiskFault (sym c.in-Err.is ∙ bad))))) told)
+    (c.gather_counted.ensures.padded (λ bad. fine (ap Err (c.step_fault.ensures.disk.1 (fault_is c.in-Err.fault put.DiskFault (sym c.in-Err.is ∙ bad))))) revealed)

@@ -12,7 +12,7 @@ use Rattle.aea_session.proofs.chunking.take_chunk.Goals as goal
 
 pub returns-in-Err : goal.returns-in-Err
 returns-in-Err g c =
-    let tells = g.D.Disk.tells in
+    let reveals = g.D.Disk.reveals in
     let v = c.args.work.now in
     let w = c.add_chunk.new.work in
     let message = c.args.message.now in
@@ -22,15 +22,15 @@ returns-in-Err g c =
     let bad = c.add_chunk.result ≡ Err DiskFault in
     let dry = c.add_chunk.result ≡ Err NoMemory in
     record {
-      takes = subst (λ (fault : TakeFault). Takes tells v w message old new out out (Err fault)) (sym c.take_fault.ensures)
-          (takes_stopped tells v w message old new out ⊥ c.add_chunk.result c.in-Err.fault c.in-Err.is
-          (leaves_cells c.ledgers_have_one_reading.ensures tells v w message old new bad (λ m kept. ap (closing_in v.ledger.shape m) c.requires.kind) c.requires.fixed
+      takes = subst (λ (fault : TakeFault). Takes reveals v w message old new out out (Err fault)) (sym c.take_fault.ensures)
+          (takes_stopped reveals v w message old new out ⊥ c.add_chunk.result c.in-Err.fault c.in-Err.is
+          (leaves_cells c.ledgers_have_one_reading.ensures reveals v w message old new bad (λ m kept. ap (closing_in v.ledger.shape m) c.requires.kind) c.requires.fixed
           c.add_chunk.ensures.writes c.add_chunk.ensures.padded ⊥ dry));
     }
 
 pub returns-in-Ok-put_made : goal.returns-in-Ok-put_made
 returns-in-Ok-put_made g c =
-    let tells = g.D.Disk.tells in
+    let reveals = g.D.Disk.reveals in
     let v = c.args.work.now in
     let w = c.add_chunk.new.work in
     let message = c.args.message.now in
@@ -42,19 +42,19 @@ returns-in-Ok-put_made g c =
     let answer = answer_by made_by c.in-Ok.made in
     let makes : MakesStep made_by v w message c.in-Ok.made = subst (λ (a : Message). MakesStep made_by v w a c.in-Ok.made) (sym c.requires.kind) c.in-Ok.ensures.steps in
     record {
-      takes = subst (λ (code : ℕ). Takes tells v w message old new before after (Ok code)) (sym c.in-Ok-put_made.ensures.code)
-          (takes_put tells v w message old new before after (Unit {0}) bad ⊥ (code_of answer) (reply_to message answer)
-          (leaves_cells c.ledgers_have_one_reading.ensures tells v w message old new bad (λ m kept. ap (closing_in v.ledger.shape m) c.requires.kind) c.requires.fixed
+      takes = subst (λ (code : ℕ). Takes reveals v w message old new before after (Ok code)) (sym c.in-Ok-put_made.ensures.code)
+          (takes_put reveals v w message old new before after (Unit {0}) bad ⊥ (code_of answer) (reply_to message answer)
+          (leaves_cells c.ledgers_have_one_reading.ensures reveals v w message old new bad (λ m kept. ap (closing_in v.ledger.shape m) c.requires.kind) c.requires.fixed
           c.add_chunk.ensures.writes c.add_chunk.ensures.padded (Unit {0}) ⊥) tt (λ is. absurd (let e = sym c.in-Ok.is ∙ is in cc))
-          (moves_made tells made_by v w message old new c.in-Ok.made c.requires.keeps makes (ap (λ (l : Opened). l.live) c.add_chunk.ensures.ledger ∙ c.requires.live)
+          (moves_made reveals made_by v w message old new c.in-Ok.made c.requires.keeps makes (ap (λ (l : Opened). l.live) c.add_chunk.ensures.ledger ∙ c.requires.live)
           (goes_same v w message c.add_chunk.ensures.ledger (λ m kept. ap (closing_in v.ledger.shape m) c.requires.kind))
-          (λ told. c.in-Ok.ensures.this told (c.requires.this told)) (λ told. fixed_cells tells bad v old new told (c.requires.fixed told) c.add_chunk.ensures.writes))
-          (reply_made tells v w old.files message c.in-Ok.made makes) c.in-Ok-put_made.ensures.flushed c.in-Ok-put_made.ensures.prints);
+          (λ revealed. c.in-Ok.ensures.this revealed (c.requires.this revealed)) (λ revealed. fixed_cells reveals bad v old new revealed (c.requires.fixed revealed) c.add_chunk.ensures.writes))
+          (reply_made reveals v w old.files message c.in-Ok.made makes) c.in-Ok-put_made.ensures.flushed c.in-Ok-put_made.ensures.prints);
     }
 
 pub returns-in-Err-put_made : goal.returns-in-Err-put_made
 returns-in-Err-put_made g c =
-    let tells = g.D.Disk.tells in
+    let reveals = g.D.Disk.reveals in
     let v = c.args.work.now in
     let w = c.add_chunk.new.work in
     let message = c.args.message.now in
@@ -66,8 +66,8 @@ returns-in-Err-put_made g c =
     let answer = answer_by made_by c.in-Ok.made in
     let makes : MakesStep made_by v w message c.in-Ok.made = subst (λ (a : Message). MakesStep made_by v w a c.in-Ok.made) (sym c.requires.kind) c.in-Ok.ensures.steps in
     record {
-      takes = takes_unwritten tells v w message old new before after (Unit {0}) bad ⊥ (code_of answer) (reply_to message answer)
-          (leaves_cells c.ledgers_have_one_reading.ensures tells v w message old new bad (λ m kept. ap (closing_in v.ledger.shape m) c.requires.kind) c.requires.fixed
+      takes = takes_unwritten reveals v w message old new before after (Unit {0}) bad ⊥ (code_of answer) (reply_to message answer)
+          (leaves_cells c.ledgers_have_one_reading.ensures reveals v w message old new bad (λ m kept. ap (closing_in v.ledger.shape m) c.requires.kind) c.requires.fixed
           c.add_chunk.ensures.writes c.add_chunk.ensures.padded (Unit {0}) ⊥) tt (λ is. absurd (let e = sym c.in-Ok.is ∙ is in cc))
-          (reply_made tells v w old.files message c.in-Ok.made makes) (long_made v w message c.in-Ok.made makes) c.in-Err-put_made.ensures.prints;
+          (reply_made reveals v w old.files message c.in-Ok.made makes) (long_made v w message c.in-Ok.made makes) c.in-Err-put_made.ensures.prints;
     }

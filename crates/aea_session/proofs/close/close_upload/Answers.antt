@@ -27,16 +27,16 @@ pub returns-in-Err-clause-writes : goal.returns-in-Err-clause-writes
 returns-in-Err-clause-writes g c =
     let s = g.D.Disk.state c.args.disk.now in
     let v = c.args.work.now in
-    writes_as g.D.Disk.tells (IsReady s) (HasCloseRoom v c.args.slot s) ⊥ _ (Leaves v) s s (λ is. absurd (let e = is in cc)) (λ none. absurd none)
-    (writes_none g.D.Disk.tells (IsReady s) (HasCloseRoom v c.args.slot s) (Leaves v) s (changes_none v.ledger.shape raised_limit (IsBlockIn v.ledger.shape v.heads.lattice.n) (IsBesides v.ledger.shape)))
+    writes_as g.D.Disk.reveals (IsReady s) (HasCloseRoom v c.args.slot s) ⊥ _ (Leaves v) s s (λ is. absurd (let e = is in cc)) (λ none. absurd none)
+    (writes_none g.D.Disk.reveals (IsReady s) (HasCloseRoom v c.args.slot s) (Leaves v) s (changes_none v.ledger.shape raised_limit (IsBlockIn v.ledger.shape v.heads.lattice.n) (IsBesides v.ledger.shape)))
 
 pub returns-in-Ok-close_open-clause-writes : goal.returns-in-Ok-close_open-clause-writes
 returns-in-Ok-close_open-clause-writes g c =
-    writes_as g.D.Disk.tells _ _ (c.close_open.result ≡ Err DiskFault) _ (Leaves c.args.work.now) (g.D.Disk.state c.args.disk.now) (g.D.Disk.state c.close_open.new.disk) (λ is. absurd (let e = is in cc)) (λ is. absurd (ok_no_fault c.in-Ok-close_open.is is)) c.close_open.ensures.writes
+    writes_as g.D.Disk.reveals _ _ (c.close_open.result ≡ Err DiskFault) _ (Leaves c.args.work.now) (g.D.Disk.state c.args.disk.now) (g.D.Disk.state c.close_open.new.disk) (λ is. absurd (let e = is in cc)) (λ is. absurd (ok_no_fault c.in-Ok-close_open.is is)) c.close_open.ensures.writes
 
 pub returns-in-Err-close_open-clause-writes : goal.returns-in-Err-close_open-clause-writes
 returns-in-Err-close_open-clause-writes g c =
-    writes_as g.D.Disk.tells _ _ (c.close_open.result ≡ Err DiskFault) _ (Leaves c.args.work.now) (g.D.Disk.state c.args.disk.now) (g.D.Disk.state c.close_open.new.disk) (λ is. c.in-Err-close_open.is ∙ fault_as c.in-Err-close_open.fault DiskFault is) (λ is. fault_as c.in-Err-close_open.fault DiskFault (sym c.in-Err-close_open.is ∙ is)) c.close_open.ensures.writes
+    writes_as g.D.Disk.reveals _ _ (c.close_open.result ≡ Err DiskFault) _ (Leaves c.args.work.now) (g.D.Disk.state c.args.disk.now) (g.D.Disk.state c.close_open.new.disk) (λ is. c.in-Err-close_open.is ∙ fault_as c.in-Err-close_open.fault DiskFault is) (λ is. fault_as c.in-Err-close_open.fault DiskFault (sym c.in-Err-close_open.is ∙ is)) c.close_open.ensures.writes
 
 pub returns-in-Err-close_open-clause-stopped : goal.returns-in-Err-close_open-clause-stopped
 returns-in-Err-close_open-clause-stopped g c is = c.close_open.ensures.stopped (c.in-Err-close_open.is ∙ fault_as c.in-Err-close_open.fault _ is)
@@ -45,4 +45,4 @@ pub returns-in-Err-close_open-clause-quiet : goal.returns-in-Err-close_open-clau
 returns-in-Err-close_open-clause-quiet g c is = c.close_open.ensures.quiet (c.in-Err-close_open.is ∙ fault_as c.in-Err-close_open.fault _ is)
 
 pub returns-in-Err-close_open-clause-padded : goal.returns-in-Err-close_open-clause-padded
-returns-in-Err-close_open-clause-padded g c other told = c.close_open.ensures.padded (λ e. other (fault_as c.in-Err-close_open.fault DiskFault (sym c.in-Err-close_open.is ∙ e))) told
+returns-in-Err-close_open-clause-padded g c other revealed = c.close_open.ensures.padded (λ e. other (fault_as c.in-Err-close_open.fault DiskFault (sym c.in-Err-close_open.is ∙ e))) revealed

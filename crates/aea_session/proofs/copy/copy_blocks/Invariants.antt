@@ -12,9 +12,9 @@ abbrev pub invariant-loop-b : goal.invariant-loop-b
 invariant-loop-b g l = record {
   buffer : length l.payloads.cell.now ≡ cell_size l.ledger.shape;
   inside : All (HasBlock l.ledger.lattice) l.blocks;
-  reached : HasReached (IsPayload g.D.Disk.tells l.ledger.shape l.ledger.digests (g.D.Disk.state l.fn.disk).files) l.ledger.shape.block l.fn.blocks l.blocks l.most l.left (g.O.Sink.state l.fn.out) l.fn.page (g.O.Sink.state l.out) l.page;
+  reached : HasReached (IsPayload g.D.Disk.reveals l.ledger.shape l.ledger.digests (g.D.Disk.state l.fn.disk).files) l.ledger.shape.block l.fn.blocks l.blocks l.most l.left (g.O.Sink.state l.fn.out) l.fn.page (g.O.Sink.state l.out) l.page;
   still : (g.O.Sink.state l.out).faults ≡ (g.O.Sink.state l.fn.out).faults;
-  reads : OnlyReads g.D.Disk.tells ⊥ (g.D.Disk.state l.fn.disk) (g.D.Disk.state l.disk);
+  reads : OnlyReads g.D.Disk.reveals ⊥ (g.D.Disk.state l.fn.disk) (g.D.Disk.state l.disk);
 }
 
 abbrev pub decreases-loop-b : goal.decreases-loop-b

@@ -5,7 +5,7 @@ use Rattle.aea_session.proofs.looking.take_patrol.Goals as goal
 pub returns : goal.returns
 returns g c = record {
   takes =
-      takes_looked c.ledgers_have_one_reading.ensures c.homes_are_on_its_sites.ensures c.looks_keep.ensures g.D.Disk.tells c.args.work.now c.patrol.new.work c.args.message.now
+      takes_looked c.ledgers_have_one_reading.ensures c.homes_are_on_its_sites.ensures c.looks_keep.ensures g.D.Disk.reveals c.args.work.now c.patrol.new.work c.args.message.now
       (g.D.Disk.state c.args.disk.now) (g.D.Disk.state c.patrol.new.disk) (g.O.Sink.state c.args.out.now) (g.O.Sink.state c.patrol.new.out) (c.patrol.new.out ≡ c.args.out.now) c.patrol.result
       (patrol_looks c.args.message.now c.args.first c.args.count c.requires.kind) c.requires.live c.requires.this c.requires.fixed (λ same. ap g.O.Sink.state same)
       (record {

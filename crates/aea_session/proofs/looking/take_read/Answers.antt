@@ -7,7 +7,7 @@ use Rattle.aea_session.proofs.looking.take_read.Goals as goal
 pub returns : goal.returns
 returns g c = record {
   takes =
-      takes_looked c.ledgers_have_one_reading.ensures c.homes_are_on_its_sites.ensures c.looks_keep.ensures g.D.Disk.tells c.args.work.now c.read.new.work c.args.message.now
+      takes_looked c.ledgers_have_one_reading.ensures c.homes_are_on_its_sites.ensures c.looks_keep.ensures g.D.Disk.reveals c.args.work.now c.read.new.work c.args.message.now
       (g.D.Disk.state c.args.disk.now) (g.D.Disk.state c.read.new.disk) (g.O.Sink.state c.args.out.now) (g.O.Sink.state c.read.new.out) (c.read.new.out ≡ c.args.out.now) c.read.result
       (read_looks c.args.message.now c.args.name.now c.requires.kind) c.requires.live c.requires.this c.requires.fixed (λ same. ap g.O.Sink.state same)
       (record {

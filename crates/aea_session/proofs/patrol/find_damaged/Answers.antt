@@ -19,14 +19,14 @@ loop-k-init g c =
       few = omega arith;
       buffer = c.requires.buffer;
       long = c.requires.long;
-      damaged = subst (λ (n : ℕ). AreDamaged g.D.Disk.tells v old.files c.args.first n []) none (damaged_none g.D.Disk.tells v old.files c.args.first);
-      reads = reads_none g.D.Disk.tells ⊥ old (λ none. none);
+      damaged = subst (λ (n : ℕ). AreDamaged g.D.Disk.reveals v old.files c.args.first n []) none (damaged_none g.D.Disk.reveals v old.files c.args.first);
+      reads = reads_none g.D.Disk.reveals ⊥ old (λ none. none);
     }
 
 pub returns-in-Err-clause-reads : goal.returns-in-Err-clause-reads
 returns-in-Err-clause-reads g c =
-    reads_as g.D.Disk.tells (IsErr c.is_block_intact.result) _ (g.D.Disk.state c.args.disk.now) (g.D.Disk.state c.is_block_intact.new.disk) (λ is. subst IsErr (sym c.in-Err.is) refl) (λ _. refl)
-    (reads_both g.D.Disk.tells ⊥ (IsErr c.is_block_intact.result) (g.D.Disk.state c.args.disk.now) (g.D.Disk.state c.loop-k.disk) (g.D.Disk.state c.is_block_intact.new.disk) (λ none. none) c.loop-k.invariant.reads c.is_block_intact.ensures.reads)
+    reads_as g.D.Disk.reveals (IsErr c.is_block_intact.result) _ (g.D.Disk.state c.args.disk.now) (g.D.Disk.state c.is_block_intact.new.disk) (λ is. subst IsErr (sym c.in-Err.is) refl) (λ _. refl)
+    (reads_both g.D.Disk.reveals ⊥ (IsErr c.is_block_intact.result) (g.D.Disk.state c.args.disk.now) (g.D.Disk.state c.loop-k.disk) (g.D.Disk.state c.is_block_intact.new.disk) (λ none. none) c.loop-k.invariant.reads c.is_block_intact.ensures.reads)
 
 pub loop-k-preserved : goal.loop-k-preserved
 loop-k-preserved g c =
@@ -34,7 +34,7 @@ loop-k-preserved g c =
     let old = g.D.Disk.state c.args.disk.now in
     let mid = g.D.Disk.state c.loop-k.disk in
     let new = g.D.Disk.state c.is_block_intact.new.disk in
-    let tells = g.D.Disk.tells in
+    let reveals = g.D.Disk.reveals in
     let first = c.args.first in
     let k = c.loop-k.k in
     let inv = c.loop-k.invariant in
@@ -51,13 +51,13 @@ loop-k-preserved g c =
       few = omega (arith, most, few);
       buffer = c.is_block_intact.auto.cell ∙ inv.buffer;
       long = c.put_number-found.auto.numbers ∙ inv.long;
-      damaged = subst (λ (m : ℕ). AreDamaged tells v old.files first m (take c.put_number-found.result c.put_number-found.new.numbers)) next
-          (damaged_more tells v old.files first (k - first) (take c.loop-k.found c.loop-k.numbers) b c.lattice-lattice.result c.in-Ok.intact inv.damaged
+      damaged = subst (λ (m : ℕ). AreDamaged reveals v old.files first m (take c.put_number-found.result c.put_number-found.new.numbers)) next
+          (damaged_more reveals v old.files first (k - first) (take c.loop-k.found c.loop-k.numbers) b c.lattice-lattice.result c.in-Ok.intact inv.damaged
           c.lattice-lattice.ensures.of_shape.alpha (ap (λ (x : Lattice). x.n) c.lattice-lattice.ensures.value) c.block.ensures.block (c.block.ensures.number ∙ at)
-          (λ told. subst (λ (f : Files). IsTrue c.in-Ok.intact ↔ IsIntactBy v.shape v.digests f b) (inv.reads.contents told) (c.in-Ok.ensures.intact told))
+          (λ revealed. subst (λ (f : Files). IsTrue c.in-Ok.intact ↔ IsIntactBy v.shape v.digests f b) (inv.reads.contents revealed) (c.in-Ok.ensures.intact revealed))
           (take c.put_number-found.result c.put_number-found.new.numbers)
           (c.put_number-found.ensures.first ∙ ap (λ (x : ℕ). take c.loop-k.found c.loop-k.numbers ++ cond c.in-Ok.intact [] (x ∷ [])) at));
-      reads = reads_as tells (IsErr c.is_block_intact.result) ⊥ old new (λ none. absurd none) (ok_fine c.in-Ok.is) (reads_both tells ⊥ (IsErr c.is_block_intact.result) old mid new (λ none. none) inv.reads c.is_block_intact.ensures.reads);
+      reads = reads_as reveals (IsErr c.is_block_intact.result) ⊥ old new (λ none. absurd none) (ok_fine c.in-Ok.is) (reads_both reveals ⊥ (IsErr c.is_block_intact.result) old mid new (λ none. none) inv.reads c.is_block_intact.ensures.reads);
     }
 
 pub returns-clause-most : goal.returns-clause-most
@@ -72,8 +72,8 @@ returns-clause-damaged g c =
     let within = c.loop-k.invariant.within in
     let past = c.loop-k-test.false in
     let all : c.loop-k.k ≡ c.args.end = omega (arith, within, past) in
-    subst (λ (m : ℕ). AreDamaged g.D.Disk.tells c.args.ledger.now (g.D.Disk.state c.args.disk.now).files c.args.first (m - c.args.first) (take c.loop-k.found c.loop-k.numbers)) all c.loop-k.invariant.damaged
+    subst (λ (m : ℕ). AreDamaged g.D.Disk.reveals c.args.ledger.now (g.D.Disk.state c.args.disk.now).files c.args.first (m - c.args.first) (take c.loop-k.found c.loop-k.numbers)) all c.loop-k.invariant.damaged
 
 pub returns-clause-reads : goal.returns-clause-reads
 returns-clause-reads g c =
-    reads_as g.D.Disk.tells ⊥ _ (g.D.Disk.state c.args.disk.now) (g.D.Disk.state c.loop-k.disk) (λ is. let e = is in cc) (λ none. absurd none) c.loop-k.invariant.reads
+    reads_as g.D.Disk.reveals ⊥ _ (g.D.Disk.state c.args.disk.now) (g.D.Disk.state c.loop-k.disk) (λ is. let e = is in cc) (λ none. absurd none) c.loop-k.invariant.reads

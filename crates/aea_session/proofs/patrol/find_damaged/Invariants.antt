@@ -12,8 +12,8 @@ invariant-loop-k g l = record {
   few : l.found + l.first ≤ l.k;
   buffer : length l.cell ≡ cell_size l.ledger.shape;
   long : length l.numbers ≡ l.end - l.first;
-  damaged : AreDamaged g.D.Disk.tells l.ledger (g.D.Disk.state l.fn.disk).files l.first (l.k - l.first) (take l.found l.numbers);
-  reads : OnlyReads g.D.Disk.tells ⊥ (g.D.Disk.state l.fn.disk) (g.D.Disk.state l.disk);
+  damaged : AreDamaged g.D.Disk.reveals l.ledger (g.D.Disk.state l.fn.disk).files l.first (l.k - l.first) (take l.found l.numbers);
+  reads : OnlyReads g.D.Disk.reveals ⊥ (g.D.Disk.state l.fn.disk) (g.D.Disk.state l.disk);
 }
 
 abbrev pub decreases-loop-k : goal.decreases-loop-k

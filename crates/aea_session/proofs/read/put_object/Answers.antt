@@ -14,16 +14,16 @@ use Rattle.aea_session.proofs.read.put_object.Goals as goal
 pub returns-in-Err-clause-cut : goal.returns-in-Err-clause-cut
 returns-in-Err-clause-cut g c =
     let v = c.args.ledger.now in
-    cut_head (IsPayload g.D.Disk.tells v.shape v.digests (g.D.Disk.state c.args.disk.now).files) (data_under (get v.objects c.args.name.now)) c.args.size (reply c.args.message.now 0 (to_be_bytes w64 c.args.size))
+    cut_head (IsPayload g.D.Disk.reveals v.shape v.digests (g.D.Disk.state c.args.disk.now).files) (data_under (get v.objects c.args.name.now)) c.args.size (reply c.args.message.now 0 (to_be_bytes w64 c.args.size))
     (g.O.Sink.state c.args.out.now) (g.O.Sink.state c.send_head.new.out) _ c.in-Err.ensures.prints
 
 pub returns-in-Err-clause-reads : goal.returns-in-Err-clause-reads
-returns-in-Err-clause-reads g c = reads_none g.D.Disk.tells _ (g.D.Disk.state c.args.disk.now) (λ is. let e = is in cc)
+returns-in-Err-clause-reads g c = reads_none g.D.Disk.reveals _ (g.D.Disk.state c.args.disk.now) (λ is. let e = is in cc)
 
 pub returns-in-Ok-send_blocks-clause-sent : goal.returns-in-Ok-send_blocks-clause-sent
 returns-in-Ok-send_blocks-clause-sent g c =
     let v = c.args.ledger.now in
-    sent_behind (IsPayload g.D.Disk.tells v.shape v.digests (g.D.Disk.state c.args.disk.now).files) (data_under (get v.objects c.args.name.now)) c.args.size (reply c.args.message.now 0 (to_be_bytes w64 c.args.size))
+    sent_behind (IsPayload g.D.Disk.reveals v.shape v.digests (g.D.Disk.state c.args.disk.now).files) (data_under (get v.objects c.args.name.now)) c.args.size (reply c.args.message.now 0 (to_be_bytes w64 c.args.size))
     (g.O.Sink.state c.args.out.now) (g.O.Sink.state c.send_head.new.out) (g.O.Sink.state c.send_blocks.new.out) c.in-Ok.ensures.prints c.in-Ok-send_blocks.ensures.copied
 
 pub returns-in-Ok-send_blocks-clause-still : goal.returns-in-Ok-send_blocks-clause-still
@@ -31,12 +31,12 @@ returns-in-Ok-send_blocks-clause-still g c other = c.send_blocks.ensures.still (
 
 pub returns-in-Ok-send_blocks-clause-reads : goal.returns-in-Ok-send_blocks-clause-reads
 returns-in-Ok-send_blocks-clause-reads g c =
-    reads_as g.D.Disk.tells (c.send_blocks.result ≡ Err get_fault.DiskFault) _ (g.D.Disk.state c.args.disk.now) (g.D.Disk.state c.send_blocks.new.disk) (λ is. let e = is in cc) (λ is. let e = is in cc) c.send_blocks.ensures.reads
+    reads_as g.D.Disk.reveals (c.send_blocks.result ≡ Err get_fault.DiskFault) _ (g.D.Disk.state c.args.disk.now) (g.D.Disk.state c.send_blocks.new.disk) (λ is. let e = is in cc) (λ is. let e = is in cc) c.send_blocks.ensures.reads
 
 pub returns-in-Err-send_blocks-clause-cut : goal.returns-in-Err-send_blocks-clause-cut
 returns-in-Err-send_blocks-clause-cut g c =
     let v = c.args.ledger.now in
-    let has = IsPayload g.D.Disk.tells v.shape v.digests (g.D.Disk.state c.args.disk.now).files in
+    let has = IsPayload g.D.Disk.reveals v.shape v.digests (g.D.Disk.state c.args.disk.now).files in
     let blocks = data_under (get v.objects c.args.name.now) in
     let head = reply c.args.message.now 0 (to_be_bytes w64 c.args.size) in
     let before = g.O.Sink.state c.args.out.now in
@@ -64,7 +64,7 @@ returns-in-Err-send_blocks-clause-still g c other =
 
 pub returns-in-Err-send_blocks-clause-reads : goal.returns-in-Err-send_blocks-clause-reads
 returns-in-Err-send_blocks-clause-reads g c =
-    reads_as g.D.Disk.tells (c.send_blocks.result ≡ Err get_fault.DiskFault) _ (g.D.Disk.state c.args.disk.now) (g.D.Disk.state c.send_blocks.new.disk)
+    reads_as g.D.Disk.reveals (c.send_blocks.result ≡ Err get_fault.DiskFault) _ (g.D.Disk.state c.args.disk.now) (g.D.Disk.state c.send_blocks.new.disk)
     (λ is. let at : c.pass_fault.result ≡ DiskFault = (let h = is in cc) in c.in-Err-send_blocks.is ∙ ap Err (c.pass_fault.ensures.disk.0 at))
     (λ is. let at : c.in-Err-send_blocks.fault ≡ get_fault.DiskFault = (let h = is in cc) in ap Err (c.pass_fault.ensures.disk.1 at))
     c.send_blocks.ensures.reads

@@ -23,8 +23,8 @@ returns-in_default-clause-replies g c =
     let missing : c.find.result ≡ None = cc in
     let none : get w.ledger.objects name ≡ None = none_found (get w.ledger.objects name) (sym (ap (λ (m : Objects). option_map (λ p. p.object) (get m name)) c.catalog.ensures.objects) ∙ sym c.find.ensures ∙ missing) in
     replied (KeepsMachine w) (g.O.Sink.state c.args.out.now) (g.O.Sink.state c.put_refusal.new.out) 9 (reply c.args.message.now 9 [])
-    (λ (m : Machine). IsReplyTo g.D.Disk.tells w.ledger m files c.args.message.now) c.put_refusal.result c.put_refusal.ensures.code c.put_refusal.ensures.prints
-    (λ m keeps. unknown_reply w m keeps c.args.message.now name c.requires.kind g.D.Disk.tells files none)
+    (λ (m : Machine). IsReplyTo g.D.Disk.reveals w.ledger m files c.args.message.now) c.put_refusal.result c.put_refusal.ensures.code c.put_refusal.ensures.prints
+    (λ m keeps. unknown_reply w m keeps c.args.message.now name c.requires.kind g.D.Disk.reveals files none)
 
 pub returns-in_default-clause-part : goal.returns-in_default-clause-part
 returns-in_default-clause-part g c =
@@ -34,8 +34,8 @@ returns-in_default-clause-part g c =
     let missing : c.find.result ≡ None = cc in
     let none : get w.ledger.objects name ≡ None = none_found (get w.ledger.objects name) (sym (ap (λ (m : Objects). option_map (λ p. p.object) (get m name)) c.catalog.ensures.objects) ∙ sym c.find.ensures ∙ missing) in
     replied_part (KeepsMachine w) (g.O.Sink.state c.args.out.now) (g.O.Sink.state c.put_refusal.new.out) 9 (reply c.args.message.now 9 [])
-    _ (λ (m : Machine). MayBegin g.D.Disk.tells w.ledger m files c.args.message.now) c.put_refusal.result c.put_refusal.ensures.prints
-    (λ m keeps. inl (9, unknown_reply w m keeps c.args.message.now name c.requires.kind g.D.Disk.tells files none))
+    _ (λ (m : Machine). MayBegin g.D.Disk.reveals w.ledger m files c.args.message.now) c.put_refusal.result c.put_refusal.ensures.prints
+    (λ m keeps. inl (9, unknown_reply w m keeps c.args.message.now name c.requires.kind g.D.Disk.reveals files none))
 
 pub returns-in_default-clause-damaged : goal.returns-in_default-clause-damaged
 returns-in_default-clause-damaged g c b is = absurd (only_fault c.put_refusal.result WriteFault (Damaged b) c.put_refusal.ensures.fault (λ e. let h = e in cc) is)
@@ -44,7 +44,7 @@ pub returns-in_default-clause-memory : goal.returns-in_default-clause-memory
 returns-in_default-clause-memory g c is = absurd (only_fault c.put_refusal.result WriteFault NoMemory c.put_refusal.ensures.fault (λ e. let h = e in cc) is)
 
 pub returns-in_default-clause-reads : goal.returns-in_default-clause-reads
-returns-in_default-clause-reads g c = reads_none g.D.Disk.tells _ (g.D.Disk.state c.args.disk.now) (λ is. only_fault c.put_refusal.result WriteFault DiskFault c.put_refusal.ensures.fault (λ e. let h = e in cc) is)
+returns-in_default-clause-reads g c = reads_none g.D.Disk.reveals _ (g.D.Disk.state c.args.disk.now) (λ is. only_fault c.put_refusal.result WriteFault DiskFault c.put_refusal.ensures.fault (λ e. let h = e in cc) is)
 
 pub returns-in_default-clause-out_kept : goal.returns-in_default-clause-out_kept
 returns-in_default-clause-out_kept g c = c.put_refusal.ensures.prints.cause.kept
@@ -56,19 +56,19 @@ pub returns-in_default-clause-out_still : goal.returns-in_default-clause-out_sti
 returns-in_default-clause-out_still g c other = still_by c.put_refusal.result WriteFault c.put_refusal.ensures.fault c.put_refusal.ensures.prints.cause other
 
 pub returns-in_default-clause-in_room : goal.returns-in_default-clause-in_room
-returns-in_default-clause-in_room g c m room keeps told enough =
+returns-in_default-clause-in_room g c m room keeps revealed enough =
     let w = c.args.work.now in
     let name = c.args.name.now in
     let text = reply c.args.message.now 9 [] in
     let missing : c.find.result ≡ None = cc in
     let none : get w.ledger.objects name ≡ None = none_found (get w.ledger.objects name) (sym (ap (λ (m : Objects). option_map (λ p. p.object) (get m name)) c.catalog.ensures.objects) ∙ sym c.find.ensures ∙ missing) in
     let least : length text ≤ room = unknown_room w m keeps c.args.message.now name c.requires.kind room none enough in
-    (fits_by {text = text} c.put_refusal.result WriteFault room c.put_refusal.ensures.prints told least, c.put_refusal.ensures.prints.steady room told least)
+    (fits_by {text = text} c.put_refusal.result WriteFault room c.put_refusal.ensures.prints revealed least, c.put_refusal.ensures.prints.steady room revealed least)
 
 -- ---- there is no memory
 
 pub returns-in_default-large-clause-reads : goal.returns-in_default-large-clause-reads
-returns-in_default-large-clause-reads g c = reads_none g.D.Disk.tells _ (g.D.Disk.state c.args.disk.now) (λ is. let e = is in cc)
+returns-in_default-large-clause-reads g c = reads_none g.D.Disk.reveals _ (g.D.Disk.state c.args.disk.now) (λ is. let e = is in cc)
 
 pub returns-in_default-large-clause-part : goal.returns-in_default-large-clause-part
 returns-in_default-large-clause-part g c m keeps = inl refl
@@ -86,7 +86,7 @@ returns-clause-replies g c =
     let w = c.args.work.now in
     let name = c.args.name.now in
     let placed = placed_of (get w.ledger.objects name) c.in-Some.object (sym (ap (λ (m : Objects). option_map (λ p. p.object) (get m name)) c.catalog.ensures.objects) ∙ sym c.find.ensures ∙ c.in-Some.is) in
-    session_replies g.D.Disk.tells w (g.D.Disk.state c.args.disk.now).files c.args.message.now name c.requires.kind placed.0 placed.1
+    session_replies g.D.Disk.reveals w (g.D.Disk.state c.args.disk.now).files c.args.message.now name c.requires.kind placed.0 placed.1
     (g.O.Sink.state c.args.out.now) (g.O.Sink.state c.look_at.new.out) c.look_at.result c.look_at.ensures.replies
 
 pub returns-clause-part : goal.returns-clause-part
@@ -94,16 +94,16 @@ returns-clause-part g c =
     let w = c.args.work.now in
     let name = c.args.name.now in
     let placed = placed_of (get w.ledger.objects name) c.in-Some.object (sym (ap (λ (m : Objects). option_map (λ p. p.object) (get m name)) c.catalog.ensures.objects) ∙ sym c.find.ensures ∙ c.in-Some.is) in
-    session_parts g.D.Disk.tells w (g.D.Disk.state c.args.disk.now).files c.args.message.now name c.requires.kind placed.0 placed.1
+    session_parts g.D.Disk.reveals w (g.D.Disk.state c.args.disk.now).files c.args.message.now name c.requires.kind placed.0 placed.1
     (g.O.Sink.state c.args.out.now) (g.O.Sink.state c.look_at.new.out) c.look_at.result _ c.look_at.ensures.part
 
 pub returns-clause-memory : goal.returns-clause-memory
 returns-clause-memory g c is = absurd (c.look_at.ensures.memory is)
 
 pub returns-clause-in_room : goal.returns-clause-in_room
-returns-clause-in_room g c m room keeps told enough =
+returns-clause-in_room g c m room keeps revealed enough =
     let w = c.args.work.now in
     let name = c.args.name.now in
     let placed = placed_of (get w.ledger.objects name) c.in-Some.object (sym (ap (λ (m : Objects). option_map (λ p. p.object) (get m name)) c.catalog.ensures.objects) ∙ sym c.find.ensures ∙ c.in-Some.is) in
-    let fine = c.look_at.ensures.fits placed.0 room placed.1 told (object_room w m keeps c.args.message.now name c.requires.kind placed.0 placed.1 room enough) in
+    let fine = c.look_at.ensures.fits placed.0 room placed.1 revealed (object_room w m keeps c.args.message.now name c.requires.kind placed.0 placed.1 room enough) in
     (fine, c.look_at.ensures.still fine)

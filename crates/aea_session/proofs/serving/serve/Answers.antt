@@ -6,7 +6,7 @@ use Rattle.aea_session.proofs.serving.serve.Goals as goal
 
 pub loop-message-init : goal.loop-message-init
 loop-message-init g c = record {
-  gone = gone_none g.D.Disk.tells g.D.Disk.state c.args.session.now.work c.args.disk.now (g.S.Source.state c.args.input.now).left (g.O.Sink.state c.args.out.now);
+  gone = gone_none g.D.Disk.reveals g.D.Disk.state c.args.session.now.work c.args.disk.now (g.S.Source.state c.args.input.now).left (g.O.Sink.state c.args.out.now);
   live = c.requires.live;
   this = c.requires.this;
   fixed = c.requires.fixed;
@@ -16,20 +16,20 @@ loop-message-init g c = record {
 
 pub returns-in-Ok-None-clause-serves : goal.returns-in-Ok-None-clause-serves
 returns-in-Ok-None-clause-serves g c =
-    ends_well g.D.Disk.tells g.D.Disk.state c.args.session.now.work c.loop-message.session.work c.args.disk.now c.loop-message.disk
+    ends_well g.D.Disk.reveals g.D.Disk.state c.args.session.now.work c.loop-message.session.work c.args.disk.now c.loop-message.disk
     (g.S.Source.state c.args.input.now).left (g.S.Source.state c.loop-message.input).left (g.S.Source.state c.next_message.new.input).left
     (g.O.Sink.state c.args.out.now) (g.O.Sink.state c.loop-message.out) c.loop-message.count c.loop-message.at c.next_message.new.at c.loop-message.invariant.gone
     (subst (λ (o : Option Message). ReadsNext (g.S.Source.state c.loop-message.input).left (g.S.Source.state c.next_message.new.input).left c.loop-message.at c.next_message.new.at c.loop-message.count (Ok o)) c.in-Ok-None.field-0-is c.in-Ok-None.ensures.reads)
 
 pub returns-in-Err-clause-serves : goal.returns-in-Err-clause-serves
 returns-in-Err-clause-serves g c =
-    ends_early g.D.Disk.tells g.D.Disk.state c.args.session.now.work c.loop-message.session.work c.args.disk.now c.loop-message.disk
+    ends_early g.D.Disk.reveals g.D.Disk.state c.args.session.now.work c.loop-message.session.work c.args.disk.now c.loop-message.disk
     (g.S.Source.state c.args.input.now).left (g.S.Source.state c.loop-message.input).left (g.S.Source.state c.next_message.new.input).left
     (g.O.Sink.state c.args.out.now) (g.O.Sink.state c.loop-message.out) c.loop-message.count c.loop-message.at c.next_message.new.at c.in-Err.stop c.loop-message.invariant.gone c.in-Err.ensures.reads
 
 pub returns-in-Err-take_next-clause-serves : goal.returns-in-Err-take_next-clause-serves
 returns-in-Err-take_next-clause-serves g c =
-    ends_taken g.D.Disk.tells g.D.Disk.state c.args.session.now.work c.loop-message.session.work c.take_next.new.session.work c.args.disk.now c.loop-message.disk c.take_next.new.disk
+    ends_taken g.D.Disk.reveals g.D.Disk.state c.args.session.now.work c.loop-message.session.work c.take_next.new.session.work c.args.disk.now c.loop-message.disk c.take_next.new.disk
     (g.S.Source.state c.args.input.now).left (g.S.Source.state c.loop-message.input).left (g.S.Source.state c.next_message.new.input).left
     (g.O.Sink.state c.args.out.now) (g.O.Sink.state c.loop-message.out) (g.O.Sink.state c.take_next.new.out) c.loop-message.count c.loop-message.at c.next_message.new.at c.in-Ok-Some.message c.in-Err-take_next.fault c.loop-message.invariant.gone
     (subst (λ (o : Option Message). ReadsNext (g.S.Source.state c.loop-message.input).left (g.S.Source.state c.next_message.new.input).left c.loop-message.at c.next_message.new.at c.loop-message.count (Ok o)) c.in-Ok-Some.field-0-is c.in-Ok-Some.ensures.reads)
@@ -37,7 +37,7 @@ returns-in-Err-take_next-clause-serves g c =
 
 pub loop-message-preserved : goal.loop-message-preserved
 loop-message-preserved g c = record {
-  gone = gone_more g.D.Disk.tells g.D.Disk.state c.args.session.now.work c.loop-message.session.work c.take_next.new.session.work c.args.disk.now c.loop-message.disk c.take_next.new.disk
+  gone = gone_more g.D.Disk.reveals g.D.Disk.state c.args.session.now.work c.loop-message.session.work c.take_next.new.session.work c.args.disk.now c.loop-message.disk c.take_next.new.disk
       (g.S.Source.state c.args.input.now).left (g.S.Source.state c.loop-message.input).left (g.S.Source.state c.next_message.new.input).left
       (g.O.Sink.state c.args.out.now) (g.O.Sink.state c.loop-message.out) (g.O.Sink.state c.take_next.new.out) c.loop-message.count c.loop-message.at c.next_message.new.at c.in-Ok-Some.message c.in-Ok.field-0 c.loop-message.invariant.gone
       (subst (λ (o : Option Message). ReadsNext (g.S.Source.state c.loop-message.input).left (g.S.Source.state c.next_message.new.input).left c.loop-message.at c.next_message.new.at c.loop-message.count (Ok o)) c.in-Ok-Some.field-0-is c.in-Ok-Some.ensures.reads)

@@ -18,9 +18,9 @@ returns-clause-writes g c =
     let step = ChangesFile home.result.file (Torn home.result.at (length bytes)) in
     let room = HasRoomTo old home.result.file (home.result.at + length bytes) in
     let frame =
-    writes_wider g.D.Disk.tells (TakesFrom old home.result.file home.result.at) room (IsReady old) room _ step step old new (λ a d is. is)
-    (λ told ready. g.met.D.Disk.site_taken c.args.disk.now home.result.file (old.files 0) ready.0 home.result.at (omega (arith, sites.0, home.ensures.file)) (omega (arith, sites.1, few, home.ensures.file)) ready.1) (λ told fit. fit)
-    (writes_one g.D.Disk.tells (TakesFrom old home.result.file home.result.at) room step old new c.write.result
-    (torn_anyway g.D.Disk.tells home.result.file home.result.at bytes old.files new.files c.write.result c.write.ensures.written c.write.ensures.torn)
+    writes_wider g.D.Disk.reveals (TakesFrom old home.result.file home.result.at) room (IsReady old) room _ step step old new (λ a d is. is)
+    (λ revealed ready. g.met.D.Disk.site_taken c.args.disk.now home.result.file (old.files 0) ready.0 home.result.at (omega (arith, sites.0, home.ensures.file)) (omega (arith, sites.1, few, home.ensures.file)) ready.1) (λ revealed fit. fit)
+    (writes_one g.D.Disk.reveals (TakesFrom old home.result.file home.result.at) room step old new c.write.result
+    (torn_anyway g.D.Disk.reveals home.result.file home.result.at bytes old.files new.files c.write.result c.write.ensures.written c.write.ensures.torn)
     c.write.ensures.crash c.write.ensures.settled c.write.ensures.time c.write.ensures.cause c.write.ensures.sure) in
     rw (home.ensures.file, home.ensures.place, c.requires.cell) at frame

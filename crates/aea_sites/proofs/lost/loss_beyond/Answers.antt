@@ -9,7 +9,7 @@ use Rattle.aea_sites.specs.declared.lost.SiteLoss.{SiteLoss}
 use Rattle.aea_sites.specs.Counts.{has_nodes, IsCountOf}
 use Rattle.aea_sites.specs.Losses.{IsLossOf}
 use Rattle.aea_sites.proofs.Losing.{none_lost, counted_lost}
-use Rattle.aea_sites.proofs.Turned.{AreTurned, turned, all-marked}
+use Rattle.aea_sites.proofs.Flipped.{AreFlipped, flipped, all-marked}
 use Rattle.aea_sites.proofs.lost.loss_beyond.Goals as goal
 
 pub returns-in-None : goal.returns-in-None
@@ -36,11 +36,11 @@ pub returns-then-unmarked-blocks : goal.returns-then-unmarked-blocks
 returns-then-unmarked-blocks c =
     let marks = c.args.reached.now in
     let l = c.lattice-lattice.result.now in
-    let flipped : AreTurned marks c.in_ok-open.open = record { same = c.in_ok-open.ensures.lattice; marks = c.in_ok-open.ensures.marks; whole = c.in_ok-open.ensures.whole } in
+    let swapped : AreFlipped marks c.in_ok-open.open = record { same = c.in_ok-open.ensures.lattice; marks = c.in_ok-open.ensures.marks; whole = c.in_ok-open.ensures.whole } in
     IfOk-weaker c.loss_of_few.result
     (λ (loss : SiteLoss). (known : BlockId → Bool) → AreMarks c.in_ok-open.open (λ b. not (known b)) → IsLossOf l known loss)
     (IsLossOf marks.lattice (is_marked marks))
     (λ loss of.
     subst (λ (x : Lattice). IsLossOf x (is_marked marks) loss) c.lattice-lattice.ensures.lattice
-    (of (is_marked marks) (turned marks c.in_ok-open.open (is_marked marks) flipped (λ b has. refl))))
+    (of (is_marked marks) (flipped marks c.in_ok-open.open (is_marked marks) swapped (λ b has. refl))))
     c.loss_of_few.ensures

@@ -1,5 +1,5 @@
 use Rattle.aea_view.specs.Marked.{is_marked}
-use Rattle.aea_sweep.proofs.Telling.{few_words, losses_are, labels_within}
+use Rattle.aea_sweep.proofs.Revealing.{few_words, losses_are, labels_within}
 use Rattle.aea_sweep.proofs.listing.losses.Goals as goal
 
 pub first_words-requires-clause-few : goal.first_words-requires-clause-few

@@ -10,11 +10,11 @@ use Rattle.aea_uploads.proofs.close.finish_rest.Goals as goal
 pub returns-then-slot-eq0-clause-finishes : goal.returns-then-slot-eq0-clause-finishes
 returns-then-slot-eq0-clause-finishes g c =
     let less = c.requires.keeps.keeps.less in
-    finishes_none g.D.Disk.tells c.args.shape.now c.args.heads.now c.args.slot.now c.args.digests.now.items (g.D.Disk.state c.args.disk.now).files (grind (arith, nat_tests, c.if-slot-eq0.true)) (omega (arith, less))
+    finishes_none g.D.Disk.reveals c.args.shape.now c.args.heads.now c.args.slot.now c.args.digests.now.items (g.D.Disk.state c.args.disk.now).files (grind (arith, nat_tests, c.if-slot-eq0.true)) (omega (arith, less))
 
 pub returns-then-slot-eq0-clause-writes : goal.returns-then-slot-eq0-clause-writes
 returns-then-slot-eq0-clause-writes g c nodes within =
-    cells_none g.D.Disk.tells _ c.args.shape.now nodes (λ a. a.node ≢ c.args.heads.now.lattice.n + 1) (g.D.Disk.state c.args.disk.now) (λ is. absurd (let e = is in cc))
+    cells_none g.D.Disk.reveals _ c.args.shape.now nodes (λ a. a.node ≢ c.args.heads.now.lattice.n + 1) (g.D.Disk.state c.args.disk.now) (λ is. absurd (let e = is in cc))
 
 pub push_node-requires-clause-before : goal.push_node-requires-clause-before
 push_node-requires-clause-before g c =
@@ -25,17 +25,17 @@ push_node-requires-clause-before g c =
 
 pub returns-in-Err-clause-writes : goal.returns-in-Err-clause-writes
 returns-in-Err-clause-writes g c nodes within =
-    cells_none g.D.Disk.tells _ c.args.shape.now nodes (λ a. a.node ≢ c.args.heads.now.lattice.n + 1) (g.D.Disk.state c.args.disk.now) (λ is. absurd (let e = is in cc))
+    cells_none g.D.Disk.reveals _ c.args.shape.now nodes (λ a. a.node ≢ c.args.heads.now.lattice.n + 1) (g.D.Disk.state c.args.disk.now) (λ is. absurd (let e = is in cc))
 
 pub returns-in-Ok-weave_node-clause-writes : goal.returns-in-Ok-weave_node-clause-writes
 returns-in-Ok-weave_node-clause-writes g c nodes within =
     let some : 1 ≤ c.args.slot.now.have = grind (arith, nat_tests, c.if-slot-eq0.false) in
-    cells_as g.D.Disk.tells _ _ c.args.shape.now nodes (λ a. a.node ≢ c.args.heads.now.lattice.n + 1) (g.D.Disk.state c.args.disk.now) (g.D.Disk.state c.weave_node.new.disk) (λ is. absurd (let e = is in cc)) (λ is. absurd (cc)) (c.weave_node.ensures.writes nodes (within some))
+    cells_as g.D.Disk.reveals _ _ c.args.shape.now nodes (λ a. a.node ≢ c.args.heads.now.lattice.n + 1) (g.D.Disk.state c.args.disk.now) (g.D.Disk.state c.weave_node.new.disk) (λ is. absurd (let e = is in cc)) (λ is. absurd (cc)) (c.weave_node.ensures.writes nodes (within some))
 
 pub returns-in-Err-weave_node-clause-writes : goal.returns-in-Err-weave_node-clause-writes
 returns-in-Err-weave_node-clause-writes g c nodes within =
     let some : 1 ≤ c.args.slot.now.have = grind (arith, nat_tests, c.if-slot-eq0.false) in
-    cells_as g.D.Disk.tells _ _ c.args.shape.now nodes (λ a. a.node ≢ c.args.heads.now.lattice.n + 1) (g.D.Disk.state c.args.disk.now) (g.D.Disk.state c.weave_node.new.disk) (λ is. c.in-Err-weave_node.is ∙ is) (λ is. cc) (c.weave_node.ensures.writes nodes (within some))
+    cells_as g.D.Disk.reveals _ _ c.args.shape.now nodes (λ a. a.node ≢ c.args.heads.now.lattice.n + 1) (g.D.Disk.state c.args.disk.now) (g.D.Disk.state c.weave_node.new.disk) (λ is. c.in-Err-weave_node.is ∙ is) (λ is. cc) (c.weave_node.ensures.writes nodes (within some))
 
 pub returns-in-Ok-weave_node-clause-finishes : goal.returns-in-Ok-weave_node-clause-finishes
 returns-in-Ok-weave_node-clause-finishes g c =
@@ -45,7 +45,7 @@ returns-in-Ok-weave_node-clause-finishes g c =
     let block : c.as_slice.result.now ≡ c.pad_rest.new.slot.block.items = c.as_slice.ensures.value in
     let is : c.as_slice.result.now ≡ take c.args.slot.now.have c.args.slot.now.block.items ++ replicate (c.args.shape.now.block - c.args.slot.now.have) 0 =
     c.as_slice.ensures.value ∙ c.pad_rest.ensures.filled ∙ ap (λ (n : ℕ). take c.args.slot.now.have c.args.slot.now.block.items ++ replicate (n - c.args.slot.now.have) 0) k.keeps.room in
-    finishes_full g.D.Disk.tells c.args.shape.now c.as_slice.result.now c.args.heads.now c.weave_node.new.heads c.args.slot.now _ c.args.digests.now.items c.weave_node.new.digests.items c.next_node.result (g.D.Disk.state c.args.disk.now).files (g.D.Disk.state c.weave_node.new.disk).files
+    finishes_full g.D.Disk.reveals c.args.shape.now c.as_slice.result.now c.args.heads.now c.weave_node.new.heads c.args.slot.now _ c.args.digests.now.items c.weave_node.new.digests.items c.next_node.result (g.D.Disk.state c.args.disk.now).files (g.D.Disk.state c.weave_node.new.disk).files
     c.pad_rest.ensures.name c.next_node.ensures (λ nodes here. c.in-Ok.ensures nodes (c.pad_rest.ensures.parts ∙ here))
     c.pad_rest.ensures.length (λ m h. subst (λ x. Holds256 x m) (sym c.pad_rest.ensures.hasher) h)
     some (omega (arith, less)) (ap length c.as_slice.ensures.value ∙ c.pad_rest.ensures.long ∙ k.keeps.room) is c.weave_node.ensures.grown c.weave_node.ensures.size c.in-Ok-weave_node.ensures.values c.in-Ok-weave_node.ensures.intact

@@ -30,9 +30,9 @@ loop-done-init g c =
     record {
       within = omega arith;
       cell = c.requires.buffer;
-      gathers = gathers_none g.D.Disk.tells c.args.shape.now c.args.heads.now c.args.slot.now c.args.digests.now.items (g.D.Disk.state c.args.disk.now).files k.less k.room;
-      writes = λ nodes within. cells_none g.D.Disk.tells ⊥ c.args.shape.now nodes (IsBlockIn c.args.shape.now c.args.heads.now.lattice.n) (g.D.Disk.state c.args.disk.now) (λ none. none);
-      padded = λ told. padded_none c.args.shape.now (IsBlockIn c.args.shape.now c.args.heads.now.lattice.n) (g.D.Disk.state c.args.disk.now).files;
+      gathers = gathers_none g.D.Disk.reveals c.args.shape.now c.args.heads.now c.args.slot.now c.args.digests.now.items (g.D.Disk.state c.args.disk.now).files k.less k.room;
+      writes = λ nodes within. cells_none g.D.Disk.reveals ⊥ c.args.shape.now nodes (IsBlockIn c.args.shape.now c.args.heads.now.lattice.n) (g.D.Disk.state c.args.disk.now) (λ none. none);
+      padded = λ revealed. padded_none c.args.shape.now (IsBlockIn c.args.shape.now c.args.heads.now.lattice.n) (g.D.Disk.state c.args.disk.now).files;
     }
 
 pub gather-requires-clause-keeps : goal.gather-requires-clause-keeps
@@ -76,23 +76,23 @@ returns-in-Err-clause-writes g c nodes within =
     let taken : length (take c.loop-done.done c.args.bytes.now) ≡ c.loop-done.done = omega (arith, length-take c.loop-done.done c.args.bytes.now, done) in
     let rest : length (take (length c.args.bytes.now - c.loop-done.done) (drop c.loop-done.done c.args.bytes.now)) ≡ length c.args.bytes.now - c.loop-done.done = omega (arith, length-take (length c.args.bytes.now - c.loop-done.done) (drop c.loop-done.done c.args.bytes.now), length-drop c.loop-done.done c.args.bytes.now) in
     let all = total c.args.heads.now.lattice.n c.loop-done.heads.lattice.n (length G.filled) c.args.shape.now.block c.args.slot.now.have c.loop-done.slot.have c.loop-done.done (length c.args.bytes.now) n (sum ∙ ap (λ (k : ℕ). c.args.slot.now.have + k) taken) done in
-    cells_as g.D.Disk.tells (c.gather.result ≡ Err DiskFault) _ c.args.shape.now nodes (IsBlockIn c.args.shape.now c.args.heads.now.lattice.n) (g.D.Disk.state c.args.disk.now) (g.D.Disk.state c.gather.new.disk) (λ is. c.in-Err.is ∙ fault_as c.in-Err.fault DiskFault is) (λ is. cc)
-    (cells_then g.D.Disk.tells ⊥ (c.gather.result ≡ Err DiskFault) c.args.shape.now nodes (IsBlockIn c.args.shape.now c.args.heads.now.lattice.n) (λ a. a.node ≢ c.loop-done.heads.lattice.n + 1) (g.D.Disk.state c.args.disk.now) (g.D.Disk.state c.loop-done.disk) (g.D.Disk.state c.gather.new.disk) (λ none. none)
+    cells_as g.D.Disk.reveals (c.gather.result ≡ Err DiskFault) _ c.args.shape.now nodes (IsBlockIn c.args.shape.now c.args.heads.now.lattice.n) (g.D.Disk.state c.args.disk.now) (g.D.Disk.state c.gather.new.disk) (λ is. c.in-Err.is ∙ fault_as c.in-Err.fault DiskFault is) (λ is. cc)
+    (cells_then g.D.Disk.reveals ⊥ (c.gather.result ≡ Err DiskFault) c.args.shape.now nodes (IsBlockIn c.args.shape.now c.args.heads.now.lattice.n) (λ a. a.node ≢ c.loop-done.heads.lattice.n + 1) (g.D.Disk.state c.args.disk.now) (g.D.Disk.state c.loop-done.disk) (g.D.Disk.state c.gather.new.disk) (λ none. none)
     (λ a block same. (let most = block.most in omega (arith, most, same, n)))
     (c.loop-done.invariant.writes nodes within) (c.gather.ensures.writes nodes (λ big. node_more c.loop-done.heads.lattice.n nodes c.args.shape.now.block (c.loop-done.slot.have + (length c.args.bytes.now - c.loop-done.done)) (omega (arith, all, within)) (omega (arith, big, rest)))))
 
 pub returns-in-Err-clause-padded : goal.returns-in-Err-clause-padded
-returns-in-Err-clause-padded g c fine told =
+returns-in-Err-clause-padded g c fine revealed =
     let n = c.loop-done.invariant.gathers.grown.nodes in
     padded_both c.args.shape.now (IsBlockIn c.args.shape.now c.args.heads.now.lattice.n) (g.D.Disk.state c.args.disk.now).files (g.D.Disk.state c.loop-done.disk).files (g.D.Disk.state c.gather.new.disk).files
-    (c.loop-done.invariant.padded told)
+    (c.loop-done.invariant.padded revealed)
     (padded_less c.args.shape.now (λ a. a.node ≢ c.loop-done.heads.lattice.n + 1) (IsBlockIn c.args.shape.now c.args.heads.now.lattice.n) (g.D.Disk.state c.loop-done.disk).files (g.D.Disk.state c.gather.new.disk).files
     (λ a block same. (let most = block.most in omega (arith, most, same, n)))
-    (c.gather.ensures.padded (λ bad. fine (fault_as c.in-Err.fault DiskFault (sym c.in-Err.is ∙ bad))) told))
+    (c.gather.ensures.padded (λ bad. fine (fault_as c.in-Err.fault DiskFault (sym c.in-Err.is ∙ bad))) revealed))
 
 pub returns-clause-writes : goal.returns-clause-writes
 returns-clause-writes g c nodes within =
-    cells_as g.D.Disk.tells ⊥ _ c.args.shape.now nodes (IsBlockIn c.args.shape.now c.args.heads.now.lattice.n) (g.D.Disk.state c.args.disk.now) (g.D.Disk.state c.loop-done.disk) (λ is. absurd (let e = is in cc)) (λ none. absurd none) (c.loop-done.invariant.writes nodes within)
+    cells_as g.D.Disk.reveals ⊥ _ c.args.shape.now nodes (IsBlockIn c.args.shape.now c.args.heads.now.lattice.n) (g.D.Disk.state c.args.disk.now) (g.D.Disk.state c.loop-done.disk) (λ is. absurd (let e = is in cc)) (λ none. absurd none) (c.loop-done.invariant.writes nodes within)
 
 pub loop-done-preserved : goal.loop-done-preserved
 loop-done-preserved g c =
@@ -112,15 +112,15 @@ loop-done-preserved g c =
     record {
       within = omega (arith, count, rest, lt);
       cell = c.gather.auto.cell ∙ c.loop-done.invariant.cell;
-      gathers = subst (λ (l : List ℕ). Gathers g.D.Disk.tells c.args.shape.now l c.args.heads.now c.gather.new.heads c.args.slot.now c.gather.new.slot c.args.digests.now.items c.gather.new.digests.items (g.D.Disk.state c.args.disk.now).files (g.D.Disk.state c.gather.new.disk).files) joined
-          (gathers_both g.D.Disk.tells c.args.shape.now (take c.loop-done.done c.args.bytes.now) (take c.in-Ok.count (take (length c.args.bytes.now - c.loop-done.done) (drop c.loop-done.done c.args.bytes.now))) c.args.heads.now c.loop-done.heads c.gather.new.heads c.args.slot.now c.loop-done.slot c.gather.new.slot c.args.digests.now.items c.loop-done.digests.items c.gather.new.digests.items (g.D.Disk.state c.args.disk.now).files (g.D.Disk.state c.loop-done.disk).files (g.D.Disk.state c.gather.new.disk).files G c.in-Ok.ensures.gathers);
-      writes = λ nodes within. cells_as g.D.Disk.tells (c.gather.result ≡ Err DiskFault) ⊥ c.args.shape.now nodes (IsBlockIn c.args.shape.now c.args.heads.now.lattice.n) (g.D.Disk.state c.args.disk.now) (g.D.Disk.state c.gather.new.disk) (λ none. absurd none) (λ bad. absurd (let is = c.in-Ok.is in cc))
-          (cells_then g.D.Disk.tells ⊥ (c.gather.result ≡ Err DiskFault) c.args.shape.now nodes (IsBlockIn c.args.shape.now c.args.heads.now.lattice.n) (λ a. a.node ≢ c.loop-done.heads.lattice.n + 1) (g.D.Disk.state c.args.disk.now) (g.D.Disk.state c.loop-done.disk) (g.D.Disk.state c.gather.new.disk) (λ none. none)
+      gathers = subst (λ (l : List ℕ). Gathers g.D.Disk.reveals c.args.shape.now l c.args.heads.now c.gather.new.heads c.args.slot.now c.gather.new.slot c.args.digests.now.items c.gather.new.digests.items (g.D.Disk.state c.args.disk.now).files (g.D.Disk.state c.gather.new.disk).files) joined
+          (gathers_both g.D.Disk.reveals c.args.shape.now (take c.loop-done.done c.args.bytes.now) (take c.in-Ok.count (take (length c.args.bytes.now - c.loop-done.done) (drop c.loop-done.done c.args.bytes.now))) c.args.heads.now c.loop-done.heads c.gather.new.heads c.args.slot.now c.loop-done.slot c.gather.new.slot c.args.digests.now.items c.loop-done.digests.items c.gather.new.digests.items (g.D.Disk.state c.args.disk.now).files (g.D.Disk.state c.loop-done.disk).files (g.D.Disk.state c.gather.new.disk).files G c.in-Ok.ensures.gathers);
+      writes = λ nodes within. cells_as g.D.Disk.reveals (c.gather.result ≡ Err DiskFault) ⊥ c.args.shape.now nodes (IsBlockIn c.args.shape.now c.args.heads.now.lattice.n) (g.D.Disk.state c.args.disk.now) (g.D.Disk.state c.gather.new.disk) (λ none. absurd none) (λ bad. absurd (let is = c.in-Ok.is in cc))
+          (cells_then g.D.Disk.reveals ⊥ (c.gather.result ≡ Err DiskFault) c.args.shape.now nodes (IsBlockIn c.args.shape.now c.args.heads.now.lattice.n) (λ a. a.node ≢ c.loop-done.heads.lattice.n + 1) (g.D.Disk.state c.args.disk.now) (g.D.Disk.state c.loop-done.disk) (g.D.Disk.state c.gather.new.disk) (λ none. none)
           (λ a block same. (let most = block.most in omega (arith, most, same, n)))
           (c.loop-done.invariant.writes nodes within) (c.gather.ensures.writes nodes (λ big. node_more c.loop-done.heads.lattice.n nodes c.args.shape.now.block (c.loop-done.slot.have + (length c.args.bytes.now - c.loop-done.done)) (omega (arith, all, within)) (omega (arith, big, rest)))));
-      padded = λ told. padded_both c.args.shape.now (IsBlockIn c.args.shape.now c.args.heads.now.lattice.n) (g.D.Disk.state c.args.disk.now).files (g.D.Disk.state c.loop-done.disk).files (g.D.Disk.state c.gather.new.disk).files
-          (c.loop-done.invariant.padded told)
+      padded = λ revealed. padded_both c.args.shape.now (IsBlockIn c.args.shape.now c.args.heads.now.lattice.n) (g.D.Disk.state c.args.disk.now).files (g.D.Disk.state c.loop-done.disk).files (g.D.Disk.state c.gather.new.disk).files
+          (c.loop-done.invariant.padded revealed)
           (padded_less c.args.shape.now (λ a. a.node ≢ c.loop-done.heads.lattice.n + 1) (IsBlockIn c.args.shape.now c.args.heads.now.lattice.n) (g.D.Disk.state c.loop-done.disk).files (g.D.Disk.state c.gather.new.disk).files
           (λ a block same. (let most = block.most in omega (arith, most, same, n)))
-          (c.gather.ensures.padded (λ bad. absurd (let is = c.in-Ok.is in cc)) told));
+          (c.gather.ensures.padded (λ bad. absurd (let is = c.in-Ok.is in cc)) revealed));
     }

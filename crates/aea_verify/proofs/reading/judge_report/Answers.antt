@@ -7,7 +7,7 @@ use Rattle.aea_verify.proofs.Going.{begun-fault, judged-same}
 use Rattle.aea_verify.proofs.reading.judge_report.Goals as goal
 
 pub returns-in-Err-clause-says : goal.returns-in-Err-clause-says
-returns-in-Err-clause-says g c input told = begun-fault input (g.S.Source.state c.begin.new.source).left c.in-Err.fault (c.in-Err.ensures.begun input told)
+returns-in-Err-clause-says g c input revealed = begun-fault input (g.S.Source.state c.begin.new.source).left c.in-Err.fault (c.in-Err.ensures.begun input revealed)
 
 pub read_lines-requires-clause-blocks : goal.read_lines-requires-clause-blocks
 read_lines-requires-clause-blocks g c so =
@@ -16,11 +16,11 @@ read_lines-requires-clause-blocks g c so =
     c.in-Ok.ensures.head (ap not (c.is_none.ensures ∙ ap not so))
 
 pub returns-in-Err-read_lines-clause-says : goal.returns-in-Err-read_lines-clause-says
-returns-in-Err-read_lines-clause-says g c input told = c.in-Err-read_lines.ensures.reads input c.in-Ok.begun.1 (c.in-Ok.ensures.begun input told)
+returns-in-Err-read_lines-clause-says g c input revealed = c.in-Err-read_lines.ensures.reads input c.in-Ok.begun.1 (c.in-Ok.ensures.begun input revealed)
 
 pub returns-clause-says : goal.returns-clause-says
-returns-clause-says g c input told =
-    let all = c.in-Ok-read_lines.ensures.reads input c.in-Ok.begun.1 (c.in-Ok.ensures.begun input told) in
+returns-clause-says g c input revealed =
+    let all = c.in-Ok-read_lines.ensures.reads input c.in-Ok.begun.1 (c.in-Ok.ensures.begun input revealed) in
     let says = subst (λ (l : Lattice). HeadSays l c.args.seal.now c.in-Ok.begun.1 c.judge_head-broken.result) c.lattice.ensures.lattice c.judge_head-broken.ensures in
     record {
       head = c.in-Ok.begun.1;

@@ -9,13 +9,13 @@ use Rattle.aea_verify.proofs.verifying.verify.Goals as goal
 -- ---- the archive was not scanned
 
 pub returns-in-Err-DiskFault-clause-exactly : goal.returns-in-Err-DiskFault-clause-exactly
-returns-in-Err-DiskFault-clause-exactly g c told input left = answered-err c.args.ledger.now (g.D.Disk.state c.args.disk.now).files input DiskFault
+returns-in-Err-DiskFault-clause-exactly g c revealed input left = answered-err c.args.ledger.now (g.D.Disk.state c.args.disk.now).files input DiskFault
 
 pub returns-in-Err-DiskFault-clause-read : goal.returns-in-Err-DiskFault-clause-read
 returns-in-Err-DiskFault-clause-read g c input left = read-free input DiskFault (inr (inl refl))
 
 pub returns-in-Err-NoMemory-clause-exactly : goal.returns-in-Err-NoMemory-clause-exactly
-returns-in-Err-NoMemory-clause-exactly g c told input left = answered-err c.args.ledger.now (g.D.Disk.state c.args.disk.now).files input NoMemory
+returns-in-Err-NoMemory-clause-exactly g c revealed input left = answered-err c.args.ledger.now (g.D.Disk.state c.args.disk.now).files input NoMemory
 
 pub returns-in-Err-NoMemory-clause-read : goal.returns-in-Err-NoMemory-clause-read
 returns-in-Err-NoMemory-clause-read g c input left = read-free input NoMemory (inr (inr refl))
@@ -23,7 +23,7 @@ returns-in-Err-NoMemory-clause-read g c input left = read-free input NoMemory (i
 -- ---- the report was not read to its end
 
 pub returns-clause-exactly : goal.returns-clause-exactly
-returns-clause-exactly g c told input left = answered-err c.args.ledger.now (g.D.Disk.state c.args.disk.now).files input c.verify_fault.result
+returns-clause-exactly g c revealed input left = answered-err c.args.ledger.now (g.D.Disk.state c.args.disk.now).files input c.verify_fault.result
 
 pub returns-clause-read : goal.returns-clause-read
 returns-clause-read g c input left =
@@ -33,17 +33,17 @@ returns-clause-read g c input left =
 -- ---- a verdict
 
 pub returns-in-Ok-judge_report-clause-answers : goal.returns-in-Ok-judge_report-clause-answers
-returns-in-Ok-judge_report-clause-answers g c told input left =
+returns-in-Ok-judge_report-clause-answers g c revealed input left =
     let v = c.args.ledger.now in
     judged v (g.D.Disk.state c.args.disk.now).files (is_marked c.in-Ok.marks) input c.in-Ok-judge_report.verdict
     (are-inside v c.lattice-lattice.result c.lattice-lattice.ensures.value c.lattice-lattice.ensures.of_shape)
-    (c.in-Ok.ensures.survivors told)
+    (c.in-Ok.ensures.survivors revealed)
     (verdict-here v c.in-Ok.marks.lattice c.seal.result (is_marked c.in-Ok.marks) input c.in-Ok-judge_report.verdict c.in-Ok.ensures.lattice c.seal.ensures (c.in-Ok-judge_report.ensures.says input left))
 
 pub returns-in-Ok-judge_report-clause-exactly : goal.returns-in-Ok-judge_report-clause-exactly
-returns-in-Ok-judge_report-clause-exactly g c told input left =
+returns-in-Ok-judge_report-clause-exactly g c revealed input left =
     answered-ok c.reports_have_one_reading.ensures c.accepted_are_fitting.ensures c.lost_are_open.ensures
-    c.args.ledger.now (g.D.Disk.state c.args.disk.now).files input c.in-Ok-judge_report.verdict (returns-in-Ok-judge_report-clause-answers g c told input left)
+    c.args.ledger.now (g.D.Disk.state c.args.disk.now).files input c.in-Ok-judge_report.verdict (returns-in-Ok-judge_report-clause-answers g c revealed input left)
 
 pub returns-in-Ok-judge_report-clause-read : goal.returns-in-Ok-judge_report-clause-read
 returns-in-Ok-judge_report-clause-read g c input left =

@@ -17,8 +17,8 @@ returns-then-member c members same walked =
         parted = λ h. absurd (true≢false (sym h ∙ sym c.parts.ensures ∙ w.if-parts.false));
       }
     ] in
-    walked-member c.args.lattice.now members c.args.node c.args.strands.now c.if-parts.carried c.turned_at.result c.requires.first carried walked
-    (same ∙ c.if-member.true) c.turned_at.ensures
+    walked-member c.args.lattice.now members c.args.node c.args.strands.now c.if-parts.carried c.flipped_at.result c.requires.first carried walked
+    (same ∙ c.if-member.true) c.flipped_at.ensures
 
 pub returns-else-member : goal.returns-else-member
 returns-else-member c members same walked =

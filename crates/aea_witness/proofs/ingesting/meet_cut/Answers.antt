@@ -80,7 +80,7 @@ unreachable-requires-in-Err-HeadDamaged g c =
     let stream = c.args.source.now.rest.now in
     let files = (g.D.Disk.state c.args.disk.now).files in
     let enters = may_enter c.new_names_are_free.ensures c.objects_are_counted.ensures v b.puts b.object files b.has b.small b.new b.few in
-    no_head v files c.in-Err-HeadDamaged.field-0-0 b.has.intact ((c.ingest_one.ensures.head c.in-Err-HeadDamaged.field-0-0 (c.in-Err-HeadDamaged.is ∙ ap Err c.in-Err-HeadDamaged.field-0-is)).1 c.requires.tells)
+    no_head v files c.in-Err-HeadDamaged.field-0-0 b.has.intact ((c.ingest_one.ensures.head c.in-Err-HeadDamaged.field-0-0 (c.in-Err-HeadDamaged.is ∙ ap Err c.in-Err-HeadDamaged.field-0-is)).1 c.requires.reveals)
 
 pub unreachable-requires-in-Err-DiskFault : goal.unreachable-requires-in-Err-DiskFault
 unreachable-requires-in-Err-DiskFault g c =
@@ -95,7 +95,7 @@ unreachable-requires-in-Err-DiskFault g c =
     let cut = b.cut in
     let long = ap length b.begins in
     let room = frame_room v b.puts b.object.name (length b.object.bytes) b.front stream old b.has b.few b.small.short b.small.block (omega (arith, brief, block, cut, long, length-append (frame_head b.object.name (length b.object.bytes)) b.front, length-head b.object.name (length b.object.bytes))) b.begins c.requires.room in
-    (c.ingest_one.ensures.writes.sure c.requires.tells (willing_ready old (g.met.D.Disk.free_taken c.args.disk.now) (cells_willing old c.requires.room.cells)) room).0 (c.in-Err-DiskFault.is ∙ ap Err c.in-Err-DiskFault.field-0-is)
+    (c.ingest_one.ensures.writes.sure c.requires.reveals (willing_ready old (g.met.D.Disk.free_taken c.args.disk.now) (cells_willing old c.requires.room.cells)) room).0 (c.in-Err-DiskFault.is ∙ ap Err c.in-Err-DiskFault.field-0-is)
 
 pub returns-in-Err-BadStream-clause-cut : goal.returns-in-Err-BadStream-clause-cut
 returns-in-Err-BadStream-clause-cut g c =
@@ -106,7 +106,7 @@ returns-in-Err-BadStream-clause-cut g c =
     let enters = may_enter c.new_names_are_free.ensures c.objects_are_counted.ensures v b.puts b.object files b.has b.small b.new b.few in
     let is = (c.in-Err-BadStream.is ∙ ap Err c.in-Err-BadStream.field-0-is) in
     let same = c.ingest_one.ensures.refused (no_disk_fault c.ingest_one.result c.in-Err-BadStream.field-0-0 is) (not_put c.ingest_one.result c.in-Err-BadStream.field-0-0 is) in
-    subst (λ (w : Opened). EndsInside w stream) (sym same) (c.ingest_one.ensures.bad_stream_told c.in-Err-BadStream.field-0-0 stream refl is)
+    subst (λ (w : Opened). EndsInside w stream) (sym same) (c.ingest_one.ensures.bad_stream_revealed c.in-Err-BadStream.field-0-0 stream refl is)
 
 pub returns-in-Err-BadStream-clause-stays : goal.returns-in-Err-BadStream-clause-stays
 returns-in-Err-BadStream-clause-stays g c b =
@@ -115,8 +115,8 @@ returns-in-Err-BadStream-clause-stays g c b =
     let new = g.D.Disk.state c.ingest_one.new.disk in
     let is = (c.in-Err-BadStream.is ∙ ap Err c.in-Err-BadStream.field-0-is) in
     let same = c.ingest_one.ensures.refused (no_disk_fault c.ingest_one.result c.in-Err-BadStream.field-0-0 is) (not_put c.ingest_one.result c.in-Err-BadStream.field-0-0 is) in
-    let leaves = c.ingest_one.ensures.refused_leaves (no_disk_fault c.ingest_one.result c.in-Err-BadStream.field-0-0 is) (not_put c.ingest_one.result c.in-Err-BadStream.field-0-0 is) c.requires.tells in
-    subst (λ (w : Opened). HasPuts w b.puts new.files) (sym same) (puts_stay v b.puts old.files new.files b.has leaves.reads (c.ingest_one.ensures.writes.contents c.requires.tells).homes)
+    let leaves = c.ingest_one.ensures.refused_leaves (no_disk_fault c.ingest_one.result c.in-Err-BadStream.field-0-0 is) (not_put c.ingest_one.result c.in-Err-BadStream.field-0-0 is) c.requires.reveals in
+    subst (λ (w : Opened). HasPuts w b.puts new.files) (sym same) (puts_stay v b.puts old.files new.files b.has leaves.reads (c.ingest_one.ensures.writes.contents c.requires.reveals).homes)
 
 pub returns-in-Err-BadStream-clause-steady : goal.returns-in-Err-BadStream-clause-steady
 returns-in-Err-BadStream-clause-steady g c =
@@ -131,7 +131,7 @@ returns-in-Err-BadStream-clause-steady g c =
     let cut = b.cut in
     let long = ap length b.begins in
     let room = frame_room v b.puts b.object.name (length b.object.bytes) b.front stream old b.has b.few b.small.short b.small.block (omega (arith, brief, block, cut, long, length-append (frame_head b.object.name (length b.object.bytes)) b.front, length-head b.object.name (length b.object.bytes))) b.begins c.requires.room in
-    (c.ingest_one.ensures.writes.sure c.requires.tells (willing_ready old (g.met.D.Disk.free_taken c.args.disk.now) (cells_willing old c.requires.room.cells)) room).1
+    (c.ingest_one.ensures.writes.sure c.requires.reveals (willing_ready old (g.met.D.Disk.free_taken c.args.disk.now) (cells_willing old c.requires.room.cells)) room).1
 
 pub returns-in-Err-BadStream-clause-counted : goal.returns-in-Err-BadStream-clause-counted
 returns-in-Err-BadStream-clause-counted g c =

@@ -49,7 +49,7 @@ unreachable-requires-in-Err-HeadDamaged g c =
     let stream = c.args.source.now.rest.now in
     let files = (g.D.Disk.state c.args.disk.now).files in
     let enters = may_enter c.new_names_are_free.ensures c.objects_are_counted.ensures v b.puts b.object files b.has b.small b.new b.few in
-    no_head v files c.in-Err-HeadDamaged.field-0-0 b.has.intact ((c.ingest_one.ensures.head c.in-Err-HeadDamaged.field-0-0 (c.in-Err-HeadDamaged.is ∙ ap Err c.in-Err-HeadDamaged.field-0-is)).1 c.requires.tells)
+    no_head v files c.in-Err-HeadDamaged.field-0-0 b.has.intact ((c.ingest_one.ensures.head c.in-Err-HeadDamaged.field-0-0 (c.in-Err-HeadDamaged.is ∙ ap Err c.in-Err-HeadDamaged.field-0-is)).1 c.requires.reveals)
 
 pub unreachable-requires-in-Err-Full : goal.unreachable-requires-in-Err-Full
 unreachable-requires-in-Err-Full g c =
@@ -58,7 +58,7 @@ unreachable-requires-in-Err-Full g c =
     let stream = c.args.source.now.rest.now in
     let files = (g.D.Disk.state c.args.disk.now).files in
     let enters = may_enter c.new_names_are_free.ensures c.objects_are_counted.ensures v b.puts b.object files b.has b.small b.new b.few in
-    not_long v b.puts b.object b.rest stream files b.has b.small b.few enters b.begins (c.ingest_one.ensures.full_told c.in-Err-Full.field-0-0 stream refl (c.in-Err-Full.is ∙ ap Err c.in-Err-Full.field-0-is)).1
+    not_long v b.puts b.object b.rest stream files b.has b.small b.few enters b.begins (c.ingest_one.ensures.full_revealed c.in-Err-Full.field-0-0 stream refl (c.in-Err-Full.is ∙ ap Err c.in-Err-Full.field-0-is)).1
 
 pub unreachable-requires-in-Err-BadStream : goal.unreachable-requires-in-Err-BadStream
 unreachable-requires-in-Err-BadStream g c =
@@ -67,7 +67,7 @@ unreachable-requires-in-Err-BadStream g c =
     let stream = c.args.source.now.rest.now in
     let files = (g.D.Disk.state c.args.disk.now).files in
     let enters = may_enter c.new_names_are_free.ensures c.objects_are_counted.ensures v b.puts b.object files b.has b.small b.new b.few in
-    not_inside v b.puts b.object b.rest stream files b.has b.small b.few enters b.begins (c.ingest_one.ensures.bad_stream_told c.in-Err-BadStream.field-0-0 stream refl (c.in-Err-BadStream.is ∙ ap Err c.in-Err-BadStream.field-0-is))
+    not_inside v b.puts b.object b.rest stream files b.has b.small b.few enters b.begins (c.ingest_one.ensures.bad_stream_revealed c.in-Err-BadStream.field-0-0 stream refl (c.in-Err-BadStream.is ∙ ap Err c.in-Err-BadStream.field-0-is))
 
 pub unreachable-requires-in-Err-DiskFault : goal.unreachable-requires-in-Err-DiskFault
 unreachable-requires-in-Err-DiskFault g c =
@@ -78,7 +78,7 @@ unreachable-requires-in-Err-DiskFault g c =
     let enters = may_enter c.new_names_are_free.ensures c.objects_are_counted.ensures v b.puts b.object files b.has b.small b.new b.few in
     let old = g.D.Disk.state c.args.disk.now in
     let room = frame_room v b.puts b.object.name (length b.object.bytes) (b.object.bytes ++ b.rest) stream old b.has b.few b.small.short b.small.block b.brief (in_head v b.puts b.object b.rest stream files b.has b.small b.few enters b.begins) c.requires.room in
-    (c.ingest_one.ensures.writes.sure c.requires.tells (willing_ready old (g.met.D.Disk.free_taken c.args.disk.now) (cells_willing old c.requires.room.cells)) room).0 (c.in-Err-DiskFault.is ∙ ap Err c.in-Err-DiskFault.field-0-is)
+    (c.ingest_one.ensures.writes.sure c.requires.reveals (willing_ready old (g.met.D.Disk.free_taken c.args.disk.now) (cells_willing old c.requires.room.cells)) room).0 (c.in-Err-DiskFault.is ∙ ap Err c.in-Err-DiskFault.field-0-is)
 
 pub returns-clause-taken : goal.returns-clause-taken
 returns-clause-taken g c =
@@ -90,9 +90,9 @@ returns-clause-taken g c =
           let new = g.D.Disk.state c.ingest_one.new.disk in
           let enters = may_enter c.new_names_are_free.ensures c.objects_are_counted.ensures v b.puts b.object old.files b.has b.small b.new b.few in
           let is = (w.in-Ok-Stored.is ∙ ap Ok w.in-Ok-Stored.field-0-is) in
-          taken_more c.puts_go_on.ensures c.digests_are_counted.ensures g.D.Disk.tells c.requires.tells v c.ingest_one.new.ledger b.object b.rest stream c.ingest_one.new.source.rest.now w.in-Ok-Stored.field-0-0 c.args.at.now c.ingest_one.new.at old new w.in-Ok-Stored.field-0-1 b.puts
+          taken_more c.puts_go_on.ensures c.digests_are_counted.ensures g.D.Disk.reveals c.requires.reveals v c.ingest_one.new.ledger b.object b.rest stream c.ingest_one.new.source.rest.now w.in-Ok-Stored.field-0-0 c.args.at.now c.ingest_one.new.at old new w.in-Ok-Stored.field-0-1 b.puts
           b.has b.small b.few enters b.begins (c.ingest_one.ensures.within stream refl (begins v b.puts b.object b.rest stream old.files b.has b.small b.few enters b.begins).head)
-          (c.ingest_one.ensures.exact w.in-Ok-Stored.field-0-0 w.in-Ok-Stored.field-0-1 is) (c.ingest_one.ensures.stored w.in-Ok-Stored.field-0-0 w.in-Ok-Stored.field-0-1 is) (c.ingest_one.ensures.writes.contents c.requires.tells).homes (c.ingest_one.ensures.ledger w.in-Ok-Stored.field-0-0 w.in-Ok-Stored.field-0-1 is c.requires.tells))
+          (c.ingest_one.ensures.exact w.in-Ok-Stored.field-0-0 w.in-Ok-Stored.field-0-1 is) (c.ingest_one.ensures.stored w.in-Ok-Stored.field-0-0 w.in-Ok-Stored.field-0-1 is) (c.ingest_one.ensures.writes.contents c.requires.reveals).homes (c.ingest_one.ensures.ledger w.in-Ok-Stored.field-0-0 w.in-Ok-Stored.field-0-1 is c.requires.reveals))
       | in-Err-NoMemory w ↦ on_err c.match-ingest_one.result _ _ w.result-is
     ]
 
@@ -106,7 +106,7 @@ returns-clause-live g c =
 pub returns-clause-fixed : goal.returns-clause-fixed
 returns-clause-fixed g c =
     elim c.match-ingest_one.branch [
-      | in-Ok-Stored w ↦ on_ok c.match-ingest_one.result _ w.result-is (λ d image. (let p = c.requires.frame.has in ((c.ingest_one.ensures.stored w.in-Ok-Stored.field-0-0 w.in-Ok-Stored.field-0-1 (w.in-Ok-Stored.is ∙ ap Ok w.in-Ok-Stored.field-0-is)).3.added c.requires.tells p.records p.its).synced d image 0))
+      | in-Ok-Stored w ↦ on_ok c.match-ingest_one.result _ w.result-is (λ d image. (let p = c.requires.frame.has in ((c.ingest_one.ensures.stored w.in-Ok-Stored.field-0-0 w.in-Ok-Stored.field-0-1 (w.in-Ok-Stored.is ∙ ap Ok w.in-Ok-Stored.field-0-is)).3.added c.requires.reveals p.records p.its).synced d image 0))
       | in-Err-NoMemory w ↦ on_err c.match-ingest_one.result _ _ w.result-is
     ]
 
@@ -119,7 +119,7 @@ returns-clause-steady g c =
     let enters = may_enter c.new_names_are_free.ensures c.objects_are_counted.ensures v b.puts b.object files b.has b.small b.new b.few in
     let old = g.D.Disk.state c.args.disk.now in
     let room = frame_room v b.puts b.object.name (length b.object.bytes) (b.object.bytes ++ b.rest) stream old b.has b.few b.small.short b.small.block b.brief (in_head v b.puts b.object b.rest stream files b.has b.small b.few enters b.begins) c.requires.room in
-    (c.ingest_one.ensures.writes.sure c.requires.tells (willing_ready old (g.met.D.Disk.free_taken c.args.disk.now) (cells_willing old c.requires.room.cells)) room).1
+    (c.ingest_one.ensures.writes.sure c.requires.reveals (willing_ready old (g.met.D.Disk.free_taken c.args.disk.now) (cells_willing old c.requires.room.cells)) room).1
 
 pub returns-clause-counted : goal.returns-clause-counted
 returns-clause-counted g c = counts_all c.args.source.now.rest.now c.ingest_one.new.source.rest.now c.args.at.now c.ingest_one.new.at _ c.ingest_one.ensures.taken

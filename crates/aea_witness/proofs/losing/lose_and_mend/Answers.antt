@@ -15,7 +15,7 @@ mend-requires-clause-ready g c =
     let r = c.requires.puts in
     let old = g.D.Disk.state c.args.disk.now in
     let mid = g.D.Disk.state c.lose.new.disk in
-    lost_ready c.cells_have_lengths.ensures c.cells_have_parts.ensures c.survivors_are_told.ensures c.args.ledger.now r.0 old.files mid.files r.1 c.lose.ensures.lost r.2 r.3
+    lost_ready c.cells_have_lengths.ensures c.cells_have_parts.ensures c.survivors_are_revealed.ensures c.args.ledger.now r.0 old.files mid.files r.1 c.lose.ensures.lost r.2 r.3
     c.args.report.now.room mid refl (cells_room_stays old mid c.lose.ensures.time c.lose.ensures.steady c.requires.room) c.requires.report.space
 
 pub returns-clause-mended : goal.returns-clause-mended
@@ -28,7 +28,7 @@ returns-clause-mended g c puts p =
     let two = p.nodes in
     let some = r.2 in
     let few = r.3 in
-    mended_again c.cells_have_lengths.ensures c.cells_have_parts.ensures c.survivors_are_told.ensures c.args.ledger.now puts old.files mid.files p c.lose.ensures.lost (omega (arith, one, two, some)) (omega (arith, one, two, few))
+    mended_again c.cells_have_lengths.ensures c.cells_have_parts.ensures c.survivors_are_revealed.ensures c.args.ledger.now puts old.files mid.files p c.lose.ensures.lost (omega (arith, one, two, some)) (omega (arith, one, two, few))
     c.mend.new.report.bytes.items new.files c.in_ok-outcome.outcome c.in_ok-outcome.ensures.mended
 
 pub returns-clause-time : goal.returns-clause-time

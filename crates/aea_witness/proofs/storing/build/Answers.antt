@@ -19,7 +19,7 @@ store-requires-clause-puts g c =
     let mid = (g.D.Disk.state c.create.new.disk).files in
     let new = opened_new c.ledgers_have_one_reading.ensures c.rehearsal_shape-shape.result v (mid 0) c.create.ensures.made c.in_ok-ledger.ensures.this in
     let none = no_puts c.none_record_none.ensures c.rehearsal_shape-shape.result v mid c.rehearsal_shape-shape.ensures c.create.ensures.made new in
-    ([], subst (HasPuts v []) (sym (c.open.ensures.reads.contents c.requires.tells)) none, first_new, omega arith)
+    ([], subst (HasPuts v []) (sym (c.open.ensures.reads.contents c.requires.reveals)) none, first_new, omega arith)
 
 pub returns-in_err-store-clause-time : goal.returns-in_err-store-clause-time
 returns-in_err-store-clause-time g c =
@@ -44,7 +44,7 @@ store-requires-2-clause-puts g c =
     let mid = (g.D.Disk.state c.create.new.disk).files in
     let new = opened_new c.ledgers_have_one_reading.ensures c.rehearsal_shape-shape.result v (mid 0) c.create.ensures.made c.in_ok-ledger.ensures.this in
     let none = no_puts c.none_record_none.ensures c.rehearsal_shape-shape.result v mid c.rehearsal_shape-shape.ensures c.create.ensures.made new in
-    (first_object ∷ [], c.in_ok-store.ensures.puts [] (subst (HasPuts v []) (sym (c.open.ensures.reads.contents c.requires.tells)) none), second_new, omega arith)
+    (first_object ∷ [], c.in_ok-store.ensures.puts [] (subst (HasPuts v []) (sym (c.open.ensures.reads.contents c.requires.reveals)) none), second_new, omega arith)
 
 pub returns-in_err-store-2-clause-time : goal.returns-in_err-store-2-clause-time
 returns-in_err-store-2-clause-time g c =
@@ -61,7 +61,7 @@ ingest-requires-clause-puts g c =
     let mid = (g.D.Disk.state c.create.new.disk).files in
     let new = opened_new c.ledgers_have_one_reading.ensures c.rehearsal_shape-shape.result v (mid 0) c.create.ensures.made c.in_ok-ledger.ensures.this in
     let none = no_puts c.none_record_none.ensures c.rehearsal_shape-shape.result v mid c.rehearsal_shape-shape.ensures c.create.ensures.made new in
-    c.in_ok-store-2.ensures.puts (first_object ∷ []) (c.in_ok-store.ensures.puts [] (subst (HasPuts v []) (sym (c.open.ensures.reads.contents c.requires.tells)) none))
+    c.in_ok-store-2.ensures.puts (first_object ∷ []) (c.in_ok-store.ensures.puts [] (subst (HasPuts v []) (sym (c.open.ensures.reads.contents c.requires.reveals)) none))
 
 pub ingest-requires-clause-room : goal.ingest-requires-clause-room
 ingest-requires-clause-room g c =

@@ -33,7 +33,7 @@ pub unreachable-requires-in-Err-HeadDamaged : goal.unreachable-requires-in-Err-H
 unreachable-requires-in-Err-HeadDamaged g c =
     let b = c.in-Err-HeadDamaged.field-0-0 in
     no_head c.args.ledger.now (g.D.Disk.state c.args.disk.now).files b c.requires.puts.1.intact
-    ((c.put.ensures.head b (c.in-Err-HeadDamaged.is ∙ ap Err c.in-Err-HeadDamaged.field-0-is)).1 c.requires.tells)
+    ((c.put.ensures.head b (c.in-Err-HeadDamaged.is ∙ ap Err c.in-Err-HeadDamaged.field-0-is)).1 c.requires.reveals)
 
 pub unreachable-requires-in-Err-Full : goal.unreachable-requires-in-Err-Full
 unreachable-requires-in-Err-Full g c =
@@ -53,7 +53,7 @@ unreachable-requires-in-Err-DiskFault g c =
     let old = g.D.Disk.state c.args.disk.now in
     let rest = Some c.put.new.source.rest.now in
     let room = subst (λ (xs : List ℕ). HasPutRoom v c.args.name.now (Some xs) rest old) (sym c.new-source.ensures) (put_room v r.0 o rest old r.1 r.3 c.requires.small c.requires.room) in
-    (c.put.ensures.writes.sure c.requires.tells (willing_ready old (g.met.D.Disk.free_taken c.args.disk.now) (cells_willing old c.requires.room.cells)) room).0
+    (c.put.ensures.writes.sure c.requires.reveals (willing_ready old (g.met.D.Disk.free_taken c.args.disk.now) (cells_willing old c.requires.room.cells)) room).0
     (c.in-Err-DiskFault.is ∙ ap Err c.in-Err-DiskFault.field-0-is)
 
 pub returns-in-Ok-clause-puts : goal.returns-in-Ok-clause-puts
@@ -68,9 +68,9 @@ returns-in-Ok-clause-puts g c puts p =
     let stored = c.in-Ok.field-0 in
     let r = c.requires.puts in
     let enters = may_enter c.new_names_are_free.ensures c.objects_are_counted.ensures v r.0 (object_of name bytes) old.files r.1 c.requires.small r.2 r.3 in
-    put_more c.puts_go_on.ensures c.digests_are_counted.ensures g.D.Disk.tells c.requires.tells v w name bytes rest old new stored puts p c.requires.small enters.free
-    (subst (λ (xs : List ℕ). HasPut g.D.Disk.tells v w name (Some xs) rest old new stored) c.new-source.ensures c.in-Ok.ensures.stored)
-    (c.put.ensures.writes.contents c.requires.tells).homes (c.in-Ok.ensures.ledger c.requires.tells)
+    put_more c.puts_go_on.ensures c.digests_are_counted.ensures g.D.Disk.reveals c.requires.reveals v w name bytes rest old new stored puts p c.requires.small enters.free
+    (subst (λ (xs : List ℕ). HasPut g.D.Disk.reveals v w name (Some xs) rest old new stored) c.new-source.ensures c.in-Ok.ensures.stored)
+    (c.put.ensures.writes.contents c.requires.reveals).homes (c.in-Ok.ensures.ledger c.requires.reveals)
 
 pub returns-in-Ok-clause-live : goal.returns-in-Ok-clause-live
 returns-in-Ok-clause-live g c = c.in-Ok.ensures.stored.2.live
@@ -78,7 +78,7 @@ returns-in-Ok-clause-live g c = c.in-Ok.ensures.stored.2.live
 pub returns-in-Ok-clause-fixed : goal.returns-in-Ok-clause-fixed
 returns-in-Ok-clause-fixed g c d image =
     let p = c.requires.puts.1 in
-    (c.in-Ok.ensures.stored.2.added c.requires.tells p.records p.its).synced d image 0
+    (c.in-Ok.ensures.stored.2.added c.requires.reveals p.records p.its).synced d image 0
 
 pub returns-in-Ok-clause-steady : goal.returns-in-Ok-clause-steady
 returns-in-Ok-clause-steady g c =
@@ -88,4 +88,4 @@ returns-in-Ok-clause-steady g c =
     let old = g.D.Disk.state c.args.disk.now in
     let rest = Some c.put.new.source.rest.now in
     let room = subst (λ (xs : List ℕ). HasPutRoom v c.args.name.now (Some xs) rest old) (sym c.new-source.ensures) (put_room v r.0 o rest old r.1 r.3 c.requires.small c.requires.room) in
-    (c.put.ensures.writes.sure c.requires.tells (willing_ready old (g.met.D.Disk.free_taken c.args.disk.now) (cells_willing old c.requires.room.cells)) room).1
+    (c.put.ensures.writes.sure c.requires.reveals (willing_ready old (g.met.D.Disk.free_taken c.args.disk.now) (cells_willing old c.requires.room.cells)) room).1

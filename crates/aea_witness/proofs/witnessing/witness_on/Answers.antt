@@ -41,7 +41,7 @@ returns g c =
         opened = v;
         whole = whole;
         filled = built;
-        mended = subst (λ (d : Files). IsLostAndMended v witness_objects c.lose_and_mend.new.report.bytes.items whole d c.in_ok-outcome.outcome) (sym (c.fetch.ensures.reads.contents c.requires.tells)) lost;
+        mended = subst (λ (d : Files). IsLostAndMended v witness_objects c.lose_and_mend.new.report.bytes.items whole d c.in_ok-outcome.outcome) (sym (c.fetch.ensures.reads.contents c.requires.reveals)) lost;
         bytes = c.in_ok-fetch.ensures.got first_object (second_object ∷ third_object ∷ []) lost.again refl;
       };
     }

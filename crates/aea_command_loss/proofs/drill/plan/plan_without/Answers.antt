@@ -6,7 +6,7 @@ use Rattle.aea_view.specs.Marked.{Marked}
 use Rattle.aea_plan.specs.Plans.{head_by}
 use Rattle.aea_plan.specs.Verdicts.{lines_by}
 use Rattle.aea_report.specs.Printed.{IsPrinted}
-use Rattle.aea_command_loss.proofs.DrillLemmas.LeftMarks.{marks-of, left_turned}
+use Rattle.aea_command_loss.proofs.DrillLemmas.LeftMarks.{marks-of, left_flipped}
 use Rattle.aea_command_loss.proofs.drill.plan.plan_without.Goals as goal
 
 pub returns-clause-reports : goal.returns-clause-reports
@@ -19,4 +19,4 @@ returns-clause-reports c = λ known are.
     subst (λ (m : Lattice). IsPrinted m known None (head_by None plan) (lines_by plan.verdicts)) same
     (c.in_ok-plan.ensures.printed known None
     (subst (λ (m : Marked). view.AreMarks m known) (sym (marks-of left l same))
-    (left_turned l c.args.listed.now.marks left.marks known c.in_ok-known.ensures.marks long are)))
+    (left_flipped l c.args.listed.now.marks left.marks known c.in_ok-known.ensures.marks long are)))

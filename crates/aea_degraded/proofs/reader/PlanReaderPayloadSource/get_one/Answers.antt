@@ -30,7 +30,7 @@ block_payload-requires-clause-found g c set =
 pub returns-clause-ready : goal.returns-clause-ready
 returns-clause-ready g c d is =
     let s = c.args.self.now in (
-      planned_at g.D.Disk.tells c.args.ledger.now (g.D.Disk.state c.args.disk.now).files (g.D.Disk.state c.block_payload.new.disk).files s.damaged.now s.fates.now d c.block_payload.ensures.reads.contents is.0,
+      planned_at g.D.Disk.reveals c.args.ledger.now (g.D.Disk.state c.args.disk.now).files (g.D.Disk.state c.block_payload.new.disk).files s.damaged.now s.fates.now d c.block_payload.ensures.reads.contents is.0,
       c.block_payload.auto.cell ∙ is.1,
       c.block_payload.auto.sum ∙ is.2,
     )
@@ -46,10 +46,10 @@ returns-clause-had g c =
     let files = (g.D.Disk.state c.args.disk.now).files in
     on_ok_two c.block_payload.result
     (λ digest drawn f same.
-    fetched_also g.D.Disk.tells c.args.ledger.now files f same c.args.b c.block_payload.new.sum (record {
+    fetched_also g.D.Disk.reveals c.args.ledger.now files f same c.args.b c.block_payload.new.sum (record {
       wide = c.block_payload.auto.sum ∙ c.requires.ready.2;
       digest = digest;
-      drawn = λ told known survivors. drawn told known (c.requires.ready.0.right told known survivors);
+      drawn = λ revealed known survivors. drawn revealed known (c.requires.ready.0.right revealed known survivors);
     }))
     c.block_payload.ensures.digest c.block_payload.ensures.drawn
 
@@ -59,20 +59,20 @@ returns-clause-why g c =
     let s = c.args.self.now in
     let files = (g.D.Disk.state c.args.disk.now).files in
     let planned = c.requires.ready.0 in
-    plan_fault g.D.Disk.tells v files c.block_payload.result
-    (λ d told computed failed. (
-      c.block_payload.ensures.clash d told computed failed,
-      λ tells.
-          let some = c.survivors_are_told.ensures v.shape v.lattice.n v.digests files in
-          let found = planned.right tells some.0 some.1 in
-          let one = c.block_payload.ensures.computed d told computed failed tells some.0 found in
+    plan_fault g.D.Disk.reveals v files c.block_payload.result
+    (λ d revealed computed failed. (
+      c.block_payload.ensures.clash d revealed computed failed,
+      λ reveals.
+          let some = c.survivors_are_revealed.ensures v.shape v.lattice.n v.digests files in
+          let found = planned.right reveals some.0 some.1 in
+          let one = c.block_payload.ensures.computed d revealed computed failed reveals some.0 found in
           let set = none_marked (some.0 c.args.b) (is_marked s.damaged.now c.args.b) found.marked one.1.0 in
           let here = c.place_of-at.ensures s.damaged.now (subst (λ (l : Lattice). AreFatesOf l s.damaged.now s.fates.now) (sym c.lattice.ensures.value) planned.are) planned.given set in
-          no_other v files s.damaged.now s.fates.now c.args.b d c.place_of-at.result told computed set here (planned.checked tells) one.0
-          (c.block_payload.ensures.summed_clash d told computed failed tells some.0 found) (c.block_payload.ensures.clash d told computed failed),
+          no_other v files s.damaged.now s.fates.now c.args.b d c.place_of-at.result revealed computed set here (planned.checked reveals) one.0
+          (c.block_payload.ensures.summed_clash d revealed computed failed reveals some.0 found) (c.block_payload.ensures.clash d revealed computed failed),
     ))
 
 pub returns-clause-reads : goal.returns-clause-reads
 returns-clause-reads g c =
-    reads_as g.D.Disk.tells (c.block_payload.result ≡ Err DiskFault) _ (g.D.Disk.state c.args.disk.now) (g.D.Disk.state c.block_payload.new.disk) (disk_failed c.block_payload.result)
+    reads_as g.D.Disk.reveals (c.block_payload.result ≡ Err DiskFault) _ (g.D.Disk.state c.args.disk.now) (g.D.Disk.state c.block_payload.new.disk) (disk_failed c.block_payload.result)
     (λ is. subst (λ r. IsErrAnd r (λ (f : PayloadFault). f ≡ DiskFault)) (sym is) refl) c.block_payload.ensures.reads

@@ -6,7 +6,7 @@ use Rattle.aea_ledger.proofs.Pieces.{copied_front, refilled}
 use Rattle.aea_ledger.proofs.cursor.Cursor.refill.Goals as goal
 
 pub returns-clause-bytes : goal.returns-clause-bytes
-returns-clause-bytes g c = λ tells.
+returns-clause-bytes g c = λ reveals.
     let i = c.self.inside in
     let kept = i.end - i.start in
     let file = (g.D.Disk.state c.args.disk.now).files 0 in
@@ -28,4 +28,4 @@ returns-clause-bytes g c = λ tells.
     refilled copied new c.args.self.now.bytes file c.copy_within.new.self.len kept c.in_ok-more.more 65536 c.args.self.now.place i.next
     (omega (arith, c.in_ok-more.ensures.len, c.deref_mut.ensures.len))
     (omega (arith, c.copy_within.ensures.len, i.buffer.ok.0, whole))
-    (omega (arith, c.self.invariant.1)) next long front (c.in_ok-more.ensures.bytes tells ∙ read) (c.requires.told tells)
+    (omega (arith, c.self.invariant.1)) next long front (c.in_ok-more.ensures.bytes reveals ∙ read) (c.requires.revealed reveals)

@@ -25,43 +25,43 @@ returns-then-len-ge-MAX_OBJECTS-clause-full g c =
     (λ _. full, λ _. refl)
 
 pub returns-then-len-ge-MAX_OBJECTS-clause-leaves : goal.returns-then-len-ge-MAX_OBJECTS-clause-leaves
-returns-then-len-ge-MAX_OBJECTS-clause-leaves g c = leaves_none g.D.Disk.tells c.args.self.now (made (stored_as c.args.name.now c.args.object.now c.args.digests.now) (option_map (λ e. e.now) c.args.parts)) (g.D.Disk.state c.args.disk.now) c.requires.fixed
+returns-then-len-ge-MAX_OBJECTS-clause-leaves g c = leaves_none g.D.Disk.reveals c.args.self.now (made (stored_as c.args.name.now c.args.object.now c.args.digests.now) (option_map (λ e. e.now) c.args.parts)) (g.D.Disk.state c.args.disk.now) c.requires.fixed
 
 pub returns-then-len-ge-MAX_OBJECTS-clause-writes : goal.returns-then-len-ge-MAX_OBJECTS-clause-writes
 returns-then-len-ge-MAX_OBJECTS-clause-writes g c =
-    writes_as g.D.Disk.tells _ _ ⊥ _ (ChangesOnly 0) (g.D.Disk.state c.args.disk.now) (g.D.Disk.state c.args.disk.now) (λ is. cc) (λ none. absurd none) (writes_none g.D.Disk.tells _ _ (ChangesOnly 0) (g.D.Disk.state c.args.disk.now) (λ d f other. refl))
+    writes_as g.D.Disk.reveals _ _ ⊥ _ (ChangesOnly 0) (g.D.Disk.state c.args.disk.now) (g.D.Disk.state c.args.disk.now) (λ is. cc) (λ none. absurd none) (writes_none g.D.Disk.reveals _ _ (ChangesOnly 0) (g.D.Disk.state c.args.disk.now) (λ d f other. refl))
 
 pub returns-in_err-owned_name-clause-leaves : goal.returns-in_err-owned_name-clause-leaves
-returns-in_err-owned_name-clause-leaves g c = leaves_none g.D.Disk.tells c.args.self.now (made (stored_as c.args.name.now c.args.object.now c.args.digests.now) (option_map (λ e. e.now) c.args.parts)) (g.D.Disk.state c.args.disk.now) c.requires.fixed
+returns-in_err-owned_name-clause-leaves g c = leaves_none g.D.Disk.reveals c.args.self.now (made (stored_as c.args.name.now c.args.object.now c.args.digests.now) (option_map (λ e. e.now) c.args.parts)) (g.D.Disk.state c.args.disk.now) c.requires.fixed
 
 pub returns-in_err-owned_name-clause-writes : goal.returns-in_err-owned_name-clause-writes
 returns-in_err-owned_name-clause-writes g c =
     let p = err_from_is_err_and c.from_residual.result c.from_residual.ensures.1 in rw (p.1, p.2)
-    (writes_as g.D.Disk.tells _ _ ⊥ _ (ChangesOnly 0) (g.D.Disk.state c.args.disk.now) (g.D.Disk.state c.args.disk.now) (λ is. cc) (λ none. absurd none) (writes_none g.D.Disk.tells _ _ (ChangesOnly 0) (g.D.Disk.state c.args.disk.now) (λ d f other. refl)))
+    (writes_as g.D.Disk.reveals _ _ ⊥ _ (ChangesOnly 0) (g.D.Disk.state c.args.disk.now) (g.D.Disk.state c.args.disk.now) (λ is. cc) (λ none. absurd none) (writes_none g.D.Disk.reveals _ _ (ChangesOnly 0) (g.D.Disk.state c.args.disk.now) (λ d f other. refl)))
 
 pub returns-in_err-owned_parts-clause-leaves : goal.returns-in_err-owned_parts-clause-leaves
-returns-in_err-owned_parts-clause-leaves g c = leaves_none g.D.Disk.tells c.args.self.now (made (stored_as c.args.name.now c.args.object.now c.args.digests.now) (option_map (λ e. e.now) c.args.parts)) (g.D.Disk.state c.args.disk.now) c.requires.fixed
+returns-in_err-owned_parts-clause-leaves g c = leaves_none g.D.Disk.reveals c.args.self.now (made (stored_as c.args.name.now c.args.object.now c.args.digests.now) (option_map (λ e. e.now) c.args.parts)) (g.D.Disk.state c.args.disk.now) c.requires.fixed
 
 pub returns-in_err-owned_parts-clause-writes : goal.returns-in_err-owned_parts-clause-writes
 returns-in_err-owned_parts-clause-writes g c =
     let p = err_from_is_err_and c.from_residual-in_err-owned_parts.result c.from_residual-in_err-owned_parts.ensures.1 in rw (p.1, p.2)
-    (writes_as g.D.Disk.tells _ _ ⊥ _ (ChangesOnly 0) (g.D.Disk.state c.args.disk.now) (g.D.Disk.state c.args.disk.now) (λ is. cc) (λ none. absurd none) (writes_none g.D.Disk.tells _ _ (ChangesOnly 0) (g.D.Disk.state c.args.disk.now) (λ d f other. refl)))
+    (writes_as g.D.Disk.reveals _ _ ⊥ _ (ChangesOnly 0) (g.D.Disk.state c.args.disk.now) (g.D.Disk.state c.args.disk.now) (λ is. cc) (λ none. absurd none) (writes_none g.D.Disk.reveals _ _ (ChangesOnly 0) (g.D.Disk.state c.args.disk.now) (λ d f other. refl)))
 
 pub returns-in_err-front-clause-leaves : goal.returns-in_err-front-clause-leaves
-returns-in_err-front-clause-leaves g c = leaves_none g.D.Disk.tells c.args.self.now (made (stored_as c.args.name.now c.args.object.now c.args.digests.now) (option_map (λ e. e.now) c.args.parts)) (g.D.Disk.state c.args.disk.now) c.requires.fixed
+returns-in_err-front-clause-leaves g c = leaves_none g.D.Disk.reveals c.args.self.now (made (stored_as c.args.name.now c.args.object.now c.args.digests.now) (option_map (λ e. e.now) c.args.parts)) (g.D.Disk.state c.args.disk.now) c.requires.fixed
 
 pub returns-in_err-front-clause-writes : goal.returns-in_err-front-clause-writes
 returns-in_err-front-clause-writes g c =
     let p = err_from_is_err_and c.from_residual-in_err-front.result c.from_residual-in_err-front.ensures.1 in rw (p.1, p.2)
-    (writes_as g.D.Disk.tells _ _ ⊥ _ (ChangesOnly 0) (g.D.Disk.state c.args.disk.now) (g.D.Disk.state c.args.disk.now) (λ is. cc) (λ none. absurd none) (writes_none g.D.Disk.tells _ _ (ChangesOnly 0) (g.D.Disk.state c.args.disk.now) (λ d f other. refl)))
+    (writes_as g.D.Disk.reveals _ _ ⊥ _ (ChangesOnly 0) (g.D.Disk.state c.args.disk.now) (g.D.Disk.state c.args.disk.now) (λ is. cc) (λ none. absurd none) (writes_none g.D.Disk.reveals _ _ (ChangesOnly 0) (g.D.Disk.state c.args.disk.now) (λ d f other. refl)))
 
 pub returns-in_err-reserve-clause-leaves : goal.returns-in_err-reserve-clause-leaves
-returns-in_err-reserve-clause-leaves g c = leaves_none g.D.Disk.tells c.args.self.now (made (stored_as c.args.name.now c.args.object.now c.args.digests.now) (option_map (λ e. e.now) c.args.parts)) (g.D.Disk.state c.args.disk.now) c.requires.fixed
+returns-in_err-reserve-clause-leaves g c = leaves_none g.D.Disk.reveals c.args.self.now (made (stored_as c.args.name.now c.args.object.now c.args.digests.now) (option_map (λ e. e.now) c.args.parts)) (g.D.Disk.state c.args.disk.now) c.requires.fixed
 
 pub returns-in_err-reserve-clause-writes : goal.returns-in_err-reserve-clause-writes
 returns-in_err-reserve-clause-writes g c =
     let p = err_from_is_err_and c.from_residual-in_err-reserve.result c.from_residual-in_err-reserve.ensures.1 in rw (p.1, p.2)
-    (writes_as g.D.Disk.tells _ _ ⊥ _ (ChangesOnly 0) (g.D.Disk.state c.args.disk.now) (g.D.Disk.state c.args.disk.now) (λ is. cc) (λ none. absurd none) (writes_none g.D.Disk.tells _ _ (ChangesOnly 0) (g.D.Disk.state c.args.disk.now) (λ d f other. refl)))
+    (writes_as g.D.Disk.reveals _ _ ⊥ _ (ChangesOnly 0) (g.D.Disk.state c.args.disk.now) (g.D.Disk.state c.args.disk.now) (λ is. cc) (λ none. absurd none) (writes_none g.D.Disk.reveals _ _ (ChangesOnly 0) (g.D.Disk.state c.args.disk.now) (λ d f other. refl)))
 
 pub write_next_entry-requires-clause-range : goal.write_next_entry-requires-clause-range
 write_next_entry-requires-clause-range g c =
@@ -75,7 +75,7 @@ returns-then-is_err-clause-leaves g c = c.write_next_entry.ensures.leaves c.args
 
 pub returns-then-is_err-clause-writes : goal.returns-then-is_err-clause-writes
 returns-then-is_err-clause-writes g c =
-    writes_as g.D.Disk.tells _ _ _ _ (ChangesOnly 0) (g.D.Disk.state c.args.disk.now) (g.D.Disk.state c.write_next_entry.new.disk) (λ is. sym c.is_err.ensures.value ∙ c.if-is_err.true) (λ is. cc)
+    writes_as g.D.Disk.reveals _ _ _ _ (ChangesOnly 0) (g.D.Disk.state c.args.disk.now) (g.D.Disk.state c.write_next_entry.new.disk) (λ is. sym c.is_err.ensures.value ∙ c.if-is_err.true) (λ is. cc)
     (c.write_next_entry.ensures.writes c.args.self.now (made (stored_as c.args.name.now c.args.object.now c.args.digests.now) (option_map (λ e. e.now) c.args.parts)) (sym (ap (λ (v : Opened). v.end) c.self.view_is)) ((λ i. c.deref.ensures.value i ++ c.as_flattened-rest.ensures.value i) ∙ c.in_ok-front.ensures) c.may_follow.ensures.next c.requires.this)
 
 pub put_object-requires-clause-few : goal.put_object-requires-clause-few
@@ -128,5 +128,5 @@ returns-clause-committed g c =
 
 pub returns-clause-writes : goal.returns-clause-writes
 returns-clause-writes g c =
-    writes_as g.D.Disk.tells _ _ _ _ (ChangesOnly 0) (g.D.Disk.state c.args.disk.now) (g.D.Disk.state c.write_next_entry.new.disk) (λ is. absurd (cc)) (λ is. absurd (ok_not_err c.write_next_entry.result c.if-is_err.ensures.negation is))
+    writes_as g.D.Disk.reveals _ _ _ _ (ChangesOnly 0) (g.D.Disk.state c.args.disk.now) (g.D.Disk.state c.write_next_entry.new.disk) (λ is. absurd (cc)) (λ is. absurd (ok_not_err c.write_next_entry.result c.if-is_err.ensures.negation is))
     (c.write_next_entry.ensures.writes c.args.self.now (made (stored_as c.args.name.now c.args.object.now c.args.digests.now) (option_map (λ e. e.now) c.args.parts)) (sym (ap (λ (v : Opened). v.end) c.self.view_is)) ((λ i. c.deref.ensures.value i ++ c.as_flattened-rest.ensures.value i) ∙ c.in_ok-front.ensures) c.may_follow.ensures.next c.requires.this)

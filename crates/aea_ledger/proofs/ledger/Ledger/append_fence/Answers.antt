@@ -14,11 +14,11 @@ use Rattle.aea_ledger.proofs.Appends.{fence_next, short_end, length-closed, cut-
 use Rattle.aea_ledger.proofs.ledger.Ledger.append_fence.Goals as goal
 
 pub returns-then-last_fence-nodes-clause-leaves : goal.returns-then-last_fence-nodes-clause-leaves
-returns-then-last_fence-nodes-clause-leaves g c = leaves_none g.D.Disk.tells c.args.self.now (Fence c.args.self.now.lattice.n) (g.D.Disk.state c.args.disk.now) c.requires.fixed
+returns-then-last_fence-nodes-clause-leaves g c = leaves_none g.D.Disk.reveals c.args.self.now (Fence c.args.self.now.lattice.n) (g.D.Disk.state c.args.disk.now) c.requires.fixed
 
 pub returns-then-last_fence-nodes-clause-writes : goal.returns-then-last_fence-nodes-clause-writes
 returns-then-last_fence-nodes-clause-writes g c = (let s = (g.D.Disk.state c.args.disk.now) in
-    writes_as g.D.Disk.tells _ _ ⊥ _ (ChangesOnly 0) s s (λ is. cc) (λ none. absurd none) (writes_none g.D.Disk.tells _ _ (ChangesOnly 0) s (λ d f other. refl)))
+    writes_as g.D.Disk.reveals _ _ ⊥ _ (ChangesOnly 0) s s (λ is. cc) (λ none. absurd none) (writes_none g.D.Disk.reveals _ _ (ChangesOnly 0) s (λ d f other. refl)))
 
 pub returns-in_default-clause-many : goal.returns-in_default-clause-many
 returns-in_default-clause-many g c =
@@ -28,11 +28,11 @@ returns-in_default-clause-many g c =
     (λ _. subst (λ (v : Opened). (length v.lattice.fences ≡ greatest_fences) × (last_fence v.lattice.fences ≢ v.lattice.n)) c.self.view_is (full, other), λ _. refl)
 
 pub returns-in_default-clause-leaves : goal.returns-in_default-clause-leaves
-returns-in_default-clause-leaves g c = leaves_none g.D.Disk.tells c.args.self.now (Fence c.args.self.now.lattice.n) (g.D.Disk.state c.args.disk.now) c.requires.fixed
+returns-in_default-clause-leaves g c = leaves_none g.D.Disk.reveals c.args.self.now (Fence c.args.self.now.lattice.n) (g.D.Disk.state c.args.disk.now) c.requires.fixed
 
 pub returns-in_default-clause-writes : goal.returns-in_default-clause-writes
 returns-in_default-clause-writes g c = (let s = (g.D.Disk.state c.args.disk.now) in
-    writes_as g.D.Disk.tells _ _ ⊥ _ (ChangesOnly 0) s s (λ is. cc) (λ none. absurd none) (writes_none g.D.Disk.tells _ _ (ChangesOnly 0) s (λ d f other. refl)))
+    writes_as g.D.Disk.reveals _ _ ⊥ _ (ChangesOnly 0) s s (λ is. cc) (λ none. absurd none) (writes_none g.D.Disk.reveals _ _ (ChangesOnly 0) s (λ d f other. refl)))
 
 pub write_next_entry-requires-clause-range : goal.write_next_entry-requires-clause-range
 write_next_entry-requires-clause-range g c =
@@ -50,7 +50,7 @@ returns-then-is_err-clause-leaves g c =
 pub returns-then-is_err-clause-writes : goal.returns-then-is_err-clause-writes
 returns-then-is_err-clause-writes g c =
     let may = (rw c.in-Some.is at c.fenced.ensures.valid).0 refl in
-    writes_as g.D.Disk.tells _ _ _ _ (ChangesOnly 0) (g.D.Disk.state c.args.disk.now) (g.D.Disk.state c.write_next_entry.new.disk) (λ is. sym c.is_err.ensures.value ∙ c.if-is_err.true) (λ is. cc)
+    writes_as g.D.Disk.reveals _ _ _ _ (ChangesOnly 0) (g.D.Disk.state c.args.disk.now) (g.D.Disk.state c.write_next_entry.new.disk) (λ is. sym c.is_err.ensures.value ∙ c.if-is_err.true) (λ is. cc)
     (c.write_next_entry.ensures.writes c.args.self.now (Fence c.args.self.now.lattice.n) (sym (ap (λ (v : Opened). v.end) c.self.view_is)) ((λ i. c.split_at.ensures.front i ++ c.split_at.ensures.back i) ∙ cut-behind (Fence c.args.self.now.lattice.n) c.fence_body-behind.result 9 5 (c.fence_body-behind.ensures ∙ ap (λ (n : ℕ). body (Fence n) ++ 0 ∷ []) (ap (λ (v : Opened). v.lattice.n) c.self.view_is)) refl) (fence_next c.args.self.now c.fences_may_follow.ensures (subst (λ (v : Opened). last_fence v.lattice.fences < v.lattice.n) c.self.view_is may.0) (subst (λ (v : Opened). length v.lattice.fences < greatest_fences) c.self.view_is may.1)) c.requires.this)
 
 pub invariant_of-self-2 : goal.invariant_of-self-2
@@ -101,5 +101,5 @@ returns-clause-committed g c =
 pub returns-clause-writes : goal.returns-clause-writes
 returns-clause-writes g c =
     let may = (rw c.in-Some.is at c.fenced.ensures.valid).0 refl in
-    writes_as g.D.Disk.tells _ _ _ _ (ChangesOnly 0) (g.D.Disk.state c.args.disk.now) (g.D.Disk.state c.write_next_entry.new.disk) (λ is. absurd (cc)) (λ is. absurd (ok_not_err c.write_next_entry.result c.if-is_err.ensures.negation is))
+    writes_as g.D.Disk.reveals _ _ _ _ (ChangesOnly 0) (g.D.Disk.state c.args.disk.now) (g.D.Disk.state c.write_next_entry.new.disk) (λ is. absurd (cc)) (λ is. absurd (ok_not_err c.write_next_entry.result c.if-is_err.ensures.negation is))
     (c.write_next_entry.ensures.writes c.args.self.now (Fence c.args.self.now.lattice.n) (sym (ap (λ (v : Opened). v.end) c.self.view_is)) ((λ i. c.split_at.ensures.front i ++ c.split_at.ensures.back i) ∙ cut-behind (Fence c.args.self.now.lattice.n) c.fence_body-behind.result 9 5 (c.fence_body-behind.ensures ∙ ap (λ (n : ℕ). body (Fence n) ++ 0 ∷ []) (ap (λ (v : Opened). v.lattice.n) c.self.view_is)) refl) (fence_next c.args.self.now c.fences_may_follow.ensures (subst (λ (v : Opened). last_fence v.lattice.fences < v.lattice.n) c.self.view_is may.0) (subst (λ (v : Opened). length v.lattice.fences < greatest_fences) c.self.view_is may.1)) c.requires.this)

@@ -12,11 +12,11 @@ use Rattle.aea_records.proofs.OneMore.{or_true}
 use Rattle.aea_ledger.proofs.ledger.Ledger.append_upgrade.Goals as goal
 
 pub returns-then-self-clause-leaves : goal.returns-then-self-clause-leaves
-returns-then-self-clause-leaves g c = leaves_none g.D.Disk.tells c.args.self.now Raise (g.D.Disk.state c.args.disk.now) c.requires.fixed
+returns-then-self-clause-leaves g c = leaves_none g.D.Disk.reveals c.args.self.now Raise (g.D.Disk.state c.args.disk.now) c.requires.fixed
 
 pub returns-then-self-clause-writes : goal.returns-then-self-clause-writes
 returns-then-self-clause-writes g c = (let s = (g.D.Disk.state c.args.disk.now) in
-    writes_as g.D.Disk.tells _ _ ⊥ _ (ChangesOnly 0) s s (λ is. cc) (λ none. absurd none) (writes_none g.D.Disk.tells _ _ (ChangesOnly 0) s (λ d f other. refl)))
+    writes_as g.D.Disk.reveals _ _ ⊥ _ (ChangesOnly 0) s s (λ is. cc) (λ none. absurd none) (writes_none g.D.Disk.reveals _ _ (ChangesOnly 0) s (λ d f other. refl)))
 
 pub write_next_entry-requires-clause-range : goal.write_next_entry-requires-clause-range
 write_next_entry-requires-clause-range g c =
@@ -30,7 +30,7 @@ returns-then-is_err-clause-leaves g c = c.write_next_entry.ensures.leaves c.args
 
 pub returns-then-is_err-clause-writes : goal.returns-then-is_err-clause-writes
 returns-then-is_err-clause-writes g c =
-    writes_as g.D.Disk.tells _ _ _ _ (ChangesOnly 0) (g.D.Disk.state c.args.disk.now) (g.D.Disk.state c.write_next_entry.new.disk) (λ is. sym c.is_err.ensures.value ∙ c.if-is_err.true) (λ is. cc)
+    writes_as g.D.Disk.reveals _ _ _ _ (ChangesOnly 0) (g.D.Disk.state c.args.disk.now) (g.D.Disk.state c.write_next_entry.new.disk) (λ is. sym c.is_err.ensures.value ∙ c.if-is_err.true) (λ is. cc)
     (c.write_next_entry.ensures.writes c.args.self.now Raise (sym (ap (λ (v : Opened). v.end) c.self.view_is)) ((λ i. c.split_at.ensures.front i ++ c.split_at.ensures.back i) ∙ cut-behind Raise c.raise_body-behind.result 9 5 c.raise_body-behind.ensures refl) (raise_next c.args.self.now (ap (λ (v : Opened). v.raised) (sym c.self.view_is) ∙ c.if-self.false)) c.requires.this)
 
 pub invariant_of-self-2 : goal.invariant_of-self-2
@@ -75,5 +75,5 @@ returns-clause-committed g c =
 
 pub returns-clause-writes : goal.returns-clause-writes
 returns-clause-writes g c =
-    writes_as g.D.Disk.tells _ _ _ _ (ChangesOnly 0) (g.D.Disk.state c.args.disk.now) (g.D.Disk.state c.write_next_entry.new.disk) (λ is. absurd (cc)) (λ is. absurd (ok_not_err c.write_next_entry.result c.if-is_err.ensures.negation is))
+    writes_as g.D.Disk.reveals _ _ _ _ (ChangesOnly 0) (g.D.Disk.state c.args.disk.now) (g.D.Disk.state c.write_next_entry.new.disk) (λ is. absurd (cc)) (λ is. absurd (ok_not_err c.write_next_entry.result c.if-is_err.ensures.negation is))
     (c.write_next_entry.ensures.writes c.args.self.now Raise (sym (ap (λ (v : Opened). v.end) c.self.view_is)) ((λ i. c.split_at.ensures.front i ++ c.split_at.ensures.back i) ∙ cut-behind Raise c.raise_body-behind.result 9 5 c.raise_body-behind.ensures refl) (raise_next c.args.self.now (ap (λ (v : Opened). v.raised) (sym c.self.view_is) ∙ c.if-self.false)) c.requires.this)

@@ -5,8 +5,8 @@ use Rattle.aea_ledger.proofs.reader.Reader.read_all.Given as goal
 
 abbrev pub invariant-gates : goal.invariant-gates
 invariant-gates g l =
-    IsReading g.D.Disk.tells ((g.D.Disk.state l.fn.disk).files 0) l.self
-    × OnlyReads g.D.Disk.tells ⊥ (g.D.Disk.state l.fn.disk) (g.D.Disk.state l.disk)
+    IsReading g.D.Disk.reveals ((g.D.Disk.state l.fn.disk).files 0) l.self
+    × OnlyReads g.D.Disk.reveals ⊥ (g.D.Disk.state l.fn.disk) (g.D.Disk.state l.disk)
 
 abbrev pub decreases-gates : goal.decreases-gates
 decreases-gates g l = 2 ^ 46 - l.self.input.cursor.place

@@ -6,5 +6,5 @@ pub invariant_of-result-clause-near : goal.invariant_of-result-clause-near
 invariant_of-result-clause-near g c = (c.requires.near.end, c.requires.near.first, c.requires.near.second, c.requires.near.text)
 
 pub invariant_of-result-clause-guards : goal.invariant_of-result-clause-guards
-invariant_of-result-clause-guards g c = λ alive told.
-    ∣ guards_true (g.D.Disk.state c.args.disk.now) c.args.adopted _ _ (c.requires.synced told) (c.requires.told told) refl refl refl refl ∣₁
+invariant_of-result-clause-guards g c = λ alive revealed.
+    ∣ guards_true (g.D.Disk.state c.args.disk.now) c.args.adopted _ _ (c.requires.synced revealed) (c.requires.revealed revealed) refl refl refl refl ∣₁

@@ -15,7 +15,7 @@ returns-then-refuses_cut-clause-time g c =
     let n = c.refuse.new.self in
     let k : Kept = (record { name = m.disk.ghost_name; on = m.on; end = m.end; dead = m.dead; own = m.own }) in
     let l : Kept = record { name = n.disk.ghost_name; on = n.on; end = n.end; dead = n.dead; own = n.own } in
-    refused_time g.D.Disk.tells (g.D.Disk.state m.disk.now) (g.D.Disk.state n.disk.now) k l (ap g.D.Disk.state c.refuse.ensures.disk) c.refuse.ensures.on c.refuse.ensures.same
+    refused_time g.D.Disk.reveals (g.D.Disk.state m.disk.now) (g.D.Disk.state n.disk.now) k l (ap g.D.Disk.state c.refuse.ensures.disk) c.refuse.ensures.on c.refuse.ensures.same
 
 pub invariant_of-self : goal.invariant_of-self
 invariant_of-self g c =
@@ -25,36 +25,36 @@ invariant_of-self g c =
     let t = g.D.Disk.state c.cut.new.self in
     record {
       near = m.near;
-      guards = λ alive told.
-          ∥∥₁_elim (m.guards alive told) ∥∥₁_prop (λ was.
+      guards = λ alive revealed.
+          ∥∥₁_elim (m.guards alive revealed) ∥∥₁_prop (λ was.
           ∣ guards_stay c.args.file m.end (MayBeCut c.args.len) s t m.on m.first m.second near.near
           (λ on zero. λ text old new size begins cut. cut_begins text c.args.len old new (let past = near.after on zero in omega (arith, past, size)) begins cut)
-          (cut_anyway g.D.Disk.tells c.args.file c.args.len s.files t.files c.cut.result c.cut.ensures.cut c.cut.ensures.torn told) c.cut.ensures.crash c.cut.ensures.time was ∣₁);
+          (cut_anyway g.D.Disk.reveals c.args.file c.args.len s.files t.files c.cut.result c.cut.ensures.cut c.cut.ensures.torn revealed) c.cut.ensures.crash c.cut.ensures.time was ∣₁);
     }
 
 pub returns-clause-crash : goal.returns-clause-crash
 returns-clause-crash g c =
     let m = c.args.self.now in
     let near = not_refused_cut c.args.file c.args.len m.dead m.on m.end false refl c.if-refuses_cut.ensures.refused in
-    shown_follows g.D.Disk.tells c.args.file (MayBeCut c.args.len) (g.D.Disk.state m.disk.now) (g.D.Disk.state c.cut.new.self) (record { name = m.disk.ghost_name; on = m.on; end = m.end; dead = m.dead; own = m.own }) (record { name = m.disk.ghost_name; on = m.on; end = m.end; dead = m.dead; own = m.own })
-    (λ told. cut_is_shown (g.D.Disk.state m.disk.now) c.args.file c.args.len m.on m.end m.first m.second near (m.guards near.alive told)) c.cut.ensures.crash
+    shown_follows g.D.Disk.reveals c.args.file (MayBeCut c.args.len) (g.D.Disk.state m.disk.now) (g.D.Disk.state c.cut.new.self) (record { name = m.disk.ghost_name; on = m.on; end = m.end; dead = m.dead; own = m.own }) (record { name = m.disk.ghost_name; on = m.on; end = m.end; dead = m.dead; own = m.own })
+    (λ revealed. cut_is_shown (g.D.Disk.state m.disk.now) c.args.file c.args.len m.on m.end m.first m.second near (m.guards near.alive revealed)) c.cut.ensures.crash
 
 pub returns-clause-settled : goal.returns-clause-settled
 returns-clause-settled g c =
     let m = c.args.self.now in
-    shown_settles g.D.Disk.tells (g.D.Disk.state m.disk.now) (g.D.Disk.state c.cut.new.self) (record { name = m.disk.ghost_name; on = m.on; end = m.end; dead = m.dead; own = m.own }) (record { name = m.disk.ghost_name; on = m.on; end = m.end; dead = m.dead; own = m.own }) c.cut.ensures.settled
+    shown_settles g.D.Disk.reveals (g.D.Disk.state m.disk.now) (g.D.Disk.state c.cut.new.self) (record { name = m.disk.ghost_name; on = m.on; end = m.end; dead = m.dead; own = m.own }) (record { name = m.disk.ghost_name; on = m.on; end = m.end; dead = m.dead; own = m.own }) c.cut.ensures.settled
 
 pub returns-clause-time : goal.returns-clause-time
 returns-clause-time g c =
     let m = c.args.self.now in
     let near = not_refused_cut c.args.file c.args.len m.dead m.on m.end false refl c.if-refuses_cut.ensures.refused in
-    shown_time g.D.Disk.tells (g.D.Disk.state m.disk.now) (g.D.Disk.state c.cut.new.self) (record { name = m.disk.ghost_name; on = m.on; end = m.end; dead = m.dead; own = m.own }) (record { name = m.disk.ghost_name; on = m.on; end = m.end; dead = m.dead; own = m.own }) refl refl c.cut.ensures.cause.kept (changed_copies g.D.Disk.tells m.on c.args.file (MayBeCut c.args.len) (g.D.Disk.state m.disk.now) (g.D.Disk.state c.cut.new.self) near.near c.cut.ensures.crash) c.cut.ensures.time
+    shown_time g.D.Disk.reveals (g.D.Disk.state m.disk.now) (g.D.Disk.state c.cut.new.self) (record { name = m.disk.ghost_name; on = m.on; end = m.end; dead = m.dead; own = m.own }) (record { name = m.disk.ghost_name; on = m.on; end = m.end; dead = m.dead; own = m.own }) refl refl c.cut.ensures.cause.kept (changed_copies g.D.Disk.reveals m.on c.args.file (MayBeCut c.args.len) (g.D.Disk.state m.disk.now) (g.D.Disk.state c.cut.new.self) near.near c.cut.ensures.crash) c.cut.ensures.time
 
 pub returns-clause-sure : goal.returns-clause-sure
 returns-clause-sure g c =
     let m = c.args.self.now in
     let near = not_refused_cut c.args.file c.args.len m.dead m.on m.end false refl c.if-refuses_cut.ensures.refused in
-    cut_sure g.D.Disk.tells c.args.file c.args.len (g.D.Disk.state m.disk.now) (g.D.Disk.state c.cut.new.self) (record { name = m.disk.ghost_name; on = m.on; end = m.end; dead = m.dead; own = m.own }) c.cut.result near
+    cut_sure g.D.Disk.reveals c.args.file c.args.len (g.D.Disk.state m.disk.now) (g.D.Disk.state c.cut.new.self) (record { name = m.disk.ghost_name; on = m.on; end = m.end; dead = m.dead; own = m.own }) c.cut.result near
     (λ free. g.met.D.Disk.free_taken m.disk.now c.args.file ((g.D.Disk.state m.disk.now).files 0) 0 free)
     c.cut.ensures.cause c.cut.ensures.sure c.cut.ensures.cut
 

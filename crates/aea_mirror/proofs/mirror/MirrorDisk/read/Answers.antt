@@ -14,15 +14,15 @@ invariant_of-self g c =
     let t = g.D.Disk.state c.read.new.self in
     record {
       near = m.near;
-      guards = λ alive told. ∥∥₁_elim (m.guards alive told) ∥∥₁_prop (λ was. ∣ guards_read s t m.on m.end m.first m.second (c.read.ensures.contents told) c.read.ensures.crash c.read.ensures.time was ∣₁);
+      guards = λ alive revealed. ∥∥₁_elim (m.guards alive revealed) ∥∥₁_prop (λ was. ∣ guards_read s t m.on m.end m.first m.second (c.read.ensures.contents revealed) c.read.ensures.crash c.read.ensures.time was ∣₁);
     }
 
 pub returns-clause-time : goal.returns-clause-time
 returns-clause-time g c =
     let m = c.args.self.now in
-    shown_time g.D.Disk.tells (g.D.Disk.state m.disk.now) (g.D.Disk.state c.read.new.self) (record { name = m.disk.ghost_name; on = m.on; end = m.end; dead = m.dead; own = m.own }) (record { name = m.disk.ghost_name; on = m.on; end = m.end; dead = m.dead; own = m.own }) refl refl c.read.ensures.cause.kept (kept_copies g.D.Disk.tells m.on (g.D.Disk.state m.disk.now) (g.D.Disk.state c.read.new.self) c.read.ensures.crash) c.read.ensures.time
+    shown_time g.D.Disk.reveals (g.D.Disk.state m.disk.now) (g.D.Disk.state c.read.new.self) (record { name = m.disk.ghost_name; on = m.on; end = m.end; dead = m.dead; own = m.own }) (record { name = m.disk.ghost_name; on = m.on; end = m.end; dead = m.dead; own = m.own }) refl refl c.read.ensures.cause.kept (kept_copies g.D.Disk.reveals m.on (g.D.Disk.state m.disk.now) (g.D.Disk.state c.read.new.self) c.read.ensures.crash) c.read.ensures.time
 
 pub returns-then-file-gt64-clause-time : goal.returns-then-file-gt64-clause-time
 returns-then-file-gt64-clause-time g c =
     let m = c.args.self.now in
-    passes_none (mirror_state g.D.Disk.tells (g.D.Disk.state m.disk.now) (record { name = m.disk.ghost_name; on = m.on; end = m.end; dead = m.dead; own = m.own }))
+    passes_none (mirror_state g.D.Disk.reveals (g.D.Disk.state m.disk.now) (record { name = m.disk.ghost_name; on = m.on; end = m.end; dead = m.dead; own = m.own }))

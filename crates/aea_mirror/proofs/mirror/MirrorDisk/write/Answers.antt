@@ -15,7 +15,7 @@ returns-then-refuses_write-clause-time g c =
     let n = c.refuse.new.self in
     let k : Kept = (record { name = m.disk.ghost_name; on = m.on; end = m.end; dead = m.dead; own = m.own }) in
     let l : Kept = record { name = n.disk.ghost_name; on = n.on; end = n.end; dead = n.dead; own = n.own } in
-    refused_time g.D.Disk.tells (g.D.Disk.state m.disk.now) (g.D.Disk.state n.disk.now) k l (ap g.D.Disk.state c.refuse.ensures.disk) c.refuse.ensures.on c.refuse.ensures.same
+    refused_time g.D.Disk.reveals (g.D.Disk.state m.disk.now) (g.D.Disk.state n.disk.now) k l (ap g.D.Disk.state c.refuse.ensures.disk) c.refuse.ensures.on c.refuse.ensures.same
 
 pub returns-then-refuses_write-clause-sure : goal.returns-then-refuses_write-clause-sure
 returns-then-refuses_write-clause-sure g c =
@@ -23,7 +23,7 @@ returns-then-refuses_write-clause-sure g c =
     let n = c.refuse.new.self in
     let k : Kept = (record { name = m.disk.ghost_name; on = m.on; end = m.end; dead = m.dead; own = m.own }) in
     let l : Kept = record { name = n.disk.ghost_name; on = n.on; end = n.end; dead = n.dead; own = n.own } in
-    refused_write_sure g.D.Disk.tells c.args.file c.args.at _ (g.D.Disk.state m.disk.now) (g.D.Disk.state n.disk.now) k l _ refl (ap g.D.Disk.state c.refuse.ensures.disk) (c.if-refuses_write.ensures.refused.0 refl)
+    refused_write_sure g.D.Disk.reveals c.args.file c.args.at _ (g.D.Disk.state m.disk.now) (g.D.Disk.state n.disk.now) k l _ refl (ap g.D.Disk.state c.refuse.ensures.disk) (c.if-refuses_write.ensures.refused.0 refl)
 
 pub invariant_of-self : goal.invariant_of-self
 invariant_of-self g c =
@@ -33,36 +33,36 @@ invariant_of-self g c =
     let t = g.D.Disk.state c.write.new.self in
     record {
       near = m.near;
-      guards = λ alive told.
-          ∥∥₁_elim (m.guards alive told) ∥∥₁_prop (λ was.
+      guards = λ alive revealed.
+          ∥∥₁_elim (m.guards alive revealed) ∥∥₁_prop (λ was.
           ∣ guards_stay c.args.file m.end (Torn c.args.at (length c.args.bytes.now)) s t m.on m.first m.second near.near
           (λ on zero. λ text old new size begins torn. torn_begins text c.args.at (length c.args.bytes.now) old new (let past = near.after on zero in omega (arith, past, size)) begins torn)
-          (torn_anyway g.D.Disk.tells c.args.file c.args.at c.args.bytes.now s.files t.files c.write.result c.write.ensures.written c.write.ensures.torn told) c.write.ensures.crash c.write.ensures.time was ∣₁);
+          (torn_anyway g.D.Disk.reveals c.args.file c.args.at c.args.bytes.now s.files t.files c.write.result c.write.ensures.written c.write.ensures.torn revealed) c.write.ensures.crash c.write.ensures.time was ∣₁);
     }
 
 pub returns-clause-crash : goal.returns-clause-crash
 returns-clause-crash g c =
     let m = c.args.self.now in
     let near = not_refused_write c.args.file c.args.at m.dead m.on m.end false refl c.if-refuses_write.ensures.refused in
-    shown_follows g.D.Disk.tells c.args.file (Torn c.args.at (length c.args.bytes.now)) (g.D.Disk.state m.disk.now) (g.D.Disk.state c.write.new.self) (record { name = m.disk.ghost_name; on = m.on; end = m.end; dead = m.dead; own = m.own }) (record { name = m.disk.ghost_name; on = m.on; end = m.end; dead = m.dead; own = m.own })
-    (λ told. write_is_shown (g.D.Disk.state m.disk.now) c.args.file c.args.at (length c.args.bytes.now) m.on m.end m.first m.second near (m.guards near.alive told)) c.write.ensures.crash
+    shown_follows g.D.Disk.reveals c.args.file (Torn c.args.at (length c.args.bytes.now)) (g.D.Disk.state m.disk.now) (g.D.Disk.state c.write.new.self) (record { name = m.disk.ghost_name; on = m.on; end = m.end; dead = m.dead; own = m.own }) (record { name = m.disk.ghost_name; on = m.on; end = m.end; dead = m.dead; own = m.own })
+    (λ revealed. write_is_shown (g.D.Disk.state m.disk.now) c.args.file c.args.at (length c.args.bytes.now) m.on m.end m.first m.second near (m.guards near.alive revealed)) c.write.ensures.crash
 
 pub returns-clause-settled : goal.returns-clause-settled
 returns-clause-settled g c =
     let m = c.args.self.now in
-    shown_settles g.D.Disk.tells (g.D.Disk.state m.disk.now) (g.D.Disk.state c.write.new.self) (record { name = m.disk.ghost_name; on = m.on; end = m.end; dead = m.dead; own = m.own }) (record { name = m.disk.ghost_name; on = m.on; end = m.end; dead = m.dead; own = m.own }) c.write.ensures.settled
+    shown_settles g.D.Disk.reveals (g.D.Disk.state m.disk.now) (g.D.Disk.state c.write.new.self) (record { name = m.disk.ghost_name; on = m.on; end = m.end; dead = m.dead; own = m.own }) (record { name = m.disk.ghost_name; on = m.on; end = m.end; dead = m.dead; own = m.own }) c.write.ensures.settled
 
 pub returns-clause-time : goal.returns-clause-time
 returns-clause-time g c =
     let m = c.args.self.now in
     let near = not_refused_write c.args.file c.args.at m.dead m.on m.end false refl c.if-refuses_write.ensures.refused in
-    shown_time g.D.Disk.tells (g.D.Disk.state m.disk.now) (g.D.Disk.state c.write.new.self) (record { name = m.disk.ghost_name; on = m.on; end = m.end; dead = m.dead; own = m.own }) (record { name = m.disk.ghost_name; on = m.on; end = m.end; dead = m.dead; own = m.own }) refl refl c.write.ensures.cause.kept (changed_copies g.D.Disk.tells m.on c.args.file (Torn c.args.at (length c.args.bytes.now)) (g.D.Disk.state m.disk.now) (g.D.Disk.state c.write.new.self) near.near c.write.ensures.crash) c.write.ensures.time
+    shown_time g.D.Disk.reveals (g.D.Disk.state m.disk.now) (g.D.Disk.state c.write.new.self) (record { name = m.disk.ghost_name; on = m.on; end = m.end; dead = m.dead; own = m.own }) (record { name = m.disk.ghost_name; on = m.on; end = m.end; dead = m.dead; own = m.own }) refl refl c.write.ensures.cause.kept (changed_copies g.D.Disk.reveals m.on c.args.file (Torn c.args.at (length c.args.bytes.now)) (g.D.Disk.state m.disk.now) (g.D.Disk.state c.write.new.self) near.near c.write.ensures.crash) c.write.ensures.time
 
 pub returns-clause-sure : goal.returns-clause-sure
 returns-clause-sure g c =
     let m = c.args.self.now in
     let near = not_refused_write c.args.file c.args.at m.dead m.on m.end false refl c.if-refuses_write.ensures.refused in
-    written_sure g.D.Disk.tells c.args.file c.args.at c.args.bytes.now (g.D.Disk.state m.disk.now) (g.D.Disk.state c.write.new.self) (record { name = m.disk.ghost_name; on = m.on; end = m.end; dead = m.dead; own = m.own }) c.write.result near
+    written_sure g.D.Disk.reveals c.args.file c.args.at c.args.bytes.now (g.D.Disk.state m.disk.now) (g.D.Disk.state c.write.new.self) (record { name = m.disk.ghost_name; on = m.on; end = m.end; dead = m.dead; own = m.own }) c.write.result near
     (λ free. g.met.D.Disk.free_taken m.disk.now c.args.file ((g.D.Disk.state m.disk.now).files 0) c.args.at free)
     c.write.ensures.cause c.write.ensures.sure c.write.ensures.written
 

@@ -11,18 +11,18 @@ pub loop-b-init : goal.loop-b-init
 loop-b-init g c = record {
   same = c.requires.same;
   buffer = c.requires.buffer;
-  goes = goes_none g.D.Disk.tells c.args.ledger.now (g.D.Disk.state c.args.disk.now).files c.args.self.now;
-  reads = reads_none g.D.Disk.tells ⊥ (g.D.Disk.state c.args.disk.now) (λ none. none);
+  goes = goes_none g.D.Disk.reveals c.args.ledger.now (g.D.Disk.state c.args.disk.now).files c.args.self.now;
+  reads = reads_none g.D.Disk.reveals ⊥ (g.D.Disk.state c.args.disk.now) (λ none. none);
 }
 
 pub returns-in-Err-clause-goes : goal.returns-in-Err-clause-goes
 returns-in-Err-clause-goes g c =
-    goes_both g.D.Disk.tells c.args.ledger.now (g.D.Disk.state c.args.disk.now).files (g.D.Disk.state c.loop-b.disk).files c.args.self.now c.loop-b.self c.look_around.new.self
+    goes_both g.D.Disk.reveals c.args.ledger.now (g.D.Disk.state c.args.disk.now).files (g.D.Disk.state c.loop-b.disk).files c.args.self.now c.loop-b.self c.look_around.new.self
     c.loop-b.invariant.reads.contents c.loop-b.invariant.goes c.look_around.ensures.looks.goes
 
 pub returns-in-Err-clause-reads : goal.returns-in-Err-clause-reads
 returns-in-Err-clause-reads g c =
-    reads_both g.D.Disk.tells ⊥ _ (g.D.Disk.state c.args.disk.now) (g.D.Disk.state c.loop-b.disk) (g.D.Disk.state c.look_around.new.disk) (λ none. none) c.loop-b.invariant.reads c.in-Err.ensures.looks.reads
+    reads_both g.D.Disk.reveals ⊥ _ (g.D.Disk.state c.args.disk.now) (g.D.Disk.state c.loop-b.disk) (g.D.Disk.state c.look_around.new.disk) (λ none. none) c.loop-b.invariant.reads c.in-Err.ensures.looks.reads
 
 pub pass-requires-clause-around : goal.pass-requires-clause-around
 pass-requires-clause-around g c b first =
@@ -43,7 +43,7 @@ loop-b-smaller g c =
 
 pub loop-b-preserved : goal.loop-b-preserved
 loop-b-preserved g c =
-    let tells = g.D.Disk.tells in
+    let reveals = g.D.Disk.reveals in
     let v = c.args.ledger.now in
     let old = g.D.Disk.state c.args.disk.now in
     let mid = g.D.Disk.state c.loop-b.disk in
@@ -52,7 +52,7 @@ loop-b-preserved g c =
     record {
       same = ap (λ (m : Marked). m.lattice) c.pass.ensures.read ∙ looks.goes.same ∙ c.loop-b.invariant.same;
       buffer = c.look_around.auto.cell ∙ c.loop-b.invariant.buffer;
-      goes = goes_as tells v old.files c.args.self.now c.look_around.new.self c.pass.new.self c.pass.ensures.read c.pass.ensures.unknown
-          (goes_both tells v old.files mid.files c.args.self.now c.loop-b.self c.look_around.new.self c.loop-b.invariant.reads.contents c.loop-b.invariant.goes looks.goes);
-      reads = reads_as tells _ ⊥ old new (λ none. absurd none) ok_no_fault (reads_both tells ⊥ _ old mid new (λ none. none) c.loop-b.invariant.reads c.in-Ok.ensures.looks.reads);
+      goes = goes_as reveals v old.files c.args.self.now c.look_around.new.self c.pass.new.self c.pass.ensures.read c.pass.ensures.unknown
+          (goes_both reveals v old.files mid.files c.args.self.now c.loop-b.self c.look_around.new.self c.loop-b.invariant.reads.contents c.loop-b.invariant.goes looks.goes);
+      reads = reads_as reveals _ ⊥ old new (λ none. absurd none) ok_no_fault (reads_both reveals ⊥ _ old mid new (λ none. none) c.loop-b.invariant.reads c.in-Ok.ensures.looks.reads);
     }

@@ -9,8 +9,8 @@ abbrev pub invariant-loop-b : goal.invariant-loop-b
 invariant-loop-b g l = record {
   same : l.self.read.lattice ≡ l.ledger.lattice;
   buffer : length l.cell ≡ cell_size l.ledger.shape;
-  goes : Goes g.D.Disk.tells l.ledger (g.D.Disk.state l.fn.disk).files l.fn.self l.self;
-  reads : OnlyReads g.D.Disk.tells ⊥ (g.D.Disk.state l.fn.disk) (g.D.Disk.state l.disk);
+  goes : Goes g.D.Disk.reveals l.ledger (g.D.Disk.state l.fn.disk).files l.fn.self l.self;
+  reads : OnlyReads g.D.Disk.reveals ⊥ (g.D.Disk.state l.fn.disk) (g.D.Disk.state l.disk);
 }
 
 abbrev pub decreases-loop-b : goal.decreases-loop-b

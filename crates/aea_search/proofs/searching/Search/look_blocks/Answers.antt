@@ -10,7 +10,7 @@ use Rattle.aea_search.proofs.searching.Search.look_blocks.Goals as goal
 
 pub returns-in-Err-look-clause-looks : goal.returns-in-Err-look-clause-looks
 returns-in-Err-look-clause-looks g c =
-    looks_then g.D.Disk.tells _ c.args.ledger.now c.args.self.now c.look.new.self c.look-2.new.self
+    looks_then g.D.Disk.reveals _ c.args.ledger.now c.args.self.now c.look.new.self c.look-2.new.self
     (g.D.Disk.state c.args.disk.now) (g.D.Disk.state c.look.new.disk) (g.D.Disk.state c.look-2.new.disk) c.in-Ok.ensures.looks c.in-Err-look.ensures.looks
 
 pub returns-clause-read : goal.returns-clause-read
@@ -32,7 +32,7 @@ returns-clause-read g c =
 
 pub returns-clause-looks : goal.returns-clause-looks
 returns-clause-looks g c =
-    looks_then g.D.Disk.tells _ c.args.ledger.now c.args.self.now c.look.new.self c.look_input.new.self
+    looks_then g.D.Disk.reveals _ c.args.ledger.now c.args.self.now c.look.new.self c.look_input.new.self
     (g.D.Disk.state c.args.disk.now) (g.D.Disk.state c.look.new.disk) (g.D.Disk.state c.look_input.new.disk) c.in-Ok.ensures.looks
-    (looks_then g.D.Disk.tells _ c.args.ledger.now c.look.new.self c.look-2.new.self c.look_input.new.self
+    (looks_then g.D.Disk.reveals _ c.args.ledger.now c.look.new.self c.look-2.new.self c.look_input.new.self
     (g.D.Disk.state c.look.new.disk) (g.D.Disk.state c.look-2.new.disk) (g.D.Disk.state c.look_input.new.disk) c.in-Ok-look.ensures.looks c.look_input.ensures.looks)

@@ -7,7 +7,7 @@ use Rattle.aea_search.proofs.searching.Search.look_node.Goals as goal
 
 pub returns-in-Err-look_class-clause-looks : goal.returns-in-Err-look_class-clause-looks
 returns-in-Err-look_class-clause-looks g c =
-    looks_then g.D.Disk.tells _ c.args.ledger.now c.args.self.now c.look_class.new.self c.look_class-2.new.self
+    looks_then g.D.Disk.reveals _ c.args.ledger.now c.args.self.now c.look_class.new.self c.look_class-2.new.self
     (g.D.Disk.state c.args.disk.now) (g.D.Disk.state c.look_class.new.disk) (g.D.Disk.state c.look_class-2.new.disk) c.in-Ok.ensures.looks c.in-Err-look_class.ensures.looks
 
 pub returns-clause-read : goal.returns-clause-read
@@ -31,7 +31,7 @@ returns-clause-read g c =
 
 pub returns-clause-looks : goal.returns-clause-looks
 returns-clause-looks g c =
-    looks_then g.D.Disk.tells _ c.args.ledger.now c.args.self.now c.look_class.new.self c.look_class-3.new.self
+    looks_then g.D.Disk.reveals _ c.args.ledger.now c.args.self.now c.look_class.new.self c.look_class-3.new.self
     (g.D.Disk.state c.args.disk.now) (g.D.Disk.state c.look_class.new.disk) (g.D.Disk.state c.look_class-3.new.disk) c.in-Ok.ensures.looks
-    (looks_then g.D.Disk.tells _ c.args.ledger.now c.look_class.new.self c.look_class-2.new.self c.look_class-3.new.self
+    (looks_then g.D.Disk.reveals _ c.args.ledger.now c.look_class.new.self c.look_class-2.new.self c.look_class-3.new.self
     (g.D.Disk.state c.look_class.new.disk) (g.D.Disk.state c.look_class-2.new.disk) (g.D.Disk.state c.look_class-3.new.disk) c.in-Ok-look_class.ensures.looks c.look_class-3.ensures.looks)

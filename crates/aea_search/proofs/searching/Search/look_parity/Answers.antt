@@ -26,7 +26,7 @@ returns-in-Some-clause-around g c =
 
 pub returns-in-Some-clause-looks : goal.returns-in-Some-clause-looks
 returns-in-Some-clause-looks g c =
-    looks_then g.D.Disk.tells _ c.args.ledger.now c.args.self.now c.look_class.new.self c.look_class-in-Some.new.self
+    looks_then g.D.Disk.reveals _ c.args.ledger.now c.args.self.now c.look_class.new.self c.look_class-in-Some.new.self
     (g.D.Disk.state c.args.disk.now) (g.D.Disk.state c.look_class.new.disk) (g.D.Disk.state c.look_class-in-Some.new.disk) c.in-Ok.ensures.looks c.look_class-in-Some.ensures.looks
 
 pub returns-in-None-clause-around : goal.returns-in-None-clause-around

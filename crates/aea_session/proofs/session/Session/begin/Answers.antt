@@ -11,13 +11,13 @@ pub returns-then-not-is_upgraded-clause-earlier : goal.returns-then-not-is_upgra
 returns-then-not-is_upgraded-clause-earlier g c = earlier_none (g.D.Disk.state c.args.disk.now)
 
 pub returns-then-not-is_upgraded-clause-reads : goal.returns-then-not-is_upgraded-clause-reads
-returns-then-not-is_upgraded-clause-reads g c = reads_as g.D.Disk.tells ⊥ _ (g.D.Disk.state c.args.disk.now) (g.D.Disk.state c.args.disk.now) (λ is. absurd (let e = is in cc)) (λ none. absurd none) (reads_none g.D.Disk.tells ⊥ (g.D.Disk.state c.args.disk.now) (λ none. none))
+returns-then-not-is_upgraded-clause-reads g c = reads_as g.D.Disk.reveals ⊥ _ (g.D.Disk.state c.args.disk.now) (g.D.Disk.state c.args.disk.now) (λ is. absurd (let e = is in cc)) (λ none. absurd none) (reads_none g.D.Disk.reveals ⊥ (g.D.Disk.state c.args.disk.now) (λ none. none))
 
 pub returns-in_default-clause-earlier : goal.returns-in_default-clause-earlier
 returns-in_default-clause-earlier g c = earlier_none (g.D.Disk.state c.args.disk.now)
 
 pub returns-in_default-clause-reads : goal.returns-in_default-clause-reads
-returns-in_default-clause-reads g c = reads_as g.D.Disk.tells ⊥ _ (g.D.Disk.state c.args.disk.now) (g.D.Disk.state c.args.disk.now) (λ is. absurd (let e = is in cc)) (λ none. absurd none) (reads_none g.D.Disk.tells ⊥ (g.D.Disk.state c.args.disk.now) (λ none. none))
+returns-in_default-clause-reads g c = reads_as g.D.Disk.reveals ⊥ _ (g.D.Disk.state c.args.disk.now) (g.D.Disk.state c.args.disk.now) (λ is. absurd (let e = is in cc)) (λ none. absurd none) (reads_none g.D.Disk.reveals ⊥ (g.D.Disk.state c.args.disk.now) (λ none. none))
 
 pub returns-in-Ok-load_heads-clause-keeps : goal.returns-in-Ok-load_heads-clause-keeps
 returns-in-Ok-load_heads-clause-keeps g c datas long wide =
@@ -26,18 +26,18 @@ returns-in-Ok-load_heads-clause-keeps g c datas long wide =
     c.in-Ok-load_heads.ensures.lattice c.in-Ok-load_heads.ensures.size c.new.ensures.items c.in-Ok.ensures c.free_slots.ensures.long c.free_slots.ensures.free long wide
 
 pub returns-in-Ok-load_heads-clause-stands : goal.returns-in-Ok-load_heads-clause-stands
-returns-in-Ok-load_heads-clause-stands g c = begins_standing g.D.Disk.tells _ (g.D.Disk.state c.args.disk.now).files c.new.ensures.items c.in-Ok-load_heads.ensures.values
+returns-in-Ok-load_heads-clause-stands g c = begins_standing g.D.Disk.reveals _ (g.D.Disk.state c.args.disk.now).files c.new.ensures.items c.in-Ok-load_heads.ensures.values
 
 pub returns-in-Ok-load_heads-clause-this : goal.returns-in-Ok-load_heads-clause-this
-returns-in-Ok-load_heads-clause-this g c told this =
-    begins_its_own _ (g.D.Disk.state c.args.disk.now).files (g.D.Disk.state c.load_heads.new.disk).files c.in-Ok-load_heads.ensures.lattice c.new.ensures.items (c.load_heads.ensures.reads.contents told) this
+returns-in-Ok-load_heads-clause-this g c revealed this =
+    begins_its_own _ (g.D.Disk.state c.args.disk.now).files (g.D.Disk.state c.load_heads.new.disk).files c.in-Ok-load_heads.ensures.lattice c.new.ensures.items (c.load_heads.ensures.reads.contents revealed) this
 
 pub returns-in-Ok-load_heads-clause-head_refused : goal.returns-in-Ok-load_heads-clause-head_refused
-returns-in-Ok-load_heads-clause-head_refused g c raised told a damaged = absurd (not_refused c.load_heads.result c.in-Ok-load_heads.heads c.in-Ok-load_heads.is (c.load_heads.ensures.head_refused told a damaged))
+returns-in-Ok-load_heads-clause-head_refused g c raised revealed a damaged = absurd (not_refused c.load_heads.result c.in-Ok-load_heads.heads c.in-Ok-load_heads.is (c.load_heads.ensures.head_refused revealed a damaged))
 
 pub returns-in-Ok-load_heads-clause-reads : goal.returns-in-Ok-load_heads-clause-reads
 returns-in-Ok-load_heads-clause-reads g c =
-    reads_as g.D.Disk.tells (c.load_heads.result ≡ Err loading.DiskFault) _ (g.D.Disk.state c.args.disk.now) (g.D.Disk.state c.load_heads.new.disk) (λ is. absurd (let e = is in cc)) (λ is. absurd (let e = sym c.in-Ok-load_heads.is ∙ is in cc)) c.load_heads.ensures.reads
+    reads_as g.D.Disk.reveals (c.load_heads.result ≡ Err loading.DiskFault) _ (g.D.Disk.state c.args.disk.now) (g.D.Disk.state c.load_heads.new.disk) (λ is. absurd (let e = is in cc)) (λ is. absurd (let e = sym c.in-Ok-load_heads.is ∙ is in cc)) c.load_heads.ensures.reads
 
 pub returns-in-Err-HeadDamaged-clause-head : goal.returns-in-Err-HeadDamaged-clause-head
 returns-in-Err-HeadDamaged-clause-head g c b is =
@@ -45,16 +45,16 @@ returns-in-Err-HeadDamaged-clause-head g c b is =
 
 pub returns-in-Err-HeadDamaged-clause-reads : goal.returns-in-Err-HeadDamaged-clause-reads
 returns-in-Err-HeadDamaged-clause-reads g c =
-    reads_as g.D.Disk.tells (c.load_heads.result ≡ Err loading.DiskFault) _ (g.D.Disk.state c.args.disk.now) (g.D.Disk.state c.load_heads.new.disk) (λ is. absurd (let e = is in cc))
+    reads_as g.D.Disk.reveals (c.load_heads.result ≡ Err loading.DiskFault) _ (g.D.Disk.state c.args.disk.now) (g.D.Disk.state c.load_heads.new.disk) (λ is. absurd (let e = is in cc))
     (λ is. absurd (let e = one_fault c.load_heads.result c.in-Err-HeadDamaged.field-0 (loading.HeadDamaged c.in-Err-HeadDamaged.block) loading.DiskFault c.in-Err-HeadDamaged.is c.in-Err-HeadDamaged.field-0-is is in cc)) c.load_heads.ensures.reads
 
 pub returns-in-Err-DiskFault-clause-reads : goal.returns-in-Err-DiskFault-clause-reads
 returns-in-Err-DiskFault-clause-reads g c =
-    reads_as g.D.Disk.tells (c.load_heads.result ≡ Err loading.DiskFault) _ (g.D.Disk.state c.args.disk.now) (g.D.Disk.state c.load_heads.new.disk) (λ is. c.in-Err-DiskFault.is ∙ ap Err c.in-Err-DiskFault.field-0-is) (λ is. refl) c.load_heads.ensures.reads
+    reads_as g.D.Disk.reveals (c.load_heads.result ≡ Err loading.DiskFault) _ (g.D.Disk.state c.args.disk.now) (g.D.Disk.state c.load_heads.new.disk) (λ is. c.in-Err-DiskFault.is ∙ ap Err c.in-Err-DiskFault.field-0-is) (λ is. refl) c.load_heads.ensures.reads
 
 pub returns-clause-reads : goal.returns-clause-reads
 returns-clause-reads g c =
-    reads_as g.D.Disk.tells (c.load_heads.result ≡ Err loading.DiskFault) _ (g.D.Disk.state c.args.disk.now) (g.D.Disk.state c.load_heads.new.disk) (λ is. absurd (let e = is in cc))
+    reads_as g.D.Disk.reveals (c.load_heads.result ≡ Err loading.DiskFault) _ (g.D.Disk.state c.args.disk.now) (g.D.Disk.state c.load_heads.new.disk) (λ is. absurd (let e = is in cc))
     (λ is. absurd (let e = one_fault c.load_heads.result c.in-Err-NoMemory.field-0 loading.NoMemory loading.DiskFault c.in-Err-NoMemory.is c.in-Err-NoMemory.field-0-is is in cc)) c.load_heads.ensures.reads
 
 -- it keeps the state in which nothing was woven behind blocks of zeros

@@ -5,4 +5,4 @@ use Rattle.aea_system_tests.proofs.commits.gate.begin.Goals as goal
 pub returns-clause-fixed : goal.returns-clause-fixed
 returns-clause-fixed g c =
     let last = g.D.Disk.state c.sync.new.self in
-    on_ok_weaker c.sync.result (λ durable told. synced_fixed last 0 (durable told)) c.sync.ensures.durable
+    on_ok_weaker c.sync.result (λ durable revealed. synced_fixed last 0 (durable revealed)) c.sync.ensures.durable

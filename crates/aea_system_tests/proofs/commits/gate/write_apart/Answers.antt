@@ -31,8 +31,8 @@ returns-clause-durable g c =
     let bytes = c.args.bytes.now in
     let file = c.args.file in
     on_ok_weaker c.sync.result
-    (λ durable told d here.
-    let reads : d file ≡ overwritten (first.files file) c.args.at bytes = durable told d here file ∙ ap (λ (e : ℕ → List ℕ). e file) (c.sync.ensures.contents told) ∙ (c.in_ok-write.ensures.written told).here in
+    (λ durable revealed d here.
+    let reads : d file ≡ overwritten (first.files file) c.args.at bytes = durable revealed d here file ∙ ap (λ (e : ℕ → List ℕ). e file) (c.sync.ensures.contents revealed) ∙ (c.in_ok-write.ensures.written revealed).here in
     ap (λ (l : List ℕ). take (length bytes) (drop c.args.at l)) reads ∙ range-overwritten (first.files file) c.args.at bytes)
     c.sync.ensures.durable
 
@@ -41,20 +41,20 @@ returns-clause-others g c =
     let first = g.D.Disk.state c.args.disk.now in
     let second = g.D.Disk.state c.write.new.self in
     let third = g.D.Disk.state c.sync.new.self in
-    others_then_kept g.D.Disk.tells c.args.file first second third c.write.ensures.time c.sync.ensures.time c.sync.ensures.crash c.sync.ensures.contents
-    (others_change g.D.Disk.tells c.args.file (Torn c.args.at (length c.args.bytes.now)) first second c.write.ensures.crash (λ told. (c.in_ok-write.ensures.written told).others))
+    others_then_kept g.D.Disk.reveals c.args.file first second third c.write.ensures.time c.sync.ensures.time c.sync.ensures.crash c.sync.ensures.contents
+    (others_change g.D.Disk.reveals c.args.file (Torn c.args.at (length c.args.bytes.now)) first second c.write.ensures.crash (λ revealed. (c.in_ok-write.ensures.written revealed).others))
 
 pub returns-in_err-write-clause-sure : goal.returns-in_err-write-clause-sure
 returns-in_err-write-clause-sure g c =
     let first = g.D.Disk.state c.args.disk.now in
     let bytes = c.args.bytes.now in
-    sure_failed (g.D.Disk.tells × TakesFrom first c.args.file (c.args.at)) (g.D.Disk.tells × TakesWrite first c.args.file (c.args.at) bytes) (first.room c.args.file (c.args.at + length bytes)) (FitsWrite first c.args.file (c.args.at) bytes) first (g.D.Disk.state c.write.new.self) c.from_residual.result (cc)
+    sure_failed (g.D.Disk.reveals × TakesFrom first c.args.file (c.args.at)) (g.D.Disk.reveals × TakesWrite first c.args.file (c.args.at) bytes) (first.room c.args.file (c.args.at + length bytes)) (FitsWrite first c.args.file (c.args.at) bytes) first (g.D.Disk.state c.write.new.self) c.from_residual.result (cc)
     (λ is. (is.0, is.1.here)) (λ is fit. fit.room) c.in_err-write.ensures.sure
 
 pub returns-clause-sure : goal.returns-clause-sure
 returns-clause-sure g c =
     let e = c.in_ok-write.ensures in
-    sure_written g.D.Disk.tells c.args.file (c.args.at) (c.args.bytes.now) (g.D.Disk.state c.args.disk.now) (g.D.Disk.state c.write.new.self) (g.D.Disk.state c.sync.new.self) c.sync.result e.written e.time e.sure c.sync.ensures.sure
+    sure_written g.D.Disk.reveals c.args.file (c.args.at) (c.args.bytes.now) (g.D.Disk.state c.args.disk.now) (g.D.Disk.state c.write.new.self) (g.D.Disk.state c.sync.new.self) c.sync.result e.written e.time e.sure c.sync.ensures.sure
 
 pub returns-clause-time : goal.returns-clause-time
 returns-clause-time g c = passes_both (g.D.Disk.state c.args.disk.now) (g.D.Disk.state c.write.new.self) (g.D.Disk.state c.sync.new.self) c.write.ensures.time c.sync.ensures.time

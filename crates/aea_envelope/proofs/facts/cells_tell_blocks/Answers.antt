@@ -1,5 +1,0 @@
-use Rattle.aea_envelope.proofs.CellLemmas.{cells_of_one_block}
-use Rattle.aea_envelope.proofs.facts.cells_tell_blocks.Goals as goal
-
-pub returns : goal.returns
-returns c = cells_of_one_block

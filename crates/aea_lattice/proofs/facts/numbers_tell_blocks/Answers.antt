@@ -1,5 +1,0 @@
-use Rattle.aea_lattice.proofs.Equations.{number_equal}
-use Rattle.aea_lattice.proofs.facts.numbers_tell_blocks.Goals as goal
-
-pub returns : goal.returns
-returns c = number_equal

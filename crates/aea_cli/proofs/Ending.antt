@@ -1,6 +1,6 @@
 -- How a run ends of a command that uses the disk: by what it did beneath (`RunsBeneath`), when it is refused, and that nothing fails
 -- where there is space.
-use Rattle.std.proofs.Common.{◌≡◌, ◌≢◌, ◌⊎◌, inl, inr, ⊎_elim, ℕ, Result, Ok, Err, refl, sym, ◌∙◌, ap, subst, arith}
+use Rattle.std.proofs.Common.{◌≡◌, ◌≢◌, ◌⊎◌, inl, inr, ⊎_elim, ℕ, Result, Err, refl, sym, ◌∙◌, ap, subst, arith}
 use Rattle.aea_io.specs.Streams.{SourceState, SinkState}
 use Rattle.aea_disk.specs.State.{State, IsReady}
 use Rattle.aea_adopt.specs.Adopts.{Adopts}

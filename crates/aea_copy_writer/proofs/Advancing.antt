@@ -1,6 +1,6 @@
 -- Entries that were written so far, and one more.
-use Rattle.std.proofs.Common.{◌≡◌, ◌≢◌, ⊎_elim, ℕ, zero, suc, ◌+◌, ◌-◌, ◌<◌, ◌≤◌, ◌^◌, ◌*◌, Bool, true, false, eqb, ltb, List, [], ◌∷◌, ◌++◌, length, take, drop, get_or, refl, sym, ap, ◌∙◌, subst, arith}
-use Rattle.std.proofs.lemmas.List.{append_assoc, append-nil, length-append, length-take, length-drop, drop_at, drop-take, drop-drop, drop-append-le, flat_map_more}
+use Rattle.std.proofs.Common.{◌≡◌, ℕ, ◌+◌, ◌-◌, ◌<◌, ◌≤◌, Bool, true, false, eqb, ltb, List, [], ◌∷◌, ◌++◌, length, take, drop, refl, sym, ap, ◌∙◌, subst, arith}
+use Rattle.std.proofs.lemmas.List.{append_assoc, append-nil, length-append, length-drop, drop_at, drop-take, drop-drop, drop-append-le, flat_map_more}
 use Rattle.std.proofs.lemmas.Bool.{lt-ltb, le-ltb}
 use Rattle.aea_disk.specs.Files.{Files, ChangesFile, Holds}
 use Rattle.aea_records.specs.Format.{open_gate}
@@ -12,10 +12,10 @@ use Rattle.aea_copy_writer.specs.declared.entries.Next.{Next}
 use Rattle.aea_disk.specs.State.{State, Passes}
 use Rattle.aea_copy_writer.specs.declared.entry.Piece.{Piece}
 use Rattle.aea_copy_writer.specs.Pieces.{HasWhole}
-use Rattle.aea_copy_writer.specs.Entries.{HasPieces, IsShaped, AreShaped, HasNext, HasWritten, IsOn, FitsEntries, FitsNext, gate_after, after_gate}
+use Rattle.aea_copy_writer.specs.Entries.{HasPieces, AreShaped, HasNext, HasWritten, IsOn, FitsEntries, FitsNext, gate_after, after_gate}
 use Rattle.aea_copy_writer.proofs.Stretches.{fits_later}
 use Rattle.aea_copy_writer.specs.Parts.{part_of, gate_byte}
-use Rattle.aea_copy_writer.proofs.Pieces.{some_bytes, not_zero, first_ends}
+use Rattle.aea_copy_writer.proofs.Pieces.{some_bytes, not_zero}
 use Rattle.aea_copy_writer.proofs.Writing.{overwritten_none, change_then}
 
 pub text_push : (pieces : List (List ℕ)) (piece : List ℕ) → text_of (pieces ++ piece ∷ []) ≡ text_of pieces ++ piece

@@ -1,11 +1,11 @@
 -- The ledger, made of a copy: the text so far, and one piece more.
-use Rattle.std.proofs.Common.{◌≡◌, ◌≢◌, ⊎_elim, ℕ, ◌+◌, ◌-◌, ◌<◌, ◌≤◌, ◌^◌, Bool, true, false, List, [], ◌∷◌, ◌++◌, length, take, drop, get_or, refl, sym, ap, ◌∙◌, subst, arith}
+use Rattle.std.proofs.Common.{◌≡◌, ℕ, ◌+◌, ◌-◌, ◌<◌, ◌≤◌, ◌^◌, Bool, true, false, List, [], ◌∷◌, ◌++◌, length, drop, get_or, refl, sym, ap, ◌∙◌, subst, arith}
 use Rattle.std.specs.Int.{w32, to_be_bytes}
-use Rattle.std.proofs.lemmas.List.{append_assoc, append-nil, length-append, length-drop, drop_at, drop_all, drop-append-le, flat_map_more}
+use Rattle.std.proofs.lemmas.List.{append_assoc, append-nil, length-append, length-drop, drop_at, drop-append-le}
 use Rattle.aea_disk.specs.Ends.{greatest_place}
 use Rattle.aea_disk.specs.Files.{Files, ChangesFile, Holds, overwritten}
 use Rattle.aea_copies.specs.Format.{link_after, first_link, last_link, copy_entry, copy_mark, chain, copied, text_of}
-use Rattle.aea_copies.specs.Grammar.{is_first, ArePieces, IsCopy}
+use Rattle.aea_copies.specs.Grammar.{is_first, ArePieces}
 use Rattle.aea_copies.specs.Kept.{IsGood}
 use Rattle.aea_copies.proofs.Chains.{copied_push}
 use Rattle.aea_copies.proofs.Entries.{length-entry}

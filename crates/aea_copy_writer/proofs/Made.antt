@@ -1,14 +1,14 @@
 -- What a copy that is made anew has, and the moments of making it.
-use Rattle.std.proofs.Common.{◌≡◌, ◌≢◌, ◌⊎◌, ⊎_elim, inl, inr, ℕ, ◌+◌, ◌-◌, ◌<◌, ◌≤◌, true, false, List, [], ◌∷◌, ◌++◌, length, take, drop, refl, sym, ap, ◌∙◌, subst, arith}
+use Rattle.std.proofs.Common.{◌≡◌, ◌⊎◌, ⊎_elim, inl, inr, ℕ, ◌+◌, ◌-◌, ◌≤◌, true, false, List, [], ◌∷◌, ◌++◌, length, drop, refl, sym, ap, ◌∙◌, subst, arith}
 use Rattle.std.proofs.lemmas.List.{append_assoc, append-nil, drop_all, length-append}
 use Rattle.aea_disk.specs.Files.{Files, ChangesFile, ChangesOnly, overwritten, Holds, Torn}
 use Rattle.aea_disk.specs.State.{State, Passes, Follows, During, IsSynced, IsRoomy}
 use Rattle.aea_disk.proofs.Moments.{during_both, during_change, during_more, synced_fixed, passes_both}
-use Rattle.aea_copies.specs.Format.{chain, copied, copy_mark, first_link, whole_copy, text_of}
+use Rattle.aea_copies.specs.Format.{chain, copied, copy_mark, first_link, whole_copy}
 use Rattle.aea_copies.specs.Grammar.{IsBegun, is_first}
 use Rattle.aea_copy_writer.specs.Changes.{KeepsFront, FitsChange}
 use Rattle.aea_copy_writer.specs.Entries.{HasPieces, FitsEntries, after_gate}
-use Rattle.aea_copy_writer.specs.Anew.{IsOldOrNone, IsNoneOrMade, IsOldNoneOrMade, IsClosed, CanMake, FitsCopy}
+use Rattle.aea_copy_writer.specs.Anew.{IsOldOrNone, IsOldNoneOrMade, IsClosed, CanMake, FitsCopy}
 use Rattle.aea_copy_writer.proofs.Renewing.{kept_none, torn_none_or_made}
 use Rattle.aea_copy_writer.proofs.Stretches.{fits_later, fits_less}
 use Rattle.aea_copy_writer.proofs.Writing.{overwritten_then}

@@ -1,16 +1,14 @@
 -- Pieces of the ledger, and how one is seen by its first bytes.
-use Rattle.std.proofs.Common.{◌≡◌, ◌≢◌, ⊎_elim, ℕ, zero, suc, ◌+◌, ◌-◌, ◌<◌, ◌≤◌, ◌^◌, ◌*◌, Bool, true, false, eqb, List, [], ◌∷◌, ◌++◌, length, take, drop, get_or, refl, sym, ap, ◌∙◌, subst, arith}
+use Rattle.std.proofs.Common.{◌≡◌, ◌≢◌, ⊎_elim, ℕ, zero, suc, ◌+◌, ◌-◌, ◌≤◌, ◌*◌, Bool, true, false, eqb, List, [], ◌∷◌, ◌++◌, length, take, drop, get_or, refl, sym, ap, ◌∙◌, subst, arith}
 use Rattle.std.specs.Int.{w32, from_be_bytes}
 use Rattle.std.proofs.lemmas.Bool.{eq-eqb, cases_eq}
-use Rattle.std.proofs.lemmas.List.{append_assoc, length-append, length-take, length-drop, take_at, drop_at, take-take, drop-drop, take-append-le, get_or-take, get_or-drop}
+use Rattle.std.proofs.lemmas.List.{length-append, length-take, length-drop, take_at, take-take, get_or-take}
 use Rattle.std.proofs.Math.Dec.{eqb-suc-zero}
-use Rattle.aea_records.specs.Format.{open_gate}
-use Rattle.aea_copies.specs.Format.{link_after, last_link, copy_entry, chain, copied, text_of}
-use Rattle.aea_copies.specs.Grammar.{IsKind, IsHeaderPiece, IsRecordPiece, ArePieces}
+use Rattle.aea_copies.specs.Format.{link_after, copy_entry, chain, text_of}
+use Rattle.aea_copies.specs.Grammar.{IsRecordPiece}
 use Rattle.aea_copies.specs.Kept.{IsCopyFile}
 use Rattle.aea_copies.proofs.Entries.{length-entry}
-use Rattle.aea_copies.proofs.Ranges.{range_both}
-use Rattle.aea_copy_writer.specs.Entries.{HasPieces, IsShaped, AreShaped}
+use Rattle.aea_copy_writer.specs.Entries.{HasPieces, IsShaped}
 use Rattle.aea_copy_writer.specs.Parts.{part_of}
 
 -- a front of a front, and a range of one

@@ -1,12 +1,12 @@
 -- What the steps of making a file anew leave of it.
-use Rattle.std.proofs.Common.{◌≡◌, ◌≢◌, ◌⊎◌, ⊎_elim, inl, inr, ℕ, ◌+◌, ◌<◌, ◌≤◌, List, [], ◌∷◌, ◌++◌, length, take, drop, get_or, refl, sym, ap, ◌∙◌, subst, arith}
+use Rattle.std.proofs.Common.{◌≡◌, ◌≢◌, ◌⊎◌, ⊎_elim, inl, inr, ℕ, ◌<◌, List, [], ◌∷◌, length, take, drop, get_or, sym, ap, ◌∙◌, subst, arith}
 use Rattle.std.proofs.lemmas.Bool.{cases_eq}
-use Rattle.std.proofs.lemmas.List.{drop_more, length-drop, length-take, get_or-take}
+use Rattle.std.proofs.lemmas.List.{drop_more, get_or-take}
 use Rattle.aea_disk.specs.Files.{overwritten, Torn, Holds, MayBeCut}
 use Rattle.aea_disk.specs.Steps.{torn_back, holds_torn, get_or-overwritten_at}
 use Rattle.aea_copies.specs.Grammar.{IsBegun}
 use Rattle.aea_copy_writer.specs.Changes.{KeepsFront}
-use Rattle.aea_copy_writer.specs.Anew.{IsClosed, IsNoneOrMade, IsOldOrNone, IsOldNoneOrMade}
+use Rattle.aea_copy_writer.specs.Anew.{IsClosed, IsNoneOrMade, IsOldOrNone}
 
 -- any step of a file
 abbrev pub AnyStep : List ℕ → List ℕ → Type 0

@@ -1,7 +1,7 @@
 -- Writes one after the other, and what a buffer has.
-use Rattle.std.proofs.Common.{◌≡◌, ℕ, ◌+◌, ◌-◌, ◌<◌, ◌≤◌, ◌^◌, max, List, [], ◌∷◌, ◌++◌, length, take, drop, replicate, refl, sym, ap, ◌∙◌, subst, arith}
-use Rattle.std.proofs.lemmas.List.{append_assoc, append-nil, take_at, drop_at, take_all, drop_all, drop-drop, length-append, length-take, length-drop, length-replicate, take-append-drop}
-use Rattle.aea_disk.specs.Files.{Files, ChangesFile, overwritten, Holds, Torn}
+use Rattle.std.proofs.Common.{◌≡◌, ℕ, ◌+◌, ◌-◌, ◌<◌, ◌≤◌, ◌^◌, List, [], ◌++◌, length, take, drop, replicate, refl, sym, ap, ◌∙◌, subst, arith}
+use Rattle.std.proofs.lemmas.List.{append_assoc, append-nil, take_at, drop_at, drop-drop, length-append, length-take, length-drop, length-replicate, take-append-drop}
+use Rattle.aea_disk.specs.Files.{Files, ChangesFile, overwritten, Holds}
 use Rattle.aea_disk.specs.Steps.{length-overwritten}
 use Rattle.std.proofs.lemmas.List.Elements.{All-append}
 use Rattle.aea_records.specs.TableLaws.{AreBytes}

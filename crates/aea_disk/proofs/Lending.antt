@@ -1,5 +1,5 @@
 -- Time passes over the calls of the disks of this crate, which are lent nothing, or hand on what is lent.
-use Rattle.std.proofs.Common.{◌≡◌, ◌≢◌, ⊎_elim, ◌<◌, ◌≤◌, ◌+◌, ◌-◌, ◌^◌, ℕ, zero, suc, max, min, Result, Ok, Err, List, [], ◌∷◌, length, get_or, set, sym, ap, ◌∙◌, subst, arith}
+use Rattle.std.proofs.Common.{◌≡◌, ◌≢◌, ⊎_elim, ◌<◌, ◌≤◌, ◌-◌, ◌^◌, ℕ, zero, suc, max, Result, Ok, Err, List, [], ◌∷◌, length, get_or, set, sym, ap, ◌∙◌, subst, arith}
 use Rattle.std.proofs.lemmas.Bool.{cases_eq}
 use Rattle.std.proofs.lemmas.Grind.{get_or-set_at}
 use Rattle.std.proofs.lemmas.List.{get_or-set_other}
@@ -10,7 +10,7 @@ use Rattle.aea_disk.specs.Logged.{log_state}
 use Rattle.aea_disk.specs.Silent.{silent_state}
 use Rattle.aea_disk.specs.Space.{Extent, empty_extent}
 use Rattle.aea_disk.specs.Spaces.{Memory, room_of, sure_state}
-use Rattle.aea_disk.specs.State.{State, Passes, Lasts, no_lent}
+use Rattle.aea_disk.specs.State.{State, Passes, no_lent}
 use Rattle.aea_disk.proofs.Moments.{keeps_none, lasts_as, lasts_lent, passes_none}
 
 -- the count after a call stops

@@ -1,7 +1,6 @@
 -- A Mirror that was made right after copies were adopted: what it shows reads so in each image, and it takes the writes of a ledger.
-use Rattle.std.proofs.Common.{◌≡◌, ◌⊎◌, ⊎_elim, inl, inr, ◌≤◌, ℕ, Bool, true, false, List, [], length, get_or, refl, sym, ap, ◌∙◌, subst, arith}
+use Rattle.std.proofs.Common.{◌≡◌, ◌⊎◌, ⊎_elim, inl, inr, ℕ, Bool, true, List, [], length, get_or, refl, sym, ap, ◌∙◌, subst, arith}
 use Rattle.aea_disk.specs.Ends.{EndsAt}
-use Rattle.aea_disk.specs.Files.{Files}
 use Rattle.aea_disk.specs.State.{State, IsSynced, IsReady}
 use Rattle.aea_copies.specs.Format.{copied, text_of}
 use Rattle.aea_copies.specs.Kept.{IsCopyFile, IsGood, AreOn, HasText, mended}

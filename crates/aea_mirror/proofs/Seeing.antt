@@ -1,5 +1,5 @@
 -- What a Mirror sees to: in each image of the lent disk both copies are good while copies are on, and none is begun while they are not.
-use Rattle.std.proofs.Common.{◌≡◌, ◌≢◌, inl, inr, ⊎_elim, ◌<◌, ◌≤◌, ℕ, Bool, true, false, List, [], ◌++◌, length, refl, sym, ap, ◌∙◌, subst, arith}
+use Rattle.std.proofs.Common.{◌≡◌, ◌≢◌, inl, ⊎_elim, ◌<◌, ◌≤◌, ℕ, Bool, true, false, List, [], length, refl, sym, ap, ◌∙◌, subst, arith}
 use Rattle.std.proofs.lemmas.List.{append-nil}
 use Rattle.std.proofs.Math.Logic.{∥∥₁_elim, ∥∥₁_prop}
 use Rattle.std.proofs.lemmas.Bool.{cases_lt}
@@ -7,7 +7,7 @@ use Rattle.aea_disk.specs.Files.{Files, ChangesFile}
 use Rattle.aea_disk.specs.State.{State, Passes, Follows, During, KeepsImages}
 use Rattle.aea_copies.specs.Format.{copied, text_of}
 use Rattle.aea_copies.specs.Grammar.{IsBegun}
-use Rattle.aea_copies.specs.Kept.{IsCopyFile, IsGood, AreKept}
+use Rattle.aea_copies.specs.Kept.{IsCopyFile, IsGood}
 use Rattle.aea_copies.proofs.Judged.{has_one_pieces}
 use Rattle.aea_mirror.specs.declared.tail.Tail.{Tail}
 use Rattle.aea_mirror.specs.Guarding.{Guards}

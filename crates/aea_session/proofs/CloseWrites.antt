@@ -1,5 +1,5 @@
 -- The upload in a slot once its rest is woven: what is known of it, and what the calls of its close write.
-use Rattle.std.proofs.Common.{◌≡◌, ◌≢◌, ℕ, ◌+◌, ◌*◌, List, length, Option, None, Some, ◌∙◌, ap, subst}
+use Rattle.std.proofs.Common.{◌≡◌, ◌≢◌, ℕ, ◌+◌, ◌*◌, List, length, None, Some, ◌∙◌, ap, subst}
 use Rattle.std.specs.Prelude.{slice_index_or}
 use Rattle.sha2.specs.Hashers.{Holds256}
 use Rattle.sha2.specs.Sha256.{sha256}

@@ -1,11 +1,10 @@
 -- Blocks within a list of bytes.
-use Rattle.std.proofs.Common.{◌≡◌, ℕ, zero, suc, ◌+◌, ◌-◌, ◌*◌, ◌<◌, ◌≤◌, inl, inr, List, [], ◌∷◌, ◌++◌, take, drop, length, replicate, bit_xor, get_or, refl, sym, ◌∙◌, ap, arith, append_assoc}
+use Rattle.std.proofs.Common.{◌≡◌, ℕ, zero, suc, ◌+◌, ◌-◌, ◌*◌, ◌<◌, ◌≤◌, inl, inr, List, [], ◌∷◌, ◌++◌, take, drop, length, replicate, get_or, refl, sym, ◌∙◌, ap, arith, append_assoc}
 use Rattle.std.proofs.Math.ListN.{set}
 use Rattle.std.proofs.Math.Nat.{mul-le-mul_right}
 use Rattle.std.proofs.Math.Seq.{take-add}
 use Rattle.std.proofs.lemmas.Bool.{cases_lt}
 use Rattle.std.proofs.lemmas.List.{drop-drop, take_at, drop_at, length-drop, length-take, take-replicate, drop-replicate}
-use Rattle.aea_lattice.specs.Data.{xor_bytes}
 use Rattle.aea_weave.specs.Stored.{pieces}
 
 -- the list in which the part of w bytes at a is the block

@@ -1,5 +1,5 @@
-use Rattle.std.proofs.Common.{◌≡◌, ◌≢◌, ℕ, List, [], ◌∷◌, inl, inr, refl, arith}
-use Rattle.aea_disk.specs.Files.{Files, ChangesFile, ChangesOnly, Torn, MayBeCut}
+use Rattle.std.proofs.Common.{◌≡◌, [], inr, refl, arith}
+use Rattle.aea_disk.specs.Files.{Files, ChangesFile, Torn, MayBeCut}
 use Rattle.aea_disk.proofs.Frames.{ok_fine, writes_faulted}
 use Rattle.aea_disk.proofs.Moments.{during_both, during_change, synced_fixed}
 use Rattle.aea_copy_writer.specs.Anew.{IsOldOrNone}

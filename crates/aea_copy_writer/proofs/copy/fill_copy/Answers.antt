@@ -1,14 +1,13 @@
-use Rattle.std.proofs.Common.{◌≡◌, ◌≢◌, ◌+◌, ◌-◌, ◌≤◌, ◌<◌, ◌^◌, ℕ, Bool, true, List, [], ◌∷◌, ◌++◌, length, take, drop, refl, sym, ap, ◌∙◌, subst, arith}
-use Rattle.aea_disk.specs.Files.{Files, ChangesFile, Holds, Torn}
+use Rattle.std.proofs.Common.{◌≡◌, ◌+◌, ◌-◌, true, [], ◌∷◌, ◌++◌, refl, sym, ap, ◌∙◌, subst, arith}
+use Rattle.aea_disk.specs.Files.{Files, ChangesFile, Torn}
 use Rattle.aea_disk.proofs.Frames.{writes_faulted, ok_fine, reads_failed, reads_made}
 use Rattle.aea_copies.specs.Format.{copy_mark, first_link}
-use Rattle.aea_copy_writer.specs.Changes.{KeepsFront, FitsChange}
+use Rattle.aea_copy_writer.specs.Changes.{KeepsFront}
 use Rattle.aea_copy_writer.specs.Anew.{FitsCopy}
 use Rattle.aea_copy_writer.specs.Entries.{HasPieces, FitsEntries}
 use Rattle.aea_copy_writer.proofs.Made.{closed_copy, length-copied, copy_fits_front, copy_fits_entries, copy_roomy}
 use Rattle.aea_copy_writer.proofs.Pieces.{copy_some}
 use Rattle.aea_copy_writer.proofs.Stretches.{one_write, failed_write, fits_as, more_freely, then_fits, then_reads, front_torn, front_same, front_less}
-use Rattle.aea_copy_writer.proofs.Writing.{holds_long}
 use Rattle.aea_copy_writer.proofs.copy.fill_copy.Goals as goal
 
 pub returns-clause-filled : goal.returns-clause-filled

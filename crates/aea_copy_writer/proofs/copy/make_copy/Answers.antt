@@ -1,11 +1,10 @@
-use Rattle.std.proofs.Common.{◌≡◌, ◌≢◌, ◌⊎◌, ⊎_elim, inl, inr, ◌+◌, ◌-◌, ◌≤◌, ◌<◌, ◌^◌, ℕ, Bool, List, [], ◌∷◌, ◌++◌, length, take, drop, refl, sym, ap, ◌∙◌, subst, arith}
-use Rattle.aea_disk.specs.Files.{Files, ChangesFile, ChangesOnly, Holds, Torn}
+use Rattle.std.proofs.Common.{◌⊎◌, ⊎_elim, inl, inr, ◌-◌, refl}
+use Rattle.aea_disk.specs.Files.{ChangesFile, ChangesOnly, Torn}
 use Rattle.aea_disk.proofs.Frames.{writes_none, writes_as, writes_faulted, ok_fine}
-use Rattle.aea_disk.proofs.Moments.{passes_both}
 use Rattle.aea_copies.specs.Format.{whole_copy}
 use Rattle.aea_copy_writer.specs.Changes.{KeepsFront, FitsChange}
-use Rattle.aea_copy_writer.specs.Anew.{FitsCopy, CanMake, IsClosed}
-use Rattle.aea_copy_writer.proofs.Made.{can_later, while_cleared, while_filled, while_opened, copy_fits_one, copy_fits_later, copy_fits_open}
+use Rattle.aea_copy_writer.specs.Anew.{FitsCopy}
+use Rattle.aea_copy_writer.proofs.Made.{can_later, while_filled, while_opened, copy_fits_one, copy_fits_later, copy_fits_open}
 use Rattle.aea_copy_writer.proofs.Pieces.{copy_some}
 use Rattle.aea_copy_writer.proofs.Renewing.{torn_none_or_made, holds_made}
 use Rattle.aea_copy_writer.proofs.Stretches.{only_as, only_of, only_then}

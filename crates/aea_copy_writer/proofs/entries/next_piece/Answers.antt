@@ -1,9 +1,8 @@
-use Rattle.std.proofs.Common.{◌≡◌, ◌≢◌, ◌+◌, ◌-◌, ◌≤◌, ◌<◌, ◌^◌, ℕ, Bool, eqb, List, ◌∷◌, length, take, drop, Option, Some, Result, Ok, refl, sym, ap, ◌∙◌, subst, arith}
+use Rattle.std.proofs.Common.{◌≡◌, ◌+◌, ◌-◌, ◌<◌, ℕ, eqb, length, drop, Some, Result, ap, ◌∙◌, arith}
 use Rattle.std.specs.Int.{w32, from_be_bytes}
 use Rattle.std.specs.Result.{OkIff, result_ok}
 use Rattle.std.proofs.lemmas.List.{take_all, length-drop}
 use Rattle.std.proofs.lemmas.Result.{Ok-from_Ok_iff}
-use Rattle.aea_copy_writer.specs.Entries.{HasPieces}
 use Rattle.aea_copy_writer.proofs.Pieces.{some_bytes, first_there, first_read, len_read}
 use Rattle.aea_copy_writer.proofs.entries.next_piece.Goals as goal
 use Rattle.aea_copy_writer.proofs.entries.next_piece.Goals.{then-at-eq0, else-at-eq0}

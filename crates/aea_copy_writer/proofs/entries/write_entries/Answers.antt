@@ -1,11 +1,10 @@
-use Rattle.std.proofs.Common.{◌≡◌, ◌≢◌, ◌+◌, ◌-◌, ◌≤◌, ◌<◌, ◌^◌, ℕ, Bool, eqb, List, ◌∷◌, length, take, drop, IsErr, refl, sym, ap, ◌∙◌, subst, ⊎_elim, arith}
-use Rattle.aea_disk.specs.Files.{Files, ChangesFile}
-use Rattle.aea_disk.specs.State.{Passes}
+use Rattle.std.proofs.Common.{◌≡◌, ◌+◌, ◌-◌, ℕ, eqb, List, ◌∷◌, refl, sym, subst, arith}
+use Rattle.aea_disk.specs.Files.{ChangesFile}
 use Rattle.aea_disk.specs.Steps.{changes_none}
 use Rattle.aea_disk.proofs.Frames.{writes_none, writes_as, writes_faulted, ok_fine}
 use Rattle.aea_records.specs.TableLaws.{AreBytes}
-use Rattle.aea_copy_writer.specs.Changes.{KeepsFront, FitsChange}
-use Rattle.aea_copy_writer.specs.Entries.{HasPieces, IsOn, FitsEntries, FitsNext}
+use Rattle.aea_copy_writer.specs.Changes.{KeepsFront}
+use Rattle.aea_copy_writer.specs.Entries.{HasPieces, FitsEntries, FitsNext}
 use Rattle.aea_copy_writer.specs.Parts.{part_of, IsThere}
 use Rattle.aea_copy_writer.proofs.Stretches.{then_fits, front_none, front_same, front_less}
 use Rattle.aea_copy_writer.proofs.Writing.{there_none, there_both}

@@ -1,8 +1,8 @@
-use Rattle.std.proofs.Common.{◌≡◌, ◌≢◌, ◌+◌, ◌-◌, ◌≤◌, ◌<◌, ◌^◌, ℕ, Bool, eqb, List, ◌∷◌, length, take, drop, Option, Some, Result, Ok, refl, sym, ap, ◌∙◌, subst, arith}
+use Rattle.std.proofs.Common.{◌≡◌, ◌+◌, ◌-◌, ℕ, eqb, List, length, Option, Some, refl, ap, subst, arith}
 use Rattle.aea_disk.proofs.Frames.{reads_faulted, writes_faulted, ok_fine}
 use Rattle.aea_disk.specs.Files.{ChangesFile}
 use Rattle.aea_copy_writer.specs.Changes.{KeepsFront, FitsChange}
-use Rattle.aea_copy_writer.specs.Entries.{HasPieces, FitsNext}
+use Rattle.aea_copy_writer.specs.Entries.{FitsNext}
 use Rattle.aea_copy_writer.specs.Parts.{IsThere}
 use Rattle.aea_copy_writer.proofs.Stretches.{read_alone, read_fits, fits_read, fits_roomy, front_none}
 use Rattle.aea_copy_writer.proofs.Pieces.{first_there}

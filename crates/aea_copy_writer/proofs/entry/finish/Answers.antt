@@ -1,8 +1,7 @@
-use Rattle.std.proofs.Common.{◌≡◌, ◌+◌, ◌-◌, ◌≤◌, ◌++◌, ◌∷◌, [], ℕ, Bool, true, false, List, length, take, drop, refl, sym, ap, ◌∙◌, arith}
+use Rattle.std.proofs.Common.{◌≡◌, ◌+◌, ◌-◌, ◌++◌, ◌∷◌, [], ℕ, Bool, true, false, List, length, take, refl, ap, ◌∙◌}
 use Rattle.aea_copy_writer.specs.Parts.{gate_byte}
 use Rattle.aea_copy_writer.proofs.Buffers.{end_put}
 use Rattle.aea_copy_writer.proofs.entry.finish.Goals as goal
-use borrow.Rule.Slice.PartMut.{put_mid}
 use mir.Val.{bool_byte}
 
 byte_gate : (b : Bool) → bool_byte b ≡ gate_byte b

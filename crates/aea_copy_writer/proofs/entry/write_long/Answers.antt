@@ -1,10 +1,9 @@
-use Rattle.std.proofs.Common.{◌≡◌, ◌+◌, ◌-◌, ◌≤◌, ◌<◌, ◌++◌, [], ◌∷◌, ℕ, Bool, List, length, take, drop, IsErr, refl, sym, ap, ◌∙◌, subst, arith}
+use Rattle.std.proofs.Common.{◌≡◌, ◌+◌, ◌-◌, ◌≤◌, ◌++◌, [], ◌∷◌, ℕ, List, length, take, refl, ap, subst, arith}
 use Rattle.std.proofs.lemmas.List.{length-take}
 use Rattle.aea_disk.specs.Files.{Files, ChangesFile, Holds, Torn}
 use Rattle.aea_disk.proofs.Frames.{ok_fine, writes_faulted}
 use Rattle.aea_copy_writer.specs.Changes.{KeepsFront, FitsChange}
-use Rattle.aea_copy_writer.specs.Parts.{part_of, IsThere, Takes, IsLinkOf, gate_byte}
-use Rattle.aea_copy_writer.specs.Pieces.{HasEntry}
+use Rattle.aea_copy_writer.specs.Parts.{part_of, IsThere, IsLinkOf, gate_byte}
 use Rattle.aea_copy_writer.proofs.Stretches.{then_more, more_freely, front_same, front_torn}
 use Rattle.aea_copy_writer.proofs.Writing.{there_both}
 use Rattle.aea_copy_writer.proofs.Joining.{put_end, linked_end}

@@ -1,9 +1,8 @@
-use Rattle.std.proofs.Common.{◌≡◌, ◌+◌, ◌-◌, ◌≤◌, ◌<◌, ◌++◌, [], ◌∷◌, ℕ, Bool, List, length, take, drop, IsErr, refl, sym, ap, ◌∙◌, subst, arith}
+use Rattle.std.proofs.Common.{◌≡◌, ◌+◌, ◌-◌, ◌≤◌, ◌++◌, [], ◌∷◌, ℕ, List, length, take, ap, ◌∙◌, subst, arith}
 use Rattle.std.proofs.lemmas.List.{length-take, take-take}
 use Rattle.aea_disk.specs.Files.{Files, ChangesFile, Holds, Torn}
-use Rattle.aea_copy_writer.specs.Changes.{KeepsFront, FitsChange}
+use Rattle.aea_copy_writer.specs.Changes.{KeepsFront}
 use Rattle.aea_copy_writer.specs.Parts.{part_of, IsThere, IsLinkOf, gate_byte}
-use Rattle.aea_copy_writer.specs.Pieces.{HasEntry}
 use Rattle.aea_copy_writer.proofs.Stretches.{more_freely, front_torn}
 use Rattle.aea_copy_writer.proofs.Found.{found_all, none_weaker}
 use Rattle.aea_copy_writer.proofs.entry.write_short.Goals as goal

@@ -1,11 +1,11 @@
-use Rattle.std.proofs.Common.{◌≡◌, ◌≢◌, ⊎_elim, ◌+◌, ◌-◌, ◌≤◌, ◌<◌, ◌^◌, ℕ, Bool, true, false, List, [], ◌∷◌, ◌++◌, length, take, drop, refl, sym, ap, ◌∙◌, subst, arith}
+use Rattle.std.proofs.Common.{◌≡◌, ◌+◌, ◌-◌, ◌≤◌, ◌<◌, ℕ, true, false, List, ◌∷◌, ◌++◌, length, drop, refl, sym, ap, ◌∙◌, subst, arith}
 use Rattle.aea_disk.specs.Ends.{greatest_place}
 use Rattle.aea_disk.specs.Files.{Files, ChangesFile, Holds, Torn}
 use Rattle.aea_copies.specs.Grammar.{ArePieces}
 use Rattle.aea_copy_writer.specs.declared.ledger.At.{At}
 use Rattle.aea_disk.specs.Steps.{changes_none}
 use Rattle.aea_disk.proofs.Frames.{writes_none, writes_as, writes_faulted, ok_fine}
-use Rattle.aea_copies.specs.Format.{copied, text_of, link_after, last_link, first_link, chain}
+use Rattle.aea_copies.specs.Format.{text_of, link_after, last_link, first_link, chain}
 use Rattle.aea_copies.specs.Kept.{IsGood}
 use Rattle.aea_copy_writer.specs.Changes.{KeepsFront, FitsChange}
 use Rattle.aea_copy_writer.specs.Pieces.{IsFilled, IsTextAt}

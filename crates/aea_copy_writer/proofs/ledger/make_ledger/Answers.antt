@@ -1,11 +1,10 @@
-use Rattle.std.proofs.Common.{◌≡◌, ◌≢◌, ◌⊎◌, ⊎_elim, inl, inr, ◌+◌, ◌-◌, ◌≤◌, ◌<◌, ◌^◌, ℕ, Bool, List, [], ◌∷◌, ◌++◌, length, take, drop, refl, sym, ap, ◌∙◌, subst, arith}
-use Rattle.aea_disk.specs.Files.{Files, ChangesFile, ChangesOnly, Holds, Torn}
-use Rattle.aea_disk.proofs.Frames.{writes_none, writes_as, writes_faulted, ok_fine}
-use Rattle.aea_disk.proofs.Moments.{passes_both}
+use Rattle.std.proofs.Common.{◌≡◌, inr, ◌+◌, ◌-◌, ℕ, refl, sym, subst, arith}
+use Rattle.aea_disk.specs.Files.{ChangesFile, Torn}
+use Rattle.aea_disk.proofs.Frames.{writes_faulted, ok_fine}
 use Rattle.aea_copies.specs.Kept.{IsGood}
 use Rattle.aea_copy_writer.specs.Changes.{KeepsFront, FitsChange}
-use Rattle.aea_copy_writer.specs.Anew.{IsClosed, whole_text}
-use Rattle.aea_copy_writer.proofs.Made.{while_cleared, while_filled, while_opened}
+use Rattle.aea_copy_writer.specs.Anew.{whole_text}
+use Rattle.aea_copy_writer.proofs.Made.{while_filled, while_opened}
 use Rattle.aea_copy_writer.proofs.Filling.{text_open}
 use Rattle.aea_copy_writer.proofs.Pieces.{copy_some}
 use Rattle.aea_copy_writer.proofs.Renewing.{torn_none_or_made, holds_made}

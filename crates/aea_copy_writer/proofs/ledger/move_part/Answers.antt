@@ -1,8 +1,7 @@
-use Rattle.std.proofs.Common.{◌≡◌, ◌+◌, ◌-◌, ◌≤◌, ◌++◌, ℕ, List, length, take, drop, refl, sym, ap, ◌∙◌, subst, arith}
+use Rattle.std.proofs.Common.{◌+◌, ◌-◌, ℕ, List, length, refl, subst}
 use Rattle.aea_disk.specs.Files.{Files, ChangesFile, Holds, Torn}
 use Rattle.aea_disk.specs.Steps.{torn_none}
 use Rattle.aea_disk.proofs.Frames.{ok_fine}
-use Rattle.aea_copy_writer.specs.Parts.{part_of}
 use Rattle.aea_copy_writer.proofs.Stretches.{one_write, failed_write, read_then, torn_sized}
 use Rattle.aea_copy_writer.proofs.ledger.move_part.Goals as goal
 

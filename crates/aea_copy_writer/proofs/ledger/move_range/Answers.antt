@@ -1,6 +1,6 @@
-use Rattle.std.proofs.Common.{rules, ◌≡◌, ◌+◌, ◌-◌, ◌≤◌, ◌<◌, ◌++◌, ℕ, List, length, take, drop, min, IsErr, refl, sym, ap, ◌∙◌, subst, arith}
+use Rattle.std.proofs.Common.{◌≡◌, ◌+◌, ◌-◌, ℕ, List, length, take, drop, refl, ap, subst, arith}
 use Rattle.std.proofs.lemmas.List.{length-take, length-drop, length-append}
-use Rattle.aea_disk.specs.Files.{Files, ChangesFile, Holds, Torn}
+use Rattle.aea_disk.specs.Files.{ChangesFile, Holds, Torn}
 use Rattle.aea_disk.specs.Steps.{changes_none}
 use Rattle.aea_disk.proofs.Frames.{writes_none, writes_faulted, writes_as, ok_fine}
 use Rattle.aea_copy_writer.specs.Changes.{KeepsFront, FitsChange}

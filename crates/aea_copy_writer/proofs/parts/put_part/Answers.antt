@@ -1,9 +1,7 @@
-use Rattle.std.proofs.Common.{rules, ◌≡◌, ◌+◌, ◌-◌, ◌≤◌, ◌++◌, ℕ, List, length, take, drop, IsTrue, IsErr, refl, ap, ◌∙◌, subst, arith}
+use Rattle.std.proofs.Common.{◌≡◌, ◌+◌, ◌-◌, ◌++◌, ℕ, List, length, take, drop, refl, ap, ◌∙◌, subst, arith}
 use Rattle.aea_disk.specs.Files.{Files, ChangesFile, Holds, Torn}
 use Rattle.aea_disk.specs.Steps.{torn_none}
-use Rattle.aea_disk.specs.Frames.{OnlyWrites}
 use Rattle.aea_disk.proofs.Frames.{ok_fine}
-use Rattle.aea_copy_writer.specs.Changes.{FitsChange}
 use Rattle.aea_copy_writer.specs.Parts.{part_of}
 use Rattle.aea_copy_writer.proofs.Stretches.{one_write, failed_write, read_then, torn_sized}
 use Rattle.aea_copy_writer.proofs.Buffers.{part_long, part_put, put_long}

@@ -1,6 +1,5 @@
-use Rattle.std.proofs.Common.{◌+◌, ◌≡◌, List, ℕ, length, refl, arith}
-use Rattle.aea_disk.specs.Files.{ChangesFile, MayBeCut}
-use Rattle.aea_disk.specs.State.{TakesFrom, HasRoomTo}
+use Rattle.std.proofs.Common.{refl}
+use Rattle.aea_disk.specs.Files.{MayBeCut}
 use Rattle.aea_disk.proofs.Frames.{ok_fine, reads_one}
 use Rattle.aea_copy_writer.proofs.Stretches.{one_cut, failed_cut, then_read}
 use Rattle.aea_copy_writer.proofs.through.empty.Goals as goal

@@ -1,4 +1,4 @@
-use Rattle.std.proofs.Common.{◌+◌, ◌≡◌, List, ℕ, length, refl, arith}
+use Rattle.std.proofs.Common.{◌+◌, length, refl}
 use Rattle.aea_disk.specs.Files.{Torn}
 use Rattle.aea_disk.proofs.Frames.{ok_fine, reads_one}
 use Rattle.aea_copy_writer.proofs.Stretches.{one_write, failed_write, then_read, settles_then_kept}

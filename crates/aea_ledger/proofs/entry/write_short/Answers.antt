@@ -1,4 +1,4 @@
-use Rattle.std.proofs.Common.{◌≡◌, ◌+◌, ℕ, List, [], ◌∷◌, ◌++◌, length, take, refl, sym, ◌∙◌, ap, subst, arith, length-append}
+use Rattle.std.proofs.Common.{◌≡◌, ◌+◌, ℕ, List, [], ◌∷◌, ◌++◌, length, take, ◌∙◌, ap, subst, arith, length-append}
 use Rattle.std.specs.Prelude.{IsErr}
 use Rattle.aea_disk.specs.Files.{ChangesFile, Torn}
 use Rattle.aea_disk.specs.Frames.{OnlyWrites}

@@ -19,6 +19,15 @@ pub const SHAPE: Shape = Shape {
     sites: 4,
 };
 
+/// An archive of the shape without objects, on a disk of so many sites.
+pub fn fresh(alloc: Global, sites: u8, shape: &Shape) -> Result<SureDisk, Fail> {
+    let mut disk = SureDisk::new(alloc, sites, 4096, 4096)?;
+    if create_ledger(&mut disk, shape).is_ok() {
+        return Ok(disk);
+    }
+    Err(Fail::new("no archive"))
+}
+
 // Why the test went no further.
 #[derive(Clone, Copy, PartialEq, Eq)]
 enum Stop {
@@ -57,52 +66,86 @@ fn is_intact<D: Disk>(alloc: Global, disk: &mut D, b: BlockId) -> Result<bool, S
     }
 }
 
+// Whether an object of these bytes is put, and takes so many nodes for so many bytes.
+fn is_put(
+    alloc: Global,
+    disk: &mut SureDisk,
+    name: &[u8],
+    bytes: &[u8],
+    nodes: u32,
+    length: u64,
+) -> bool {
+    let Ok(mut source) = MemSource::new(alloc, bytes, &[]) else {
+        return false;
+    };
+    match put_one(alloc, disk, name, &mut source) {
+        Ok(stored) => stored.nodes == nodes && stored.length == length,
+        Err(_) => false,
+    }
+}
+
+// Whether all blocks of the node are intact.
+fn is_node_intact(alloc: Global, disk: &mut SureDisk, node: u32) -> bool {
+    for class in [Class::Datum, Class::Horiz, Class::Right, Class::Left] {
+        if is_intact(alloc, disk, BlockId { node, class }) != Ok(true) {
+            return false;
+        }
+    }
+    true
+}
+
 #[test]
 fn two_objects_are_put(rt: HostRuntime) -> Result<(), Fail> {
-    let mut disk = SureDisk::new(rt.alloc(), 4, 4096, 4096)?;
-    assert!(rt; create_ledger(&mut disk, &SHAPE).is_ok());
-    let mut source = MemSource::new(
-        rt.alloc(),
-        "the first object has 33 bytes in all".as_bytes(),
-        &[],
-    )?;
-    let Ok(first) = put_one(rt.alloc(), &mut disk, "first".as_bytes(), &mut source) else {
-        panic!(rt; "the first object was not stored");
-    };
-    assert!(rt; (first.nodes, first.length) == (3, 36));
-    let mut source = MemSource::new(rt.alloc(), "abc".as_bytes(), &[])?;
-    let Ok(second) = put_one(rt.alloc(), &mut disk, "second".as_bytes(), &mut source) else {
-        panic!(rt; "the second object was not stored");
-    };
-    assert!(rt; (second.nodes, second.length) == (1, 3));
+    let mut disk = fresh(rt.alloc(), 4, &SHAPE)?;
+    let first = b"the first object has 33 bytes in all";
+    assert!(rt;
+        is_put(rt.alloc(), &mut disk, b"first", first, 3, 36),
+        "first"
+    );
+    assert!(rt;
+        is_put(rt.alloc(), &mut disk, b"second", b"abc", 1, 3),
+        "second"
+    );
     for node in 1..=4u32 {
-        for class in [Class::Datum, Class::Horiz, Class::Right, Class::Left] {
-            assert!(rt;
-                is_intact(rt.alloc(), &mut disk, BlockId { node, class }) == Ok(true),
-                "node {node}"
-            );
-        }
+        assert!(rt; is_node_intact(rt.alloc(), &mut disk, node), "node {node}");
     }
     Ok(())
 }
 
+// Whether an object of what the source has is refused with this fault.
+fn is_refused(
+    alloc: Global,
+    disk: &mut SureDisk,
+    name: &[u8],
+    source: &mut MemSource,
+    fault: PutFault,
+) -> bool {
+    put_one(alloc, disk, name, source) == Err(Stop::Put(fault))
+}
+
+// Whether one source is refused under a bad name, put under a good one, and refused under that.
+fn are_names_refused(alloc: Global, disk: &mut SureDisk) -> bool {
+    let Ok(mut source) = MemSource::new(alloc, b"abc", &[]) else {
+        return false;
+    };
+    is_refused(alloc, disk, &[0u8; 1], &mut source, PutFault::BadName)
+        && put_one(alloc, disk, b"a", &mut source).is_ok()
+        && is_refused(alloc, disk, b"a", &mut source, PutFault::NameTaken)
+}
+
+// Whether a source whose first read fails is refused.
+fn is_source_refused(alloc: Global, disk: &mut SureDisk) -> bool {
+    let Ok(mut failing) = MemSource::new(alloc, b"abc", &[1]) else {
+        return false;
+    };
+    is_refused(alloc, disk, b"b", &mut failing, PutFault::ReadFault)
+}
+
 #[test]
 fn refusals_come_in_their_order(rt: HostRuntime) -> Result<(), Fail> {
-    let mut disk = SureDisk::new(rt.alloc(), 4, 4096, 4096)?;
-    assert!(rt; create_ledger(&mut disk, &SHAPE).is_ok());
-    let mut source = MemSource::new(rt.alloc(), "abc".as_bytes(), &[])?;
+    let mut disk = fresh(rt.alloc(), 4, &SHAPE)?;
     assert!(rt;
-        put_one(rt.alloc(), &mut disk, &[0u8; 1], &mut source) == Err(Stop::Put(PutFault::BadName))
-    );
-    assert!(rt; put_one(rt.alloc(), &mut disk, "a".as_bytes(), &mut source).is_ok());
-    assert!(rt;
-        put_one(rt.alloc(), &mut disk, "a".as_bytes(), &mut source)
-            == Err(Stop::Put(PutFault::NameTaken))
-    );
-    let mut failing = MemSource::new(rt.alloc(), "abc".as_bytes(), &[1])?;
-    assert!(rt;
-        put_one(rt.alloc(), &mut disk, "b".as_bytes(), &mut failing)
-            == Err(Stop::Put(PutFault::ReadFault))
+        are_names_refused(rt.alloc(), &mut disk) && is_source_refused(rt.alloc(), &mut disk)
     );
     Ok(())
 }

@@ -1,7 +1,7 @@
 //! Reports that are judged: one that fits, one of another archive, and cuts.
 
 use crate::archives::archive;
-use aea_disk::Disk;
+use aea_disk::{Disk, SureDisk};
 use aea_io::MemSource;
 use aea_ledger::open_ledger;
 use aea_test_helpers::{PLAIN, report_of};
@@ -13,44 +13,53 @@ use std::test::Fail;
 const OF_ANOTHER: &[u8] = b"aea-report 1\nlattice 1 1 0 1\nledger \
 ba7816bf8f01cfea414140de5dae2223b00361a396177a9cb410ff61f20015ad\ncounts 0 0 0 0\n";
 
-// Opens the archive and judges these bytes; no answer where it is not opened.
-fn judged<D: Disk>(
+// Opens the archive and judges these bytes. It says whether the answer is the wanted one.
+fn is_judged<D: Disk>(
     alloc: Global,
     disk: &mut D,
     bytes: &[u8],
-) -> Result<Option<Result<Verdict, VerifyFault>>, Fail> {
-    let mut source = MemSource::new(alloc, bytes, &[])?;
-    let Ok(ledger) = open_ledger(alloc, disk) else {
-        return Ok(None);
+    want: Result<Verdict, VerifyFault>,
+) -> bool {
+    let Ok(mut source) = MemSource::new(alloc, bytes, &[]) else {
+        return false;
     };
-    Ok(Some(verify(alloc, &ledger, disk, &mut source)))
+    let Ok(ledger) = open_ledger(alloc, disk) else {
+        return false;
+    };
+    verify(alloc, &ledger, disk, &mut source) == want
 }
 
-#[test]
-fn a_report_is_judged(rt: HostRuntime) -> Result<(), Fail> {
-    let alloc = rt.alloc();
-    let Some(mut disk) = archive(alloc, &PLAIN, &[97; 16])? else {
-        panic!(rt; "no archive");
-    };
-    let report = report_of(alloc, &mut disk, "1 1 0 1", "counts 0 0 0 0\n")?;
-    let answer = judged(alloc, &mut disk, report.as_bytes())?;
-    assert!(rt; answer == Some(Ok(Verdict::Accepted)));
-
-    let answer = judged(alloc, &mut disk, OF_ANOTHER)?;
+// Whether the report is accepted, and that of another archive is rejected by its third line.
+fn are_distinguished(alloc: Global, disk: &mut SureDisk, report: &[u8]) -> bool {
     let rejected = Verdict::Rejected {
         line: 3,
         why: Why::OtherArchive,
     };
-    assert!(rt; answer == Some(Ok(rejected)));
+    is_judged(alloc, disk, report, Ok(Verdict::Accepted))
+        && is_judged(alloc, disk, OF_ANOTHER, Ok(rejected))
+}
 
-    // a report of 116 bytes is cut within its third line, before its fourth, and before the newline that ends it
-    assert!(rt; report.len() == 116);
-    for (count, line) in [(58, 3), (101, 4), (115, 4)] {
-        let Some(front) = report.as_bytes().get(..count) else {
-            panic!(rt; "no bytes");
-        };
-        let answer = judged(alloc, &mut disk, front)?;
-        assert!(rt; answer == Some(Err(VerifyFault::BadLine { line })));
+// Whether this line of the report is bad where it has only so many bytes.
+fn is_bad(alloc: Global, disk: &mut SureDisk, report: &[u8], count: usize, line: u32) -> bool {
+    match report.get(..count) {
+        Some(front) => is_judged(alloc, disk, front, Err(VerifyFault::BadLine { line })),
+        None => false,
     }
+}
+
+// Whether a report of 116 bytes is bad where it is cut within its third line, before its fourth, and before its last newline.
+fn are_cuts_bad(alloc: Global, disk: &mut SureDisk, report: &[u8]) -> bool {
+    report.len() == 116
+        && is_bad(alloc, disk, report, 58, 3)
+        && is_bad(alloc, disk, report, 101, 4)
+        && is_bad(alloc, disk, report, 115, 4)
+}
+
+#[test]
+fn a_report_is_judged(rt: HostRuntime) -> Result<(), Fail> {
+    let mut disk = archive(rt.alloc(), &PLAIN, &[97; 16])?;
+    let report = report_of(rt.alloc(), &mut disk, "1 1 0 1", "counts 0 0 0 0\n")?;
+    assert!(rt; are_distinguished(rt.alloc(), &mut disk, report.as_bytes()));
+    assert!(rt; are_cuts_bad(rt.alloc(), &mut disk, report.as_bytes()));
     Ok(())
 }

@@ -1,4 +1,5 @@
-//! Tests of single calls over archives in memory: scans, reports that are judged, blocks that are explained, and rehearsals.
+//! Tests of single calls over archives in memory: scans, reports that are judged, blocks that are explained, and
+//! rehearsals; and the witness.
 #![tactic(auto)]
 
 #[cfg(test)]
@@ -11,3 +12,5 @@ mod judging;
 mod rehearsing;
 #[cfg(test)]
 mod scanning;
+#[cfg(test)]
+mod witnessing;

@@ -68,53 +68,71 @@ fn damaged<D: Disk>(alloc: Global, disk: &mut D) -> Option<u32> {
     Some(marks.unmarked())
 }
 
+// Whether the rehearsal gave these numbers, and so many blocks are not intact after it.
+fn has_left(alloc: Global, trial: &mut Trial, numbers: [u32; 5], lost: u32) -> bool {
+    numbers_of(trial.answer) == Some(numbers) && damaged(alloc, &mut trial.disk) == Some(lost)
+}
+
+// Whether three nodes are left whole, with the object.
+fn is_kept(alloc: Global, trial: &mut Trial) -> bool {
+    has_left(alloc, trial, [12, 0, 0, 0, 0], 0)
+        && object(alloc, &mut trial.disk) == Some((1536, 126))
+}
+
 #[test]
 fn a_rehearsal_without_damage_keeps_its_object(rt: HostRuntime) -> Result<(), Fail> {
     let mut whole = run_once(rt.alloc(), 7, 3, 0)?;
-    assert!(rt; numbers_of(whole.answer) == Some([12, 0, 0, 0, 0]));
-    assert!(rt; object(rt.alloc(), &mut whole.disk) == Some((1536, 126)));
-    assert!(rt; damaged(rt.alloc(), &mut whole.disk) == Some(0));
+    assert!(rt; is_kept(rt.alloc(), &mut whole));
     Ok(())
 }
 
 #[test]
 fn a_rehearsal_that_strikes_each_block_loses_all(rt: HostRuntime) -> Result<(), Fail> {
     let mut gone = run_once(rt.alloc(), 7, 1, 1000)?;
-    assert!(rt; numbers_of(gone.answer) == Some([4, 4, 0, 0, 4]));
-    assert!(rt; damaged(rt.alloc(), &mut gone.disk) == Some(4));
+    assert!(rt; has_left(rt.alloc(), &mut gone, [4, 4, 0, 0, 4], 4));
     Ok(())
 }
 
 // Rehearsals and their numbers, counted by another program from the definitions: the number, the nodes, the blocks in a
 // thousand that are struck; and how many blocks there are, are damaged, peeled, solved and lost.
-const COUNTED: [([u32; 3], [u32; 5]); 3] = [
-    ([7, 20, 750], [80, 58, 42, 5, 11]),
-    ([1, 12, 750], [48, 37, 9, 8, 20]),
-    ([8, 40, 300], [160, 39, 39, 0, 0]),
-];
+fn counted() -> [([u32; 3], [u32; 5]); 3] {
+    [
+        ([7, 20, 750], [80, 58, 42, 5, 11]),
+        ([1, 12, 750], [48, 37, 9, 8, 20]),
+        ([8, 40, 300], [160, 39, 39, 0, 0]),
+    ]
+}
+
+// Whether the rehearsal of these words is possible, and gives these numbers.
+fn gives(alloc: Global, words: [u32; 3], numbers: [u32; 5]) -> Result<bool, AllocError> {
+    let [number, nodes, permille] = words;
+    if 1 <= nodes && nodes <= 2000 && permille <= 1000 {
+        let once = run_once(alloc, u64::from(number), nodes, permille)?;
+        return Ok(numbers_of(once.answer) == Some(numbers));
+    }
+    Ok(false)
+}
 
 #[test]
 fn rehearsals_give_the_numbers_that_another_program_counted(rt: HostRuntime) -> Result<(), Fail> {
-    for (words, counts) in COUNTED {
+    for (words, numbers) in counted() {
         let [number, nodes, permille] = words;
-        if 1 <= nodes && nodes <= 2000 && permille <= 1000 {
-            let once = run_once(rt.alloc(), u64::from(number), nodes, permille)?;
-            assert!(rt;
-                numbers_of(once.answer) == Some(counts),
-                "{number} {nodes} {permille}"
-            );
-        }
+        assert!(rt;
+            gives(rt.alloc(), words, numbers)?,
+            "{number} {nodes} {permille}"
+        );
     }
     Ok(())
 }
 
 #[test]
 fn a_number_gives_one_rehearsal(rt: HostRuntime) -> Result<(), Fail> {
-    let mut first = run_once(rt.alloc(), 7, 20, 750)?;
-    let mut second = run_once(rt.alloc(), 7, 20, 750)?;
-    assert!(rt; numbers_of(first.answer) == Some([80, 58, 42, 5, 11]));
-    assert!(rt; numbers_of(second.answer) == Some([80, 58, 42, 5, 11]));
-    assert!(rt; damaged(rt.alloc(), &mut first.disk) == Some(11));
-    assert!(rt; damaged(rt.alloc(), &mut second.disk) == Some(11));
+    for time in 1..=2u32 {
+        let mut trial = run_once(rt.alloc(), 7, 20, 750)?;
+        assert!(rt;
+            has_left(rt.alloc(), &mut trial, [80, 58, 42, 5, 11], 11),
+            "{time}"
+        );
+    }
     Ok(())
 }

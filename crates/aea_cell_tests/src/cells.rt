@@ -21,6 +21,11 @@ const MESSAGES: [(&[u8], &[u8; 32]); 3] = [
     ),
 ];
 
+// The messages and their digests.
+fn messages() -> [(&'static [u8], &'static [u8; 32]); 3] {
+    MESSAGES
+}
+
 // The blocks of node 1 and their digests with the payload of `padded`, by coreutils' sha256sum.
 const FIRST_BLOCKS: [(Class, &[u8; 32]); 4] = [
     (
@@ -41,6 +46,11 @@ const FIRST_BLOCKS: [(Class, &[u8; 32]); 4] = [
     ),
 ];
 
+// The blocks and their digests.
+fn first_blocks() -> [(Class, &'static [u8; 32]); 4] {
+    FIRST_BLOCKS
+}
+
 // `abc` and 61 zeros.
 fn padded() -> [u8; 64] {
     let mut payload = [0; 64];
@@ -56,13 +66,18 @@ fn digest_of_parts(first: &[u8], second: &[u8]) -> [u8; 32] {
     hasher.finalize()
 }
 
+// Whether the message in two pieces, of which the first has so many bytes, has this digest.
+fn has_digest(message: &[u8], at: usize, digest: &[u8; 32]) -> bool {
+    let (first, second) = message.split_at(message.len().min(at));
+    digest_of_parts(first, second) == *digest
+}
+
 #[test]
 fn digests_of_pieces(rt: HostRuntime) {
-    for (message, digest) in MESSAGES {
+    for (message, digest) in messages() {
         for at in [0, 1, 16, 55, 56] {
-            let (first, second) = message.split_at(message.len().min(at));
             assert!(rt;
-                digest_of_parts(first, second) == *digest,
+                has_digest(message, at, digest),
                 "{at} of {}",
                 message.len()
             );
@@ -73,30 +88,37 @@ fn digests_of_pieces(rt: HostRuntime) {
 #[test]
 fn a_million_bytes(rt: HostRuntime) -> Result<(), Fail> {
     let message = vec![in rt.alloc(); b'a'; 1_000_000]?;
-    let (first, second) = message.as_slice().split_at(message.len().min(16));
     let digest =
         b"\xcd\xc7\x6e\x5c\x99\x14\xfb\x92\x81\xa1\xc7\xe2\x84\xd7\x3e\x67\xf1\x80\x9a\x48\xa4\x97\x20\x0e\x04\x6d\x39\xcc\xc7\x11\x2c\xd0";
-    assert!(rt; digest_of_parts(first, second) == *digest);
+    assert!(rt; has_digest(message.as_slice(), 16, digest));
     Ok(())
 }
 
-#[test]
-fn cells_of_the_first_node(rt: HostRuntime) {
+// Whether the block of node 1 has this digest, and its cell has it and the payload.
+fn has_cell(class: Class, digest: &[u8; 32]) -> bool {
     let payload = padded();
-    for (class, digest) in FIRST_BLOCKS {
-        let block = BlockId { node: 1, class };
-        let mut cell = [0; 112];
-        encode(block, &payload, &mut cell);
-        assert!(rt; digest_of(block, &payload) == *digest);
-        match decode(block, &cell) {
-            Some(found) => assert!(rt; found.0 == payload.as_slice() && found.1 == *digest),
-            None => panic!(rt; "no cell"),
+    let block = BlockId { node: 1, class };
+    let mut cell = [0; 112];
+    encode(block, &payload, &mut cell);
+    match decode(block, &cell) {
+        Some(found) => {
+            digest_of(block, &payload) == *digest
+                && found.0 == payload.as_slice()
+                && found.1 == *digest
         }
+        None => false,
     }
 }
 
 #[test]
-fn the_layout_of_a_cell(rt: HostRuntime) {
+fn cells_of_the_first_node(rt: HostRuntime) {
+    for (class, digest) in first_blocks() {
+        assert!(rt; has_cell(class, digest), "{class:?}");
+    }
+}
+
+// Whether the cell of l1 begins with its head and payload, and is not one of r1, nor one with another last byte.
+fn has_layout() -> bool {
     let left = BlockId {
         node: 1,
         class: Class::Left,
@@ -108,11 +130,25 @@ fn the_layout_of_a_cell(rt: HostRuntime) {
     let mut cell = [0; 112];
     encode(left, &padded(), &mut cell);
     let start = b"\x41\x45\x42\x31\x03\x00\x00\x00\x00\x00\x00\x00\x00\x00\x00\x01\x61\x62\x63";
-    assert!(rt; cell.starts_with(start));
-    assert!(rt; decode(left, &cell).is_some());
-    assert!(rt; decode(right, &cell).is_none());
+    let is_left = cell.starts_with(start) && decode(left, &cell).is_some();
+    let is_other = decode(right, &cell).is_some();
     cell[111] ^= 1;
-    assert!(rt; decode(left, &cell).is_none());
+    is_left && !is_other && decode(left, &cell).is_none()
+}
+
+#[test]
+fn the_layout_of_a_cell(rt: HostRuntime) {
+    assert!(rt; has_layout());
+}
+
+// Whether the cell of the block with no payload begins with this head and ends with this digest, and none has no bytes.
+fn is_bare(block: BlockId, head: &[u8], digest: &[u8]) -> bool {
+    let mut cell = [0; 48];
+    encode(block, &[], &mut cell);
+    cell.starts_with(head)
+        && cell.ends_with(digest)
+        && decode(block, &cell).is_some()
+        && decode(block, &[]).is_none()
 }
 
 #[test]
@@ -121,12 +157,8 @@ fn a_cell_with_no_payload(rt: HostRuntime) {
         node: 0x0102_0304,
         class: Class::Horiz,
     };
-    let mut cell = [0; 48];
-    encode(far, &[], &mut cell);
     let head = b"AEB1\x01\0\0\0\0\0\0\0\x01\x02\x03\x04";
     let digest =
         b"\x9c\x12\x90\x70\x87\xa4\x23\x12\x6e\xe4\x2c\xd0\xaa\x72\x44\x4c\xd1\x91\x28\xee\x9e\xf2\xe3\x27\xf3\x1d\xc5\x2a\x76\x8c\xd8\xbe";
-    assert!(rt; cell.starts_with(head) && cell.ends_with(digest));
-    assert!(rt; decode(far, &cell).is_some());
-    assert!(rt; decode(far, &[]).is_none());
+    assert!(rt; is_bare(far, head, digest));
 }

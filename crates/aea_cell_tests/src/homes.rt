@@ -15,13 +15,27 @@ const HOMES: [(u8, u64, u8, u64); 9] = [
     (64, 64 * 64 + 1, 2, 64),
 ];
 
+// The numbers and homes.
+fn homes() -> [(u8, u64, u8, u64); 9] {
+    HOMES
+}
+
+// Whether the spot is one of these sites, and the home of the block of this number, there and back.
+fn is_home(sites: u8, k: u64, spot: Spot) -> bool {
+    1 <= sites
+        && sites <= 64
+        && 1 <= spot.site
+        && spot.site <= sites
+        && spot.cell < 65_536
+        && home(sites, k) == spot
+        && at(sites, spot) == k
+}
+
 #[test]
 fn homes_go_there_and_back(rt: HostRuntime) {
-    for (sites, k, site, cell) in HOMES {
+    for (sites, k, site, cell) in homes() {
         let spot = Spot { site, cell };
-        assert!(rt; 1 <= sites && sites <= 64 && 1 <= site && site <= sites && cell < 65_536);
-        assert!(rt; home(sites, k) == spot, "block {k} of {sites} sites");
-        assert!(rt; at(sites, spot) == k, "block {k} of {sites} sites");
+        assert!(rt; is_home(sites, k, spot), "block {k} of {sites} sites");
     }
 }
 

@@ -5,7 +5,7 @@ use aea_disk::{DirDisk, Disk, DiskFault, MemDisk, SureDisk};
 use aea_envelope::encode;
 use aea_lattice::{BlockId, Class, Shape};
 use aea_shelf::{Cell, read_cell, write_cell};
-use std::alloc::Global;
+use std::alloc::{AllocError, Global};
 use std::path::PathBuf;
 use std::test::Fail;
 use std::{env, fs, process};
@@ -26,35 +26,56 @@ const FIRST: BlockId = BlockId {
 
 const PAYLOAD: &[u8; 16] = b"sixteen letters.";
 
+// The cell of the first block, and four bytes behind it.
+fn own() -> [u8; 68] {
+    let mut own = [0u8; 68];
+    encode(FIRST, PAYLOAD, &mut own[..64]);
+    own
+}
+
+// The cell of the block with the payload.
+fn cell_of(block: BlockId, payload: &[u8; 16]) -> [u8; 64] {
+    let mut cell = [0u8; 64];
+    encode(block, payload, &mut cell);
+    cell
+}
+
+// The cell of the first block with another byte before its digest.
+fn altered() -> [u8; 64] {
+    let mut cell = cell_of(FIRST, PAYLOAD);
+    cell[31] = b'!';
+    cell
+}
+
+// Whether the cell of the first block is so where its file has these bytes, and, where intact, is what was read.
+fn reads(alloc: Global, bytes: &[u8], cell: Cell) -> Result<bool, AllocError> {
+    let own = own();
+    let mut want = [0u8; 32];
+    want.copy_from_slice(&own[32..64]);
+    let mut buf = [9u8; 64];
+    let mut disk = SureDisk::new(alloc, 4, 0, 100)?;
+    let is_written = bytes.len() <= own.len() && disk.write(1, 0, bytes) == Ok(());
+    let read = read_cell(&mut disk, &SHAPE, FIRST, &want, &mut buf);
+    Ok(is_written && read == Ok(cell) && (cell == Cell::Bad || own.starts_with(&buf)))
+}
+
 // What is in the file of the first block, and whether its cell is intact.
 #[test]
 fn reads_what_stands_at_a_home(rt: HostRuntime) -> Result<(), Fail> {
-    let mut own = [0u8; 68];
-    encode(FIRST, PAYLOAD, &mut own[..64]);
-    let mut want = [0u8; 32];
-    want.copy_from_slice(&own[32..64]);
-    let mut altered = [0u8; 64];
-    altered.copy_from_slice(&own[..64]);
-    altered[31] = b'!';
-    let mut later = [0u8; 64];
-    encode(FIRST, b"sixteen letters!", &mut later);
-    let mut other = [0u8; 64];
-    encode(BlockId { node: 2, ..FIRST }, PAYLOAD, &mut other);
-    for (bytes, cell) in [
-        (&own[..64], Cell::Intact),
-        (&own[..], Cell::Intact),
-        (&own[..63], Cell::Bad),
-        (&altered[..], Cell::Bad),
-        (&later[..], Cell::Bad),
-        (&other[..], Cell::Bad),
-        (b"", Cell::Bad),
+    let own = own();
+    let altered = altered();
+    let later = cell_of(FIRST, b"sixteen letters!");
+    let other = cell_of(BlockId { node: 2, ..FIRST }, PAYLOAD);
+    for (name, bytes, cell) in [
+        ("its own", &own[..64], Cell::Intact),
+        ("more behind", &own[..], Cell::Intact),
+        ("a byte less", &own[..63], Cell::Bad),
+        ("altered", &altered[..], Cell::Bad),
+        ("of a later payload", &later[..], Cell::Bad),
+        ("of another block", &other[..], Cell::Bad),
+        ("none", b"", Cell::Bad),
     ] {
-        let mut disk = SureDisk::new(rt.alloc(), 4, 0, 100)?;
-        assert!(rt; disk.write(1, 0, bytes) == Ok(()));
-        let mut buf = [9u8; 64];
-        let read = read_cell(&mut disk, &SHAPE, FIRST, &want, &mut buf);
-        assert!(rt; read == Ok(cell), "{bytes:?}");
-        assert!(rt; cell == Cell::Bad || own.starts_with(&buf));
+        assert!(rt; reads(rt.alloc(), bytes, cell)?, "{name}");
     }
     Ok(())
 }
@@ -85,18 +106,26 @@ fn round_trip<D: Disk>(disk: &mut D) -> Result<Option<BlockId>, DiskFault> {
     Ok(None)
 }
 
-#[test]
-fn writes_each_class_in_memory(rt: HostRuntime) -> Result<(), Fail> {
-    let mut disk = MemDisk::new(rt.alloc(), 4, 0, 1000, 8, 256)?;
-    assert!(rt; round_trip(&mut disk) == Ok(None));
-    // one call of the disk for each write and each read
-    assert!(rt; disk.calls() == 8);
+// Whether each cell that is written in memory is intact then, by one call of the disk for each write and each read.
+fn keeps_in_memory(alloc: Global) -> Result<bool, Fail> {
+    let mut disk = MemDisk::new(alloc, 4, 0, 1000, 8, 256)?;
+    let are_intact = round_trip(&mut disk) == Ok(None);
+    Ok(are_intact && disk.calls() == 8)
+}
 
-    let mut disk = MemDisk::new(rt.alloc(), 4, 0, 1000, 3, 128)?;
+// Whether the client writes two cells.
+fn writes_two(alloc: Global) -> Result<bool, Fail> {
+    let mut disk = MemDisk::new(alloc, 4, 0, 1000, 3, 128)?;
     let second = BlockId { node: 2, ..FIRST };
     let mut cell = [0u8; 64];
     let written = write_two(&mut disk, &SHAPE, FIRST, second, PAYLOAD, &mut cell);
-    assert!(rt; written == Ok(()));
+    Ok(written == Ok(()))
+}
+
+#[test]
+fn writes_each_class_in_memory(rt: HostRuntime) -> Result<(), Fail> {
+    assert!(rt; keeps_in_memory(rt.alloc())?);
+    assert!(rt; writes_two(rt.alloc())?);
     Ok(())
 }
 

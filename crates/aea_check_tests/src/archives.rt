@@ -1,17 +1,61 @@
 //! Archives in memory: how they are made, and runs over them.
 
 use aea_cli::Status;
-use aea_disk::{Disk, SureDisk};
+use aea_disk::{Disk, DiskFault, SureDisk};
 use aea_lattice::{BlockId, parse_block};
 use aea_runs::{Left, run_over, run_put, run_words, text_of};
+use aea_test_helpers::{NINETEEN, some_bytes, spoil_cell};
 use std::alloc::{AllocError, Global};
 use std::test::Fail;
+
+/// Runs the command of a line over this disk, with so many bytes of space on its output. What it leaves is not looked at.
+pub fn run_only<D: Disk>(
+    alloc: Global,
+    disk: &mut D,
+    line: &str,
+    room: usize,
+) -> Result<(), AllocError> {
+    let _left = run_over(alloc, line, disk, room)?;
+    Ok(())
+}
+
+/// Stores an object of this name and these bytes. What the run leaves is not looked at.
+pub fn put_only<D: Disk>(
+    alloc: Global,
+    disk: &mut D,
+    name: &str,
+    bytes: &[u8],
+) -> Result<(), AllocError> {
+    let _left = run_put(alloc, disk, name, bytes)?;
+    Ok(())
+}
 
 /// A disk with an archive that this line makes, and an object `a` of these bytes.
 pub fn archive_of(alloc: Global, line: &str, bytes: &[u8]) -> Result<SureDisk, AllocError> {
     let mut disk = SureDisk::new(alloc, 4, 8192, 4096)?;
-    let _made = run_over(alloc, line, &mut disk, 99)?;
-    let _stored = run_put(alloc, &mut disk, "a", bytes)?;
+    run_only(alloc, &mut disk, line, 99)?;
+    put_only(alloc, &mut disk, "a", bytes)?;
+    Ok(disk)
+}
+
+/// A disk with an archive that this line makes, and an object `a` of so many bytes.
+pub fn archive_with(alloc: Global, line: &str, count: u32) -> Result<SureDisk, AllocError> {
+    let bytes = some_bytes(alloc, count, 0)?;
+    archive_of(alloc, line, bytes.as_slice())
+}
+
+/// Damages the blocks with these numbers in an archive on so many sites whose blocks have 16 bytes.
+pub fn spoil_cells(disk: &mut SureDisk, sites: u8, numbers: &[u32]) -> Result<(), DiskFault> {
+    for number in numbers {
+        spoil_cell(disk, sites, 64, *number, 20)?;
+    }
+    Ok(())
+}
+
+/// An archive in which the nineteen blocks are damaged.
+pub fn nineteen(alloc: Global) -> Result<SureDisk, Fail> {
+    let mut disk = archive_with(alloc, "create 2 2 2 16 3", 176)?;
+    spoil_cells(&mut disk, 3, &NINETEEN)?;
     Ok(disk)
 }
 
@@ -74,6 +118,31 @@ pub fn judges<D: Disk>(
     Ok(reveals(&left, want))
 }
 
+/// The first of these reports of which `verify` says something else; each has beside it what is to be said. None where there is none.
+pub fn first_misjudged<D: Disk>(
+    alloc: Global,
+    disk: &mut D,
+    rows: &[(&'static str, &'static str)],
+) -> Result<Option<&'static str>, AllocError> {
+    for (report, want) in rows {
+        if !judges(alloc, disk, report, want)? {
+            return Ok(Some(report));
+        }
+    }
+    Ok(None)
+}
+
+/// Whether a repair ends with this status and prints this report.
+pub fn repairs<D: Disk>(
+    alloc: Global,
+    disk: &mut D,
+    status: Status,
+    report: &str,
+) -> Result<bool, AllocError> {
+    let left = run_over(alloc, "repair", disk, 16_384)?;
+    Ok(left.is(status, report, ""))
+}
+
 /// Whether a scrub ends with this status and prints this.
 pub fn scrubs<D: Disk>(
     alloc: Global,
@@ -94,17 +163,21 @@ pub fn report_with<D: Disk>(alloc: Global, disk: &mut D, status: Status) -> Resu
     Ok(String::from_str(alloc, text_of(left.out.bytes())?)?)
 }
 
-/// The blocks that a scrub of this archive names.
-pub fn damaged_blocks<D: Disk>(alloc: Global, disk: &mut D) -> Result<Vec<BlockId>, Fail> {
-    let left = run_over(alloc, "scrub", disk, 65_536)?;
+// The blocks that these lines of a scrub name.
+fn blocks_named(alloc: Global, lines: &str) -> Result<Vec<BlockId>, Fail> {
     let mut blocks = Vec::new(alloc);
-    for line in text_of(left.out.bytes())?.lines() {
+    for line in lines.lines() {
         if let Some(text) = line.strip_prefix("damaged ") {
-            let block = parse_block(text.as_bytes()).ok_or("no block")?;
-            blocks.push(block)?;
+            blocks.push(parse_block(text.as_bytes()).ok_or("no block")?)?;
         }
     }
     Ok(blocks)
+}
+
+/// The blocks that a scrub of this archive names.
+pub fn damaged_blocks<D: Disk>(alloc: Global, disk: &mut D) -> Result<Vec<BlockId>, Fail> {
+    let left = run_over(alloc, "scrub", disk, 65_536)?;
+    blocks_named(alloc, text_of(left.out.bytes())?)
 }
 
 /// The text, none where there is none.

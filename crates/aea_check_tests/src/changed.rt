@@ -1,46 +1,107 @@
 //! Each single change of reports of damaged archives, against the plain judge.
 
-use crate::archives::{archive_of, damaged_blocks, said, verdict_of};
+use crate::archives::{
+    archive_of, archive_with, damaged_blocks, nineteen, put_only, run_only, said, spoil_cells,
+    verdict_of,
+};
 use crate::lines::{Change, changed_text, other_lines};
 use crate::plain::{Facts, plain_verdict};
 use aea_disk::SureDisk;
 use aea_lattice::{BlockId, Lattice};
-use aea_runs::{run_over, run_put, text_of};
-use aea_test_helpers::{NINETEEN, report_of, shorten, some_bytes, spoil_cell};
-use std::alloc::Global;
+use aea_runs::{run_over, text_of};
+use aea_test_helpers::{report_of, shorten, spoil_cell};
+use std::alloc::{AllocError, Global};
 use std::test::Fail;
 
-// An archive that was repaired, and the blocks that are damaged still; and its report: the numbers of the lattice, the line of
-// counts, and the lines of blocks.
+// An archive that was repaired, and the blocks that are damaged still; and its report: the line of counts, and the lines of
+// blocks.
 #[derive(Drop)]
 struct Repaired {
     disk: SureDisk,
     lattice: Lattice,
     damaged: Vec<BlockId>,
-    numbers: String,
     counts: String,
     lines: String,
 }
 
-// Repairs the archive.
-fn make_repaired(alloc: Global, mut disk: SureDisk, lattice: Lattice) -> Result<Repaired, Fail> {
-    let left = run_over(alloc, "repair", &mut disk, 16_384)?;
-    let report = text_of(left.out.bytes())?;
+// The line of counts of a report, and the lines behind it.
+fn split_report(alloc: Global, report: &str) -> Result<(String, String), Fail> {
     let (_head, behind) = report.split_once("\ncounts ").ok_or("no report")?;
     let (counts, lines) = behind.split_once('\n').ok_or("no line of counts")?;
     let counts = format!(in alloc; "counts {counts}")?;
-    let lines = String::from_str(alloc, lines)?;
-    let (alpha, s, p, n) = (lattice.alpha(), lattice.s(), lattice.p(), lattice.n());
-    let numbers = format!(in alloc; "{alpha} {s} {p} {n}")?;
+    Ok((counts, String::from_str(alloc, lines)?))
+}
+
+// The same of the report of a repair.
+fn counts_and_lines(alloc: Global, disk: &mut SureDisk) -> Result<(String, String), Fail> {
+    let left = run_over(alloc, "repair", disk, 16_384)?;
+    split_report(alloc, text_of(left.out.bytes())?)
+}
+
+// Repairs the archive.
+fn make_repaired(alloc: Global, mut disk: SureDisk, lattice: Lattice) -> Result<Repaired, Fail> {
+    let (counts, lines) = counts_and_lines(alloc, &mut disk)?;
     let damaged = damaged_blocks(alloc, &mut disk)?;
     Ok(Repaired {
         disk,
         lattice,
         damaged,
-        numbers,
         counts,
         lines,
     })
+}
+
+// The report of the archive whose lines from the fourth on are these.
+fn report_with_lines(alloc: Global, archive: &mut Repaired, lines: &str) -> Result<String, Fail> {
+    let lattice = archive.lattice;
+    let (alpha, s, p, n) = (lattice.alpha(), lattice.s(), lattice.p(), lattice.n());
+    let numbers = format!(in alloc; "{alpha} {s} {p} {n}")?;
+    report_of(alloc, &mut archive.disk, numbers.as_str(), lines)
+}
+
+// What is said of that report.
+fn answer_to(alloc: Global, archive: &mut Repaired, lines: &str) -> Result<Option<String>, Fail> {
+    let report = report_with_lines(alloc, archive, lines)?;
+    verdict_of(alloc, &mut archive.disk, report.as_str())
+}
+
+// What the plain judge says of a report with this line of counts and these lines.
+fn plain_answer(
+    alloc: Global,
+    archive: &Repaired,
+    counts: &str,
+    lines: &str,
+) -> Result<String, Fail> {
+    let facts = Facts {
+        lattice: &archive.lattice,
+        damaged: archive.damaged.as_slice(),
+    };
+    plain_verdict(alloc, facts, counts, lines)
+}
+
+// Both answers to the report with these lines, if they differ.
+fn unlike(
+    alloc: Global,
+    answer: &str,
+    want: &str,
+    lines: &str,
+) -> Result<Option<String>, AllocError> {
+    if answer == want {
+        return Ok(None);
+    }
+    let text = format!(in alloc; "{answer} and not {want} of {lines}")?;
+    Ok(Some(text))
+}
+
+// The answer to the report with these lines, and what it should be, where they differ.
+fn unlike_answer(
+    alloc: Global,
+    archive: &mut Repaired,
+    lines: &str,
+    want: &str,
+) -> Result<Option<String>, Fail> {
+    let answer = answer_to(alloc, archive, lines)?;
+    Ok(unlike(alloc, said(&answer), want, lines)?)
 }
 
 // What is said of a report with this line of counts and these lines, and what the plain judge says, where they differ.
@@ -51,19 +112,18 @@ fn difference(
     lines: &str,
 ) -> Result<Option<String>, Fail> {
     let both = format!(in alloc; "{counts}\n{lines}")?;
-    let numbers = archive.numbers.as_str();
-    let report = report_of(alloc, &mut archive.disk, numbers, both.as_str())?;
-    let facts = Facts {
-        lattice: &archive.lattice,
-        damaged: archive.damaged.as_slice(),
-    };
-    let want = plain_verdict(alloc, facts, counts, lines)?;
-    let answer = verdict_of(alloc, &mut archive.disk, report.as_str())?;
-    if said(&answer) == want.as_str() {
-        return Ok(None);
-    }
-    let text = format!(in alloc; "{} and not {want} of {both}", said(&answer))?;
-    Ok(Some(text))
+    let want = plain_answer(alloc, archive, counts, lines)?;
+    unlike_answer(alloc, archive, both.as_str(), want.as_str())
+}
+
+// The same with the lines of the archive's own report.
+fn difference_with(
+    alloc: Global,
+    archive: &mut Repaired,
+    counts: &str,
+) -> Result<Option<String>, Fail> {
+    let lines = String::from_str(alloc, archive.lines.as_str())?;
+    difference(alloc, archive, counts, lines.as_str())
 }
 
 // The first report with a changed line of which another answer comes than the plain one.
@@ -92,39 +152,17 @@ fn first_moved(alloc: Global, archive: &mut Repaired) -> Result<Option<String>, 
     Ok(None)
 }
 
-// The first difference where another line takes the place of this one.
-fn first_replaced(alloc: Global, archive: &mut Repaired) -> Result<Option<String>, Fail> {
-    let lines = String::from_str(alloc, archive.lines.as_str())?;
-    let last = archive.lattice.n();
-    for (number, line) in lines.as_str().lines().enumerate() {
-        let others = other_lines(alloc, line, last)?;
-        for other in others.iter() {
-            let change = Change::ReplacedBy(other.as_str());
-            let found = first_changed(alloc, archive, number, change)?;
-            if found.is_some() {
-                return Ok(found);
-            }
-        }
-    }
-    Ok(None)
-}
-
-// The first difference where the counts are others.
-fn first_miscounted(alloc: Global, archive: &mut Repaired) -> Result<Option<String>, Fail> {
-    let lines = String::from_str(alloc, archive.lines.as_str())?;
-    let right = String::from_str(alloc, archive.counts.as_str())?;
-    let wrong = format!(in alloc; "{right}0")?;
-    for counts in [
-        right.as_str(),
-        wrong.as_str(),
-        "counts 0 0 0 0",
-        "counts 1 1 0 0",
-        "counts 19 3 0 16",
-        "counts 19 0 4 15",
-        "counts 20 0 3 17",
-        "counts 4294967295 0 0 0",
-    ] {
-        let found = difference(alloc, archive, counts, lines.as_str())?;
+// The first difference where another line takes the place of this one, which has this number.
+fn first_other(
+    alloc: Global,
+    archive: &mut Repaired,
+    number: usize,
+    line: &str,
+) -> Result<Option<String>, Fail> {
+    let others = other_lines(alloc, line, archive.lattice.n())?;
+    for other in others.iter() {
+        let change = Change::ReplacedBy(other.as_str());
+        let found = first_changed(alloc, archive, number, change)?;
         if found.is_some() {
             return Ok(found);
         }
@@ -132,39 +170,78 @@ fn first_miscounted(alloc: Global, archive: &mut Repaired) -> Result<Option<Stri
     Ok(None)
 }
 
+// The first difference where another line takes the place of one.
+fn first_replaced(alloc: Global, archive: &mut Repaired) -> Result<Option<String>, Fail> {
+    let lines = String::from_str(alloc, archive.lines.as_str())?;
+    for (number, line) in lines.as_str().lines().enumerate() {
+        let found = first_other(alloc, archive, number, line)?;
+        if found.is_some() {
+            return Ok(found);
+        }
+    }
+    Ok(None)
+}
+
+// The first difference with the right counts, with these wrong ones, or with some others.
+fn first_with_counts(
+    alloc: Global,
+    archive: &mut Repaired,
+    right: &str,
+    wrong: &str,
+) -> Result<Option<String>, Fail> {
+    for counts in [
+        right,
+        wrong,
+        "counts 0 0 0 0",
+        "counts 1 1 0 0",
+        "counts 19 3 0 16",
+        "counts 19 0 4 15",
+        "counts 20 0 3 17",
+        "counts 4294967295 0 0 0",
+    ] {
+        let found = difference_with(alloc, archive, counts)?;
+        if found.is_some() {
+            return Ok(found);
+        }
+    }
+    Ok(None)
+}
+
+// The first difference where the counts are others.
+fn first_miscounted(alloc: Global, archive: &mut Repaired) -> Result<Option<String>, Fail> {
+    let right = String::from_str(alloc, archive.counts.as_str())?;
+    let wrong = format!(in alloc; "{right}0")?;
+    first_with_counts(alloc, archive, right.as_str(), wrong.as_str())
+}
+
 // Nineteen blocks of AE(2,2,2) are damaged: three are determined, and the others are in two codewords.
 fn two_codewords(alloc: Global) -> Result<Repaired, Fail> {
-    let bytes = some_bytes(alloc, 176, 0)?;
-    let mut disk = archive_of(alloc, "create 2 2 2 16 3", bytes.as_slice())?;
-    for number in NINETEEN {
-        spoil_cell(&mut disk, 3, 64, number, 20)?;
-    }
-    make_repaired(alloc, disk, Lattice::new(2, 2, 2, 11).ok_or("no lattice")?)
+    let lattice = Lattice::new(2, 2, 2, 11).ok_or("no lattice")?;
+    make_repaired(alloc, nineteen(alloc)?, lattice)
 }
 
 // One of four sites of AE(3,2,5) is gone, and all four blocks of the last node.
 fn a_site(alloc: Global) -> Result<Repaired, Fail> {
-    let bytes = some_bytes(alloc, 112, 0)?;
-    let mut disk = archive_of(alloc, "create 3 2 5 16 4", bytes.as_slice())?;
+    let lattice = Lattice::new(3, 2, 5, 7).ok_or("no lattice")?;
+    let mut disk = archive_with(alloc, "create 3 2 5 16 4", 112)?;
     shorten(&mut disk, 2, 0)?;
-    for number in [24, 25, 26, 27] {
-        spoil_cell(&mut disk, 4, 64, number, 20)?;
-    }
-    make_repaired(alloc, disk, Lattice::new(3, 2, 5, 7).ok_or("no lattice")?)
+    spoil_cells(&mut disk, 4, &[24, 25, 26, 27])?;
+    make_repaired(alloc, disk, lattice)
+}
+
+// The lattice of a chain of four nodes with a fence after its second one.
+fn fenced_chain() -> Option<Lattice> {
+    Lattice::new(1, 1, 0, 2)?.fenced()?.grown(4)
 }
 
 // A chain with a fence after its second node: the blocks of the second and of the fourth node are damaged, and the last datum
 // before the last one.
 fn a_fence(alloc: Global) -> Result<Repaired, Fail> {
     let mut disk = archive_of(alloc, "create 1 1 0 16 1", b"0123456789abcdefg")?;
-    let _fenced = run_over(alloc, "fence", &mut disk, 99)?;
-    let _stored = run_put(alloc, &mut disk, "b", b"0123456789abcdefg")?;
-    for number in [2, 3, 4, 6, 7] {
-        spoil_cell(&mut disk, 1, 64, number, 20)?;
-    }
-    let lattice = Lattice::new(1, 1, 0, 2).ok_or("no lattice")?;
-    let lattice = lattice.fenced().ok_or("no fence")?;
-    make_repaired(alloc, disk, lattice.grown(4).ok_or("no growth")?)
+    run_only(alloc, &mut disk, "fence", 99)?;
+    put_only(alloc, &mut disk, "b", b"0123456789abcdefg")?;
+    spoil_cells(&mut disk, 1, &[2, 3, 4, 6, 7])?;
+    make_repaired(alloc, disk, fenced_chain().ok_or("no lattice")?)
 }
 
 // The names of these three.
@@ -181,11 +258,28 @@ fn named(alloc: Global, name: &str) -> Result<Repaired, Fail> {
     }
 }
 
+// The first difference in the archive of this name where its lines are moved.
+fn moved_in(alloc: Global, name: &str) -> Result<Option<String>, Fail> {
+    let mut archive = named(alloc, name)?;
+    first_moved(alloc, &mut archive)
+}
+
+// The same where they are replaced.
+fn replaced_in(alloc: Global, name: &str) -> Result<Option<String>, Fail> {
+    let mut archive = named(alloc, name)?;
+    first_replaced(alloc, &mut archive)
+}
+
+// The same where the counts are others.
+fn miscounted_in(alloc: Global, name: &str) -> Result<Option<String>, Fail> {
+    let mut archive = named(alloc, name)?;
+    first_miscounted(alloc, &mut archive)
+}
+
 #[test]
 fn lines_that_are_moved_are_judged_plainly(rt: HostRuntime) -> Result<(), Fail> {
     for name in names() {
-        let mut archive = named(rt.alloc(), name)?;
-        let found = first_moved(rt.alloc(), &mut archive)?;
+        let found = moved_in(rt.alloc(), name)?;
         assert!(rt; said(&found) == "none", "{name}");
     }
     Ok(())
@@ -195,24 +289,21 @@ fn lines_that_are_moved_are_judged_plainly(rt: HostRuntime) -> Result<(), Fail> 
 fn lines_of_two_codewords_that_are_replaced_are_judged_plainly(
     rt: HostRuntime,
 ) -> Result<(), Fail> {
-    let mut archive = two_codewords(rt.alloc())?;
-    let found = first_replaced(rt.alloc(), &mut archive)?;
+    let found = replaced_in(rt.alloc(), "two codewords")?;
     assert!(rt; said(&found) == "none");
     Ok(())
 }
 
 #[test]
 fn lines_of_a_site_that_are_replaced_are_judged_plainly(rt: HostRuntime) -> Result<(), Fail> {
-    let mut archive = a_site(rt.alloc())?;
-    let found = first_replaced(rt.alloc(), &mut archive)?;
+    let found = replaced_in(rt.alloc(), "a site")?;
     assert!(rt; said(&found) == "none");
     Ok(())
 }
 
 #[test]
 fn lines_around_a_fence_that_are_replaced_are_judged_plainly(rt: HostRuntime) -> Result<(), Fail> {
-    let mut archive = a_fence(rt.alloc())?;
-    let found = first_replaced(rt.alloc(), &mut archive)?;
+    let found = replaced_in(rt.alloc(), "a fence")?;
     assert!(rt; said(&found) == "none");
     Ok(())
 }
@@ -220,15 +311,14 @@ fn lines_around_a_fence_that_are_replaced_are_judged_plainly(rt: HostRuntime) ->
 #[test]
 fn counts_are_judged_plainly(rt: HostRuntime) -> Result<(), Fail> {
     for name in names() {
-        let mut archive = named(rt.alloc(), name)?;
-        let found = first_miscounted(rt.alloc(), &mut archive)?;
+        let found = miscounted_in(rt.alloc(), name)?;
         assert!(rt; said(&found) == "none", "{name}");
     }
     Ok(())
 }
 
-// The first difference where this block is damaged, too.
-fn first_damaged_again(
+// The difference where this block is damaged, too.
+fn damaged_again(
     alloc: Global,
     archive: &mut Repaired,
     number: u32,
@@ -236,8 +326,18 @@ fn first_damaged_again(
     spoil_cell(&mut archive.disk, 3, 64, number, 20)?;
     archive.damaged = damaged_blocks(alloc, &mut archive.disk)?;
     let counts = String::from_str(alloc, archive.counts.as_str())?;
-    let lines = String::from_str(alloc, archive.lines.as_str())?;
-    difference(alloc, archive, counts.as_str(), lines.as_str())
+    difference_with(alloc, archive, counts.as_str())
+}
+
+// The first of some blocks with which there is a difference once it and those before it are damaged, too.
+fn first_damaged_again(alloc: Global, name: &str) -> Result<Option<u32>, Fail> {
+    let mut archive = named(alloc, name)?;
+    for number in [4u32, 7, 13, 20] {
+        if damaged_again(alloc, &mut archive, number)?.is_some() {
+            return Ok(Some(number));
+        }
+    }
+    Ok(None)
 }
 
 #[test]
@@ -245,11 +345,8 @@ fn reports_of_an_archive_that_is_damaged_again_are_judged_plainly(
     rt: HostRuntime,
 ) -> Result<(), Fail> {
     for name in ["two codewords", "a site"] {
-        let mut archive = named(rt.alloc(), name)?;
-        for number in [4u32, 7, 13, 20] {
-            let found = first_damaged_again(rt.alloc(), &mut archive, number)?;
-            assert!(rt; said(&found) == "none", "{name}, {number}");
-        }
+        let wrong = first_damaged_again(rt.alloc(), name)?;
+        assert!(rt; wrong == None, "{name}, {wrong:?}");
     }
     Ok(())
 }

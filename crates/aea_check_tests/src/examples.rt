@@ -1,10 +1,13 @@
 //! Worked examples of checks and of explanations.
 
-use crate::archives::{archive_of, judges, report_with, reveals, run_explain, run_verify, scrubs};
+use crate::archives::{
+    archive_of, archive_with, first_misjudged, judges, nineteen, put_only, report_with, reveals,
+    run_explain, run_only, run_verify, scrubs,
+};
+use crate::changes::first_change_said_otherwise;
 use aea_cli::Status;
 use aea_disk::{Disk, SureDisk};
-use aea_runs::{run_over, run_put};
-use aea_test_helpers::{NINETEEN, TWO_CODEWORDS, report_of, shorten, some_bytes, spoil_cell};
+use aea_test_helpers::{TWO_CODEWORDS, report_of, shorten};
 use std::alloc::{AllocError, Global};
 use std::test::Fail;
 
@@ -14,130 +17,54 @@ fn is_accepted<D: Disk>(alloc: Global, disk: &mut D, report: &str) -> Result<boo
     Ok(reveals(&left, "accepted\n") && left.unread == 0 && left.out.flushed == 9)
 }
 
-#[test]
-fn a_repaired_site_of_four_is_accepted(rt: HostRuntime) -> Result<(), Fail> {
-    let alloc = rt.alloc();
-    let bytes = some_bytes(alloc, 640, 0)?;
-    let mut disk = archive_of(alloc, "create 3 2 5 16 4", bytes.as_slice())?;
-    shorten(&mut disk, 2, 0)?;
-    let report = report_with(alloc, &mut disk, Status::Done)?;
-    let report = report.as_str();
-    assert!(rt; report.contains("\ncounts 40 40 0 0\npeeled h1\npeeled d2\npeeled l3\n"));
-    assert!(rt; is_accepted(alloc, &mut disk, report)?);
-    assert!(rt; scrubs(alloc, &mut disk, Status::Done, "total 160 damaged 0\n")?);
-    // once the site is gone again, its first block is damaged still
-    shorten(&mut disk, 2, 0)?;
-    assert!(rt; judges(alloc, &mut disk, report, "rejected 5 still-bad h1\n")?);
-    Ok(())
-}
-
-// An archive in which the nineteen blocks are damaged.
-fn nineteen(alloc: Global) -> Result<SureDisk, Fail> {
-    let bytes = some_bytes(alloc, 176, 0)?;
-    let mut disk = archive_of(alloc, "create 2 2 2 16 3", bytes.as_slice())?;
-    for number in NINETEEN {
-        spoil_cell(&mut disk, 3, 64, number, 20)?;
-    }
-    Ok(disk)
-}
-
-// What is changed in the report, by what, and what is said of it.
-const CHANGES: &[(&str, &str, &str)] = &[
-    ("d1 by 1 3 4 6", "d1 by 1 3 4 6", "accepted\n"),
-    (
-        "d1 by 1 3 4 6",
-        "d1 by 1 3 4",
-        "rejected 5 word-touches h6\n",
-    ),
-    (
-        "d1 by 1 3 4 6",
-        "d1 by 3 4 6",
-        "rejected 5 word-misses d1\n",
-    ),
-    ("d1 by 1 3 4 6", "d1 by 3 1", "refused: bad line 5\n"),
-    ("d1 by 1 3 4 6", "d1 by 1 1 3 4 6", "refused: bad line 5\n"),
-    ("d1 by 1 3 4 6", "d1 by 1  3 4 6", "refused: bad line 5\n"),
-    ("d1 by 1 3 4 6", "d1 by 1 3 4 6 ", "refused: bad line 5\n"),
-    ("d1 by 1 3 4 6", "d1 by 1 3 4 12", "refused: bad line 5\n"),
-    ("d1 by 1 3 4 6", "d1 by", "refused: bad line 5\n"),
-    ("lost d1 by 1 3 4 6\n", "", "rejected 5 missing d1\n"),
-    ("lost d1 by 1 3 4 6\n", "\n", "refused: bad line 5\n"),
-    (
-        "lost d1 by 1 3 4 6\n",
-        "peeled d1\n",
-        "rejected 5 still-bad d1\n",
-    ),
-    ("solved h3\n", "peeled h3\n", "rejected 4 wrong-count\n"),
-    ("solved h3\n", "", "rejected 4 wrong-count\n"),
-    (
-        "solved h3\n",
-        "lost h3 by 1 3 4 6\n",
-        "rejected 9 not-damaged h3\n",
-    ),
-    (
-        "solved h3\n",
-        "solved h3\nsolved h3\n",
-        "refused: bad line 10\n",
-    ),
-    ("lost d11 by 8 9 10 11\n", "", "rejected 23 missing d11\n"),
-    (
-        "lost d11 by 8 9 10 11\n",
-        "lost d11 by 8 9 10 11",
-        "refused: bad line 23\n",
-    ),
-    (
-        "lost d11 by 8 9 10 11\n",
-        "lost d11 by 11\n",
-        "rejected 23 word-touches h11\n",
-    ),
-    (
-        "counts 19 0 3 16",
-        "counts 019 0 3 16",
-        "refused: bad line 4\n",
-    ),
-    (
-        "counts 19 0 3 16",
-        "counts 19 3 0 16",
-        "rejected 4 wrong-count\n",
-    ),
-    (
-        "lattice 2 2 2 11",
-        "lattice 2 2 2 12",
-        "rejected 2 other-archive\n",
-    ),
-    ("aea-report 1", "aea-report 2", "refused: bad line 1\n"),
-];
-
-// A function, so that the proof of the test does not carry the table.
-fn changes() -> &'static [(&'static str, &'static str, &'static str)] {
-    CHANGES
-}
-
-// Whether this is said of the report in which a text is changed.
-fn is_said(
+// Whether the report of the repair of a site begins with these blocks and is accepted, and nothing is damaged any more.
+fn is_of_a_whole_archive(
     alloc: Global,
     disk: &mut SureDisk,
     report: &str,
-    change: (&str, &str),
+) -> Result<bool, AllocError> {
+    Ok(
+        report.contains("\ncounts 40 40 0 0\npeeled h1\npeeled d2\npeeled l3\n")
+            && is_accepted(alloc, disk, report)?
+            && scrubs(alloc, disk, Status::Done, "total 160 damaged 0\n")?,
+    )
+}
+
+// Whether this is said of the report once the second site is gone again.
+fn judges_without_site(
+    alloc: Global,
+    disk: &mut SureDisk,
+    report: &str,
     revealed: &str,
 ) -> Result<bool, Fail> {
-    let (old, new) = change;
-    let (before, after) = report.split_once(old).ok_or(old)?;
-    let changed = format!(in alloc; "{before}{new}{after}")?;
-    Ok(judges(alloc, disk, changed.as_str(), revealed)?)
+    shorten(disk, 2, 0)?;
+    Ok(judges(alloc, disk, report, revealed)?)
+}
+
+// Whether the second site is repaired so, and its first block is said to be damaged still once the site is gone again.
+fn is_repaired_and_lost(alloc: Global, disk: &mut SureDisk) -> Result<bool, Fail> {
+    let report = report_with(alloc, disk, Status::Done)?;
+    let report = report.as_str();
+    let revealed = "rejected 5 still-bad h1\n";
+    Ok(
+        is_of_a_whole_archive(alloc, disk, report)?
+            && judges_without_site(alloc, disk, report, revealed)?,
+    )
+}
+
+#[test]
+fn a_repaired_site_of_four_is_accepted(rt: HostRuntime) -> Result<(), Fail> {
+    let mut disk = archive_with(rt.alloc(), "create 3 2 5 16 4", 640)?;
+    shorten(&mut disk, 2, 0)?;
+    assert!(rt; is_repaired_and_lost(rt.alloc(), &mut disk)?);
+    Ok(())
 }
 
 #[test]
 fn a_report_of_two_codewords_is_judged(rt: HostRuntime) -> Result<(), Fail> {
-    let alloc = rt.alloc();
-    let mut disk = nineteen(alloc)?;
-    let want = report_of(alloc, &mut disk, "2 2 2 11", TWO_CODEWORDS)?;
-    let report = report_with(alloc, &mut disk, Status::Damage)?;
-    assert!(rt; report.as_str() == want.as_str());
-    for (old, new, revealed) in changes() {
-        let is_so = is_said(alloc, &mut disk, report.as_str(), (old, new), revealed)?;
-        assert!(rt; is_so, "{old}: {new}");
-    }
+    let mut disk = nineteen(rt.alloc())?;
+    let found = first_change_said_otherwise(rt.alloc(), &mut disk)?;
+    assert!(rt; found == None, "{found:?}");
     Ok(())
 }
 
@@ -158,25 +85,36 @@ fn cuts() -> [(&'static str, &'static str); 4] {
 fn cut_report(alloc: Global, disk: &mut SureDisk) -> Result<String, Fail> {
     let report = report_of(alloc, disk, "2 2 2 11", TWO_CODEWORDS)?;
     let (first, _rest) = report.as_str().split_once("h1 by 1 3").ok_or("no line")?;
-    let cut = format!(in alloc; "{first}h1 by 1 3 4 6\nlost r1 b")?;
-    Ok(cut)
+    Ok(format!(in alloc; "{first}h1 by 1 3 4 6\nlost r1 b")?)
+}
+
+// Whether the report of a drill, which has no seal, is that of another archive.
+fn is_drill_of_another(alloc: Global, disk: &mut SureDisk) -> Result<bool, AllocError> {
+    let drilled = format!(in alloc;
+        "aea-report 1\nlattice 2 2 2 11\nledger none\n{TWO_CODEWORDS}"
+    )?;
+    judges(alloc, disk, drilled.as_str(), "rejected 3 other-archive\n")
+}
+
+// Whether the report that is cut in the middle of a line is refused for that line.
+fn is_cut_refused(alloc: Global, disk: &mut SureDisk) -> Result<bool, Fail> {
+    let cut = cut_report(alloc, disk)?;
+    Ok(judges(alloc, disk, cut.as_str(), "refused: bad line 7\n")?)
+}
+
+// Whether both are so.
+fn are_unsealed_and_cut_revealed(alloc: Global, disk: &mut SureDisk) -> Result<bool, Fail> {
+    Ok(is_drill_of_another(alloc, disk)? && is_cut_refused(alloc, disk)?)
 }
 
 #[test]
 fn reports_without_a_seal_and_cut_ones_are_named(rt: HostRuntime) -> Result<(), Fail> {
     let alloc = rt.alloc();
     let mut disk = nineteen(alloc)?;
-    let _repaired = run_over(alloc, "repair", &mut disk, 4096)?;
-    let drilled = format!(in alloc;
-        "aea-report 1\nlattice 2 2 2 11\nledger none\n{TWO_CODEWORDS}"
-    )?;
-    let other = "rejected 3 other-archive\n";
-    assert!(rt; judges(alloc, &mut disk, drilled.as_str(), other)?);
-    let cut = cut_report(alloc, &mut disk)?;
-    assert!(rt; judges(alloc, &mut disk, cut.as_str(), "refused: bad line 7\n")?);
-    for (text, revealed) in cuts() {
-        assert!(rt; judges(alloc, &mut disk, text, revealed)?, "{text}");
-    }
+    run_only(alloc, &mut disk, "repair", 4096)?;
+    assert!(rt; are_unsealed_and_cut_revealed(alloc, &mut disk)?);
+    let found = first_misjudged(alloc, &mut disk, &cuts())?;
+    assert!(rt; found == None, "{found:?}");
     Ok(())
 }
 
@@ -239,15 +177,36 @@ fn reports_of_one_node_are_judged(rt: HostRuntime) -> Result<(), Fail> {
     Ok(())
 }
 
-// Puts a fence and one more object after a lost node. It says whether the repair's report ends so then, and is accepted.
-fn is_accepted_later(alloc: Global, disk: &mut SureDisk, lines: &str) -> Result<bool, Fail> {
-    let _fenced = run_over(alloc, "fence", disk, 99)?;
+// Puts a fence and one more object after a lost node. It says whether the ledger is as long between them as it is to be.
+fn puts_behind_a_fence(alloc: Global, disk: &mut SureDisk) -> Result<bool, Fail> {
+    run_only(alloc, disk, "fence", 99)?;
     let long = disk.len(0)?;
-    let _stored = run_put(alloc, disk, "b", b"abc")?;
+    put_only(alloc, disk, "b", b"abc")?;
+    Ok(long == 149)
+}
+
+// Whether the repair's report ends so, and is accepted.
+fn is_accepted_later(alloc: Global, disk: &mut SureDisk, lines: &str) -> Result<bool, Fail> {
     let report = report_with(alloc, disk, Status::Damage)?;
     let report = report.as_str();
-    let is_so = long == 149 && report.ends_with(lines);
-    Ok(is_so && judges(alloc, disk, report, "accepted\n")?)
+    Ok(report.ends_with(lines) && judges(alloc, disk, report, "accepted\n")?)
+}
+
+// Whether a report with these lines is accepted, and is that of another archive once there is a fence and one more object, when
+// the repair's report ends with them.
+fn is_accepted_until_a_fence(
+    alloc: Global,
+    disk: &mut SureDisk,
+    lines: &str,
+) -> Result<bool, Fail> {
+    let first = report_of(alloc, disk, "1 1 0 1", lines)?;
+    let first = first.as_str();
+    Ok(
+        judges(alloc, disk, first, "accepted\n")?
+            && puts_behind_a_fence(alloc, disk)?
+            && is_accepted_later(alloc, disk, lines)?
+            && judges(alloc, disk, first, "rejected 2 other-archive\n")?,
+    )
 }
 
 #[test]
@@ -256,12 +215,8 @@ fn a_report_of_what_is_lost_before_a_fence_is_accepted(rt: HostRuntime) -> Resul
     let mut disk = archive_of(alloc, "create 1 1 0 16 1", b"abc")?;
     shorten(&mut disk, 1, 0)?;
     let lines = "counts 2 0 0 2\nlost d1 by 1\nlost h1 by 1\n";
-    let first = report_of(alloc, &mut disk, "1 1 0 1", lines)?;
-    let first = first.as_str();
-    assert!(rt; judges(alloc, &mut disk, first, "accepted\n")?);
-    assert!(rt; is_accepted_later(alloc, &mut disk, lines)?);
-    // the report from before the fence is that of another archive, and so is one without the second node
-    assert!(rt; judges(alloc, &mut disk, first, "rejected 2 other-archive\n")?);
+    assert!(rt; is_accepted_until_a_fence(alloc, &mut disk, lines)?);
+    // the word of both nodes touches the datum of the second one, which is there
     let wrong = "counts 1 0 0 1\nlost d1 by 1 2\n";
     let revealed = "rejected 5 word-touches d2\n";
     assert!(rt; judges_lines(alloc, &mut disk, "1 1 0 2", wrong, revealed)?);

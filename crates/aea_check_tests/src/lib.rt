@@ -7,6 +7,8 @@ mod archives;
 #[cfg(test)]
 mod changed;
 #[cfg(test)]
+mod changes;
+#[cfg(test)]
 mod examples;
 #[cfg(test)]
 mod explained;

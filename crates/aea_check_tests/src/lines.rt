@@ -135,6 +135,34 @@ fn with_other_node(
     Ok(line)
 }
 
+// Adds a line of each kind for this block, the lost one by the first node and by the last node n.
+fn add_kinds(
+    alloc: Global,
+    lines: &mut Vec<String>,
+    block: &str,
+    n: u32,
+) -> Result<(), AllocError> {
+    lines.push(format!(in alloc; "peeled {block}")?)?;
+    lines.push(format!(in alloc; "solved {block}")?)?;
+    lines.push(format!(in alloc; "lost {block} by 1")?)?;
+    lines.push(format!(in alloc; "lost {block} by {n}")?)?;
+    Ok(())
+}
+
+// Adds the lines of this lost block with one of its nodes left out, and with one of them one more.
+fn add_other_nodes(
+    alloc: Global,
+    lines: &mut Vec<String>,
+    block: &str,
+    nodes: &[u32],
+) -> Result<(), AllocError> {
+    for k in 0..nodes.len() {
+        lines.push(with_other_node(alloc, block, nodes, k, 0)?)?;
+        lines.push(with_other_node(alloc, block, nodes, k, 1)?)?;
+    }
+    Ok(())
+}
+
 /// Other lines in place of this one: of each kind for its block, and with one of its nodes left out, one more, or the last node n
 /// besides.
 pub fn other_lines(alloc: Global, line: &str, n: u32) -> Result<Vec<String>, AllocError> {
@@ -146,16 +174,10 @@ pub fn other_lines(alloc: Global, line: &str, n: u32) -> Result<Vec<String>, All
         Some((block, _nodes)) => block,
         None => rest,
     };
-    lines.push(format!(in alloc; "peeled {block}")?)?;
-    lines.push(format!(in alloc; "solved {block}")?)?;
-    lines.push(format!(in alloc; "lost {block} by 1")?)?;
-    lines.push(format!(in alloc; "lost {block} by {n}")?)?;
+    add_kinds(alloc, &mut lines, block, n)?;
     lines.push(format!(in alloc; "{line} {n}")?)?;
     if let Some(revealed) = revealed_of(alloc, line)? {
-        for k in 0..revealed.nodes.len() {
-            lines.push(with_other_node(alloc, block, revealed.nodes.as_slice(), k, 0)?)?;
-            lines.push(with_other_node(alloc, block, revealed.nodes.as_slice(), k, 1)?)?;
-        }
+        add_other_nodes(alloc, &mut lines, block, revealed.nodes.as_slice())?;
     }
     Ok(lines)
 }

@@ -30,6 +30,28 @@ fn rise(lattice: &Lattice, nodes: &[u32]) -> bool {
     !nodes.is_empty()
 }
 
+// Whether a line may say this where the block of the one before it has a number below this one.
+fn may_stand(lattice: &Lattice, least: u32, revealed: &Revealed) -> bool {
+    let Some(number) = number_of(lattice, revealed.block) else {
+        return false;
+    };
+    least <= number && (revealed.kind != Kind::Lost || rise(lattice, revealed.nodes.as_slice()))
+}
+
+// What this line says, none where it is no line of a report there.
+fn read_line(
+    alloc: Global,
+    lattice: &Lattice,
+    least: u32,
+    line: &str,
+) -> Result<Option<Revealed>, AllocError> {
+    let Some(revealed) = revealed_of(alloc, line)? else {
+        return Ok(None);
+    };
+    let is_line = may_stand(lattice, least, &revealed);
+    Ok(is_line.then_some(revealed))
+}
+
 // What the lines say, none after the first that is no line of a report where the block of the one before has a number; and the
 // number of that line in the report, if there is one.
 fn read_lines(
@@ -40,17 +62,10 @@ fn read_lines(
     let mut read = Vec::new(alloc);
     let mut least = 0;
     for (k, line) in lines.lines().enumerate() {
-        let bad = Some(k.saturating_add(5));
-        let Some(revealed) = revealed_of(alloc, line)? else {
-            return Ok((read, bad));
+        let Some(revealed) = read_line(alloc, lattice, least, line)? else {
+            return Ok((read, Some(k.saturating_add(5))));
         };
-        let Some(number) = number_of(lattice, revealed.block) else {
-            return Ok((read, bad));
-        };
-        let nodes_rise = revealed.kind != Kind::Lost || rise(lattice, revealed.nodes.as_slice());
-        if number < least || !nodes_rise {
-            return Ok((read, bad));
-        }
+        let number = number_of(lattice, revealed.block).unwrap_or(0);
         least = number.saturating_add(1);
         read.push(revealed)?;
     }
@@ -138,6 +153,33 @@ fn count(lines: &[Revealed], kind: Kind) -> usize {
         .count()
 }
 
+// Whether this is the line of counts of these lines.
+fn are_counted(alloc: Global, revealed: &[Revealed], counts: &str) -> Result<bool, AllocError> {
+    let (all, peeled) = (revealed.len(), count(revealed, Kind::Peeled));
+    let (solved, lost) = (count(revealed, Kind::Solved), count(revealed, Kind::Lost));
+    let right = format!(in alloc; "counts {all} {peeled} {solved} {lost}")?;
+    Ok(counts == right.as_str())
+}
+
+// What a check says where the lines after the fourth one say this.
+fn verdict_on(
+    alloc: Global,
+    facts: Facts,
+    counts: &str,
+    revealed: &[Revealed],
+) -> Result<String, Fail> {
+    if let Some((line, why)) = first_wrong(alloc, facts, revealed)? {
+        let text = format!(in alloc; "rejected {line} {why}\n")?;
+        return Ok(text);
+    }
+    let text = if are_counted(alloc, revealed, counts)? {
+        "accepted\n"
+    } else {
+        "rejected 4 wrong-count\n"
+    };
+    Ok(String::from_str(alloc, text)?)
+}
+
 /// What a check says of the report with the head of this archive, this fourth line, which is a line of counts, and these lines
 /// after it.
 pub fn plain_verdict(
@@ -151,18 +193,5 @@ pub fn plain_verdict(
         let text = format!(in alloc; "refused: bad line {line}\n")?;
         return Ok(text);
     }
-    let revealed = revealed.as_slice();
-    if let Some((line, why)) = first_wrong(alloc, facts, revealed)? {
-        let text = format!(in alloc; "rejected {line} {why}\n")?;
-        return Ok(text);
-    }
-    let (all, peeled) = (revealed.len(), count(revealed, Kind::Peeled));
-    let (solved, lost) = (count(revealed, Kind::Solved), count(revealed, Kind::Lost));
-    let right = format!(in alloc; "counts {all} {peeled} {solved} {lost}")?;
-    let text = if counts == right.as_str() {
-        "accepted\n"
-    } else {
-        "rejected 4 wrong-count\n"
-    };
-    Ok(String::from_str(alloc, text)?)
+    verdict_on(alloc, facts, counts, revealed.as_slice())
 }

@@ -1,12 +1,12 @@
 //! Reports of repaired archives of several shapes, with and without fences, which are accepted, and once more after a second
 //! repair.
 
-use crate::archives::{said, verdict_of};
+use crate::archives::{put_only, run_only, said, verdict_of};
 use aea_cli::Status;
 use aea_disk::SureDisk;
-use aea_runs::{run_over, run_put, step, text_of};
+use aea_runs::{run_over, step, text_of};
 use aea_test_helpers::{some_bytes, spoil_cell};
-use std::alloc::Global;
+use std::alloc::{AllocError, Global};
 use std::test::Fail;
 
 // The line that makes an archive on four sites with blocks of 16 bytes, whether a fence follows each object, and how many
@@ -37,17 +37,29 @@ fn three_classes() -> [Row; 2] {
 // How many of a hundred cells are damaged.
 const PERCENTS: [u64; 5] = [0, 5, 30, 60, 90];
 
+// Stores an object of so many bytes, and a fence after it, if there is to be one.
+fn put_one(
+    alloc: Global,
+    disk: &mut SureDisk,
+    object: (&str, u32),
+    fenced: bool,
+) -> Result<(), AllocError> {
+    let (name, count) = object;
+    let bytes = some_bytes(alloc, count, 0)?;
+    put_only(alloc, disk, name, bytes.as_slice())?;
+    if fenced {
+        run_only(alloc, disk, "fence", 99)?;
+    }
+    Ok(())
+}
+
 // An archive of three objects with fifteen nodes.
 fn of_three(alloc: Global, row: Row) -> Result<SureDisk, Fail> {
     let (line, fenced, _blocks) = row;
     let mut disk = SureDisk::new(alloc, 4, 8192, 4096)?;
-    let _made = run_over(alloc, line, &mut disk, 99)?;
-    for (name, count) in [("a", 100u32), ("b", 17), ("c", 95)] {
-        let bytes = some_bytes(alloc, count, 0)?;
-        let _stored = run_put(alloc, &mut disk, name, bytes.as_slice())?;
-        if fenced {
-            let _fence = run_over(alloc, "fence", &mut disk, 99)?;
-        }
+    run_only(alloc, &mut disk, line, 99)?;
+    for object in [("a", 100u32), ("b", 17), ("c", 95)] {
+        put_one(alloc, &mut disk, object, fenced)?;
     }
     Ok(disk)
 }
@@ -73,21 +85,40 @@ fn repaired_and_judged(alloc: Global, disk: &mut SureDisk) -> Result<Option<Stri
     verdict_of(alloc, disk, text_of(left.out.bytes())?)
 }
 
+// What is said of the report of a repair, or of a second one, that is not accepted.
+fn not_accepted(alloc: Global, disk: &mut SureDisk) -> Result<Option<String>, Fail> {
+    for _ in 0..2 {
+        let revealed = repaired_and_judged(alloc, disk)?;
+        let revealed = said(&revealed);
+        if revealed != "accepted\n" {
+            return Ok(Some(String::from_str(alloc, revealed)?));
+        }
+    }
+    Ok(None)
+}
+
+// The same of the archive of this row, after damage of so many percent.
+fn not_accepted_after(
+    alloc: Global,
+    row: Row,
+    percent: u64,
+    seed: u64,
+) -> Result<Option<String>, Fail> {
+    let (_line, _fenced, blocks) = row;
+    let mut disk = of_three(alloc, row)?;
+    damage(&mut disk, blocks, percent, seed)?;
+    not_accepted(alloc, &mut disk)
+}
+
 // What is said first of a report of the archive of this row that is not accepted, after damage of each degree.
 fn first_not_accepted(alloc: Global, row: Row, seed: u64) -> Result<Option<String>, Fail> {
-    let (line, _fenced, blocks) = row;
+    let (line, _fenced, _blocks) = row;
     let mut x = seed;
     for percent in PERCENTS {
-        let mut disk = of_three(alloc, row)?;
         x = step(x);
-        damage(&mut disk, blocks, percent, x)?;
-        // and once more after a second repair
-        for _ in 0..2 {
-            let revealed = repaired_and_judged(alloc, &mut disk)?;
-            if said(&revealed) != "accepted\n" {
-                let text = format!(in alloc; "{line}, {percent} from {x}: {}", said(&revealed))?;
-                return Ok(Some(text));
-            }
+        if let Some(revealed) = not_accepted_after(alloc, row, percent, x)? {
+            let text = format!(in alloc; "{line}, {percent} from {x}: {revealed}")?;
+            return Ok(Some(text));
         }
     }
     Ok(None)

@@ -3,7 +3,7 @@
 use aea_cli::Status;
 use aea_disk::{Disk, SureDisk};
 use aea_runs::{run_input, run_over, run_put};
-use aea_test_helpers::file_bytes;
+use aea_test_helpers::{file_bytes, fill_file};
 use std::alloc::{AllocError, Global};
 use std::test::Fail;
 
@@ -23,10 +23,27 @@ pub const THREE: [u8; 3] = [0, 65, 66];
 // The files of such an archive: the ledger, four sites and the copies.
 const FILES: [u8; 7] = [0, 1, 2, 3, 4, 65, 66];
 
+/// Makes an archive by this line of `create`, and puts an object into it.
+pub fn store<D: Disk>(
+    alloc: Global,
+    disk: &mut D,
+    create: &str,
+    name: &str,
+    bytes: &[u8],
+) -> Result<(), AllocError> {
+    let _made = run_over(alloc, create, disk, 99)?;
+    let _stored = run_put(alloc, disk, name, bytes)?;
+    Ok(())
+}
+
 /// Makes such an archive with the object `a`.
 pub fn store_abc<D: Disk>(alloc: Global, disk: &mut D) -> Result<(), AllocError> {
-    let _made = run_over(alloc, LINE, disk, 99)?;
-    let _stored = run_put(alloc, disk, "a", b"abc")?;
+    store(alloc, disk, LINE, "a", b"abc")
+}
+
+/// Begins the copies of the ledger.
+pub fn begin_copies<D: Disk>(alloc: Global, disk: &mut D) -> Result<(), AllocError> {
+    let _begun = run_over(alloc, "copies", disk, 99)?;
     Ok(())
 }
 
@@ -40,16 +57,15 @@ pub fn bare(alloc: Global) -> Result<SureDisk, AllocError> {
 /// The same archive, whose ledger has copies.
 pub fn copied(alloc: Global) -> Result<SureDisk, AllocError> {
     let mut disk = bare(alloc)?;
-    let _begun = run_over(alloc, "copies", &mut disk, 99)?;
+    begin_copies(alloc, &mut disk)?;
     Ok(disk)
 }
 
 /// Another archive, with an object of the same name.
 pub fn other(alloc: Global) -> Result<SureDisk, AllocError> {
     let mut disk = SureDisk::new(alloc, 1, 2048, 1024)?;
-    let _made = run_over(alloc, "create 1 1 0 16 1", &mut disk, 99)?;
-    let _stored = run_put(alloc, &mut disk, "a", b"other")?;
-    let _begun = run_over(alloc, "copies", &mut disk, 99)?;
+    store(alloc, &mut disk, "create 1 1 0 16 1", "a", b"other")?;
+    begin_copies(alloc, &mut disk)?;
     Ok(disk)
 }
 
@@ -94,4 +110,41 @@ pub fn has_files<D: Disk>(alloc: Global, disk: &mut D, files: &[Vec<u8>]) -> Res
         }
     }
     Ok(true)
+}
+
+/// Whether a run of the line ends so, and leaves all files of the archive as they are.
+pub fn leaves_files<D: Disk>(
+    alloc: Global,
+    disk: &mut D,
+    line: &str,
+    want: (Status, &str, &str),
+) -> Result<bool, Fail> {
+    let files = files_of(alloc, disk)?;
+    Ok(ends(alloc, disk, line, want)? && has_files(alloc, disk, files.as_slice())?)
+}
+
+/// Whether the files of the archive are others than these, and are these once a run of the line has ended so.
+pub fn mends_files<D: Disk>(
+    alloc: Global,
+    disk: &mut D,
+    files: &[Vec<u8>],
+    line: &str,
+    want: (Status, &str, &str),
+) -> Result<bool, Fail> {
+    let is_changed = !has_files(alloc, disk, files)?;
+    Ok(is_changed && ends(alloc, disk, line, want)? && has_files(alloc, disk, files)?)
+}
+
+/// Gives these files of a disk the bytes that they have on another one.
+pub fn take_from<D: Disk, E: Disk>(
+    alloc: Global,
+    disk: &mut D,
+    from: &mut E,
+    files: &[u8],
+) -> Result<(), Fail> {
+    for file in files {
+        let bytes = file_bytes(alloc, from, *file)?;
+        fill_file(disk, *file, bytes.as_slice())?;
+    }
+    Ok(())
 }

@@ -1,13 +1,13 @@
 //! Copies that are begun.
 
-use crate::archives::{LISTED, bare, copied, ends, files_of, has_files, store_abc};
+use crate::archives::{LISTED, bare, copied, ends, leaves_files, store_abc};
 use crate::harms::{Harm, inflict_all};
 use aea_cli::Status;
 use aea_disk::{Disk, SureDisk};
-use aea_runs::{Faults, NONE, run_failing, run_over};
+use aea_runs::{Faults, NONE, all_bytes, has_bytes, run_failing};
 use aea_test_helpers::file_bytes;
 use sha2::{Digest, Sha256};
-use std::alloc::Global;
+use std::alloc::{AllocError, Global};
 use std::test::Fail;
 
 const COPIES_ON: &str = "copies on\n";
@@ -45,40 +45,54 @@ fn is_copy<D: Disk>(alloc: Global, disk: &mut D, file: u8) -> Result<bool, Fail>
     Ok(bytes.len() == 286 && Sha256::digest(bytes) == *SUM)
 }
 
+// The bytes of the ledger and the sites of the archive without copies.
+fn plain_bytes(alloc: Global) -> Result<Vec<Vec<u8>>, Fail> {
+    let mut plain = bare(alloc)?;
+    all_bytes(alloc, &mut plain)
+}
+
 // Whether both copies are that, and the ledger and the sites are those of the archive without copies.
 fn are_begun<D: Disk>(alloc: Global, disk: &mut D) -> Result<bool, Fail> {
-    let mut plain = bare(alloc)?;
-    for file in 0..5u8 {
-        let bytes = file_bytes(alloc, &mut plain, file)?;
-        if file_bytes(alloc, disk, file)?.as_slice() != bytes.as_slice() {
-            return Ok(false);
-        }
-    }
-    Ok(is_copy(alloc, disk, 65)? && is_copy(alloc, disk, 66)?)
+    let plain = plain_bytes(alloc)?;
+    Ok(
+        has_bytes(alloc, disk, plain.as_slice())?
+            && is_copy(alloc, disk, 65)?
+            && is_copy(alloc, disk, 66)?,
+    )
+}
+
+// Whether a run of `copies` ends so, and the copies are there then.
+fn leaves_copies<D: Disk>(
+    alloc: Global,
+    disk: &mut D,
+    want: (Status, &str, &str),
+) -> Result<bool, Fail> {
+    Ok(ends(alloc, disk, "copies", want)? && are_begun(alloc, disk)?)
+}
+
+// Whether copies are begun, and refused the next time, when they are left as they are.
+fn are_begun_once(alloc: Global) -> Result<bool, Fail> {
+    let mut disk = bare(alloc)?;
+    Ok(
+        leaves_copies(alloc, &mut disk, (Status::Done, COPIES_ON, ""))?
+            && leaves_copies(alloc, &mut disk, (Status::Refused, "", ARE_ON))?,
+    )
 }
 
 #[test]
 fn copies_are_begun_once(rt: HostRuntime) -> Result<(), Fail> {
-    let alloc = rt.alloc();
-    let mut disk = bare(alloc)?;
-    let is_said = ends(alloc, &mut disk, "copies", (Status::Done, COPIES_ON, ""))?;
-    assert!(rt; is_said);
-    let are_there = are_begun(alloc, &mut disk)?;
-    assert!(rt; are_there);
-    let is_refused = ends(alloc, &mut disk, "copies", (Status::Refused, "", ARE_ON))?;
-    assert!(rt; is_refused);
-    let are_there = are_begun(alloc, &mut disk)?;
-    assert!(rt; are_there);
+    let right = are_begun_once(rt.alloc())?;
+    assert!(rt; right);
     Ok(())
 }
 
 // Whether copies are refused with this line where such damage is done to an archive without copies, and nothing is written.
 fn is_refused(alloc: Global, harms: &[Harm], err: &str) -> Result<bool, Fail> {
     let mut disk = bare(alloc)?;
-    let is_harmed = inflict_all(&mut disk, harms)?;
-    let files = files_of(alloc, &mut disk)?;
-    let is_said = ends(alloc, &mut disk, "copies", (Status::Refused, "", err))?;
-    Ok(is_harmed && is_said && has_files(alloc, &mut disk, files.as_slice())?)
+    Ok(
+        inflict_all(&mut disk, harms)?
+            && leaves_files(alloc, &mut disk, "copies", (Status::Refused, "", err))?,
+    )
 }
 
 #[test]
@@ -96,15 +110,23 @@ fn no_copies_are_begun_of_a_bad_ledger(rt: HostRuntime) -> Result<(), Fail> {
     Ok(())
 }
 
+// Whether the archive is listed, and the first copy is still empty then.
+fn is_off<D: Disk>(alloc: Global, disk: &mut D) -> Result<bool, Fail> {
+    Ok(
+        ends(alloc, disk, "list", (Status::Done, LISTED, ""))?
+            && file_bytes(alloc, disk, 65)?.is_empty(),
+    )
+}
+
 // Whether copies that are begun once both were removed are those that were there.
 fn are_begun_anew(alloc: Global) -> Result<bool, Fail> {
     let mut disk = copied(alloc)?;
     let harms = [Harm::Cut(65, 0), Harm::Byte(66, 0, 0)];
-    let is_harmed = inflict_all(&mut disk, &harms)?;
-    let is_off = ends(alloc, &mut disk, "list", (Status::Done, LISTED, ""))?;
-    let still = file_bytes(alloc, &mut disk, 65)?.is_empty();
-    let is_said = ends(alloc, &mut disk, "copies", (Status::Done, COPIES_ON, ""))?;
-    Ok(is_harmed && is_off && still && is_said && are_begun(alloc, &mut disk)?)
+    Ok(
+        inflict_all(&mut disk, &harms)?
+            && is_off(alloc, &mut disk)?
+            && leaves_copies(alloc, &mut disk, (Status::Done, COPIES_ON, ""))?,
+    )
 }
 
 #[test]
@@ -114,13 +136,21 @@ fn copies_that_are_gone_are_begun_anew(rt: HostRuntime) -> Result<(), Fail> {
     Ok(())
 }
 
+// Whether a run of `copies` whose streams fail so says that the output failed.
+fn ends_by_output<D: Disk>(
+    alloc: Global,
+    disk: &mut D,
+    faults: Faults,
+) -> Result<bool, AllocError> {
+    let ended = run_failing(alloc, "copies", disk, b"", faults)?;
+    let is_revealed = ended.err.bytes() == b"fault: output\n".as_slice();
+    Ok(ended.status == Status::Output && is_revealed)
+}
+
 // Whether the copies are there where the line cannot be printed: there is no space for it, or the first call of the output fails.
 fn are_begun_silently(alloc: Global, faults: Faults) -> Result<bool, Fail> {
     let mut disk = bare(alloc)?;
-    let ended = run_failing(alloc, "copies", &mut disk, b"", faults)?;
-    let is_fault = ended.status == Status::Output;
-    let is_revealed = ended.err.bytes() == b"fault: output\n".as_slice();
-    Ok(is_fault && is_revealed && are_begun(alloc, &mut disk)?)
+    Ok(ends_by_output(alloc, &mut disk, faults)? && are_begun(alloc, &mut disk)?)
 }
 
 #[test]
@@ -141,9 +171,11 @@ fn copies_are_begun_before_that_is_said(rt: HostRuntime) -> Result<(), Fail> {
 fn is_too_small(alloc: Global, room: usize) -> Result<bool, Fail> {
     let mut disk = SureDisk::new(alloc, 4, room, 1024)?;
     store_abc(alloc, &mut disk)?;
-    let left = run_over(alloc, "copies", &mut disk, 99)?;
-    let is_said = left.is(Status::Disk, "", "fault: disk\n");
-    Ok(is_said && ends(alloc, &mut disk, "get a", (Status::Done, "abc", ""))?)
+    let fault = (Status::Disk, "", "fault: disk\n");
+    Ok(
+        ends(alloc, &mut disk, "copies", fault)?
+            && ends(alloc, &mut disk, "get a", (Status::Done, "abc", ""))?,
+    )
 }
 
 // The ledger has 203 bytes, and a copy of it 286.

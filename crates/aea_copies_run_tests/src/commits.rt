@@ -129,6 +129,23 @@ fn is_kept_by_each<D: Disk>(alloc: Global, disk: &mut D, commit: &Commit) -> Res
     )
 }
 
+// Whether the archive is listed as before the run, which is then made and ends as where nothing fails; or as after it, when it is
+// refused. Only the latter where this is said.
+fn is_found<D: Disk>(
+    alloc: Global,
+    disk: &mut D,
+    commit: &Commit,
+    is_sure: bool,
+) -> Result<bool, AllocError> {
+    let found = run_over(alloc, "list", disk, 999)?;
+    let left = run_input(alloc, commit.line, disk, commit.input.as_bytes())?;
+    Ok(if left.status == Status::Done {
+        !is_sure && left.is(Status::Done, commit.out, "") && found.is(Status::Done, LISTED, "")
+    } else {
+        left.is(Status::Refused, "", commit.again) && found.is(Status::Done, commit.listed, "")
+    })
+}
+
 /// Whether the archive is the one before the run or the one after it, only the one after it where this is said; and whether, once
 /// the run was made again, it is the one after it, and each of the three files alone keeps it.
 pub fn stands<D: Disk>(
@@ -137,12 +154,9 @@ pub fn stands<D: Disk>(
     commit: &Commit,
     is_sure: bool,
 ) -> Result<bool, Fail> {
-    let found = run_over(alloc, "list", disk, 999)?;
-    let left = run_input(alloc, commit.line, disk, commit.input.as_bytes())?;
-    let right = if left.status == Status::Done {
-        !is_sure && left.is(Status::Done, commit.out, "") && found.is(Status::Done, LISTED, "")
-    } else {
-        left.is(Status::Refused, "", commit.again) && found.is(Status::Done, commit.listed, "")
-    };
-    Ok(right && has_objects(alloc, disk, commit)? && is_kept_by_each(alloc, disk, commit)?)
+    Ok(
+        is_found(alloc, disk, commit, is_sure)?
+            && has_objects(alloc, disk, commit)?
+            && is_kept_by_each(alloc, disk, commit)?,
+    )
 }

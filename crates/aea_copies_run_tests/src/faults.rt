@@ -4,7 +4,7 @@ use crate::archives::{bare, copied};
 use crate::commits::{Commit, copies, put, records, stands};
 use crate::harms::{Harm, inflict};
 use aea_cli::Status;
-use aea_disk::{FailDisk, SureDisk};
+use aea_disk::{Disk, FailDisk, SureDisk};
 use aea_runs::run_input;
 use std::alloc::{AllocError, Global};
 use std::test::Fail;
@@ -28,18 +28,33 @@ fn before(alloc: Global, commit: &Commit) -> Result<SureDisk, AllocError> {
     }
 }
 
+// How the run over this disk ends, by its status and what it prints alone.
+fn revealed_fate<D: Disk>(
+    alloc: Global,
+    disk: &mut D,
+    commit: &Commit,
+) -> Result<Fate, AllocError> {
+    let left = run_input(alloc, commit.line, disk, commit.input.as_bytes())?;
+    Ok(if left.is(Status::Done, commit.out, "") {
+        Fate::Whole
+    } else if left.is(Status::Disk, "", "fault: disk\n") {
+        Fate::Borne
+    } else {
+        Fate::Wrong
+    })
+}
+
 // How the run ends whose call of this number, counted from 1, fails, and after which the file is removed, if one is.
 fn fate_of(alloc: Global, commit: &Commit, call: u64, removed: Option<u8>) -> Result<Fate, Fail> {
     let mut disk = FailDisk::new(alloc, before(alloc, commit)?, &[call])?;
-    let left = run_input(alloc, commit.line, &mut disk, commit.input.as_bytes())?;
-    if left.is(Status::Done, commit.out, "") {
-        return Ok(Fate::Whole);
+    let revealed = revealed_fate(alloc, &mut disk, commit)?;
+    if revealed != Fate::Borne {
+        return Ok(revealed);
     }
     if let Some(file) = removed {
         inflict(&mut disk, Harm::Cut(file, 0))?;
     }
-    let is_revealed = left.is(Status::Disk, "", "fault: disk\n");
-    Ok(if is_revealed && stands(alloc, &mut disk, commit, false)? {
+    Ok(if stands(alloc, &mut disk, commit, false)? {
         Fate::Borne
     } else {
         Fate::Wrong

@@ -45,14 +45,21 @@ fn rows() -> &'static [Row] {
     ROWS
 }
 
-// Whether the run of this row ends so, and leaves all files as they were before the damage.
-fn is_mended(alloc: Global, row: &Row) -> Result<bool, Fail> {
+// Whether the run of this row over this archive ends so, and leaves all files as they were before the damage.
+fn mends<D: Disk>(alloc: Global, disk: &mut D, row: &Row) -> Result<bool, Fail> {
     let (harms, line, want) = row;
+    let whole = files_of(alloc, disk)?;
+    Ok(
+        inflict_all(disk, harms)?
+            && ends(alloc, disk, line, *want)?
+            && has_files(alloc, disk, whole.as_slice())?,
+    )
+}
+
+// The same of an archive whose ledger has copies.
+fn is_mended(alloc: Global, row: &Row) -> Result<bool, Fail> {
     let mut disk = copied(alloc)?;
-    let whole = files_of(alloc, &mut disk)?;
-    let is_harmed = inflict_all(&mut disk, harms)?;
-    let right = ends(alloc, &mut disk, line, *want)?;
-    Ok(is_harmed && right && has_files(alloc, &mut disk, whole.as_slice())?)
+    mends(alloc, &mut disk, row)
 }
 
 #[test]
@@ -78,11 +85,20 @@ fn whole_run(alloc: Global, line: &str, input: &str) -> Result<Whole, Fail> {
     Ok(Whole { left, files })
 }
 
-// Whether two runs ended with the same status, and printed the same.
-fn is_same(one: &Left, other: &Left) -> bool {
-    one.status == other.status
-        && one.out.bytes() == other.out.bytes()
-        && one.err.bytes() == other.err.bytes()
+// Whether the run over this disk ends with the same status as that one, and prints the same.
+fn ends_the_same<D: Disk>(
+    alloc: Global,
+    line: &str,
+    input: &str,
+    disk: &mut D,
+    other: &Left,
+) -> Result<bool, AllocError> {
+    let left = run_input(alloc, line, disk, input.as_bytes())?;
+    Ok(
+        left.status == other.status
+            && left.out.bytes() == other.out.bytes()
+            && left.err.bytes() == other.err.bytes(),
+    )
 }
 
 // Whether the run ends so after this damage too, and leaves the same files.
@@ -94,10 +110,11 @@ fn is_as_whole(
     whole: &Whole,
 ) -> Result<bool, Fail> {
     let mut disk = copied(alloc)?;
-    let is_harmed = inflict(&mut disk, damage)?;
-    let left = run_input(alloc, line, &mut disk, input.as_bytes())?;
-    let right = is_harmed && is_same(&left, &whole.left);
-    Ok(right && has_files(alloc, &mut disk, whole.files.as_slice())?)
+    Ok(
+        inflict(&mut disk, damage)?
+            && ends_the_same(alloc, line, input, &mut disk, &whole.left)?
+            && has_files(alloc, &mut disk, whole.files.as_slice())?,
+    )
 }
 
 // The length of a file of such an archive.
@@ -111,21 +128,22 @@ const STEP: u64 = 17;
 
 const GATES: [u64; 5] = [9, 17, 63, 202, 285];
 
-// The first of these places of the file where a flipped bit, or a cut there, is not mended by the run.
+// The first of these places of the file where a flipped bit, or a cut there, is not mended by the run, which leaves this over a whole
+// archive.
 fn first_wrong_place(
     alloc: Global,
     line: &str,
     input: &str,
     file: u8,
+    whole: &Whole,
 ) -> Result<Option<u64>, Fail> {
-    let whole = whole_run(alloc, line, input)?;
     let long = length_of(alloc, file)?;
     for at in 0..long {
         if at % STEP != 0 && !GATES.contains(&at) {
             continue;
         }
         for damage in [Harm::Flip(file, at), Harm::Cut(file, at)] {
-            if !is_as_whole(alloc, line, input, damage, &whole)? {
+            if !is_as_whole(alloc, line, input, damage, whole)? {
                 return Ok(Some(at));
             }
         }
@@ -135,8 +153,9 @@ fn first_wrong_place(
 
 // The first of the three files where a place is not mended by the run.
 fn first_wrong_file(alloc: Global, line: &str, input: &str) -> Result<Option<u8>, Fail> {
+    let whole = whole_run(alloc, line, input)?;
     for file in THREE {
-        if first_wrong_place(alloc, line, input, file)?.is_some() {
+        if first_wrong_place(alloc, line, input, file, &whole)?.is_some() {
             return Ok(Some(file));
         }
     }

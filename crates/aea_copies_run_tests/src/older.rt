@@ -1,38 +1,37 @@
 //! Files that are as they were before a run, or are those of another archive.
 
-use crate::archives::{copied, ends, files_of, has_files, other};
-use crate::commits::{commits, put};
+use crate::archives::{THREE, copied, files_of, has_files, mends_files, other, take_from};
+use crate::commits::{Commit, commits, put};
 use aea_cli::Status;
 use aea_disk::Disk;
-use aea_test_helpers::{file_bytes, fill_file};
+use aea_test_helpers::fill_file;
 use std::alloc::Global;
 use std::test::Fail;
 
-// Gives these files of a disk the bytes that they have on another one.
-fn take_from<D: Disk, E: Disk>(
+// Gives these files of a disk the bytes that they had before the put.
+fn make_older<D: Disk>(alloc: Global, disk: &mut D, older: &[u8]) -> Result<(), Fail> {
+    let mut before = copied(alloc)?;
+    take_from(alloc, disk, &mut before, older)
+}
+
+// Whether this is listed once these files are made as they were before the put, and all files are then as they are now.
+fn catches_up<D: Disk>(
     alloc: Global,
     disk: &mut D,
-    from: &mut E,
-    files: &[u8],
-) -> Result<(), Fail> {
-    for file in files {
-        let bytes = file_bytes(alloc, from, *file)?;
-        fill_file(disk, *file, bytes.as_slice())?;
-    }
-    Ok(())
+    older: &[u8],
+    listed: &str,
+) -> Result<bool, Fail> {
+    let files = files_of(alloc, disk)?;
+    make_older(alloc, disk, older)?;
+    let want = (Status::Done, listed, "");
+    mends_files(alloc, disk, files.as_slice(), "list", want)
 }
 
 // Whether the objects of after a put are listed where these files are as they were before it, and all files are as after it then.
 fn is_caught_up(alloc: Global, older: &[u8]) -> Result<bool, Fail> {
     let mut disk = copied(alloc)?;
     let put = put();
-    let is_stored = commits(alloc, &mut disk, &put)?;
-    let files = files_of(alloc, &mut disk)?;
-    take_from(alloc, &mut disk, &mut copied(alloc)?, older)?;
-    let is_changed = !has_files(alloc, &mut disk, files.as_slice())?;
-    let is_listed = ends(alloc, &mut disk, "list", (Status::Done, put.listed, ""))?;
-    let right = is_stored && is_changed && is_listed;
-    Ok(right && has_files(alloc, &mut disk, files.as_slice())?)
+    Ok(commits(alloc, &mut disk, &put)? && catches_up(alloc, &mut disk, older, put.listed)?)
 }
 
 #[test]
@@ -45,16 +44,18 @@ fn an_older_file_is_made_whole(rt: HostRuntime) -> Result<(), Fail> {
     Ok(())
 }
 
+// Whether this put is made once more where all three files are as they were before it, and all files are then as they are now.
+fn commits_again<D: Disk>(alloc: Global, disk: &mut D, put: &Commit) -> Result<bool, Fail> {
+    let files = files_of(alloc, disk)?;
+    make_older(alloc, disk, &THREE)?;
+    Ok(commits(alloc, disk, put)? && has_files(alloc, disk, files.as_slice())?)
+}
+
 // Whether the archive is the one before a put where all three files are so, and the put is made again.
 fn is_put_again(alloc: Global) -> Result<bool, Fail> {
     let mut disk = copied(alloc)?;
     let put = put();
-    let is_stored = commits(alloc, &mut disk, &put)?;
-    let files = files_of(alloc, &mut disk)?;
-    take_from(alloc, &mut disk, &mut copied(alloc)?, &[0, 65, 66])?;
-    let is_again = commits(alloc, &mut disk, &put)?;
-    let right = is_stored && is_again;
-    Ok(right && has_files(alloc, &mut disk, files.as_slice())?)
+    Ok(commits(alloc, &mut disk, &put)? && commits_again(alloc, &mut disk, &put)?)
 }
 
 #[test]
@@ -64,17 +65,23 @@ fn three_older_files_are_the_older_archive(rt: HostRuntime) -> Result<(), Fail> 
     Ok(())
 }
 
+// Makes the ledger that of another archive, and removes these files.
+fn take_other<D: Disk>(alloc: Global, disk: &mut D, removed: &[u8]) -> Result<(), Fail> {
+    let mut from = other(alloc)?;
+    take_from(alloc, disk, &mut from, &[0])?;
+    for file in removed {
+        fill_file(disk, *file, b"")?;
+    }
+    Ok(())
+}
+
 // Whether the archive is the one of its copies where the ledger is that of another one, with one copy gone too, if that is said.
 fn is_its_own(alloc: Global, removed: &[u8]) -> Result<bool, Fail> {
     let mut disk = copied(alloc)?;
     let files = files_of(alloc, &mut disk)?;
-    take_from(alloc, &mut disk, &mut other(alloc)?, &[0])?;
-    for file in removed {
-        fill_file(&mut disk, *file, b"")?;
-    }
-    let is_changed = !has_files(alloc, &mut disk, files.as_slice())?;
-    let is_got = ends(alloc, &mut disk, "get a", (Status::Done, "abc", ""))?;
-    Ok(is_changed && is_got && has_files(alloc, &mut disk, files.as_slice())?)
+    take_other(alloc, &mut disk, removed)?;
+    let want = (Status::Done, "abc", "");
+    mends_files(alloc, &mut disk, files.as_slice(), "get a", want)
 }
 
 #[test]

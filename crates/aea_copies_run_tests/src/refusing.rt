@@ -1,12 +1,14 @@
 //! Copies that are refused: where both are bad, and where they differ.
 
-use crate::archives::{LINE, LISTED, copied, ends, files_of, has_files, other};
+use crate::archives::{
+    LINE, LISTED, begin_copies, copied, ends, files_of, has_files, leaves_files, other, store,
+    take_from,
+};
 use crate::harms::{Harm, inflict_all};
 use aea_cli::Status;
 use aea_disk::{Disk, SureDisk};
-use aea_runs::{run_input, run_over, run_put};
-use aea_test_helpers::{file_bytes, fill_file};
-use std::alloc::Global;
+use aea_runs::run_input;
+use std::alloc::{AllocError, Global};
 use std::test::Fail;
 
 // A line for each command that uses the disk.
@@ -42,8 +44,9 @@ fn first_not_refused<D: Disk>(
 ) -> Result<Option<&'static str>, Fail> {
     let files = files_of(alloc, disk)?;
     for line in lines() {
-        let is_said = ends(alloc, disk, line, (Status::Refused, "", err))?;
-        if !is_said || !has_files(alloc, disk, files.as_slice())? {
+        if !ends(alloc, disk, line, (Status::Refused, "", err))?
+            || !has_files(alloc, disk, files.as_slice())?
+        {
             return Ok(Some(line));
         }
     }
@@ -121,9 +124,8 @@ fn two_bad_copies_refuse_each_command(rt: HostRuntime) -> Result<(), Fail> {
 // The example's archive with another object, of the same length and with a name that is as long.
 fn twin(alloc: Global) -> Result<SureDisk, Fail> {
     let mut disk = SureDisk::new(alloc, 4, 1024, 1024)?;
-    let _made = run_over(alloc, LINE, &mut disk, 99)?;
-    let _stored = run_put(alloc, &mut disk, "b", b"abc")?;
-    let _begun = run_over(alloc, "copies", &mut disk, 99)?;
+    store(alloc, &mut disk, LINE, "b", b"abc")?;
+    begin_copies(alloc, &mut disk)?;
     Ok(disk)
 }
 
@@ -136,8 +138,7 @@ fn first_past_other(
     err: &str,
 ) -> Result<Option<&'static str>, Fail> {
     let mut disk = copied(alloc)?;
-    let bytes = file_bytes(alloc, from, file)?;
-    fill_file(&mut disk, file, bytes.as_slice())?;
+    take_from(alloc, &mut disk, from, &[file])?;
     if !inflict_all(&mut disk, harms)? {
         return Ok(Some("no such place"));
     }
@@ -161,23 +162,43 @@ fn first_past_difference(
     Ok(None)
 }
 
-// The other archive's texts differ from these first in the shape, at place 9, or in the name of the object, at 25.
+// The first line that is not refused where the texts differ first in the shape, at place 9.
+fn first_past_other_shape(alloc: Global) -> Result<Option<&'static str>, Fail> {
+    let mut from = other(alloc)?;
+    first_past_difference(alloc, &mut from, "refused: copies differ at 9\n")
+}
+
+// The first line that is not refused where the texts differ first in the name of the object, at 25.
+fn first_past_other_name(alloc: Global) -> Result<Option<&'static str>, Fail> {
+    let mut from = twin(alloc)?;
+    first_past_difference(alloc, &mut from, "refused: copies differ at 25\n")
+}
+
 #[test]
 fn two_copies_that_differ_refuse_each_command(rt: HostRuntime) -> Result<(), Fail> {
-    let alloc = rt.alloc();
-    let found = first_past_difference(alloc, &mut other(alloc)?, "refused: copies differ at 9\n")?;
-    assert!(rt; found.is_none());
-    let found = first_past_difference(alloc, &mut twin(alloc)?, "refused: copies differ at 25\n")?;
-    assert!(rt; found.is_none());
+    let shape = first_past_other_shape(rt.alloc())?;
+    let name = first_past_other_name(rt.alloc())?;
+    assert!(rt; shape.is_none() && name.is_none());
     Ok(())
+}
+
+// Whether a run of the line with a block on its input ends so, with nothing on the errors.
+fn prints<D: Disk>(
+    alloc: Global,
+    disk: &mut D,
+    line: &str,
+    status: Status,
+    out: &str,
+) -> Result<bool, AllocError> {
+    let left = run_input(alloc, line, disk, b"d1\n")?;
+    Ok(left.is(status, out, ""))
 }
 
 // Whether a line of a command that uses no disk prints this over two bad copies.
 fn is_not_refused(alloc: Global, line: &str, status: Status, out: &str) -> Result<bool, Fail> {
     let mut disk = copied(alloc)?;
-    let is_harmed = inflict_all(&mut disk, &[Harm::Flip(65, 100), Harm::Flip(66, 100)])?;
-    let left = run_input(alloc, line, &mut disk, b"d1\n")?;
-    Ok(is_harmed && left.is(status, out, ""))
+    let harms = [Harm::Flip(65, 100), Harm::Flip(66, 100)];
+    Ok(inflict_all(&mut disk, &harms)? && prints(alloc, &mut disk, line, status, out)?)
 }
 
 const DRILLED: &str = "aea-report 1\nlattice 1 1 0 3\nledger none\ncounts 1 1 0 0\npeeled d1\n";
@@ -187,9 +208,8 @@ const REHEARSED: &str = "nodes 1 blocks 4 damaged 4 peeled 0 solved 0 lost 4 acc
 #[test]
 fn a_command_that_uses_no_disk_is_not_refused(rt: HostRuntime) -> Result<(), Fail> {
     let drills = is_not_refused(rt.alloc(), "drill 1 1 0 3", Status::Done, DRILLED)?;
-    assert!(rt; drills);
     let rehearses = is_not_refused(rt.alloc(), "rehearse 7 1 1000", Status::Damage, REHEARSED)?;
-    assert!(rt; rehearses);
+    assert!(rt; drills && rehearses);
     Ok(())
 }
 
@@ -200,11 +220,12 @@ fn is_of_the_ledger(
     want: (Status, &str, &str),
 ) -> Result<bool, Fail> {
     let mut disk = copied(alloc)?;
-    let are_gone = inflict_all(&mut disk, &[Harm::Cut(65, 9), Harm::Byte(66, 0, 255)])?;
-    let is_harmed = inflict_all(&mut disk, harms)?;
-    let files = files_of(alloc, &mut disk)?;
-    let right = are_gone && is_harmed && ends(alloc, &mut disk, "list", want)?;
-    Ok(right && has_files(alloc, &mut disk, files.as_slice())?)
+    let gone = [Harm::Cut(65, 9), Harm::Byte(66, 0, 255)];
+    Ok(
+        inflict_all(&mut disk, &gone)?
+            && inflict_all(&mut disk, harms)?
+            && leaves_files(alloc, &mut disk, "list", want)?,
+    )
 }
 
 #[test]

@@ -72,21 +72,30 @@ fn is_revealed(left: &Left, replies: &[u8]) -> bool {
         && replies.starts_with(left.out.bytes())
 }
 
-// Whether a session over copies ends as this one without, and its objects are kept.
-fn is_as_without(alloc: Global, plain: &Left) -> Result<bool, Fail> {
-    let mut disk = raised_with_copies(alloc)?;
-    let left = run_input(alloc, "session", &mut disk, stream())?;
+// What the session over the archive without copies leaves.
+fn plain_session(alloc: Global) -> Result<Left, AllocError> {
+    let mut disk = raised(alloc)?;
+    run_input(alloc, "session", &mut disk, stream())
+}
+
+// Whether the session over this disk ends as the one without copies.
+fn ends_as_without<D: Disk>(alloc: Global, disk: &mut D) -> Result<bool, AllocError> {
+    let plain = plain_session(alloc)?;
+    let left = run_input(alloc, "session", disk, stream())?;
     let is_done = plain.status == Status::Done && left.status == Status::Done;
     let is_same = left.out.bytes() == plain.out.bytes() && left.unread == plain.unread;
-    let is_whole = is_done && is_same && left.out.bytes().len() == 2 * REPLIES;
-    Ok(is_whole && has_uploads(alloc, &mut disk, 2)?)
+    Ok(is_done && is_same && left.out.bytes().len() == 2 * REPLIES)
+}
+
+// Whether a session over copies ends as the one without, and its objects are kept.
+fn is_as_without(alloc: Global) -> Result<bool, Fail> {
+    let mut disk = raised_with_copies(alloc)?;
+    Ok(ends_as_without(alloc, &mut disk)? && has_uploads(alloc, &mut disk, 2)?)
 }
 
 #[test]
 fn a_session_over_copies_ends_as_without(rt: HostRuntime) -> Result<(), Fail> {
-    let mut disk = raised(rt.alloc())?;
-    let plain = run_input(rt.alloc(), "session", &mut disk, stream())?;
-    let right = is_as_without(rt.alloc(), &plain)?;
+    let right = is_as_without(rt.alloc())?;
     assert!(rt; right);
     Ok(())
 }
@@ -96,17 +105,25 @@ const MANY: u64 = 600;
 
 const FEW: u64 = 20;
 
-// The first call of the disk whose fault the session does not bear as it should: an upload whose close was replied to is there.
+// How the session ends whose call of the disk of this number fails: none where it is whole, and else whether it bears the fault as
+// it should, when an upload whose close was replied to is there.
+fn bears_fault(alloc: Global, call: u64, replies: &[u8]) -> Result<Option<bool>, Fail> {
+    let mut disk = FailDisk::new(alloc, raised_with_copies(alloc)?, &[call])?;
+    let left = run_input(alloc, "session", &mut disk, stream())?;
+    if left.status == Status::Done {
+        return Ok(None);
+    }
+    let closed = left.out.bytes().len() / REPLIES;
+    Ok(Some(is_revealed(&left, replies) && has_uploads(alloc, &mut disk, closed)?))
+}
+
+// The first call whose fault the session does not bear.
 fn first_wrong_call(alloc: Global, replies: &[u8]) -> Result<Option<u64>, Fail> {
     for call in 1..MANY {
-        let mut disk = FailDisk::new(alloc, raised_with_copies(alloc)?, &[call])?;
-        let left = run_input(alloc, "session", &mut disk, stream())?;
-        if left.status == Status::Done {
-            return Ok(if call < FEW { Some(call) } else { None });
-        }
-        let closed = left.out.bytes().len() / REPLIES;
-        if !is_revealed(&left, replies) || !has_uploads(alloc, &mut disk, closed)? {
-            return Ok(Some(call));
+        match bears_fault(alloc, call, replies)? {
+            None => return Ok(if call < FEW { Some(call) } else { None }),
+            Some(true) => {}
+            Some(false) => return Ok(Some(call)),
         }
     }
     Ok(Some(MANY))
@@ -114,8 +131,7 @@ fn first_wrong_call(alloc: Global, replies: &[u8]) -> Result<Option<u64>, Fail> 
 
 #[test]
 fn a_session_over_copies_ends_with_each_fault(rt: HostRuntime) -> Result<(), Fail> {
-    let mut disk = raised(rt.alloc())?;
-    let plain = run_input(rt.alloc(), "session", &mut disk, stream())?;
+    let plain = plain_session(rt.alloc())?;
     let found = first_wrong_call(rt.alloc(), plain.out.bytes())?;
     assert!(rt; found == None);
     Ok(())

@@ -1,8 +1,8 @@
 //! Copies with each byte changed and each cut, beside a plain judge; and two good copies with other texts.
 
-use crate::example::{ENDS, FENCE, copy_of, example_copy, joined, ledger};
+use crate::example::{ENDS, copy_of, example_copy, fenced, joined, ledger};
 use crate::plain::{Plain, judge_plainly, part};
-use crate::three::{Answer, EXAMPLE, Three, adopts, disk_of, has_all, has_example, leaves, whole};
+use crate::three::{Answer, EXAMPLE, Three, adopts, copied_disk, has_example, leaves, whole};
 use sha2::{Digest, Sha256};
 use std::alloc::{AllocError, Global};
 use std::test::Fail;
@@ -52,6 +52,38 @@ fn ledger_of(plain: Plain) -> [u8; 203] {
     bytes
 }
 
+// Whether both copies with these bytes, which are this, are answered and left, and the ledger mended, as the plain judge has it.
+fn are_adopted_rightly(
+    alloc: Global,
+    ledger: &[u8],
+    bytes: &[u8],
+    plain: Plain,
+) -> Result<bool, AllocError> {
+    let new = ledger_of(plain);
+    let want = answer_of(plain);
+    leaves(alloc, &whole(ledger, bytes), want, &whole(&new, bytes))
+}
+
+// Whether this ledger, the example's, and these two copies are adopted as the example, and it and these two copies are left.
+fn becomes(
+    alloc: Global,
+    ledger: &[u8],
+    copies: (&[u8], &[u8]),
+    left: (&[u8], &[u8]),
+) -> Result<bool, AllocError> {
+    let old = Three {
+        ledger,
+        first: copies.0,
+        second: copies.1,
+    };
+    let new = Three {
+        ledger,
+        first: left.0,
+        second: left.1,
+    };
+    leaves(alloc, &old, EXAMPLE, &new)
+}
+
 // Whether a copy with these bytes is answered and mended as the plain judge has it: as both copies, and as one beside a good one.
 fn is_adopted_rightly<'a>(
     alloc: Global,
@@ -59,40 +91,13 @@ fn is_adopted_rightly<'a>(
     good: &'a [u8],
 ) -> Result<bool, AllocError> {
     let plain = judge_plainly(alloc, bytes)?;
-    let ledger = ledger();
-    let cut = ledger_of(plain);
-    let both = whole(&ledger, bytes);
-    if !leaves(alloc, &both, answer_of(plain), &whole(&cut, bytes))? {
-        return Ok(false);
-    }
     let stays = if plain == WHOLE { bytes } else { good };
-    let first = Three {
-        first: bytes,
-        ..whole(&ledger, good)
-    };
-    let second = Three {
-        second: bytes,
-        ..whole(&ledger, good)
-    };
-    let one = leaves(
-        alloc,
-        &first,
-        EXAMPLE,
-        &Three {
-            first: stays,
-            ..first
-        },
-    )?;
-    let other = leaves(
-        alloc,
-        &second,
-        EXAMPLE,
-        &Three {
-            second: stays,
-            ..second
-        },
-    )?;
-    Ok(one && other)
+    let ledger = ledger();
+    Ok(
+        are_adopted_rightly(alloc, &ledger, bytes, plain)?
+            && becomes(alloc, &ledger, (bytes, good), (stays, good))?
+            && becomes(alloc, &ledger, (good, bytes), (good, stays))?,
+    )
 }
 
 // The first place at which a change of the byte is not answered or mended as it should be.
@@ -160,23 +165,28 @@ fn other_text(at: usize, flips: u8) -> [u8; 203] {
     text
 }
 
+// Whether these two copies are refused since their texts differ first at this place, and left as they are.
+fn are_refused(
+    alloc: Global,
+    first: &[u8],
+    second: &[u8],
+    place: usize,
+) -> Result<bool, AllocError> {
+    let ledger = ledger();
+    let files = Three {
+        ledger: &ledger,
+        first,
+        second,
+    };
+    leaves(alloc, &files, Answer::Differ { at: place as u64 }, &files)
+}
+
 // Whether two good copies whose texts differ first at this place are refused, whichever is first, and left as they are.
 fn differ_at(alloc: Global, place: usize) -> Result<bool, AllocError> {
     let one = example_copy(alloc)?;
     let other = copy_of(alloc, &other_text(place, 128), ENDS)?;
-    let ledger = ledger();
-    let files = Three {
-        ledger: &ledger,
-        first: one.as_slice(),
-        second: other.as_slice(),
-    };
-    let flipped = Three {
-        first: other.as_slice(),
-        second: one.as_slice(),
-        ..files
-    };
-    let want = Answer::Differ { at: place as u64 };
-    Ok(leaves(alloc, &files, want, &files)? && leaves(alloc, &flipped, want, &flipped)?)
+    let (one, other) = (one.as_slice(), other.as_slice());
+    Ok(are_refused(alloc, one, other, place)? && are_refused(alloc, other, one, place)?)
 }
 
 // Every byte of a text may be another one but the gates and the lengths of its records.
@@ -193,17 +203,12 @@ fn texts_that_differ_are_refused_at_the_place(rt: HostRuntime) -> Result<(), Fai
 fn keeps_the_longer(alloc: Global, pieces: usize) -> Result<bool, AllocError> {
     let copy = example_copy(alloc)?;
     let short = copy_of(alloc, &ledger(), &ENDS[..pieces.min(ENDS.len())])?;
+    let (copy, short) = (copy.as_slice(), short.as_slice());
     let ledger = ledger();
-    let first = Three {
-        first: short.as_slice(),
-        ..whole(&ledger, copy.as_slice())
-    };
-    let second = Three {
-        second: short.as_slice(),
-        ..whole(&ledger, copy.as_slice())
-    };
-    let good = whole(&ledger, copy.as_slice());
-    Ok(leaves(alloc, &first, EXAMPLE, &good)? && leaves(alloc, &second, EXAMPLE, &good)?)
+    Ok(
+        becomes(alloc, &ledger, (short, copy), (copy, copy))?
+            && becomes(alloc, &ledger, (copy, short), (copy, copy))?,
+    )
 }
 
 #[test]
@@ -215,22 +220,32 @@ fn the_longer_copy_is_kept(rt: HostRuntime) -> Result<(), Fail> {
     Ok(())
 }
 
-// A copy with a record more than the other: the ledger becomes the longer one.
-fn adds_the_record(alloc: Global) -> Result<bool, AllocError> {
-    let text = joined(alloc, part(&ledger(), 0, 202), FENCE)?;
-    let long = copy_of(alloc, text.as_slice(), &[17, 202, 212])?;
-    let copy = example_copy(alloc)?;
+// Whether of these copies the second one, which has a record more, is kept, and the ledger becomes this longer one.
+fn follows<'x>(
+    alloc: Global,
+    copy: &'x [u8],
+    long: &'x [u8],
+    new: &'x [u8],
+) -> Result<bool, AllocError> {
     let old = ledger();
     let files = Three {
-        second: long.as_slice(),
-        ..whole(&old, copy.as_slice())
+        second: long,
+        ..whole(&old, copy)
     };
-    let new = joined(alloc, text.as_slice(), b"\0")?;
     let want = Answer::On {
         end: 212,
         gate: 332,
     };
-    leaves(alloc, &files, want, &whole(new.as_slice(), long.as_slice()))
+    leaves(alloc, &files, want, &whole(new, long))
+}
+
+// A copy with a record more than the other: the ledger becomes the longer one.
+fn adds_the_record(alloc: Global) -> Result<bool, AllocError> {
+    let new = fenced(alloc)?;
+    let text = part(new.as_slice(), 0, 212);
+    let long = copy_of(alloc, text, &[17, 202, 212])?;
+    let copy = example_copy(alloc)?;
+    follows(alloc, copy.as_slice(), long.as_slice(), new.as_slice())
 }
 
 #[test]
@@ -251,15 +266,19 @@ fn no_copies_are_off(rt: HostRuntime) -> Result<(), Fail> {
     Ok(())
 }
 
+// Whether a disk whose copies are whole is adopted twice with the same answer, and has the example's files then.
+fn is_adopted_twice(alloc: Global) -> Result<bool, AllocError> {
+    let Some(mut disk) = copied_disk(alloc, b"")? else {
+        return Ok(false);
+    };
+    let twice = adopts(&mut disk) == EXAMPLE && adopts(&mut disk) == EXAMPLE;
+    Ok(twice && has_example(alloc, &mut disk)?)
+}
+
 // A disk whose ledger and copies are whole is adopted twice with the same answer.
 #[test]
 fn what_was_adopted_is_adopted_again(rt: HostRuntime) -> Result<(), Fail> {
-    let copy = example_copy(rt.alloc())?;
-    let Some(mut disk) = disk_of(rt.alloc(), &whole(b"", copy.as_slice()))? else {
-        panic!(rt; "no disk");
-    };
-    assert!(rt; adopts(&mut disk) == EXAMPLE && adopts(&mut disk) == EXAMPLE);
-    let right = has_example(rt.alloc(), &mut disk)?;
-    assert!(rt; right && has_all(&mut disk, &whole(&ledger(), copy.as_slice())));
+    let right = is_adopted_twice(rt.alloc())?;
+    assert!(rt; right);
     Ok(())
 }

@@ -60,6 +60,18 @@ pub fn joined(alloc: Global, one: &[u8], other: &[u8]) -> Result<Vec<u8>, AllocE
     Ok(bytes)
 }
 
+// The link of an entry with this piece, and these bytes for its length, after a link.
+fn next_link(
+    alloc: Global,
+    link: [u8; 32],
+    count: &[u8],
+    piece: &[u8],
+) -> Result<[u8; 32], AllocError> {
+    let mut hashed = joined(alloc, &link, count)?;
+    hashed.extend_from_slice(piece)?;
+    Ok(Sha256::digest(hashed.as_slice()))
+}
+
 // Adds an entry with this piece after a link, and gives its link.
 fn add_entry(
     alloc: Global,
@@ -68,9 +80,7 @@ fn add_entry(
     piece: &[u8],
 ) -> Result<[u8; 32], AllocError> {
     let count = u32::try_from(piece.len()).unwrap_or(0).to_be_bytes();
-    let mut hashed = joined(alloc, &link, &count)?;
-    hashed.extend_from_slice(piece)?;
-    let next = Sha256::digest(hashed.as_slice());
+    let next = next_link(alloc, link, &count, piece)?;
     bytes.push(1)?;
     bytes.extend_from_slice(&count)?;
     bytes.extend_from_slice(piece)?;
@@ -89,6 +99,22 @@ pub fn copy_of(alloc: Global, text: &[u8], ends: &[u64]) -> Result<Vec<u8>, Allo
         from = *end;
     }
     bytes.push(0)?;
+    Ok(bytes)
+}
+
+/// The ledger with a fence more.
+pub fn fenced(alloc: Global) -> Result<Vec<u8>, AllocError> {
+    let mut bytes = joined(alloc, part(&ledger(), 0, 202), FENCE)?;
+    bytes.push(0)?;
+    Ok(bytes)
+}
+
+/// The same where the gate before the fence is closed.
+pub fn closed(alloc: Global) -> Result<Vec<u8>, AllocError> {
+    let mut bytes = fenced(alloc)?;
+    if let Some(gate) = bytes.get_mut(202) {
+        *gate = 0;
+    }
     Ok(bytes)
 }
 

@@ -1,14 +1,15 @@
 //! A disk that keeps two copies up: what it hides and refuses, and records that are added over it, with stops and faults.
 
-use crate::example::{FENCE, RAISE, copy_of, example_copy, joined, ledger};
+use crate::example::{FENCE, RAISE, copy_of, example_copy, fenced, joined, ledger};
 use crate::plain::part;
 use crate::stops::LOSSES;
 use crate::three::{
-    Answer, EXAMPLE, adopts, cut, disk_of, has, has_all, has_example, put, set, set_all, whole,
+    Answer, EXAMPLE, adopts, copied_disk, cut, disk_of, has, has_all, has_example, put, set,
+    set_all, whole,
 };
 use crate::watched::Watched;
 use aea_adopt::adopt;
-use aea_disk::{Disk, DiskFault, FailDisk, MemDisk};
+use aea_disk::{Disk, DiskFault, FailDisk, MemDisk, SureDisk};
 use aea_ledger::open_ledger;
 use aea_mirror::Mirror;
 use std::alloc::{AllocError, Global};
@@ -26,21 +27,11 @@ const RAISED: Answer = Answer::On {
 };
 
 // The example with a fence, and with a raise of the limit after it.
-fn fenced(alloc: Global) -> Result<Vec<u8>, AllocError> {
-    joined(
-        alloc,
-        &joined(alloc, part(&ledger(), 0, 202), FENCE)?,
-        b"\0",
-    )
-}
-
 fn raised(alloc: Global) -> Result<Vec<u8>, AllocError> {
-    let text = joined(
-        alloc,
-        &joined(alloc, part(&ledger(), 0, 202), FENCE)?,
-        RAISE,
-    )?;
-    joined(alloc, &text, b"\0")
+    let mut text = joined(alloc, part(&ledger(), 0, 202), FENCE)?;
+    text.extend_from_slice(RAISE)?;
+    text.push(0)?;
+    Ok(text)
 }
 
 // Whether a Mirror shows no copies, and refuses what would change them, also where it would change nothing.
@@ -73,18 +64,21 @@ fn guards<D: Disk>(mirror: &mut Mirror<D>) -> bool {
     refused == [Err(DiskFault); 4] && taken == [Ok(()); 3]
 }
 
+// Whether a Mirror over this disk does both.
+fn refuses<D: Disk>(disk: &mut D) -> bool {
+    let Ok(adopted) = adopt(disk) else {
+        return false;
+    };
+    let mut mirror = Mirror::new(disk, adopted);
+    hides(&mut mirror) && guards(&mut mirror)
+}
+
 // Whether a Mirror over the example does both, and leaves its files.
 fn refuses_rightly(alloc: Global) -> Result<bool, AllocError> {
-    let copy = example_copy(alloc)?;
-    let Some(mut disk) = disk_of(alloc, &whole(&ledger(), copy.as_slice()))? else {
+    let Some(mut disk) = copied_disk(alloc, &ledger())? else {
         return Ok(false);
     };
-    let Ok(adopted) = adopt(&mut disk) else {
-        return Ok(false);
-    };
-    let mut mirror = Mirror::new(&mut disk, adopted);
-    let right = hides(&mut mirror) && guards(&mut mirror);
-    Ok(right && has_example(alloc, &mut disk)?)
+    Ok(refuses(&mut disk) && has_example(alloc, &mut disk)?)
 }
 
 #[test]
@@ -123,18 +117,20 @@ fn adds_over<D: Disk>(alloc: Global, disk: &mut D, raises: bool) -> bool {
     }
 }
 
-// Whether both records are in the ledger and in both copies, once they were added one after the other.
-fn keeps_up(alloc: Global) -> Result<bool, AllocError> {
-    let copy = example_copy(alloc)?;
-    let Some(mut disk) = disk_of(alloc, &whole(&ledger(), copy.as_slice()))? else {
-        return Ok(false);
-    };
-    if !adds_over(alloc, &mut disk, true) {
-        return Ok(false);
-    }
+// Whether the example with both records is in the ledger and in both copies.
+fn has_raised<D: Disk>(alloc: Global, disk: &mut D) -> Result<bool, AllocError> {
     let text = raised(alloc)?;
     let new = copy_of(alloc, text.as_slice(), &[17, 202, 212, 222])?;
-    Ok(has_all(&mut disk, &whole(text.as_slice(), new.as_slice())) && adopts(&mut disk) == RAISED)
+    Ok(has_all(disk, &whole(text.as_slice(), new.as_slice())))
+}
+
+// Whether both records are in the ledger and in both copies, once they were added one after the other.
+fn keeps_up(alloc: Global) -> Result<bool, AllocError> {
+    let Some(mut disk) = copied_disk(alloc, &ledger())? else {
+        return Ok(false);
+    };
+    let added = adds_over(alloc, &mut disk, true);
+    Ok(added && has_raised(alloc, &mut disk)? && adopts(&mut disk) == RAISED)
 }
 
 #[test]
@@ -144,11 +140,18 @@ fn each_record_gets_into_both_copies(rt: HostRuntime) -> Result<(), Fail> {
     Ok(())
 }
 
+// A disk with the example's ledger, and its copies where this is said.
+fn example_disk(alloc: Global, copied: bool) -> Result<Option<SureDisk>, AllocError> {
+    if copied {
+        copied_disk(alloc, &ledger())
+    } else {
+        disk_of(alloc, &whole(&ledger(), b""))
+    }
+}
+
 // What a commit takes of the disk: writes and syncs, and reads.
 fn taken(alloc: Global, copied: bool) -> Result<Option<(u64, u64, u64)>, AllocError> {
-    let copy = example_copy(alloc)?;
-    let three = if copied { copy.as_slice() } else { b"" };
-    let Some(inner) = disk_of(alloc, &whole(&ledger(), three))? else {
+    let Some(inner) = example_disk(alloc, copied)? else {
         return Ok(None);
     };
     let mut disk = Watched::new(inner);
@@ -233,14 +236,21 @@ fn listed(alloc: Global) -> Result<Option<MemDisk>, AllocError> {
     Ok(made.then_some(disk))
 }
 
-#[test]
-fn a_record_survives_each_stop_and_loss(rt: HostRuntime) -> Result<(), Fail> {
-    let Some(mut disk) = listed(rt.alloc())? else {
-        panic!(rt; "no disk");
+// The first call of adding a fence after which a stop leaves something else; 0 where it is not added.
+fn first_wrong_stop_of_fence(alloc: Global) -> Result<Option<u64>, AllocError> {
+    let Some(mut disk) = listed(alloc)? else {
+        return Ok(Some(0));
     };
     let begun = disk.calls();
-    assert!(rt; adds_over(rt.alloc(), &mut disk, false));
-    let wrong = first_wrong_stop(rt.alloc(), &disk, begun, FENCED)?;
+    if !adds_over(alloc, &mut disk, false) {
+        return Ok(Some(0));
+    }
+    first_wrong_stop(alloc, &disk, begun, FENCED)
+}
+
+#[test]
+fn a_record_survives_each_stop_and_loss(rt: HostRuntime) -> Result<(), Fail> {
+    let wrong = first_wrong_stop_of_fence(rt.alloc())?;
     assert!(rt; wrong.is_none());
     Ok(())
 }
@@ -262,45 +272,55 @@ fn adds_two<D: Disk>(alloc: Global, disk: &mut D) -> Result<bool, AllocError> {
     Ok(calls == [Ok(()); 4])
 }
 
-#[test]
-fn two_records_are_copied_at_once(rt: HostRuntime) -> Result<(), Fail> {
-    let Some(mut disk) = listed(rt.alloc())? else {
-        panic!(rt; "no disk");
+// The first call of adding two records after which a stop leaves something else; 0 where they are not added.
+fn first_wrong_stop_of_two(alloc: Global) -> Result<Option<u64>, AllocError> {
+    let Some(mut disk) = listed(alloc)? else {
+        return Ok(Some(0));
     };
     let begun = disk.calls();
-    let right = adds_two(rt.alloc(), &mut disk)?;
-    assert!(rt; right);
-    let wrong = first_wrong_stop(rt.alloc(), &disk, begun, RAISED)?;
+    if !adds_two(alloc, &mut disk)? {
+        return Ok(Some(0));
+    }
+    first_wrong_stop(alloc, &disk, begun, RAISED)
+}
+
+#[test]
+fn two_records_are_copied_at_once(rt: HostRuntime) -> Result<(), Fail> {
+    let wrong = first_wrong_stop_of_two(rt.alloc())?;
     assert!(rt; wrong.is_none());
     Ok(())
 }
 
-// Whether a sync of what is no list of whole records is refused before a copy is written, and taken once the gate is closed.
-fn refuses_broken(alloc: Global, behind: &[u8]) -> Result<bool, AllocError> {
-    let copy = example_copy(alloc)?;
-    let Some(inner) = disk_of(alloc, &whole(&ledger(), copy.as_slice()))? else {
-        return Ok(false);
+// Whether a sync of what is no list of whole records is refused by a Mirror of this disk, and taken once the gate is closed.
+fn refuses_until_closed<D: Disk>(disk: &mut D, behind: &[u8]) -> bool {
+    let Ok(adopted) = adopt(disk) else {
+        return false;
     };
-    let mut disk = Watched::new(inner);
-    let Ok(adopted) = adopt(&mut disk) else {
-        return Ok(false);
-    };
-    let mut mirror = Mirror::new(&mut disk, adopted);
+    let mut mirror = Mirror::new(disk, adopted);
     let calls = [
         put(&mut mirror, 0, 203, behind),
         put(&mut mirror, 0, 202, b"\x01"),
     ];
     let refused = mirror.sync();
     let closed = [put(&mut mirror, 0, 202, b"\0"), mirror.sync()];
-    let stays = has(&mut disk, 65, copy.as_slice()) && has(&mut disk, 66, copy.as_slice());
+    calls == [Ok(()); 2] && refused == Err(DiskFault) && closed == [Ok(()); 2]
+}
+
+// Whether both copies are those of the example.
+fn has_copies<D: Disk>(alloc: Global, disk: &mut D) -> Result<bool, AllocError> {
+    let copy = example_copy(alloc)?;
+    Ok(has(disk, 65, copy.as_slice()) && has(disk, 66, copy.as_slice()))
+}
+
+// Whether a sync of what is no list of whole records is refused before a copy is written, and taken once the gate is closed.
+fn refuses_broken(alloc: Global, behind: &[u8]) -> Result<bool, AllocError> {
+    let Some(inner) = copied_disk(alloc, &ledger())? else {
+        return Ok(false);
+    };
+    let mut disk = Watched::new(inner);
+    let right = refuses_until_closed(&mut disk, behind);
     let untouched = disk.last_of_first == 0 && disk.first_of_second == 0;
-    Ok(
-        calls == [Ok(()); 2]
-            && refused == Err(DiskFault)
-            && closed == [Ok(()); 2]
-            && stays
-            && untouched,
-    )
+    Ok(right && untouched && has_copies(alloc, &mut disk)?)
 }
 
 #[test]
@@ -319,21 +339,28 @@ fn a_broken_record_is_refused(rt: HostRuntime) -> Result<(), Fail> {
     Ok(())
 }
 
-// With each call of the disk failing once while a record is added, until no call does: the next adoption finds the old text or the
-// new one, whichever file is lost, and a Mirror whose sync had begun to write a copy takes nothing more.
+// With this call of the disk failing while a record is added: whether the next adoption finds the old text or the new one, and the
+// ledger is opened. None where the record is added.
+fn bears_fault(alloc: Global, call: u64) -> Result<Option<bool>, AllocError> {
+    let Some(inner) = copied_disk(alloc, &ledger())? else {
+        return Ok(Some(false));
+    };
+    let mut disk = FailDisk::new(alloc, inner, &[call])?;
+    if adds_over(alloc, &mut disk, false) {
+        return Ok(None);
+    }
+    let found = adopts(&mut disk);
+    let is_found = found == EXAMPLE || found == FENCED;
+    Ok(Some(is_found && is_opened(alloc, &mut disk)))
+}
+
+// Whether this is so of each call, until no call fails.
 fn fails_and_stays(alloc: Global) -> Result<bool, AllocError> {
-    let copy = example_copy(alloc)?;
     for call in 1..400u64 {
-        let Some(inner) = disk_of(alloc, &whole(&ledger(), copy.as_slice()))? else {
-            return Ok(false);
-        };
-        let mut disk = FailDisk::new(alloc, inner, &[call])?;
-        if adds_over(alloc, &mut disk, false) {
-            return Ok(call > 20);
-        }
-        let found = adopts(&mut disk);
-        if (found != EXAMPLE && found != FENCED) || !is_opened(alloc, &mut disk) {
-            return Ok(false);
+        match bears_fault(alloc, call)? {
+            None => return Ok(call > 20),
+            Some(true) => {}
+            Some(false) => return Ok(false),
         }
     }
     Ok(false)

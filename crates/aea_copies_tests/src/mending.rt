@@ -1,7 +1,6 @@
 //! The three cases of the ledger: it stays, one gate is closed, or it is written whole.
 
-use crate::example::{FENCE, example_copy, joined, ledger};
-use crate::plain::part;
+use crate::example::{closed, example_copy, fenced, ledger};
 use crate::three::{EXAMPLE, Three, adopts, disk_of, has_all, leaves, whole};
 use crate::watched::Watched;
 use std::alloc::{AllocError, Global};
@@ -83,24 +82,25 @@ fn changes(alloc: Global, ledger: &[u8], want: &[u8]) -> Result<Option<(u64, u64
     Ok(right.then_some((disk.writes, disk.cuts)))
 }
 
+// The same where the ledger has a record more behind an open gate, which is to be closed.
+fn changes_of_longer(alloc: Global) -> Result<Option<(u64, u64)>, AllocError> {
+    let longer = fenced(alloc)?;
+    let closed = closed(alloc)?;
+    changes(alloc, longer.as_slice(), closed.as_slice())
+}
+
+// The same where that gate is closed.
+fn changes_of_closed(alloc: Global) -> Result<Option<(u64, u64)>, AllocError> {
+    let closed = closed(alloc)?;
+    changes(alloc, closed.as_slice(), closed.as_slice())
+}
+
 // A ledger that is kept is not written; of one with a record more behind an open gate one byte is, and what is behind it stays.
 #[test]
 fn no_byte_is_written_that_stands(rt: HostRuntime) -> Result<(), Fail> {
-    let kept = ledger();
-    let longer = joined(
-        rt.alloc(),
-        &joined(rt.alloc(), part(&kept, 0, 202), FENCE)?,
-        b"\0",
-    )?;
-    let mut closed = Vec::from_slice(rt.alloc(), longer.as_slice())?;
-    if let Some(gate) = closed.get_mut(202) {
-        *gate = 0;
-    }
-    let none = changes(rt.alloc(), &kept, &kept)?;
-    assert!(rt; none == Some((0, 0)));
-    let one = changes(rt.alloc(), longer.as_slice(), closed.as_slice())?;
-    assert!(rt; one == Some((1, 0)));
-    let again = changes(rt.alloc(), closed.as_slice(), closed.as_slice())?;
-    assert!(rt; again == Some((0, 0)));
+    let none = changes(rt.alloc(), &ledger(), &ledger())?;
+    let one = changes_of_longer(rt.alloc())?;
+    let again = changes_of_closed(rt.alloc())?;
+    assert!(rt; none == Some((0, 0)) && one == Some((1, 0)) && again == Some((0, 0)));
     Ok(())
 }

@@ -29,10 +29,12 @@ fn starts_once(alloc: Global) -> Result<bool, AllocError> {
     let Some(mut disk) = disk_of(alloc, &alone(&ledger()))? else {
         return Ok(false);
     };
-    let made = starts(&mut disk) == Some(Ok(())) && has_example(alloc, &mut disk)?;
-    let twice = starts(&mut disk) == Some(Err(StartFault::AlreadyOn))
-        && has_example(alloc, &mut disk)?;
-    Ok(made && twice)
+    Ok(
+        starts(&mut disk) == Some(Ok(()))
+            && has_example(alloc, &mut disk)?
+            && starts(&mut disk) == Some(Err(StartFault::AlreadyOn))
+            && has_example(alloc, &mut disk)?,
+    )
 }
 
 #[test]
@@ -93,23 +95,30 @@ fn each_stop_leaves_no_copy_or_whole_ones(rt: HostRuntime) -> Result<(), Fail> {
     Ok(())
 }
 
-// With each call of the disk failing once, beginning copies answers that, until it makes fewer calls; the next time they are whole.
+// With this call of the disk failing, whether beginning copies answers that, and the next time they are whole; none where it makes
+// fewer calls.
+fn bears_fault(alloc: Global, call: u64) -> Result<Option<bool>, AllocError> {
+    let Some(inner) = disk_of(alloc, &alone(&ledger()))? else {
+        return Ok(Some(false));
+    };
+    let mut disk = FailDisk::new(alloc, inner, &[call])?;
+    match starts(&mut disk) {
+        Some(Ok(())) => return Ok(None),
+        None | Some(Err(StartFault::DiskFault)) => {}
+        Some(Err(StartFault::AlreadyOn)) => return Ok(Some(false)),
+    }
+    let again = starts(&mut disk);
+    let on = again == Some(Ok(())) || again == Some(Err(StartFault::AlreadyOn));
+    Ok(Some(on && has_example(alloc, &mut disk)?))
+}
+
+// Whether this is so of each call, until beginning copies makes fewer calls.
 fn fails_and_starts(alloc: Global) -> Result<bool, AllocError> {
-    let text = ledger();
     for call in 1..400u64 {
-        let Some(inner) = disk_of(alloc, &alone(&text))? else {
-            return Ok(false);
-        };
-        let mut disk = FailDisk::new(alloc, inner, &[call])?;
-        match starts(&mut disk) {
-            Some(Ok(())) => return Ok(call > 20),
-            None | Some(Err(StartFault::DiskFault)) => {}
-            Some(Err(StartFault::AlreadyOn)) => return Ok(false),
-        }
-        let again = starts(&mut disk);
-        let on = again == Some(Ok(())) || again == Some(Err(StartFault::AlreadyOn));
-        if !on || !has_example(alloc, &mut disk)? {
-            return Ok(false);
+        match bears_fault(alloc, call)? {
+            None => return Ok(call > 20),
+            Some(true) => {}
+            Some(false) => return Ok(false),
         }
     }
     Ok(false)
@@ -135,23 +144,34 @@ fn is_dead<D: Disk>(mirror: &mut Mirror<D>) -> bool {
         && has(mirror, 0, &ledger())
 }
 
-// Whether a Mirror is dead after a fault of beginning copies, with each call failing; and a Mirror of a disk without a ledger.
+// Whether a Mirror of this disk is dead after a fault of beginning copies, or its copies are not adopted; none where there is no fault.
+fn is_ended<D: Disk>(disk: &mut D) -> Option<bool> {
+    let Ok(adopted) = adopt(disk) else {
+        return Some(true);
+    };
+    let mut mirror = Mirror::new(disk, adopted);
+    if mirror.start().is_ok() {
+        return None;
+    }
+    Some(is_dead(&mut mirror))
+}
+
+// The same of a disk whose call of this number fails.
+fn is_ended_at(alloc: Global, call: u64) -> Result<Option<bool>, AllocError> {
+    let Some(inner) = disk_of(alloc, &alone(&ledger()))? else {
+        return Ok(Some(false));
+    };
+    let mut disk = FailDisk::new(alloc, inner, &[call])?;
+    Ok(is_ended(&mut disk))
+}
+
+// Whether a Mirror is dead after a fault of beginning copies, with each call failing.
 fn dies(alloc: Global) -> Result<bool, AllocError> {
-    let text = ledger();
     for call in 2..400u64 {
-        let Some(inner) = disk_of(alloc, &alone(&text))? else {
-            return Ok(false);
-        };
-        let mut disk = FailDisk::new(alloc, inner, &[call])?;
-        let Ok(adopted) = adopt(&mut disk) else {
-            continue;
-        };
-        let mut mirror = Mirror::new(&mut disk, adopted);
-        if mirror.start().is_ok() {
-            return Ok(call > 20);
-        }
-        if !is_dead(&mut mirror) {
-            return Ok(false);
+        match is_ended_at(alloc, call)? {
+            None => return Ok(call > 20),
+            Some(true) => {}
+            Some(false) => return Ok(false),
         }
     }
     Ok(false)

@@ -73,6 +73,12 @@ pub fn disk_of(alloc: Global, three: &Three) -> Result<Option<SureDisk>, AllocEr
     Ok(set_all(&mut disk, three).is_ok().then_some(disk))
 }
 
+/// A disk with this ledger and two copies of the example.
+pub fn copied_disk(alloc: Global, ledger: &[u8]) -> Result<Option<SureDisk>, AllocError> {
+    let copy = example_copy(alloc)?;
+    disk_of(alloc, &whole(ledger, copy.as_slice()))
+}
+
 /// Whether a file has exactly these bytes, fewer than 1,024.
 pub fn has<D: Disk>(disk: &mut D, file: u8, want: &[u8]) -> bool {
     let mut bytes = [9u8; 1024];

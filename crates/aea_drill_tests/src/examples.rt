@@ -1,13 +1,16 @@
 //! Worked examples of whole runs.
 
+use crate::sizes::add_site;
 use aea_cli::{Command, Status, parse_words};
 use aea_lattice::Lattice;
-use aea_runs::{Left, run_line, words_of};
-use aea_test_helpers::add_line;
+use aea_runs::{run_line, words_of};
+use std::alloc::{AllocError, Global};
 use std::test::Fail;
 
 // The words, the damage list, the status, and what is printed. One more, of two codewords, is a case of aea_tests.
-const OUTCOMES: [(&str, &str, Status, &str); 6] = [
+type Outcome = (&'static str, &'static str, Status, &'static str);
+
+const OUTCOMES: &[Outcome] = &[
     (
         "drill 1 1 0 3",
         "d1\nh1\n",
@@ -48,21 +51,34 @@ const OUTCOMES: [(&str, &str, Status, &str); 6] = [
     ),
 ];
 
+// It is a function, so that the proof of the test does not carry the table; so is that of the lines below.
+fn outcomes() -> &'static [Outcome] {
+    OUTCOMES
+}
+
+// Whether the run ends so, with its list read to the end and all that it prints flushed.
+fn prints(
+    alloc: Global,
+    line: &str,
+    list: &str,
+    status: Status,
+    text: &str,
+) -> Result<bool, AllocError> {
+    let left = run_line(alloc, line, list.as_bytes())?;
+    let is_whole = left.unread == 0 && left.out.flushed == left.out.bytes().len();
+    Ok(is_whole && left.is(status, text, ""))
+}
+
 #[test]
 fn drills_print_the_outcome(rt: HostRuntime) -> Result<(), Fail> {
-    for (line, list, status, text) in OUTCOMES {
-        let left = run_line(rt.alloc(), line, list.as_bytes())?;
-        assert!(rt; left.is(status, text, ""), "{line}");
-        assert!(rt;
-            left.unread == 0 && left.out.flushed == left.out.bytes().len(),
-            "{line}"
-        );
+    for (line, list, status, text) in outcomes() {
+        assert!(rt; prints(rt.alloc(), line, list, *status, text)?, "{line}");
     }
     Ok(())
 }
 
 // Lines whose words are no command.
-const NO_COMMANDS: [&str; 84] = [
+const NO_COMMANDS: &[&str] = &[
     "drill 2 3 2 5",
     "drill 2 1 4 5",
     "drill 1 1 0 65537",
@@ -149,22 +165,27 @@ const NO_COMMANDS: [&str; 84] = [
     "sessions",
 ];
 
+fn no_commands() -> &'static [&'static str] {
+    NO_COMMANDS
+}
+
+// Whether the words of the line are no command, and nothing is read.
+fn is_no_command(alloc: Global, line: &str) -> Result<bool, AllocError> {
+    let left = run_line(alloc, line, b"d1\n")?;
+    Ok(left.is(Status::Words, "", "words: no such command\n") && left.unread == 3)
+}
+
 #[test]
 fn words_that_are_no_command_read_nothing(rt: HostRuntime) -> Result<(), Fail> {
-    for line in NO_COMMANDS {
-        let left = run_line(rt.alloc(), line, b"d1\n")?;
-        assert!(rt;
-            left.is(Status::Words, "", "words: no such command\n"),
-            "{line}"
-        );
-        assert!(rt; left.unread == 3, "{line}");
+    for line in no_commands() {
+        assert!(rt; is_no_command(rt.alloc(), line)?, "{line}");
     }
     Ok(())
 }
 
-#[test]
-fn the_first_bad_line_is_refused(rt: HostRuntime) -> Result<(), Fail> {
-    for (list, number) in [
+// Damage lists, each with the number of its first bad line.
+fn bad_lists() -> [(&'static str, u32); 13] {
+    [
         ("d0", 1),
         ("d012", 1),
         ("l1", 1),
@@ -178,47 +199,62 @@ fn the_first_bad_line_is_refused(rt: HostRuntime) -> Result<(), Fail> {
         ("d1\n\n", 2),
         ("d1\nd0\nd2", 2),
         ("d1\nd1\nr11\nr12\nx\n", 4),
-    ] {
-        let left = run_line(rt.alloc(), "drill 2 2 2 11", list.as_bytes())?;
-        let want = format!(in rt.alloc(); "refused: bad block at line {number}\n")?;
-        assert!(rt; left.is(Status::Refused, "", want.as_str()), "{list:?}");
+    ]
+}
+
+// Whether a drill of this list is refused, with this on the errors.
+fn is_refused(alloc: Global, list: &str, err: &str) -> Result<bool, AllocError> {
+    let left = run_line(alloc, "drill 2 2 2 11", list.as_bytes())?;
+    Ok(left.is(Status::Refused, "", err))
+}
+
+// Whether it is refused for the line with this number.
+fn is_refused_at(alloc: Global, list: &str, number: u32) -> Result<bool, AllocError> {
+    let want = format!(in alloc; "refused: bad block at line {number}\n")?;
+    is_refused(alloc, list, want.as_str())
+}
+
+#[test]
+fn the_first_bad_line_is_refused(rt: HostRuntime) -> Result<(), Fail> {
+    for (list, number) in bad_lists() {
+        assert!(rt; is_refused_at(rt.alloc(), list, number)?, "{list:?}");
     }
     Ok(())
+}
+
+// Whether the drill of this list is done, with this report, and the list is read to its end.
+fn is_peeled(alloc: Global, list: &str, want: &str) -> Result<bool, AllocError> {
+    let left = run_line(alloc, "drill 3 2 5 40", list.as_bytes())?;
+    Ok(left.is(Status::Done, want, "") && left.unread == 0)
 }
 
 #[test]
 fn a_lost_site_of_four_is_peeled(rt: HostRuntime) -> Result<(), Fail> {
     let lattice = Lattice::new(3, 2, 5, 40).ok_or("no lattice")?;
+    let head = "aea-report 1\nlattice 3 2 5 40\nledger none\ncounts 40 40 0 0\n";
     let mut list = String::new(rt.alloc());
-    let mut want = String::new(rt.alloc());
-    want.push_str("aea-report 1\nlattice 3 2 5 40\nledger none\ncounts 40 40 0 0\n")?;
-    for k in 0..lattice.blocks() {
-        if (k % 4 + k / 4) % 4 == 1 {
-            add_line(&mut list, "", lattice.block(k))?;
-            add_line(&mut want, "peeled ", lattice.block(k))?;
-        }
-    }
-    let Left {
-        status,
-        out,
-        err,
-        unread,
-    } = run_line(rt.alloc(), "drill 3 2 5 40", list.as_bytes())?;
-    assert!(rt; out.bytes() == want.as_str().as_bytes());
-    assert!(rt;
-        want.as_str().contains("0\npeeled h1\npeeled d2\npeeled l3\npeeled r4\npeeled h5\n")
-    );
-    assert!(rt; status == Status::Done && err.bytes().is_empty() && unread == 0);
+    let mut want = String::from_str(rt.alloc(), head)?;
+    add_site(&lattice, &mut list, &mut want)?;
+    let want = want.as_str();
+    let first = "0\npeeled h1\npeeled d2\npeeled l3\npeeled r4\npeeled h5\n";
+    assert!(rt; is_peeled(rt.alloc(), list.as_str(), want)? && want.contains(first));
     Ok(())
+}
+
+// α, s, p and n of the drill that the words of the line are, none where they are none.
+fn drill_of(alloc: Global, line: &str) -> Result<Option<(u8, u8, u8, u32)>, Fail> {
+    let words = words_of(alloc, line)?;
+    let command = parse_words(alloc, words.as_slice())?;
+    match &command {
+        Some(Command::Drill { lattice }) => {
+            Ok(Some((lattice.alpha(), lattice.s(), lattice.p(), lattice.n())))
+        }
+        _ => Ok(None),
+    }
 }
 
 #[test]
 fn words_are_parsed(rt: HostRuntime) -> Result<(), Fail> {
-    let words = words_of(rt.alloc(), "drill 3 2 5 40")?;
-    let command = parse_words(rt.alloc(), words.as_slice())?;
-    let Some(Command::Drill { lattice }) = &command else {
-        return Err(Fail::new("no drill"));
-    };
-    assert!(rt; (lattice.alpha(), lattice.s(), lattice.p(), lattice.n()) == (3, 2, 5, 40));
+    assert!(rt; drill_of(rt.alloc(), "drill 3 2 5 40")? == Some((3, 2, 5, 40)));
     Ok(())
 }

@@ -6,7 +6,7 @@ use aea_disk::{Disk, DiskFault, SureDisk};
 use aea_ledger::open_ledger;
 use aea_runs::run_over;
 use aea_test_helpers::{fill_file, has_file};
-use std::alloc::Global;
+use std::alloc::{AllocError, Global};
 use std::test::Fail;
 
 // The ledger of `create 1 1 0 16 1` and of the object `a` with the bytes `abc`: 139 bytes. It has one node, and the
@@ -23,25 +23,75 @@ const FENCE: &[u8; 11] = b"\x01\x02\0\0\0\x04\0\0\0\x01\0";
 const RAISE: &[u8; 11] = b"\x01\x04\0\0\0\x04\0\x10\0\0\0";
 
 // Each command that adds a record, its line, the record, and the line of its refusal where it is run again.
-const COMMANDS: [(&str, &str, &[u8; 11], &str); 2] = [
-    (
-        "fence",
-        "fence 1\n",
-        FENCE,
-        "refused: already fenced at 1\n",
-    ),
-    (
-        "upgrade",
-        "upgraded 1048576\n",
-        RAISE,
-        "refused: already upgraded\n",
-    ),
-];
+type Command = (&'static str, &'static str, &'static [u8; 11], &'static str);
+
+fn commands() -> [Command; 2] {
+    [
+        (
+            "fence",
+            "fence 1\n",
+            FENCE,
+            "refused: already fenced at 1\n",
+        ),
+        (
+            "upgrade",
+            "upgraded 1048576\n",
+            RAISE,
+            "refused: already upgraded\n",
+        ),
+    ]
+}
+
+// Whether a run of the command over this disk ends with this status, and prints this, and this on the errors.
+fn ends<D: Disk>(
+    alloc: Global,
+    disk: &mut D,
+    command: &str,
+    status: Status,
+    out: &str,
+    err: &str,
+) -> Result<bool, AllocError> {
+    let left = run_over(alloc, command, disk, 99)?;
+    Ok(left.is(status, out, err))
+}
+
+// Whether a run of the command is refused with this line.
+fn refuses<D: Disk>(
+    alloc: Global,
+    disk: &mut D,
+    command: &str,
+    line: &str,
+) -> Result<bool, AllocError> {
+    ends(alloc, disk, command, Status::Refused, "", line)
+}
+
+// Whether a run of the command is done, and prints and flushes this line.
+fn adds<D: Disk>(
+    alloc: Global,
+    disk: &mut D,
+    command: &str,
+    line: &str,
+) -> Result<bool, AllocError> {
+    let left = run_over(alloc, command, disk, 99)?;
+    Ok(left.is(Status::Done, line, "") && left.out.flushed == line.len())
+}
+
+// Whether a run of the command is done, whatever it prints.
+fn is_done<D: Disk>(alloc: Global, disk: &mut D, command: &str) -> Result<bool, AllocError> {
+    Ok(run_over(alloc, command, disk, 99)?.status == Status::Done)
+}
 
 // Makes that of one node the whole ledger file, and syncs all files.
 fn fill<D: Disk>(disk: &mut D) -> Result<(), DiskFault> {
     fill_file(disk, 0, ONE)?;
     disk.sync()
+}
+
+// An archive of one node, with space for a ledger of so many bytes.
+fn filled(alloc: Global, room: usize) -> Result<SureDisk, Fail> {
+    let mut disk = SureDisk::new(alloc, 0, room, 0)?;
+    fill(&mut disk)?;
+    Ok(disk)
 }
 
 // Whether the ledger file is that of one node, with this record from its ending gate on.
@@ -51,69 +101,94 @@ fn has_added<D: Disk>(disk: &mut D, record: &[u8; 11]) -> Result<bool, DiskFault
     Ok(count == 149 && bytes.starts_with(&ONE[..138]) && bytes[138..].starts_with(record))
 }
 
+// Whether the ledger file is that of an archive without nodes, with a raise of the limit from its ending gate on.
+fn has_raise<D: Disk>(disk: &mut D) -> Result<bool, DiskFault> {
+    let mut bytes = [9u8; 32];
+    let count = disk.read(0, 0, &mut bytes)?;
+    let is_fresh = bytes.starts_with(b"\x01AEALEDG1\x01\x01\0\x01\0\0\0\x10");
+    Ok(count == 28 && is_fresh && bytes[17..].starts_with(RAISE))
+}
+
 #[test]
 fn a_fresh_archive_takes_no_fence_and_one_raise(rt: HostRuntime) -> Result<(), Fail> {
     let alloc = rt.alloc();
     let mut disk = SureDisk::new(alloc, 0, 28, 0)?;
-    let made = run_over(alloc, "create 1 1 0 16 1", &mut disk, 99)?;
-    assert!(rt; made.status == Status::Done);
-    let left = run_over(alloc, "fence", &mut disk, 99)?;
-    assert!(rt; left.is(Status::Refused, "", "refused: already fenced at 0\n"));
+    assert!(rt; is_done(alloc, &mut disk, "create 1 1 0 16 1")?);
+    assert!(rt; refuses(alloc, &mut disk, "fence", "refused: already fenced at 0\n")?);
     assert!(rt; disk.len(0) == Ok(18));
 
-    let left = run_over(alloc, "upgrade", &mut disk, 99)?;
-    assert!(rt; left.is(Status::Done, "upgraded 1048576\n", ""));
-    assert!(rt; left.out.flushed == 17);
-    let mut bytes = [9u8; 32];
-    assert!(rt; disk.read(0, 0, &mut bytes) == Ok(28));
-    assert!(rt; bytes.starts_with(b"\x01AEALEDG1\x01\x01\0\x01\0\0\0\x10"));
-    assert!(rt; bytes[17..].starts_with(RAISE));
+    assert!(rt; adds(alloc, &mut disk, "upgrade", "upgraded 1048576\n")?);
+    assert!(rt; has_raise(&mut disk) == Ok(true));
 
-    let left = run_over(alloc, "upgrade", &mut disk, 99)?;
-    assert!(rt; left.is(Status::Refused, "", "refused: already upgraded\n"));
+    assert!(rt; refuses(alloc, &mut disk, "upgrade", "refused: already upgraded\n")?);
     Ok(())
+}
+
+// Whether a command adds its record, which a second run of it is refused and leaves; `stat` is done then.
+fn is_added_once(alloc: Global, command: Command) -> Result<bool, Fail> {
+    let (command, line, record, again) = command;
+    let mut disk = filled(alloc, 149)?;
+    Ok(
+        adds(alloc, &mut disk, command, line)?
+            && has_added(&mut disk, record)?
+            && refuses(alloc, &mut disk, command, again)?
+            && has_added(&mut disk, record)?
+            && is_done(alloc, &mut disk, "stat")?,
+    )
 }
 
 #[test]
 fn each_command_adds_its_record_once(rt: HostRuntime) -> Result<(), Fail> {
-    let alloc = rt.alloc();
-    for (command, line, record, again) in COMMANDS {
-        let mut disk = SureDisk::new(alloc, 0, 149, 0)?;
-        fill(&mut disk)?;
-        let left = run_over(alloc, command, &mut disk, 99)?;
-        assert!(rt; left.is(Status::Done, line, ""), "{command}");
-        assert!(rt; left.out.flushed == line.len(), "{command}");
-        assert!(rt; has_added(&mut disk, record) == Ok(true), "{command}");
-        let left = run_over(alloc, command, &mut disk, 99)?;
-        assert!(rt; left.is(Status::Refused, "", again), "{command}");
-        assert!(rt; has_added(&mut disk, record) == Ok(true), "{command}");
-        let left = run_over(alloc, "stat", &mut disk, 99)?;
-        assert!(rt; left.status == Status::Done, "{command}");
+    for command in commands() {
+        assert!(rt; is_added_once(rt.alloc(), command)?, "{}", command.0);
     }
     Ok(())
 }
 
-#[test]
-fn an_added_record_that_is_bad_is_named(rt: HostRuntime) -> Result<(), Fail> {
-    let alloc = rt.alloc();
-    for (command, place, value, refusal) in [
-        ("fence", 147, 2u8, "refused: ledger bad at 144\n"),
+// Commands, a place in the ledger and a byte that is then written there, and the line of the refusal.
+fn bad_bytes() -> [(&'static str, u8, u8, &'static str); 7] {
+    [
+        ("fence", 147, 2, "refused: ledger bad at 144\n"),
         ("fence", 139, 3, "refused: ledger bad at 139\n"),
         ("fence", 143, 5, "refused: ledger bad at 140\n"),
         ("upgrade", 139, 3, "refused: ledger bad at 139\n"),
         ("upgrade", 145, 32, "refused: ledger bad at 144\n"),
         ("fence", 9, 4, "refused: ledger bad at 9\n"),
         ("fence", 0, 7, "refused: no archive\n"),
-    ] {
-        let mut disk = SureDisk::new(alloc, 0, 160, 0)?;
-        fill(&mut disk)?;
-        let left = run_over(alloc, command, &mut disk, 99)?;
-        assert!(rt; left.status == Status::Done, "{place}");
-        disk.write(0, place, &[value])?;
-        for next in ["stat", "fence", "upgrade"] {
-            let left = run_over(alloc, next, &mut disk, 99)?;
-            assert!(rt; left.is(Status::Refused, "", refusal), "{next} {place}");
+    ]
+}
+
+// An archive of one node after this command, which is done, with this byte in its ledger.
+fn with_bad_byte(alloc: Global, command: &str, place: u8, value: u8) -> Result<SureDisk, Fail> {
+    let mut disk = filled(alloc, 160)?;
+    if !is_done(alloc, &mut disk, command)? {
+        return Err(Fail::new("the command is not done"));
+    }
+    disk.write(0, u64::from(place), &[value])?;
+    Ok(disk)
+}
+
+// The first of three commands that is not refused with this line.
+fn first_taken<D: Disk>(
+    alloc: Global,
+    disk: &mut D,
+    line: &str,
+) -> Result<Option<&'static str>, AllocError> {
+    for command in ["stat", "fence", "upgrade"] {
+        if !refuses(alloc, disk, command, line)? {
+            return Ok(Some(command));
         }
+    }
+    Ok(None)
+}
+
+#[test]
+fn an_added_record_that_is_bad_is_named(rt: HostRuntime) -> Result<(), Fail> {
+    let alloc = rt.alloc();
+    for (command, place, value, refusal) in bad_bytes() {
+        let mut disk = with_bad_byte(alloc, command, place, value)?;
+        let taken = first_taken(alloc, &mut disk, refusal)?;
+        assert!(rt; taken == None, "{taken:?} {place}");
         assert!(rt; disk.len(0) == Ok(149), "{place}");
     }
     Ok(())
@@ -138,46 +213,60 @@ fn add_node<D: Disk>(alloc: Global, disk: &mut D, name: &[u8]) -> Result<bool, F
     Ok(true)
 }
 
+// Whether a node of this number is added, and then a fence after it.
+fn adds_fence<D: Disk>(alloc: Global, disk: &mut D, node: u8) -> Result<bool, Fail> {
+    let line = format!(in alloc; "fence {node}\n")?;
+    let name = [b'a'.wrapping_add(node)];
+    Ok(add_node(alloc, disk, &name)? && adds(alloc, disk, "fence", line.as_str())?)
+}
+
+// Whether a fence is refused with this line, and leaves the ledger as long as it is.
+fn leaves_length<D: Disk>(alloc: Global, disk: &mut D, line: &str) -> Result<bool, Fail> {
+    let before = disk.len(0)?;
+    Ok(refuses(alloc, disk, "fence", line)? && disk.len(0)? == before)
+}
+
 #[test]
 fn sixteen_fences_and_no_more(rt: HostRuntime) -> Result<(), Fail> {
     let alloc = rt.alloc();
     let mut disk = SureDisk::new(alloc, 0, 4096, 0)?;
-    let _made = run_over(alloc, "create 1 1 0 16 1", &mut disk, 99)?;
+    run_over(alloc, "create 1 1 0 16 1", &mut disk, 99)?;
     for node in 1..17u8 {
-        assert!(rt; add_node(alloc, &mut disk, &[b'a' + node])?, "{node}");
-        let line = format!(in alloc; "fence {node}\n")?;
-        let left = run_over(alloc, "fence", &mut disk, 99)?;
-        assert!(rt; left.out.bytes() == line.as_str().as_bytes());
+        assert!(rt; adds_fence(alloc, &mut disk, node)?, "{node}");
     }
-    let left = run_over(alloc, "fence", &mut disk, 99)?;
-    assert!(rt; left.err.bytes() == "refused: already fenced at 16\n".as_bytes());
+    assert!(rt; refuses(alloc, &mut disk, "fence", "refused: already fenced at 16\n")?);
     assert!(rt; add_node(alloc, &mut disk, b"a")?);
-    let before = disk.len(0);
-    let left = run_over(alloc, "fence", &mut disk, 99)?;
-    assert!(rt; left.is(Status::Refused, "", "refused: too many fences\n"));
-    assert!(rt; disk.len(0) == before);
-    let left = run_over(alloc, "upgrade", &mut disk, 99)?;
-    assert!(rt; left.status == Status::Done);
+    assert!(rt; leaves_length(alloc, &mut disk, "refused: too many fences\n")?);
+    assert!(rt; is_done(alloc, &mut disk, "upgrade")?);
     Ok(())
+}
+
+// Whether a command is at fault where the disk lacks one byte, and `stat` is done then.
+fn is_at_fault(alloc: Global, command: &str) -> Result<bool, Fail> {
+    let mut disk = filled(alloc, 148)?;
+    Ok(
+        ends(alloc, &mut disk, command, Status::Disk, "", "fault: disk\n")?
+            && is_done(alloc, &mut disk, "stat")?,
+    )
 }
 
 #[test]
 fn a_disk_that_lacks_one_byte_is_at_fault(rt: HostRuntime) -> Result<(), Fail> {
-    let alloc = rt.alloc();
-    for (command, _line, _record, _again) in COMMANDS {
-        let mut disk = SureDisk::new(alloc, 0, 148, 0)?;
-        fill(&mut disk)?;
-        let left = run_over(alloc, command, &mut disk, 99)?;
-        assert!(rt; left.is(Status::Disk, "", "fault: disk\n"), "{command}");
-        let left = run_over(alloc, "stat", &mut disk, 99)?;
-        assert!(rt; left.status == Status::Done, "{command}");
+    for command in commands() {
+        assert!(rt; is_at_fault(rt.alloc(), command.0)?, "{}", command.0);
     }
     Ok(())
 }
 
+// Whether a line is told to be no command, and the ledger stays.
+fn is_no_command(alloc: Global, line: &str) -> Result<bool, Fail> {
+    let mut disk = filled(alloc, 149)?;
+    let revealed = "words: no such command\n";
+    Ok(ends(alloc, &mut disk, line, Status::Words, "", revealed)? && has_file(&mut disk, 0, ONE)?)
+}
+
 #[test]
 fn words_beside_them_are_no_command(rt: HostRuntime) -> Result<(), Fail> {
-    let alloc = rt.alloc();
     for line in [
         "fence 1",
         "fences",
@@ -186,14 +275,7 @@ fn words_beside_them_are_no_command(rt: HostRuntime) -> Result<(), Fail> {
         "upgrades",
         "up",
     ] {
-        let mut disk = SureDisk::new(alloc, 0, 149, 0)?;
-        fill(&mut disk)?;
-        let left = run_over(alloc, line, &mut disk, 99)?;
-        assert!(rt;
-            left.is(Status::Words, "", "words: no such command\n"),
-            "{line}"
-        );
-        assert!(rt; has_file(&mut disk, 0, ONE) == Ok(true), "{line}");
+        assert!(rt; is_no_command(rt.alloc(), line)?, "{line}");
     }
     Ok(())
 }

@@ -52,8 +52,22 @@ fn has_ended(left: &Ended, status: Status, line: &str, bytes: &[u8], written: us
         && bytes.starts_with(out)
 }
 
+// Fetches the object over a disk that fails: none where it is whole, and else how many bytes are written, where it says so, and has
+// written whole pages.
+fn written_over<D: Disk>(alloc: Global, disk: &mut D, bytes: &[u8]) -> Result<Option<usize>, Fail> {
+    let left = fetch_pages(alloc, disk, 0, bytes.len())?;
+    if has_ended(&left, Status::Done, "", bytes, bytes.len()) {
+        return Ok(None);
+    }
+    let written = left.out.bytes().len();
+    if written % PAGE != 0 || !has_ended(&left, Status::Disk, "fault: disk\n", bytes, written) {
+        return Err(Fail::new("no fault of the disk"));
+    }
+    Ok(Some(written))
+}
+
 // How the fetch ends whose call of the disk with this number fails, counted from 1: none where it is whole, and else how many bytes
-// it has written, where it says so, has written whole pages, and leaves all files as they are.
+// it has written, where it leaves all files as they are.
 fn written_before(
     alloc: Global,
     bytes: &[u8],
@@ -62,25 +76,24 @@ fn written_before(
 ) -> Result<Option<usize>, Fail> {
     let inner = disk_of(alloc, stands)?;
     let mut disk = FailDisk::new(alloc, inner, &[call])?;
-    let left = fetch_pages(alloc, &mut disk, 0, bytes.len())?;
-    if has_ended(&left, Status::Done, "", bytes, bytes.len()) {
-        return Ok(None);
-    }
-    let written = left.out.bytes().len();
-    if written % PAGE != 0 || !has_ended(&left, Status::Disk, "fault: disk\n", bytes, written) {
-        return Err(Fail::new("no fault of the disk"));
-    }
-    if !has_bytes(alloc, &mut disk, stands)? {
+    let written = written_over(alloc, &mut disk, bytes)?;
+    if written.is_some() && !has_bytes(alloc, &mut disk, stands)? {
         return Err(Fail::new("a file"));
     }
-    Ok(Some(written))
+    Ok(written)
+}
+
+// The bytes of the files of that archive.
+fn damaged_files(alloc: Global, bytes: &[u8]) -> Result<Vec<Vec<u8>>, Fail> {
+    let mut disk = damaged(alloc, bytes)?;
+    all_bytes(alloc, &mut disk)
 }
 
 #[test]
 fn each_call_of_the_disk_fails(rt: HostRuntime) -> Result<(), Fail> {
     let alloc = rt.alloc();
     let bytes = bytes_of_pages(alloc)?;
-    let stands = all_bytes(alloc, &mut damaged(alloc, bytes.as_slice())?)?;
+    let stands = damaged_files(alloc, bytes.as_slice())?;
     let mut last = 0usize;
     let mut calls = 0u64;
     for call in 1..200u64 {
@@ -97,17 +110,12 @@ fn each_call_of_the_disk_fails(rt: HostRuntime) -> Result<(), Fail> {
     Ok(())
 }
 
-#[test]
-fn each_call_of_the_output_fails(rt: HostRuntime) -> Result<(), Fail> {
-    let alloc = rt.alloc();
-    let bytes = bytes_of_pages(alloc)?;
-    let long = bytes.len();
+// Calls of the output that fail, and its space; and how many bytes of so many are written then: four writes and a flush, and too
+// little space.
+fn output_faults(long: usize) -> [(u32, usize, usize); 10] {
     let short = long.saturating_sub(1);
-    let mut disk = damaged(alloc, bytes.as_slice())?;
-    let stands = all_bytes(alloc, &mut disk)?;
-    // four writes and a flush; and too little space
-    for (call, room, written) in [
-        (1u32, long, 0),
+    [
+        (1, long, 0),
         (2, long, PAGE),
         (3, long, 2 * PAGE),
         (4, long, 3 * PAGE),
@@ -117,19 +125,59 @@ fn each_call_of_the_output_fails(rt: HostRuntime) -> Result<(), Fail> {
         (0, PAGE, PAGE),
         (0, PAGE + 1, PAGE + 1),
         (0, short, short),
-    ] {
-        let left = fetch_pages(alloc, &mut disk, call, room)?;
-        let is_revealed = has_ended(
-            &left,
-            Status::Output,
-            "fault: output\n",
-            bytes.as_slice(),
-            written,
-        );
-        assert!(rt; is_revealed, "{call} {room}");
+    ]
+}
+
+// Whether a fetch over an output of this space, where this call of it fails, ends with this status and line, and with this many bytes
+// of the object.
+fn ends_over<D: Disk>(
+    alloc: Global,
+    disk: &mut D,
+    bytes: &[u8],
+    output: (u32, usize),
+    want: (Status, &str, usize),
+) -> Result<bool, Fail> {
+    let (call, room) = output;
+    let (status, line, written) = want;
+    let left = fetch_pages(alloc, disk, call, room)?;
+    Ok(has_ended(&left, status, line, bytes, written))
+}
+
+// The first failing call of the output, with its space, over which a fetch ends otherwise, and after them all the sixth, which is not
+// made. The files have to be these then.
+fn first_unrevealed<D: Disk>(
+    alloc: Global,
+    disk: &mut D,
+    bytes: &[u8],
+    stands: &[Vec<u8>],
+) -> Result<Option<(u32, usize)>, Fail> {
+    for (call, room, written) in output_faults(bytes.len()) {
+        let want = (Status::Output, "fault: output\n", written);
+        if !ends_over(alloc, disk, bytes, (call, room), want)? {
+            return Ok(Some((call, room)));
+        }
     }
-    let left = fetch_pages(alloc, &mut disk, 6, long)?;
-    assert!(rt; has_ended(&left, Status::Done, "", bytes.as_slice(), long));
-    assert!(rt; has_bytes(alloc, &mut disk, stands.as_slice())?);
+    let long = bytes.len();
+    if !ends_over(alloc, disk, bytes, (6, long), (Status::Done, "", long))? {
+        return Ok(Some((6, long)));
+    }
+    if !has_bytes(alloc, disk, stands)? {
+        return Err(Fail::new("a file"));
+    }
+    Ok(None)
+}
+
+// The same of the damaged archive, whose files have to stay as they are.
+fn first_unlike(alloc: Global, bytes: &[u8]) -> Result<Option<(u32, usize)>, Fail> {
+    let mut disk = damaged(alloc, bytes)?;
+    let stands = all_bytes(alloc, &mut disk)?;
+    first_unrevealed(alloc, &mut disk, bytes, stands.as_slice())
+}
+
+#[test]
+fn each_call_of_the_output_fails(rt: HostRuntime) -> Result<(), Fail> {
+    let bytes = bytes_of_pages(rt.alloc())?;
+    let unlike = first_unlike(rt.alloc(), bytes.as_slice())?;
+    assert!(rt; unlike == None, "{unlike:?}");
     Ok(())
 }

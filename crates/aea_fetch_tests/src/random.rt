@@ -1,10 +1,10 @@
 //! Random damage, against a plain elimination among the sets of nodes whose codewords contain no intact block: an object is fetched
 //! exactly where it gives all its data blocks. A set of nodes is a word, node i its bit i - 1.
 
-use crate::archives::{is_fetched, is_refused};
+use crate::archives::{archive_of, is_fetched, is_refused, put_on, run_on};
 use aea_disk::SureDisk;
 use aea_lattice::{BlockId, Class, Lattice};
-use aea_runs::{run_over, run_put, step};
+use aea_runs::step;
 use aea_test_helpers::{Mask, ends_of, escapes, masks_of, set_of, some_bytes, spoil_cell};
 use std::alloc::{AllocError, Global};
 use std::test::Fail;
@@ -13,22 +13,29 @@ use std::test::Fail;
 // follows each.
 type Row = ((u8, u8, u8), [u32; 3], bool);
 
-const ONE_CLASS: [Row; 2] = [
-    ((1, 1, 0), [100, 1, 100], false),
-    ((1, 1, 0), [100, 1, 100], true),
-];
+// The rows of archives of one class, of two and of three.
+fn one_class() -> [Row; 2] {
+    [
+        ((1, 1, 0), [100, 1, 100], false),
+        ((1, 1, 0), [100, 1, 100], true),
+    ]
+}
 
-const TWO_CLASSES: [Row; 3] = [
-    ((2, 2, 2), [120, 33, 16], false),
-    ((2, 2, 5), [17, 100, 48], true),
-    ((2, 3, 7), [120, 0, 90], false),
-];
+fn two_classes() -> [Row; 3] {
+    [
+        ((2, 2, 2), [120, 33, 16], false),
+        ((2, 2, 5), [17, 100, 48], true),
+        ((2, 3, 7), [120, 0, 90], false),
+    ]
+}
 
-const THREE_CLASSES: [Row; 3] = [
-    ((3, 2, 2), [33, 100, 20], false),
-    ((3, 2, 5), [50, 50, 80], true),
-    ((3, 5, 5), [120, 60, 20], false),
-];
+fn three_classes() -> [Row; 3] {
+    [
+        ((3, 2, 2), [33, 100, 20], false),
+        ((3, 2, 5), [50, 50, 80], true),
+        ((3, 5, 5), [120, 60, 20], false),
+    ]
+}
 
 // How many of a hundred cells are changed.
 const PERCENTS: [u64; 6] = [5, 20, 40, 55, 65, 80];
@@ -56,32 +63,50 @@ struct Tally {
     refused: u32,
 }
 
-// Makes the archive of a row.
-fn archive_of_row(alloc: Global, row: Row) -> Result<Archive, Fail> {
-    let ((alpha, s, p), counts, fenced) = row;
+// The archive of a row before its first object.
+fn empty_archive(alloc: Global, widths: (u8, u8, u8)) -> Result<Archive, Fail> {
+    let (alpha, s, p) = widths;
     let line = format!(in alloc; "create {alpha} {s} {p} 16 4")?;
-    let mut disk = SureDisk::new(alloc, 4, 1 << 14, 1 << 13)?;
-    let _made = run_over(alloc, line.as_str(), &mut disk, 99)?;
-    let mut lattice = Lattice::new(alpha, s, p, 0).ok_or("no lattice")?;
-    let mut objects = Vec::new(alloc);
-    for (count, name) in counts.iter().zip(["a", "b", "c"]) {
-        let bytes = some_bytes(alloc, *count, *count)?;
-        let _stored = run_put(alloc, &mut disk, name, bytes.as_slice())?;
-        let first = lattice.n().saturating_add(1);
-        let last = lattice.n().saturating_add(count.div_ceil(16)).min(64);
-        lattice = lattice.grown(last).ok_or("no growth")?;
-        if fenced {
-            let _fence = run_over(alloc, "fence", &mut disk, 99)?;
-            lattice = lattice.fenced().ok_or("no fence")?;
-        }
-        let nodes = (first, last.saturating_add(1));
-        objects.push(Stored { name, nodes, bytes })?;
-    }
+    let disk = archive_of(alloc, line.as_str(), 4, 1 << 14, 1 << 13)?;
     Ok(Archive {
         disk,
-        lattice,
-        objects,
+        lattice: Lattice::new(alpha, s, p, 0).ok_or("no lattice")?,
+        objects: Vec::new(alloc),
     })
+}
+
+// Puts an object of so many bytes into the archive.
+fn store(alloc: Global, archive: &mut Archive, name: &'static str, count: u32) -> Result<(), Fail> {
+    let bytes = some_bytes(alloc, count, count)?;
+    put_on(alloc, &mut archive.disk, name, bytes.as_slice())?;
+    let lattice = archive.lattice;
+    let first = lattice.n().saturating_add(1);
+    let last = lattice.n().saturating_add(count.div_ceil(16)).min(64);
+    archive.lattice = lattice.grown(last).ok_or("no growth")?;
+    let nodes = (first, last.saturating_add(1));
+    archive.objects.push(Stored { name, nodes, bytes })?;
+    Ok(())
+}
+
+// Puts a fence behind the last node of the archive.
+fn fence(alloc: Global, archive: &mut Archive) -> Result<(), Fail> {
+    run_on(alloc, "fence", &mut archive.disk)?;
+    let lattice = archive.lattice;
+    archive.lattice = lattice.fenced().ok_or("no fence")?;
+    Ok(())
+}
+
+// Makes the archive of a row.
+fn archive_of_row(alloc: Global, row: Row) -> Result<Archive, Fail> {
+    let (widths, counts, fenced) = row;
+    let mut archive = empty_archive(alloc, widths)?;
+    for (count, name) in counts.iter().zip(["a", "b", "c"]) {
+        store(alloc, &mut archive, name, *count)?;
+        if fenced {
+            fence(alloc, &mut archive)?;
+        }
+    }
+    Ok(archive)
 }
 
 // Flips a byte of each of so many percent of the cells, by the generator that begins with the seed, and says which blocks are theirs.
@@ -137,6 +162,38 @@ fn refusal(
     Ok(None)
 }
 
+// Whether a fetch of the object leaves what it should by these masks and these ends of what is damaged. The tally counts it.
+fn is_right(
+    alloc: Global,
+    disk: &mut SureDisk,
+    object: &Stored,
+    masks: &[Mask],
+    ends: &[u64],
+    tally: &mut Tally,
+) -> Result<bool, Fail> {
+    match refusal(alloc, masks, ends, object.nodes)? {
+        Some(line) => {
+            tally.refused = tally.refused.saturating_add(1);
+            is_refused(alloc, disk, object.name, line.as_str())
+        }
+        None => {
+            tally.fetched = tally.fetched.saturating_add(1);
+            is_fetched(alloc, disk, object.name, object.bytes.as_slice())
+        }
+    }
+}
+
+// The ends of these masks of the lattice, where these blocks are damaged.
+fn ends_among(
+    alloc: Global,
+    lattice: &Lattice,
+    masks: &[Mask],
+    lost: &[BlockId],
+) -> Result<Vec<u64>, AllocError> {
+    let sets = escapes(alloc, lattice, masks, lost)?;
+    ends_of(alloc, masks, sets)
+}
+
 // The name of the first object of which a fetch leaves something else than it should, where these blocks are damaged.
 fn first_wrong(
     alloc: Global,
@@ -145,30 +202,29 @@ fn first_wrong(
     tally: &mut Tally,
 ) -> Result<Option<&'static str>, Fail> {
     let masks = masks_of(alloc, &archive.lattice)?;
-    let sets = escapes(alloc, &archive.lattice, masks.as_slice(), lost)?;
-    let ends = ends_of(alloc, masks.as_slice(), sets)?;
+    let ends = ends_among(alloc, &archive.lattice, masks.as_slice(), lost)?;
     for object in archive.objects.iter() {
-        let line = refusal(alloc, masks.as_slice(), ends.as_slice(), object.nodes)?;
-        let is_so = match &line {
-            Some(line) => {
-                tally.refused = tally.refused.saturating_add(1);
-                is_refused(alloc, &mut archive.disk, object.name, line.as_str())?
-            }
-            None => {
-                tally.fetched = tally.fetched.saturating_add(1);
-                is_fetched(
-                    alloc,
-                    &mut archive.disk,
-                    object.name,
-                    object.bytes.as_slice(),
-                )?
-            }
-        };
-        if !is_so {
+        let (masks, ends) = (masks.as_slice(), ends.as_slice());
+        if !is_right(alloc, &mut archive.disk, object, masks, ends, tally)? {
             return Ok(Some(object.name));
         }
     }
     Ok(None)
+}
+
+// The same where so many percent of the cells are damaged, and whole again after it.
+fn first_wrong_among(
+    alloc: Global,
+    archive: &mut Archive,
+    percent: u64,
+    seed: u64,
+    tally: &mut Tally,
+) -> Result<Option<&'static str>, Fail> {
+    let lattice = archive.lattice;
+    let lost = flip_cells(alloc, &mut archive.disk, &lattice, percent, seed)?;
+    let found = first_wrong(alloc, archive, lost.as_slice(), tally)?;
+    let _same = flip_cells(alloc, &mut archive.disk, &lattice, percent, seed)?;
+    Ok(found)
 }
 
 // Damages the archive of a row in each way, and fetches its objects. The answer says what is fetched wrongly first, and where.
@@ -183,14 +239,9 @@ fn first_fault(
     let mut x = seed;
     for percent in PERCENTS {
         x = step(x);
-        let Archive { disk, lattice, .. } = &mut archive;
-        let lost = flip_cells(alloc, disk, lattice, percent, x)?;
-        if let Some(name) = first_wrong(alloc, &mut archive, lost.as_slice(), tally)? {
-            let text = format!(in alloc; "{name} of {alpha} {s} {p}, {percent} from {x}")?;
-            return Ok(Some(text));
+        if let Some(name) = first_wrong_among(alloc, &mut archive, percent, x, tally)? {
+            return Ok(Some(format!(in alloc; "{name} of {alpha} {s} {p}, {percent} from {x}")?));
         }
-        let Archive { disk, lattice, .. } = &mut archive;
-        let _same = flip_cells(alloc, disk, lattice, percent, x)?;
     }
     Ok(None)
 }
@@ -224,21 +275,21 @@ fn said(found: &Option<String>) -> &str {
 
 #[test]
 fn fetches_of_one_class_agree_with_the_plain_elimination(rt: HostRuntime) -> Result<(), Fail> {
-    let found = fault_of_rows(rt.alloc(), &ONE_CLASS, 1)?;
+    let found = fault_of_rows(rt.alloc(), &one_class(), 1)?;
     assert!(rt; said(&found) == "");
     Ok(())
 }
 
 #[test]
 fn fetches_of_two_classes_agree_with_the_plain_elimination(rt: HostRuntime) -> Result<(), Fail> {
-    let found = fault_of_rows(rt.alloc(), &TWO_CLASSES, 2)?;
+    let found = fault_of_rows(rt.alloc(), &two_classes(), 2)?;
     assert!(rt; said(&found) == "");
     Ok(())
 }
 
 #[test]
 fn fetches_of_three_classes_agree_with_the_plain_elimination(rt: HostRuntime) -> Result<(), Fail> {
-    let found = fault_of_rows(rt.alloc(), &THREE_CLASSES, 3)?;
+    let found = fault_of_rows(rt.alloc(), &three_classes(), 3)?;
     assert!(rt; said(&found) == "");
     Ok(())
 }

@@ -125,11 +125,18 @@ fn open_fates_of(
     Ok(found.then_some(text).ok_or("a fate is not found")?)
 }
 
+// The fates as text where the marked blocks are known.
+fn solved(alloc: Global, lattice: &Lattice, marks: &Marks) -> Result<String, AllocError>
+    requires { marks.now.lattice ≡ lattice.now }
+{
+    let fates = solve(alloc, lattice, marks)?;
+    text_of(alloc, &fates)
+}
+
 /// The fates as text where these blocks are lost. `solve_open` has to give the same.
 pub fn fates_of(alloc: Global, lattice: &Lattice, lost: &[BlockId]) -> Result<String, Fail> {
     let marks = marks_without(alloc, lattice, lost)?;
-    let fates = solve(alloc, lattice, &marks)?;
-    let text = text_of(alloc, &fates)?;
+    let text = solved(alloc, lattice, &marks)?;
     let open = marks.complement(alloc)?;
     let other = open_fates_of(alloc, lattice, lost, &open)?;
     let same = text.as_str() == other.as_str();

@@ -140,40 +140,62 @@ fn stands_in(lattice: &Lattice, e: EqId, b: BlockId) -> bool {
     equation.input == Some(b) || equation.datum == b || equation.output == b
 }
 
-// The table of a lattice at first.
-fn table_of(alloc: Global, lattice: &Lattice, lost: &[BlockId]) -> Result<Table, AllocError> {
-    let mut table = Table {
-        lost: Vec::new(alloc),
-        equations: Vec::new(alloc),
-        rows: Vec::new(alloc),
-    };
+// The lost blocks of the lattice, in number order.
+fn in_order(
+    alloc: Global,
+    lattice: &Lattice,
+    lost: &[BlockId],
+) -> Result<Vec<BlockId>, AllocError> {
+    let mut blocks = Vec::new(alloc);
     for k in 0..lattice.blocks() {
         let b = lattice.block(k);
         if lost.contains(&b) {
-            table.lost.push(b)?;
+            blocks.push(b)?;
         }
     }
+    Ok(blocks)
+}
+
+// The equations that have a lost block, in equation order.
+fn equations_with(
+    alloc: Global,
+    lattice: &Lattice,
+    lost: &[BlockId],
+) -> Result<Vec<EqId>, AllocError> {
+    let mut equations = Vec::new(alloc);
     for k in 0..lattice.blocks() {
         let BlockId { node, class } = lattice.block(k);
         let e = EqId { node, class };
         if lost.iter().any(|b| stands_in(lattice, e, *b)) {
-            table.equations.push(e)?;
+            equations.push(e)?;
         }
     }
+    Ok(equations)
+}
+
+// The rows of a table at first.
+fn rows_of(alloc: Global, lattice: &Lattice, table: &Table) -> Result<Vec<Row>, AllocError> {
     let mut rows = Vec::new(alloc);
     for (at, e) in table.equations.as_slice().iter().enumerate() {
-        rows.push(row_of(alloc, lattice, &table, at, *e)?)?;
+        rows.push(row_of(alloc, lattice, table, at, *e)?)?;
     }
-    table.rows = rows;
+    Ok(rows)
+}
+
+// The table of a lattice at first.
+fn table_of(alloc: Global, lattice: &Lattice, lost: &[BlockId]) -> Result<Table, AllocError> {
+    let equations = equations_with(alloc, lattice, lost)?;
+    let mut table = Table {
+        lost: in_order(alloc, lattice, lost)?,
+        equations,
+        rows: Vec::new(alloc),
+    };
+    table.rows = rows_of(alloc, lattice, &table)?;
     Ok(table)
 }
 
-/// The fates as text where these blocks are lost.
-pub fn plain_fates(
-    alloc: Global,
-    lattice: &Lattice,
-    lost: &[BlockId],
-) -> Result<String, AllocError> {
+// The table with each column cleared from all rows but one.
+fn reduced(alloc: Global, lattice: &Lattice, lost: &[BlockId]) -> Result<Table, AllocError> {
     let mut table = table_of(alloc, lattice, lost)?;
     for column in 0..table.equation_column(0).saturating_add(1) {
         let chosen = table
@@ -185,20 +207,42 @@ pub fn plain_fates(
             table.rows = cleared(alloc, table.rows.as_slice(), chosen, column)?;
         }
     }
+    Ok(table)
+}
+
+// Puts the line of the lost block at this place last.
+fn add_fate(
+    alloc: Global,
+    text: &mut String,
+    table: &Table,
+    at: usize,
+    b: BlockId,
+) -> Result<(), AllocError> {
+    let row = table
+        .rows
+        .as_slice()
+        .iter()
+        .find(|row| row.pivot == Some(at));
+    match row {
+        None => add_word(alloc, text, b, &table.nodes_of(alloc, at)?)?,
+        Some(row) => match table.next_of(row, at) {
+            None => add_sum(alloc, text, b, &table.equations_of(alloc, row)?)?,
+            Some(end) => add_word(alloc, text, b, &table.nodes_of(alloc, end)?)?,
+        },
+    }
+    Ok(())
+}
+
+/// The fates as text where these blocks are lost.
+pub fn plain_fates(
+    alloc: Global,
+    lattice: &Lattice,
+    lost: &[BlockId],
+) -> Result<String, AllocError> {
+    let table = reduced(alloc, lattice, lost)?;
     let mut text = String::new(alloc);
     for (at, b) in table.lost.as_slice().iter().enumerate() {
-        let row = table
-            .rows
-            .as_slice()
-            .iter()
-            .find(|row| row.pivot == Some(at));
-        match row {
-            None => add_word(alloc, &mut text, *b, &table.nodes_of(alloc, at)?)?,
-            Some(row) => match table.next_of(row, at) {
-                None => add_sum(alloc, &mut text, *b, &table.equations_of(alloc, row)?)?,
-                Some(end) => add_word(alloc, &mut text, *b, &table.nodes_of(alloc, end)?)?,
-            },
-        }
+        add_fate(alloc, &mut text, &table, at, *b)?;
     }
     Ok(text)
 }

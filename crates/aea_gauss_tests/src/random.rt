@@ -6,8 +6,8 @@ use aea_lattice::{BlockId, Lattice};
 use std::alloc::{AllocError, Global};
 use std::test::Fail;
 
-/// α, s, p, and the nodes: the first and the second number have a fence each, where they are not 0.
-pub const SHAPES: [(u8, u8, u8, [u32; 3]); 14] = [
+// α, s, p, and the nodes: the first and the second number have a fence each, where they are not 0.
+const SHAPES: [(u8, u8, u8, [u32; 3]); 14] = [
     (1, 1, 0, [0, 0, 1]),
     (1, 1, 0, [0, 0, 30]),
     (1, 1, 0, [4, 5, 20]),
@@ -23,6 +23,11 @@ pub const SHAPES: [(u8, u8, u8, [u32; 3]); 14] = [
     (3, 4, 5, [0, 10, 20]),
     (3, 5, 5, [0, 0, 20]),
 ];
+
+/// The shapes, each with its nodes.
+pub fn shapes() -> [(u8, u8, u8, [u32; 3]); 14] {
+    SHAPES
+}
 
 // How many of a hundred blocks are lost.
 const PERCENTS: [u64; 4] = [10, 30, 50, 75];
@@ -63,18 +68,22 @@ pub fn lost_blocks(
     Ok(lost)
 }
 
+// Whether the blocks that are lost by this seed have the fates of the plain elimination.
+fn agree(alloc: Global, lattice: &Lattice, percent: u64, seed: u64) -> Result<bool, Fail> {
+    let lost = lost_blocks(alloc, lattice, percent, seed)?;
+    let fates = fates_of(alloc, lattice, lost.as_slice())?;
+    Ok(fates.as_str() == plain_fates(alloc, lattice, lost.as_slice())?.as_str())
+}
+
 #[test]
 fn fates_agree_with_the_plain_elimination(rt: HostRuntime) -> Result<(), Fail> {
     let mut seed = 0;
-    for (alpha, s, p, nodes) in SHAPES {
+    for (alpha, s, p, nodes) in shapes() {
         let lattice = fenced(alpha, s, p, nodes).ok_or("no lattice")?;
         for percent in PERCENTS {
             seed = step(seed);
-            let lost = lost_blocks(rt.alloc(), &lattice, percent, seed)?;
-            let fates = fates_of(rt.alloc(), &lattice, lost.as_slice())?;
-            let want = plain_fates(rt.alloc(), &lattice, lost.as_slice())?;
             assert!(rt;
-                fates.as_str() == want.as_str(),
+                agree(rt.alloc(), &lattice, percent, seed)?,
                 "{percent} of 100 in {lattice:?}, from {seed}"
             );
         }

@@ -2,34 +2,56 @@
 
 ghost use Rattle.std.specs.Prelude.{◌≡◌, ◌<◌, length};
 
+use crate::random::step;
 use aea_gauss_words::{eliminate, xor_words};
+use std::alloc::{AllocError, Global};
 use std::test::Fail;
 
-// One step of the linear congruential generator of Knuth's MMIX.
-fn step(x: u64) -> u64 {
-    x.wrapping_mul(6_364_136_223_846_793_005)
-        .wrapping_add(1_442_695_040_888_963_407)
+// The first n words of every two by the generator that begins with the seed.
+fn firsts(alloc: Global, n: u32, seed: u64) -> Result<Vec<u64>, AllocError> {
+    let mut x = seed;
+    let mut first = Vec::new(alloc);
+    for _k in 0..n {
+        x = step(x);
+        first.push(x)?;
+        x = step(x);
+    }
+    Ok(first)
+}
+
+// The second ones, and the sums of both.
+fn seconds(alloc: Global, n: u32, seed: u64) -> Result<(Vec<u64>, Vec<u64>), AllocError> {
+    let mut x = seed;
+    let mut second = Vec::new(alloc);
+    let mut want = Vec::new(alloc);
+    for _k in 0..n {
+        let a = step(x);
+        x = step(a);
+        second.push(x)?;
+        want.push(a ^ x)?;
+    }
+    Ok((second, want))
+}
+
+// Whether n words and n others by the generator have their sums.
+fn are_added(alloc: Global, n: u32, seed: u64) -> Result<bool, AllocError> {
+    let (second, want) = seconds(alloc, n, seed)?;
+    let mut first = firsts(alloc, n, seed)?;
+    if first.len() == second.len() {
+        xor_words(first.as_mut_slice(), second.as_slice());
+    }
+    Ok(first.as_slice() == want.as_slice())
 }
 
 #[test]
 fn words_are_added_at_each_length(rt: HostRuntime) -> Result<(), Fail> {
-    let mut x = 1;
+    let mut seed = 1;
     for n in 0..131 {
-        let mut first = Vec::new(rt.alloc());
-        let mut second = Vec::new(rt.alloc());
-        let mut want = Vec::new(rt.alloc());
+        assert!(rt; are_added(rt.alloc(), n, seed)?, "{n} words");
+        // the next words are those after the n first ones and the n second ones
         for _k in 0..n {
-            x = step(x);
-            let a = x;
-            x = step(x);
-            first.push(a)?;
-            second.push(x)?;
-            want.push(a ^ x)?;
+            seed = step(step(seed));
         }
-        if first.len() == second.len() {
-            xor_words(first.as_mut_slice(), second.as_slice());
-        }
-        assert!(rt; first.as_slice() == want.as_slice(), "{n} words");
     }
     Ok(())
 }
@@ -107,17 +129,21 @@ fn digest(words: &[u64]) -> u64 {
     sum
 }
 
-#[test]
-fn many_rows_are_reduced_as_few(rt: HostRuntime) -> Result<(), Fail> {
+// Three hundred rows of three words. Some rows have few columns, and some are the same as others.
+fn rows(alloc: Global) -> Result<Vec<u64>, AllocError> {
     let mut x = 3;
-    let mut words = Vec::new(rt.alloc());
+    let mut words = Vec::new(alloc);
     for k in 0..900_u64 {
         x = step(x);
-        // Some rows have few columns, and some are the same as others.
         words.push(if k % 7 == 0 { 5 } else { x & step(x) })?;
     }
-    let mut other = Vec::new(rt.alloc());
-    other.extend_from_slice(words.as_slice())?;
+    Ok(words)
+}
+
+#[test]
+fn many_rows_are_reduced_as_few(rt: HostRuntime) -> Result<(), Fail> {
+    let mut words = rows(rt.alloc())?;
+    let mut other = rows(rt.alloc())?;
     if words.len() == 900 && other.len() == 900 {
         eliminate(192, 300, words.as_mut_slice());
         reduce_plain(other.as_mut_slice());

@@ -1,22 +1,25 @@
 //! Random objects, each got back byte for byte and listed; and an object whose parts lie apart.
 
+use crate::archives::{archive_of, is_done, takes};
 use aea_catalog::Extent;
 use aea_cli::Status;
-use aea_disk::SureDisk;
-use aea_runs::{run_over, run_put, run_words, share_parts, step};
+use aea_disk::{Disk, SureDisk};
+use aea_runs::{run_over, run_words, share_parts, step};
 use sha2::{Digest, Sha256};
 use std::alloc::{AllocError, Global};
 use std::test::Fail;
 
 // The words that make an archive, and the bytes of a block.
-const SHAPES: [(&str, usize); 6] = [
-    ("create 1 1 0 16 1", 16),
-    ("create 2 2 2 16 3", 16),
-    ("create 2 3 5 17 64", 17),
-    ("create 3 2 5 64 4", 64),
-    ("create 3 5 5 100 10", 100),
-    ("create 3 4 4 16 5", 16),
-];
+fn shapes() -> [(&'static str, usize); 6] {
+    [
+        ("create 1 1 0 16 1", 16),
+        ("create 2 2 2 16 3", 16),
+        ("create 2 3 5 17 64", 17),
+        ("create 3 2 5 64 4", 64),
+        ("create 3 5 5 100 10", 100),
+        ("create 3 4 4 16 5", 16),
+    ]
+}
 
 // How many objects are put into each.
 const OBJECTS: u64 = 12;
@@ -67,38 +70,102 @@ fn add_listed(text: &mut String, object: &Object) -> Result<(), AllocError> {
     writeln!(text, " {name}")
 }
 
+// The objects of an archive with blocks of so many bytes.
+fn random_objects(alloc: Global, block: usize) -> Result<Vec<Object>, AllocError> {
+    let mut objects = Vec::new(alloc);
+    for k in 0..OBJECTS {
+        objects.push(random_object(alloc, block, k)?)?;
+    }
+    Ok(objects)
+}
+
+// The lines that list the objects.
+fn listed(alloc: Global, objects: &[Object]) -> Result<String, AllocError> {
+    let mut text = String::new(alloc);
+    for object in objects {
+        add_listed(&mut text, object)?;
+    }
+    Ok(text)
+}
+
+// Puts the objects one after the other. The answer is the place of the first that is not stored.
+fn first_unstored<D: Disk>(
+    alloc: Global,
+    disk: &mut D,
+    objects: &[Object],
+) -> Result<Option<usize>, AllocError> {
+    for (k, object) in objects.iter().enumerate() {
+        if !takes(alloc, disk, object.name.as_str(), object.bytes.as_slice())? {
+            return Ok(Some(k));
+        }
+    }
+    Ok(None)
+}
+
+// Whether these bytes are got as the object, over an output of so much space.
+fn is_got<D: Disk>(
+    alloc: Global,
+    disk: &mut D,
+    name: &str,
+    bytes: &[u8],
+    room: usize,
+) -> Result<bool, AllocError> {
+    let left = run_words(alloc, &["get", name], disk, b"", room)?;
+    let is_revealed = left.status == Status::Done && left.err.bytes().is_empty();
+    Ok(is_revealed && left.out.bytes() == bytes)
+}
+
+// The place of the first of the objects that is not got back.
+fn first_ungot<D: Disk>(
+    alloc: Global,
+    disk: &mut D,
+    objects: &[Object],
+) -> Result<Option<usize>, AllocError> {
+    for (k, object) in objects.iter().enumerate() {
+        let (name, bytes) = (object.name.as_str(), object.bytes.as_slice());
+        if !is_got(alloc, disk, name, bytes, 1024)? {
+            return Ok(Some(k));
+        }
+    }
+    Ok(None)
+}
+
+// Whether `list` prints the lines of the objects.
+fn are_listed<D: Disk>(
+    alloc: Global,
+    disk: &mut D,
+    objects: &[Object],
+) -> Result<bool, AllocError> {
+    let text = listed(alloc, objects)?;
+    let left = run_over(alloc, "list", disk, 4096)?;
+    Ok(left.out.bytes() == text.as_str().as_bytes())
+}
+
+// Puts objects into the archive of this line, gets them back by their names, and lists them. The answer is the command that does
+// otherwise first, and with which object.
+fn first_unlike(
+    alloc: Global,
+    line: &str,
+    block: usize,
+) -> Result<Option<(&'static str, usize)>, AllocError> {
+    let mut disk = archive_of(alloc, line, 64, 65_536)?;
+    let mut objects = random_objects(alloc, block)?;
+    if let Some(k) = first_unstored(alloc, &mut disk, objects.as_slice())? {
+        return Ok(Some(("put", k)));
+    }
+    objects.sort_by(|a, b| a.name.as_str().cmp(b.name.as_str()))?;
+    if let Some(k) = first_ungot(alloc, &mut disk, objects.as_slice())? {
+        return Ok(Some(("get", k)));
+    }
+    let is_listed = are_listed(alloc, &mut disk, objects.as_slice())?;
+    Ok((!is_listed).then_some(("list", 0)))
+}
+
 #[test]
 fn random_objects_are_got_back_and_listed(rt: HostRuntime) -> Result<(), Fail> {
-    let alloc = rt.alloc();
-    for (line, block) in SHAPES {
-        let mut disk = SureDisk::new(alloc, 64, 65_536, 65_536)?;
-        let _made = run_over(alloc, line, &mut disk, 99)?;
-        let mut objects = Vec::new(alloc);
-        for k in 0..OBJECTS {
-            let object = random_object(alloc, block, k)?;
-            let left = run_put(
-                alloc,
-                &mut disk,
-                object.name.as_str(),
-                object.bytes.as_slice(),
-            )?;
-            assert!(rt; left.status == Status::Done, "{line} {k}");
-            objects.push(object)?;
-        }
-        objects.sort_by(|a, b| a.name.as_str().cmp(b.name.as_str()))?;
-        let mut listed = String::new(alloc);
-        for object in &objects {
-            let name = object.name.as_str();
-            let left = run_words(alloc, &["get", name], &mut disk, b"", 1024)?;
-            assert!(rt; left.status == Status::Done, "{line} {name}");
-            assert!(rt;
-                left.out.bytes() == object.bytes.as_slice(),
-                "{line} {name}"
-            );
-            add_listed(&mut listed, object)?;
-        }
-        let left = run_over(alloc, "list", &mut disk, 4096)?;
-        assert!(rt; left.out.bytes() == listed.as_str().as_bytes(), "{line}");
+    for (line, block) in shapes() {
+        let unlike = first_unlike(rt.alloc(), line, block)?;
+        assert!(rt; unlike == None, "{line} {unlike:?}");
     }
     Ok(())
 }
@@ -108,18 +175,13 @@ fn an_object_in_parts_that_lie_apart_is_got(rt: HostRuntime) -> Result<(), Fail>
     let alloc = rt.alloc();
     let mut disk = SureDisk::new(alloc, 1, 1024, 1024)?;
     for line in ["create 1 1 0 16 1", "upgrade"] {
-        let left = run_over(alloc, line, &mut disk, 99)?;
-        assert!(rt; left.status == Status::Done, "{line}");
+        assert!(rt; is_done(alloc, &mut disk, line)?, "{line}");
     }
-    let _stored = run_put(
-        alloc,
-        &mut disk,
-        "a",
-        b"0123456789abcdefghijklmnopqrstuvwxyz",
-    )?;
+    let whole = b"0123456789abcdefghijklmnopqrstuvwxyz";
+    assert!(rt; takes(alloc, &mut disk, "a", whole)?);
+    let bytes = b"0123456789abcdefwxyz";
     let parts = [Extent { first: 1, count: 1 }, Extent { first: 3, count: 1 }];
-    assert!(rt; share_parts(alloc, &mut disk, b"x", b"0123456789abcdefwxyz", &parts)?);
-    let left = run_words(alloc, &["get", "x"], &mut disk, b"", 20)?;
-    assert!(rt; left.is(Status::Done, "0123456789abcdefwxyz", ""));
+    assert!(rt; share_parts(alloc, &mut disk, b"x", bytes, &parts)?);
+    assert!(rt; is_got(alloc, &mut disk, "x", bytes, 20)?);
     Ok(())
 }

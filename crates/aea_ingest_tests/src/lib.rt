@@ -5,3 +5,5 @@
 mod examples;
 #[cfg(test)]
 mod frames;
+#[cfg(test)]
+mod runs;

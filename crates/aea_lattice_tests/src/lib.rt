@@ -1,4 +1,5 @@
-//! Tests of lattices: their blocks and strands, views and marks, walks along codewords, steps that follow, and parities.
+//! Tests of lattices: their blocks and strands, views and marks, walks along codewords, steps that follow, and parities;
+//! and the plain programs of the definitions.
 #![tactic(auto)]
 
 #[cfg(test)]
@@ -13,6 +14,8 @@ mod lists;
 mod marking;
 #[cfg(test)]
 mod peeling;
+#[cfg(test)]
+mod plain;
 #[cfg(test)]
 mod texts;
 #[cfg(test)]

@@ -1,7 +1,7 @@
 //! Plans of steps, and the marks of what they reach.
 
 use aea_lattice::{BlockId, Class, Lattice};
-use aea_peel::{peel, peel_marks};
+use aea_peel::{Plan, peel, peel_marks};
 use aea_view::View;
 use std::alloc::{AllocError, Global};
 use std::test::Fail;
@@ -13,47 +13,74 @@ fn count_steps(alloc: Global, lattice: &Lattice, absent: &[u32]) -> Result<usize
     Ok(plan.steps.len())
 }
 
-#[test]
-fn plans_have_as_many_steps_as_single_equations_give(rt: HostRuntime) -> Result<(), Fail> {
-    let all: Vec<u32> = (0..160).collect(rt.alloc())?;
+// Whether the plan of this shape has so many steps where exactly the blocks of these numbers are absent.
+fn has_steps(
+    alloc: Global,
+    shape: (u8, u8, u8, u32),
+    absent: &[u32],
+    want: usize,
+) -> Result<bool, Fail> {
+    let (alpha, s, p, n) = shape;
+    let lattice = Lattice::new(alpha, s, p, n).ok_or("no lattice")?;
+    Ok(count_steps(alloc, &lattice, absent)? == want)
+}
+
+// A name, α, s, p and the number of nodes, the numbers of the absent blocks, and the number of steps.
+type Case = (&'static str, (u8, u8, u8, u32), &'static [u32], usize);
+
+// d1 d3 d4 d5 d6 d8 d9 d10 d11, h1 h3 h4 h8 h9 and r1 r3 r5 r8 r10 of eleven nodes with three blocks each.
+const STUCK: &[u32] = &[
+    0, 6, 9, 12, 15, 21, 24, 27, 30, 1, 7, 10, 22, 25, 2, 8, 14, 23, 29,
+];
+
+const CASES: &[Case] = &[
+    ("nothing absent", (3, 2, 5, 40), &[], 0),
+    ("the first datum and its parity", (1, 1, 0, 3), &[0, 1], 2),
+    ("the last datum and its parity", (1, 1, 0, 3), &[4, 5], 0),
+    (
+        "no equation with a single absent block",
+        (2, 2, 2, 11),
+        STUCK,
+        0,
+    ),
+    ("no nodes", (3, 2, 5, 0), &[], 0),
+];
+
+// The cases.
+fn cases() -> &'static [Case] {
+    CASES
+}
+
+// Whether no step is in the plan where all of 160 blocks are absent.
+fn has_none_of_all(alloc: Global) -> Result<bool, Fail> {
+    let all: Vec<u32> = (0..160).collect(alloc)?;
+    has_steps(alloc, (3, 2, 5, 40), all.as_slice(), 0)
+}
+
+// Whether the plan has forty steps where every fourth of 160 blocks is absent.
+fn has_forty_of_a_quarter(alloc: Global) -> Result<bool, Fail> {
     let quarter: Vec<u32> = (0..160)
         .filter(|k: &u32| (*k / 4 + *k) % 4 == 1)
-        .collect(rt.alloc())?;
-    // d1 d3 d4 d5 d6 d8 d9 d10 d11, h1 h3 h4 h8 h9 and r1 r3 r5 r8 r10 of eleven nodes with three blocks each
-    let stuck = [
-        0, 6, 9, 12, 15, 21, 24, 27, 30, 1, 7, 10, 22, 25, 2, 8, 14, 23, 29,
-    ];
-    for (name, (alpha, s, p, n), absent, want) in [
-        ("nothing absent", (3, 2, 5, 40), [].as_slice(), 0),
-        ("all absent", (3, 2, 5, 40), all.as_slice(), 0),
-        ("every fourth block", (3, 2, 5, 40), quarter.as_slice(), 40),
-        (
-            "the first datum and its parity",
-            (1, 1, 0, 3),
-            [0, 1].as_slice(),
-            2,
-        ),
-        (
-            "the last datum and its parity",
-            (1, 1, 0, 3),
-            [4, 5].as_slice(),
-            0,
-        ),
-        (
-            "no equation with a single absent block",
-            (2, 2, 2, 11),
-            stuck.as_slice(),
-            0,
-        ),
-        ("no nodes", (3, 2, 5, 0), [].as_slice(), 0),
-    ] {
-        let lattice = Lattice::new(alpha, s, p, n).ok_or("no lattice")?;
-        assert!(rt;
-            count_steps(rt.alloc(), &lattice, absent)? == want,
-            "{name}"
-        );
+        .collect(alloc)?;
+    has_steps(alloc, (3, 2, 5, 40), quarter.as_slice(), 40)
+}
+
+#[test]
+fn plans_have_as_many_steps_as_single_equations_give(rt: HostRuntime) -> Result<(), Fail> {
+    for (name, shape, absent, want) in cases() {
+        assert!(rt; has_steps(rt.alloc(), *shape, absent, *want)?, "{name}");
     }
+    assert!(rt; has_none_of_all(rt.alloc())?, "all absent");
+    assert!(rt; has_forty_of_a_quarter(rt.alloc())?, "every fourth block");
     Ok(())
+}
+
+// Whether the step of this number gives the block of the class by the equation of the node.
+fn is_step(plan: &Plan, k: usize, class: Class, node: u32) -> bool {
+    match plan.steps.get(k) {
+        Some(step) => (step.block.class, step.by.node) == (class, node),
+        None => false,
+    }
 }
 
 #[test]
@@ -61,11 +88,9 @@ fn a_datum_follows_from_a_parity_that_a_step_gives(rt: HostRuntime) -> Result<()
     let lattice = Lattice::new(1, 1, 0, 3).ok_or("no lattice")?;
     let view = View::new(&lattice, |b: BlockId| b.node != 1);
     let plan = peel(rt.alloc(), &lattice, &view)?;
-    let first = plan.steps.get(0).ok_or("no step")?;
-    let second = plan.steps.get(1).ok_or("one step")?;
-    assert!(rt; (first.block.class, first.by.node) == (Class::Horiz, 2));
-    assert!(rt; (second.block.class, second.by.node) == (Class::Datum, 1));
-    assert!(rt; plan.steps.get(2) == None);
+    assert!(rt; is_step(&plan, 0, Class::Horiz, 2), "the first step");
+    assert!(rt; is_step(&plan, 1, Class::Datum, 1), "the second step");
+    assert!(rt; plan.steps.get(2) == None, "a third step");
     Ok(())
 }
 

@@ -2,21 +2,28 @@
 
 use aea_lattice::{BlockId, Class, parse_block, print_block};
 
-#[test]
-fn texts_of_blocks_go_there_and_back(rt: HostRuntime) {
-    let table: [(&[u8], u32, Class); 5] = [
+// Texts, each with the node and the class of its block.
+fn texts() -> [(&'static [u8], u32, Class); 5] {
+    [
         (b"d1", 1, Class::Datum),
         (b"h12", 12, Class::Horiz),
         (b"r4294967295", 4_294_967_295, Class::Right),
         (b"l2", 2, Class::Left),
         (b"d1048576", 1_048_576, Class::Datum),
-    ];
-    for (text, node, class) in table {
+    ]
+}
+
+// Whether the text of the block is this one.
+fn is_printed(block: BlockId, text: &[u8]) -> bool {
+    1 <= block.node && print_block(block).bytes() == text
+}
+
+#[test]
+fn texts_of_blocks_go_there_and_back(rt: HostRuntime) {
+    for (text, node, class) in texts() {
         let block = BlockId { node, class };
         assert!(rt; parse_block(text) == Some(block), "parse {node}");
-        if 1 <= node {
-            assert!(rt; print_block(block).bytes() == text, "print {node}");
-        }
+        assert!(rt; is_printed(block, text), "print {node}");
     }
 }
 

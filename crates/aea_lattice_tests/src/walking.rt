@@ -10,8 +10,8 @@ use aea_walk::{first_touched, is_in_codeword, least_missing};
 use std::alloc::{AllocError, Global};
 use std::test::Fail;
 
-// The lattice of this shape with these fences and n nodes.
-fn fenced(alpha: u8, s: u8, p: u8, fences: &[u32], n: u32) -> Option<Lattice> {
+/// The lattice of this shape with these fences and n nodes.
+pub fn fenced(alpha: u8, s: u8, p: u8, fences: &[u32], n: u32) -> Option<Lattice> {
     let mut lattice = Lattice::new(alpha, s, p, 0)?;
     for fence in fences {
         lattice = lattice.grown(*fence)?.fenced()?;
@@ -35,8 +35,8 @@ fn rising(alloc: Global, lattice: &Lattice, listed: &[u32]) -> Result<NodeList, 
     Ok(nodes)
 }
 
-// The blocks of a text of one word each.
-fn blocks(alloc: Global, text: &str) -> Result<Vec<BlockId>, Fail> {
+/// The blocks of a text of one word each.
+pub fn blocks(alloc: Global, text: &str) -> Result<Vec<BlockId>, Fail> {
     let mut blocks = Vec::new(alloc);
     for word in text.split_whitespace() {
         blocks.push(parse_block(word.as_bytes()).ok_or("no block")?)?;
@@ -56,17 +56,24 @@ fn marked(alloc: Global, lattice: &Lattice, listed: &[BlockId]) -> Result<Marks,
     Ok(marks)
 }
 
-// The first block for which the answer of a walk is not whether it is one of these.
-fn first_difference(lattice: &Lattice, nodes: &NodeList, word: &[BlockId]) -> Option<BlockId>
+// Whether the answer of a walk for each block is whether it is one of these.
+fn has_answers(lattice: &Lattice, nodes: &NodeList, word: &[BlockId]) -> bool
     requires { AreRising lattice.now nodes.now }
 {
     for k in 0..lattice.blocks() {
         let block = lattice.block(k);
         if is_in_codeword(lattice, nodes, block) != word.contains(&block) {
-            return Some(block);
+            return false;
         }
     }
-    None
+    true
+}
+
+// Whether walks from the nodes answer as the blocks of the text.
+fn is_text(alloc: Global, lattice: &Lattice, listed: &[u32], text: &str) -> Result<bool, Fail> {
+    let nodes = rising(alloc, lattice, listed)?;
+    let word = blocks(alloc, text)?;
+    Ok(has_answers(lattice, &nodes, word.as_slice()))
 }
 
 // In AE(2,2,2) with a fence after node 4 the strands of the nodes are 1 3, 2 4, 5 7 9 11 and 6 8 10 of Horiz, and 1 4, 2 3,
@@ -81,12 +88,19 @@ fn codewords_are_those_written_down_by_hand(rt: HostRuntime) -> Result<(), Fail>
         (&[1, 3, 4], "d1 h1 r1 d3 r3 d4 h4"),
         (&[1, 4, 6], "d1 h1 r1 h3 d4 h4 d6 h6 r6 r7 h8 h10 r10 r11"),
     ] {
-        let nodes = rising(rt.alloc(), &lattice, listed)?;
-        let word = blocks(rt.alloc(), text)?;
-        let difference = first_difference(&lattice, &nodes, word.as_slice());
-        assert!(rt; difference == None, "of {listed:?}");
+        assert!(rt;
+            is_text(rt.alloc(), &lattice, listed, text)?,
+            "of {listed:?}"
+        );
     }
     Ok(())
+}
+
+// Whether they answer as the codeword of the plain program.
+fn is_plain(alloc: Global, lattice: &Lattice, listed: &[u32]) -> Result<bool, Fail> {
+    let nodes = rising(alloc, lattice, listed)?;
+    let word = codeword(alloc, lattice, listed)?;
+    Ok(has_answers(lattice, &nodes, word.as_slice()))
 }
 
 #[test]
@@ -100,13 +114,24 @@ fn codewords_are_those_of_the_plain_program(rt: HostRuntime) -> Result<(), Fail>
     ] {
         let lattice = fenced(alpha, s, p, fences, n).ok_or("no lattice")?;
         for listed in [[1, 2, 3, 6], [4, 5, 14, 20], [2, 9, 11, 17]] {
-            let nodes = rising(rt.alloc(), &lattice, &listed)?;
-            let word = codeword(rt.alloc(), &lattice, &listed)?;
-            let difference = first_difference(&lattice, &nodes, word.as_slice());
-            assert!(rt; difference == None, "of {listed:?} in {lattice:?}");
+            let is_same = is_plain(rt.alloc(), &lattice, &listed)?;
+            assert!(rt; is_same, "of {listed:?} in {lattice:?}");
         }
     }
     Ok(())
+}
+
+// The first block of this number or a later one that is in the codeword of the nodes.
+fn first_from(lattice: &Lattice, nodes: &NodeList, least: u32) -> Option<BlockId>
+    requires { AreRising lattice.now nodes.now }
+{
+    for k in least..lattice.blocks() {
+        let block = lattice.block(k);
+        if is_in_codeword(lattice, nodes, block) {
+            return Some(block);
+        }
+    }
+    None
 }
 
 // The codeword ends at node 3. Were each walk to go on to its block, a million nodes later, these calls would not end in time.
@@ -114,18 +139,29 @@ fn codewords_are_those_of_the_plain_program(rt: HostRuntime) -> Result<(), Fail>
 fn a_walk_ends_with_its_codeword(rt: HostRuntime) -> Result<(), Fail> {
     let lattice = Lattice::new(1, 1, 0, 1_048_576).ok_or("no lattice")?;
     let nodes = rising(rt.alloc(), &lattice, &[2, 3])?;
-    for k in 1_900_000..lattice.blocks() {
-        let block = lattice.block(k);
-        assert!(rt; !is_in_codeword(&lattice, &nodes, block), "{block:?}");
-    }
+    let block = first_from(&lattice, &nodes, 1_900_000);
+    assert!(rt; block == None, "{block:?}");
     Ok(())
+}
+
+// The first block of a text, if there is one.
+fn first_of(alloc: Global, text: &str) -> Result<Option<BlockId>, Fail> {
+    Ok(blocks(alloc, text)?.first().copied())
+}
+
+// Whether the least of the intact blocks in the codeword of nodes 1, 4 and 6 is this one.
+fn is_touched(alloc: Global, lattice: &Lattice, intact: &str, want: &str) -> Result<bool, Fail> {
+    let want = first_of(alloc, want)?;
+    let nodes = rising(alloc, lattice, &[1, 4, 6])?;
+    let intact = blocks(alloc, intact)?;
+    let marks = marked(alloc, lattice, intact.as_slice())?;
+    Ok(first_touched(&marks, &nodes) == want)
 }
 
 // The codeword of the nodes is d1 h1 r1 h3 d4 h4 d6 h6 r6 r7 h8 h10 r10 r11.
 #[test]
 fn the_least_marked_block_of_a_codeword_is_found(rt: HostRuntime) -> Result<(), Fail> {
     let lattice = fenced(2, 2, 2, &[4], 11).ok_or("no lattice")?;
-    let nodes = rising(rt.alloc(), &lattice, &[1, 4, 6])?;
     for (text, want) in [
         ("", ""),
         (
@@ -137,20 +173,23 @@ fn the_least_marked_block_of_a_codeword_is_found(rt: HostRuntime) -> Result<(), 
         ("h1 r1 d1", "d1"),
         ("r11", "r11"),
     ] {
-        let intact = blocks(rt.alloc(), text)?;
-        let marks = marked(rt.alloc(), &lattice, intact.as_slice())?;
-        let want = blocks(rt.alloc(), want)?;
-        let found = first_touched(&marks, &nodes);
-        assert!(rt; found == want.first().copied(), "where {text} are intact");
+        let is_found = is_touched(rt.alloc(), &lattice, text, want)?;
+        assert!(rt; is_found, "where {text} are intact");
     }
     Ok(())
 }
 
+// Whether the least missing block of these numbers is this one, where all but h2 and h4 of five nodes are intact.
+fn is_missing(alloc: Global, least: u32, next: u32, want: &str) -> Result<bool, Fail> {
+    let want = first_of(alloc, want)?;
+    let lattice = fenced(1, 1, 0, &[2], 5).ok_or("no lattice")?;
+    let intact = blocks(alloc, "d1 h1 d2 d3 h3 d4 d5 h5")?;
+    let marks = marked(alloc, &lattice, intact.as_slice())?;
+    Ok(next <= lattice.blocks() && least_missing(&marks, least, next) == want)
+}
+
 #[test]
 fn the_least_missing_block_is_in_its_range(rt: HostRuntime) -> Result<(), Fail> {
-    let lattice = fenced(1, 1, 0, &[2], 5).ok_or("no lattice")?;
-    let intact = blocks(rt.alloc(), "d1 h1 d2 d3 h3 d4 d5 h5")?;
-    let marks = marked(rt.alloc(), &lattice, intact.as_slice())?;
     // h2 has number 3, and h4 number 7
     for (least, next, want) in [
         (0, 10, "h2"),
@@ -161,10 +200,8 @@ fn the_least_missing_block_is_in_its_range(rt: HostRuntime) -> Result<(), Fail> 
         (10, 10, ""),
         (9, 5, ""),
     ] {
-        assert!(rt; next <= lattice.blocks());
-        let found = least_missing(&marks, least, next);
-        let want = blocks(rt.alloc(), want)?;
-        assert!(rt; found == want.first().copied(), "from {least} to {next}");
+        let is_found = is_missing(rt.alloc(), least, next, want)?;
+        assert!(rt; is_found, "from {least} to {next}");
     }
     Ok(())
 }

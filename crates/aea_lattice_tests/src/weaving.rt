@@ -41,16 +41,32 @@ fn plain(lattice: &Lattice, node: u32, class: Class) -> [u8; 16]
     sum
 }
 
-fn check(rt: &impl Abort, heads: &Heads, lattice: &Lattice, node: u32, class: Class)
+// Whether the head of the class is the plain sum of the node.
+fn is_plain(heads: &Heads, lattice: &Lattice, node: u32, class: Class) -> bool
     requires heads { 1 ≤ heads.now.lattice.n }
     requires shape { SameShape heads.now.lattice lattice.now }
     requires node { HasNode lattice.now node }
     requires class { HasParity lattice.now class }
 {
-    assert!(rt;
-        heads.parity(class) == plain(lattice, node, class).as_slice(),
-        "{class:?} of {node} in {lattice:?}"
-    );
+    heads.parity(class) == plain(lattice, node, class).as_slice()
+}
+
+// The first class whose head is not the plain sum of the node.
+fn first_wrong(heads: &Heads, lattice: &Lattice, node: u32) -> Option<Class>
+    requires heads { 1 ≤ heads.now.lattice.n }
+    requires shape { SameShape heads.now.lattice lattice.now }
+    requires node { HasNode lattice.now node }
+{
+    if !is_plain(heads, lattice, node, Class::Horiz) {
+        return Some(Class::Horiz);
+    }
+    if lattice.alpha >= 2 && !is_plain(heads, lattice, node, Class::Right) {
+        return Some(Class::Right);
+    }
+    if lattice.alpha >= 3 && !is_plain(heads, lattice, node, Class::Left) {
+        return Some(Class::Left);
+    }
+    None
 }
 
 // Weaves the next node, and compares its parities with the plain sums.
@@ -63,13 +79,8 @@ fn weave(rt: &impl Abort, heads: &mut Heads, lattice: &Lattice)
 {
     let node = heads.next_node();
     heads.step(&datum(node));
-    check(rt, heads, lattice, node, Class::Horiz);
-    if lattice.alpha >= 2 {
-        check(rt, heads, lattice, node, Class::Right);
-    }
-    if lattice.alpha >= 3 {
-        check(rt, heads, lattice, node, Class::Left);
-    }
+    let wrong = first_wrong(heads, lattice, node);
+    assert!(rt; wrong == None, "{wrong:?} of {node} in {lattice:?}");
 }
 
 fn weave_all(rt: &impl Abort, heads: &mut Heads, lattice: &Lattice)

@@ -3,14 +3,15 @@
 use crate::creating::EMPTY;
 use crate::example::{ABC, SHAPE};
 use crate::plain::part;
-use crate::stops::{LOSSES, add, has_ledger, is_durable};
-use aea_disk::{Disk, FailDisk, MemDisk, SureDisk};
+use crate::stops::{add, has_ledger, is_durable, left_by, losses};
+use aea_disk::{Disk, FailDisk, Loss, MemDisk, SureDisk};
 use aea_ledger::{AppendFault, create_ledger, open_ledger};
 use std::alloc::Global;
 use std::test::Fail;
 
 // The ledger of the example with one record, the object abc under the name a. The digests of its four blocks are given.
-const SHORT: &[u8; 203] = b"\x01AEALEDG1\x03\x02\x05\x04\0\0\0\x40\x01\
+fn short() -> &'static [u8; 203] {
+    b"\x01AEALEDG1\x03\x02\x05\x04\0\0\0\x40\x01\
 \x01\0\0\0\xb3\0\x01a\0\0\0\0\0\0\0\x03\
 \xba\x78\x16\xbf\x8f\x01\xcf\xea\x41\x41\x40\xde\x5d\xae\x22\x23\
 \xb0\x03\x61\xa3\x96\x17\x7a\x9c\xb4\x10\xff\x61\xf2\x00\x15\xad\
@@ -18,12 +19,14 @@ const SHORT: &[u8; 203] = b"\x01AEALEDG1\x03\x02\x05\x04\0\0\0\x40\x01\
 dddddddddddddddddddddddddddddddd\
 hhhhhhhhhhhhhhhhhhhhhhhhhhhhhhhh\
 rrrrrrrrrrrrrrrrrrrrrrrrrrrrrrrr\
-llllllllllllllllllllllllllllllll\0";
+llllllllllllllllllllllllllllllll\0"
+}
 
 const SHORT_DIGESTS: [[u8; 32]; 4] = [[b'd'; 32], [b'h'; 32], [b'r'; 32], [b'l'; 32]];
 
 // The same with an object of four nodes, whose record has more than 512 bytes.
-const LONG: &[u8; 587] = b"\x01AEALEDG1\x03\x02\x05\x04\0\0\0\x40\x01\
+fn long() -> &'static [u8; 587] {
+    b"\x01AEALEDG1\x03\x02\x05\x04\0\0\0\x40\x01\
 \x01\0\0\x02\x33\0\x01a\0\0\0\0\0\0\x01\0\
 \xba\x78\x16\xbf\x8f\x01\xcf\xea\x41\x41\x40\xde\x5d\xae\x22\x23\
 \xb0\x03\x61\xa3\x96\x17\x7a\x9c\xb4\x10\xff\x61\xf2\x00\x15\xad\
@@ -43,7 +46,8 @@ llllllllllllllllllllllllllllllll\
 mmmmmmmmmmmmmmmmmmmmmmmmmmmmmmmm\
 nnnnnnnnnnnnnnnnnnnnnnnnnnnnnnnn\
 oooooooooooooooooooooooooooooooo\
-pppppppppppppppppppppppppppppppp\0";
+pppppppppppppppppppppppppppppppp\0"
+}
 
 // The digests of its blocks: each is one letter of the alphabet.
 fn long_digests() -> [[u8; 32]; 16] {
@@ -66,7 +70,7 @@ fn short_one() -> Added<'static> {
     Added {
         size: 3,
         digests: &SHORT_DIGESTS,
-        ledger: SHORT,
+        ledger: short(),
     }
 }
 
@@ -74,7 +78,7 @@ fn long_one(digests: &[[u8; 32]; 16]) -> Added {
     Added {
         size: 256,
         digests,
-        ledger: LONG,
+        ledger: long(),
     }
 }
 
@@ -89,17 +93,9 @@ fn adds<D: Disk>(
     want: Result<bool, AppendFault>,
     is_live: bool,
 ) -> bool {
-    create_ledger(disk, &SHAPE).is_ok() && adds_record(alloc, disk, object, want, is_live)
-}
-
-// Opens the archive and adds the record, likewise.
-fn adds_record<D: Disk>(
-    alloc: Global,
-    disk: &mut D,
-    object: Added,
-    want: Result<bool, AppendFault>,
-    is_live: bool,
-) -> bool {
+    if create_ledger(disk, &SHAPE).is_err() {
+        return false;
+    }
     let Ok(mut ledger) = open_ledger(alloc, disk) else {
         return false;
     };
@@ -107,13 +103,18 @@ fn adds_record<D: Disk>(
     answer == want && ledger.live() == is_live
 }
 
+// Whether the record is added to a new archive, and the file is the ledger of the object then.
+fn adds_to_new(alloc: Global, object: Added) -> bool {
+    let Ok(mut disk) = SureDisk::new(alloc, 0, 1024, 0) else {
+        return false;
+    };
+    adds(alloc, &mut disk, object, Ok(true), true) && has_ledger(&mut disk, object.ledger)
+}
+
 #[test]
 fn adds_the_examples(rt: HostRuntime) -> Result<(), Fail> {
-    for object in [short_one(), long_one(&long_digests())] {
-        let mut disk = SureDisk::new(rt.alloc(), 0, 1024, 0)?;
-        assert!(rt; adds(rt.alloc(), &mut disk, object, Ok(true), true));
-        assert!(rt; has_ledger(&mut disk, object.ledger));
-    }
+    assert!(rt; adds_to_new(rt.alloc(), short_one()));
+    assert!(rt; adds_to_new(rt.alloc(), long_one(&long_digests())));
     Ok(())
 }
 
@@ -134,14 +135,19 @@ fn is_old_or_new(disk: &mut SureDisk, ledger: &[u8]) -> bool {
     }
 }
 
+// Whether a stop after this call with this loss leaves one of them.
+fn leaves_old_or_new(alloc: Global, disk: &MemDisk, after: u64, loss: Loss, ledger: &[u8]) -> bool {
+    match left_by(alloc, disk, after, loss) {
+        Some(mut left) => is_old_or_new(&mut left, ledger),
+        None => false,
+    }
+}
+
 // The first call after which a stop leaves neither of them, from the last sync of the making on; 0 where there is none.
 fn first_wrong_stop(alloc: Global, disk: &MemDisk, ledger: &[u8]) -> u64 {
     for after in MADE..=disk.calls() {
-        for loss in LOSSES {
-            let Ok(mut left) = disk.image(alloc, after, loss) else {
-                return after;
-            };
-            if !is_old_or_new(&mut left, ledger) {
+        for loss in losses() {
+            if !leaves_old_or_new(alloc, disk, after, loss, ledger) {
                 return after;
             }
         }
@@ -149,29 +155,37 @@ fn first_wrong_stop(alloc: Global, disk: &MemDisk, ledger: &[u8]) -> u64 {
     0
 }
 
+// The first such call where the record is added to a new archive, by so many calls of the disk, and lasts.
+fn first_wrong_stop_of(alloc: Global, object: Added, calls: u64) -> Result<u64, Fail> {
+    let mut disk = MemDisk::new(alloc, 0, 1024, 0, 20, 1024)?;
+    if !adds(alloc, &mut disk, object, Ok(true), true) || disk.calls() != calls {
+        return Err(Fail::new("not added by so many calls"));
+    }
+    if !is_durable(alloc, &disk, object.ledger) {
+        return Err(Fail::new("not durable"));
+    }
+    Ok(first_wrong_stop(alloc, &disk, object.ledger))
+}
+
 #[test]
 fn stopped_after_each_call(rt: HostRuntime) -> Result<(), Fail> {
     // four calls open the ledger, and four add a short record, or six a long one
-    for (object, calls) in [(short_one(), 18u64), (long_one(&long_digests()), 20)] {
-        let mut disk = MemDisk::new(rt.alloc(), 0, 1024, 0, 20, 1024)?;
-        assert!(rt; adds(rt.alloc(), &mut disk, object, Ok(true), true));
-        let after = first_wrong_stop(rt.alloc(), &disk, object.ledger);
-        assert!(rt; after == 0, "after {after}");
-        assert!(rt; disk.calls() == calls);
-        assert!(rt; is_durable(rt.alloc(), &disk, object.ledger));
-    }
+    let after = first_wrong_stop_of(rt.alloc(), short_one(), 18)?;
+    assert!(rt; after == 0, "short, after {after}");
+    let after = first_wrong_stop_of(rt.alloc(), long_one(&long_digests()), 20)?;
+    assert!(rt; after == 0, "long, after {after}");
     Ok(())
 }
 
 // The new ledgers without their first gate, which comes last.
 fn short_staged() -> [u8; 203] {
-    let mut bytes = *SHORT;
+    let mut bytes = *short();
     bytes[17] = 0;
     bytes
 }
 
 fn long_staged() -> [u8; 587] {
-    let mut bytes = *LONG;
+    let mut bytes = *long();
     bytes[17] = 0;
     bytes
 }
@@ -201,34 +215,42 @@ fn is_at_fault(alloc: Global, object: Added, call: u64, left: &[u8]) -> bool {
     adds(alloc, &mut disk, object, fault, false) && has_ledger(&mut disk, left)
 }
 
+// Whether that holds of the short record with what its calls leave, from the 15th to the 18th.
+fn is_short_at_fault(alloc: Global, call: u64) -> bool {
+    let object = short_one();
+    match call {
+        15 => is_at_fault(alloc, object, call, EMPTY),
+        16 | 17 => is_at_fault(alloc, object, call, &short_staged()),
+        18 => is_at_fault(alloc, object, call, short()),
+        _ => false,
+    }
+}
+
 #[test]
 fn failing_at_each_call(rt: HostRuntime) -> Result<(), Fail> {
-    for (k, left) in [
-        (15u64, EMPTY.as_slice()),
-        (16, &short_staged()),
-        (17, &short_staged()),
-        (18, SHORT),
-    ] {
-        assert!(rt; is_at_fault(rt.alloc(), short_one(), k, left), "call {k}");
+    for k in 15..=18u64 {
+        assert!(rt; is_short_at_fault(rt.alloc(), k), "call {k}");
     }
     Ok(())
 }
 
+// The same of the long record, from the 15th to the 20th.
+fn is_long_at_fault(alloc: Global, object: Added, call: u64) -> bool {
+    match call {
+        15 => is_at_fault(alloc, object, call, EMPTY),
+        16 => is_at_fault(alloc, object, call, &with_gate()),
+        17 => is_at_fault(alloc, object, call, &with_digests()),
+        18 | 19 => is_at_fault(alloc, object, call, &long_staged()),
+        20 => is_at_fault(alloc, object, call, long()),
+        _ => false,
+    }
+}
+
 #[test]
 fn failing_at_each_call_of_a_long_record(rt: HostRuntime) -> Result<(), Fail> {
-    let digests = long_digests();
-    for (k, left) in [
-        (15u64, EMPTY.as_slice()),
-        (16, &with_gate()),
-        (17, &with_digests()),
-        (18, &long_staged()),
-        (19, &long_staged()),
-        (20, LONG),
-    ] {
-        assert!(rt;
-            is_at_fault(rt.alloc(), long_one(&digests), k, left),
-            "call {k}"
-        );
+    for k in 15..=20u64 {
+        let is_so = is_long_at_fault(rt.alloc(), long_one(&long_digests()), k);
+        assert!(rt; is_so, "call {k}");
     }
     Ok(())
 }

@@ -1,8 +1,8 @@
 //! Ledgers that are made: what is in their file then, and after faults and stops.
 
 use crate::example::SHAPE;
-use crate::stops::{LOSSES, is_durable};
-use aea_disk::{Disk, FailDisk, MemDisk, SureDisk};
+use crate::stops::{is_durable, left_by, losses};
+use aea_disk::{Disk, FailDisk, Loss, MemDisk, SureDisk};
 use aea_ledger::{CreateFault, create_ledger};
 use aea_test_helpers::{fill_file, has_file};
 use std::alloc::Global;
@@ -66,14 +66,19 @@ fn is_none_or_empty(disk: &mut SureDisk) -> bool {
     count < 18 || bytes[0] != 1 || count == 18 && bytes.starts_with(EMPTY)
 }
 
+// Whether a stop after this call with this loss leaves one of these two.
+fn leaves_none_or_empty(alloc: Global, disk: &MemDisk, after: u64, loss: Loss) -> bool {
+    match left_by(alloc, disk, after, loss) {
+        Some(mut left) => is_none_or_empty(&mut left),
+        None => false,
+    }
+}
+
 // The first call after which a stop leaves anything but these two, from the first sync on; 0 where there is none.
 fn first_wrong_stop(alloc: Global, disk: &MemDisk) -> u64 {
     for after in 2..=disk.calls() {
-        for loss in LOSSES {
-            let Ok(mut left) = disk.image(alloc, after, loss) else {
-                return after;
-            };
-            if !is_none_or_empty(&mut left) {
+        for loss in losses() {
+            if !leaves_none_or_empty(alloc, disk, after, loss) {
                 return after;
             }
         }
@@ -81,24 +86,20 @@ fn first_wrong_stop(alloc: Global, disk: &MemDisk) -> u64 {
     0
 }
 
-// A disk that lists eleven calls, and which had the closed file when the archive was made.
-fn closed_one(alloc: Global) -> Option<MemDisk> {
-    let Ok(mut disk) = MemDisk::new(alloc, 0, 32, 0, 11, 43) else {
-        return None;
-    };
-    if disk.write(0, 0, CLOSED).is_ok() && create_ledger(&mut disk, &SHAPE).is_ok() {
-        return Some(disk);
-    }
-    None
+// Whether the closed file is written, and an archive is made over it; that takes eleven calls, and lasts.
+fn makes_over_closed(alloc: Global, disk: &mut MemDisk) -> bool {
+    disk.write(0, 0, CLOSED).is_ok()
+        && create_ledger(disk, &SHAPE).is_ok()
+        && disk.calls() == 11
+        && is_durable(alloc, disk, EMPTY)
 }
 
 #[test]
 fn stopped_after_each_call(rt: HostRuntime) -> Result<(), Fail> {
-    let disk = closed_one(rt.alloc()).ok_or("no archive")?;
+    let mut disk = MemDisk::new(rt.alloc(), 0, 32, 0, 11, 43)?;
+    assert!(rt; makes_over_closed(rt.alloc(), &mut disk));
     let after = first_wrong_stop(rt.alloc(), &disk);
     assert!(rt; after == 0, "after {after}");
-    assert!(rt; disk.calls() == 11);
-    assert!(rt; is_durable(rt.alloc(), &disk, EMPTY));
     Ok(())
 }
 

@@ -1,14 +1,14 @@
 //! Records of each kind, added one by one: their bytes, and what faults and stops leave of them.
 
-ghost use Rattle.std.specs.Prelude.{◌≡◌, ◌<◌, true, OnOk};
+ghost use Rattle.std.specs.Prelude.{◌≡◌, true, OnOk};
 ghost use Rattle.aea_disk.specs.State.{IsFixed};
 ghost use Rattle.aea_ledger.specs.Values.{IsThisOne};
 
 use crate::example::{ABC, SHAPE, each_kind};
 use crate::plain::part;
-use crate::stops::{LOSSES, adds_abc, first_digests, listed, made};
+use crate::stops::{adds_abc, first_digests, left_by, listed, losses, made};
 use aea_catalog::{Extent, check_name};
-use aea_disk::{Disk, FailDisk, MemDisk, SureDisk};
+use aea_disk::{Disk, FailDisk, Loss, MemDisk, SureDisk};
 use aea_ledger::{AppendFault, FenceFault, Ledger, UpgradeFault, create_ledger, open_ledger};
 use aea_records::are_parts;
 use std::alloc::Global;
@@ -48,17 +48,6 @@ pub fn add_parts<D: Disk>(
     Ok(true)
 }
 
-// The records of the example of each kind, one after the other.
-#[derive(Clone, Copy)]
-enum Step {
-    Alone,
-    Fenced,
-    Raised,
-    InParts,
-}
-
-const STEPS: [Step; 4] = [Step::Alone, Step::Fenced, Step::Raised, Step::InParts];
-
 /// Opens the ledger and adds a fence. It says whether the result is the wanted one.
 pub fn fence<D: Disk>(alloc: Global, disk: &mut D, want: Result<u32, FenceFault>) -> bool {
     let Ok(mut ledger) = open_ledger(alloc, disk) else {
@@ -76,24 +65,39 @@ pub fn raise<D: Disk>(alloc: Global, disk: &mut D, want: Result<(), UpgradeFault
 }
 
 // The parts of the object `b` of the example.
-const PARTS: [Extent; 2] = [Extent { first: 1, count: 1 }, Extent { first: 2, count: 1 }];
+fn parts_of_b() -> [Extent; 2] {
+    [Extent { first: 1, count: 1 }, Extent { first: 2, count: 1 }]
+}
 
 // Opens the ledger and adds the object `b` in two parts. It says whether it did.
 fn in_parts<D: Disk>(alloc: Global, disk: &mut D) -> bool {
     let Ok(mut ledger) = open_ledger(alloc, disk) else {
         return false;
     };
-    add_parts(&mut ledger, disk, b"b", 128, &first_digests(), &PARTS) == Ok(true)
+    let (digests, parts) = (first_digests(), parts_of_b());
+    add_parts(&mut ledger, disk, b"b", 128, &digests, &parts) == Ok(true)
 }
 
-// Opens the ledger and adds the record of the step. It says whether it did.
-fn take_step<D: Disk>(alloc: Global, disk: &mut D, step: Step) -> bool {
+// Opens the ledger and adds the record of this step, one of the four of the example: an object, a fence, a raise, and an object in
+// parts. It says whether it did.
+fn take_step<D: Disk>(alloc: Global, disk: &mut D, step: usize) -> bool {
     match step {
-        Step::Alone => adds_abc(alloc, disk, &first_digests()),
-        Step::Fenced => fence(alloc, disk, Ok(1)),
-        Step::Raised => raise(alloc, disk, Ok(())),
-        Step::InParts => in_parts(alloc, disk),
+        0 => adds_abc(alloc, disk, &first_digests()),
+        1 => fence(alloc, disk, Ok(1)),
+        2 => raise(alloc, disk, Ok(())),
+        3 => in_parts(alloc, disk),
+        _ => false,
     }
+}
+
+// Takes so many steps, and says whether it did.
+fn take_steps<D: Disk>(alloc: Global, disk: &mut D, count: usize) -> bool {
+    for step in 0..count {
+        if !take_step(alloc, disk, step) {
+            return false;
+        }
+    }
+    true
 }
 
 // What an archive has.
@@ -105,39 +109,22 @@ struct Contents {
     limit: u32,
 }
 
-// What it has before the first step, and after each.
-const STATES: [Contents; 5] = [
+// What it has after so many of the four steps.
+fn contents_after(steps: usize) -> Contents {
+    let (nodes, objects, fences, limit) = match steps {
+        0 => (0, 0, 0, 65_536),
+        1 => (1, 1, 0, 65_536),
+        2 => (1, 1, 1, 65_536),
+        3 => (1, 1, 1, 1_048_576),
+        _ => (2, 2, 1, 1_048_576),
+    };
     Contents {
-        nodes: 0,
-        objects: 0,
-        fences: 0,
-        limit: 65_536,
-    },
-    Contents {
-        nodes: 1,
-        objects: 1,
-        fences: 0,
-        limit: 65_536,
-    },
-    Contents {
-        nodes: 1,
-        objects: 1,
-        fences: 1,
-        limit: 65_536,
-    },
-    Contents {
-        nodes: 1,
-        objects: 1,
-        fences: 1,
-        limit: 1_048_576,
-    },
-    Contents {
-        nodes: 2,
-        objects: 2,
-        fences: 1,
-        limit: 1_048_576,
-    },
-];
+        nodes,
+        objects,
+        fences,
+        limit,
+    }
+}
 
 // What the archive on a disk has, if there is one.
 fn holds<D: Disk>(alloc: Global, disk: &mut D) -> Option<Contents> {
@@ -179,40 +166,49 @@ pub fn has_parts(ledger: &Ledger, name: &[u8], parts: &[Extent]) -> bool {
 // Whether the object `b` has its two parts.
 fn is_in_parts<D: Disk>(alloc: Global, disk: &mut D) -> bool {
     match open_ledger(alloc, disk) {
-        Ok(ledger) => has_parts(&ledger, b"b", &PARTS),
+        Ok(ledger) => has_parts(&ledger, b"b", &parts_of_b()),
         Err(_) => false,
     }
+}
+
+// Whether all steps are taken, and leave what was spelled by hand.
+fn leaves_each_kind<D: Disk>(alloc: Global, disk: &mut D) -> bool {
+    take_steps(alloc, disk, 4) && is_spelled_by_hand(disk) && is_in_parts(alloc, disk)
 }
 
 #[test]
 fn each_kind_is_spelled_as_by_hand(rt: HostRuntime) -> Result<(), Fail> {
     let mut disk = made(rt.alloc(), &SHAPE, 512)?;
-    for step in STEPS {
-        assert!(rt; take_step(rt.alloc(), &mut disk, step));
-    }
-    assert!(rt; is_spelled_by_hand(&mut disk));
-    assert!(rt; is_in_parts(rt.alloc(), &mut disk));
+    assert!(rt; leaves_each_kind(rt.alloc(), &mut disk));
     Ok(())
 }
 
-// The first call after which a stop leaves neither the old nor the new, from those before the step on; 0 where there is none.
-fn first_wrong_stop(
-    alloc: Global,
-    disk: &MemDisk,
+// What a stop after this call with this loss leaves.
+fn left_by_stop(alloc: Global, disk: &MemDisk, after: u64, loss: Loss) -> Option<Contents> {
+    let mut left = left_by(alloc, disk, after, loss)?;
+    holds(alloc, &mut left)
+}
+
+// A step that was taken: its number, and how many calls of the disk came before its first and up to its last.
+#[derive(Clone, Copy)]
+struct StepCalls {
+    step: usize,
     before: u64,
-    old: Contents,
-    new: Contents,
-) -> u64 {
-    let end = disk.calls();
-    for after in before..=end {
-        for loss in LOSSES {
-            let Ok(mut left) = disk.image(alloc, after, loss) else {
-                return after;
-            };
-            let state = holds(alloc, &mut left);
-            let is_old = state == Some(old) && after < end;
-            let is_new = state == Some(new) && after > before;
-            if !is_old && !is_new {
+    end: u64,
+}
+
+// Whether what a stop after this call leaves is the old or the new, the new not before the step, and the old not after it.
+fn is_old_or_new(state: Option<Contents>, after: u64, taken: StepCalls) -> bool {
+    let old = contents_after(taken.step);
+    let new = contents_after(taken.step.saturating_add(1));
+    state == Some(old) && after < taken.end || state == Some(new) && after > taken.before
+}
+
+// The first call after which a stop leaves neither the old nor the new, from those before the step on; 0 where there is none.
+fn first_wrong_stop(alloc: Global, disk: &MemDisk, taken: StepCalls) -> u64 {
+    for after in taken.before..=taken.end {
+        for loss in losses() {
+            if !is_old_or_new(left_by_stop(alloc, disk, after, loss), after, taken) {
                 return after;
             }
         }
@@ -220,14 +216,22 @@ fn first_wrong_stop(
     0
 }
 
+// Takes this step, and gives the first such call; none where it was not taken.
+fn first_wrong_stop_of(alloc: Global, disk: &mut MemDisk, step: usize) -> Option<u64> {
+    let before = disk.calls();
+    if !take_step(alloc, disk, step) {
+        return None;
+    }
+    let end = disk.calls();
+    Some(first_wrong_stop(alloc, disk, StepCalls { step, before, end }))
+}
+
 #[test]
 fn each_image_has_the_old_or_the_new(rt: HostRuntime) -> Result<(), Fail> {
     let mut disk = listed(rt.alloc(), 96, 1024)?;
     for k in 0..4usize {
-        let before = disk.calls();
-        assert!(rt; take_step(rt.alloc(), &mut disk, STEPS[k]), "{k}");
-        let after = first_wrong_stop(rt.alloc(), &disk, before, STATES[k], STATES[k + 1]);
-        assert!(rt; after == 0, "step {k} after {after}");
+        let after = first_wrong_stop_of(rt.alloc(), &mut disk, k);
+        assert!(rt; after == Some(0), "step {k} after {after:?}");
     }
     Ok(())
 }
@@ -245,31 +249,30 @@ enum Came {
 // A disk on which the archive is made, and so many steps are taken.
 fn after_steps(alloc: Global, k: usize) -> Option<SureDisk> {
     let mut disk = SureDisk::new(alloc, 0, 512, 0).ok()?;
-    let mut is_so = create_ledger(&mut disk, &SHAPE).is_ok();
-    for step in STEPS.iter().take(k) {
-        is_so &= take_step(alloc, &mut disk, *step);
+    if create_ledger(&mut disk, &SHAPE).is_ok() && take_steps(alloc, &mut disk, k) {
+        return Some(disk);
     }
-    is_so.then_some(disk)
+    None
 }
 
 // Takes a step after those before it over a disk of which this call of the step fails.
-fn failing_at(alloc: Global, k: usize, call: u64) -> Came
-    requires { k < 4 }
-{
+fn failing_at(alloc: Global, k: usize, call: u64) -> Came {
     let Some(inner) = after_steps(alloc, k) else {
         return Came::Otherwise;
     };
     let Ok(mut disk) = FailDisk::new(alloc, inner, &[call]) else {
         return Came::Otherwise;
     };
-    let is_taken = take_step(alloc, &mut disk, STEPS[k]);
+    let is_taken = take_step(alloc, &mut disk, k);
     // where the step takes fewer calls, this is the one that fails
     let _synced = disk.sync();
-    what_came(is_taken, holds(alloc, &mut disk), STATES[k], STATES[k + 1])
+    what_came(is_taken, holds(alloc, &mut disk), k)
 }
 
-// What came of the step, where this is there then.
-fn what_came(is_taken: bool, state: Option<Contents>, old: Contents, new: Contents) -> Came {
+// What came of this step, where this is there then.
+fn what_came(is_taken: bool, state: Option<Contents>, step: usize) -> Came {
+    let old = contents_after(step);
+    let new = contents_after(step.saturating_add(1));
     if is_taken && state == Some(new) {
         Came::Taken
     } else if !is_taken && (state == Some(old) || state == Some(new)) {

@@ -145,14 +145,23 @@ fn first_change_apart(
     (bytes.len(), 0)
 }
 
+// What both give of these bytes: how many are left of the first cut apart, and the first place apart, with its byte.
+fn first_apart(
+    alloc: Global,
+    disk: &mut SureDisk,
+    bytes: &mut [u8],
+    is_each: bool,
+) -> (usize, usize, u8) {
+    let end = first_cut_apart(alloc, disk, bytes);
+    let (place, value) = first_change_apart(alloc, disk, bytes, is_each);
+    (end, place, value)
+}
+
 #[test]
 fn each_cut_and_change_is_as_the_plain_reader_has_it(rt: HostRuntime) -> Result<(), Fail> {
-    let mut bytes = example();
     let mut disk = SureDisk::new(rt.alloc(), 0, 256, 0)?;
-    let end = first_cut_apart(rt.alloc(), &mut disk, &bytes);
-    assert!(rt; end == 204, "{end}");
-    let (place, value) = first_change_apart(rt.alloc(), &mut disk, &mut bytes, true);
-    assert!(rt; place == 203, "{value} at {place}");
+    let (end, place, value) = first_apart(rt.alloc(), &mut disk, &mut example(), true);
+    assert!(rt; end == 204 && place == 203, "{end}, {value} at {place}");
     Ok(())
 }
 
@@ -171,21 +180,21 @@ fn is_of_each_kind(ledger: &Ledger) -> bool {
         && ledger.catalog().parts(b"b") == Some(2)
 }
 
-#[test]
-fn each_kind_is_as_the_plain_reader_has_it(rt: HostRuntime) -> Result<(), Fail> {
-    let mut bytes = each_kind();
-    let mut disk = SureDisk::new(rt.alloc(), 0, 512, 0)?;
+// Whether opening and the plain reader both make two nodes and two objects of each kind, and the archive has them.
+fn is_each_kind(alloc: Global, disk: &mut SureDisk) -> bool {
     let two = Reading::Ledger {
         nodes: 2,
         objects: 2,
     };
-    assert!(rt;
-        is_read_as(rt.alloc(), &mut disk, &bytes, two) && has_each_kind(rt.alloc(), &mut disk)
-    );
-    let end = first_cut_apart(rt.alloc(), &mut disk, &bytes);
-    assert!(rt; end == 429, "{end}");
-    let (place, value) = first_change_apart(rt.alloc(), &mut disk, &mut bytes, false);
-    assert!(rt; place == 428, "{value} at {place}");
+    is_read_as(alloc, disk, &each_kind(), two) && has_each_kind(alloc, disk)
+}
+
+#[test]
+fn each_kind_is_as_the_plain_reader_has_it(rt: HostRuntime) -> Result<(), Fail> {
+    let mut disk = SureDisk::new(rt.alloc(), 0, 512, 0)?;
+    assert!(rt; is_each_kind(rt.alloc(), &mut disk));
+    let (end, place, value) = first_apart(rt.alloc(), &mut disk, &mut each_kind(), false);
+    assert!(rt; end == 429 && place == 428, "{end}, {value} at {place}");
     Ok(())
 }
 
@@ -216,48 +225,70 @@ fn bad_changes() -> [(u64, usize, u8, Reading); 18] {
     ]
 }
 
-// Whether the bytes with another one at this place, if they have it, are this.
+// So many bytes of the example with another one at this place, if they have it.
+fn changed(alloc: Global, end: u64, byte: (usize, u8)) -> Result<Vec<u8>, AllocError> {
+    let (place, value) = byte;
+    let mut bytes = Vec::from_slice(alloc, part(&example(), 0, end))?;
+    if let Some(kept) = bytes.get_mut(place) {
+        *kept = value;
+    }
+    Ok(bytes)
+}
+
+// Whether these are this.
 fn is_changed_to(
     alloc: Global,
     disk: &mut SureDisk,
-    bytes: &[u8],
+    end: u64,
     byte: (usize, u8),
     want: Reading,
 ) -> bool {
-    let (place, value) = byte;
-    let Ok(mut changed) = Vec::from_slice(alloc, bytes) else {
-        return false;
-    };
-    if let Some(kept) = changed.get_mut(place) {
-        *kept = value;
+    match changed(alloc, end, byte) {
+        Ok(bytes) => is_read_as(alloc, disk, &bytes, want),
+        Err(_) => false,
     }
-    is_read_as(alloc, disk, &changed, want)
 }
 
 #[test]
 fn bad_places(rt: HostRuntime) -> Result<(), Fail> {
     let mut disk = SureDisk::new(rt.alloc(), 0, 256, 0)?;
-    let bytes = example();
     for (end, place, value, want) in bad_changes() {
-        let front = part(&bytes, 0, end);
-        let is_so = is_changed_to(rt.alloc(), &mut disk, front, (place, value), want);
-        assert!(rt; is_so, "{end} {place} {value}");
+        assert!(rt;
+            is_changed_to(rt.alloc(), &mut disk, end, (place, value), want),
+            "{end} {place} {value}"
+        );
     }
     Ok(())
 }
 
-/// Adds an empty object of this name after the last gate, which it opens, and closes the next.
-pub fn add_empty(bytes: &mut Vec<u8>, name: &[u8], first: u32) -> Result<(), AllocError> {
-    let _gate = bytes.pop();
-    let long = u16::try_from(name.len()).unwrap_or(u16::MAX);
+// What comes before the name of so many bytes in the record of an empty object, from its open gate on.
+fn head_of(long: u16) -> [u8; 8] {
     let mut head = [1; 8];
     head[2..6].copy_from_slice(&u32::from(long).saturating_add(50).to_be_bytes());
     head[6..].copy_from_slice(&long.to_be_bytes());
+    head
+}
+
+// What comes behind the name, and the closed gate.
+fn tail_of(first: u32) -> [u8; 49] {
     let mut tail = [0; 49];
     tail[40..44].copy_from_slice(&first.to_be_bytes());
-    bytes.extend_from_slice(&head)?;
+    tail
+}
+
+// Adds an empty object of this name after the last gate, which it opens, and closes the next.
+fn add_empty(bytes: &mut Vec<u8>, name: &[u8], first: u32) -> Result<(), AllocError> {
+    let _gate = bytes.pop();
+    let long = u16::try_from(name.len()).unwrap_or(u16::MAX);
+    bytes.extend_from_slice(&head_of(long))?;
     bytes.extend_from_slice(name)?;
-    bytes.extend_from_slice(&tail)
+    bytes.extend_from_slice(&tail_of(first))
+}
+
+/// Adds one whose name is this number.
+pub fn add_number(alloc: Global, bytes: &mut Vec<u8>, number: u32) -> Result<(), AllocError> {
+    let name = format!(in alloc; "{number}")?;
+    add_empty(bytes, name.as_bytes(), 1)
 }
 
 // Names, and what a ledger with an object of the name is.
@@ -298,6 +329,12 @@ fn are_read_as(alloc: Global, disk: &mut SureDisk, names: &[&[u8]], want: Readin
     }
 }
 
+// Whether a ledger with a name that occurs twice is bad there.
+fn is_bad_at_third(alloc: Global, disk: &mut SureDisk) -> bool {
+    let at = 17 + 57 + 57 + 8;
+    are_read_as(alloc, disk, &[b"b", b"a", b"b"], Reading::Bad { at })
+}
+
 #[test]
 fn names_at_their_limits(rt: HostRuntime) -> Result<(), Fail> {
     let mut disk = SureDisk::new(rt.alloc(), 0, 512, 0)?;
@@ -307,11 +344,7 @@ fn names_at_their_limits(rt: HostRuntime) -> Result<(), Fail> {
             "{name:?}"
         );
     }
-    // a name that occurs twice
-    let third = Reading::Bad {
-        at: 17 + 57 + 57 + 8,
-    };
-    assert!(rt; are_read_as(rt.alloc(), &mut disk, &[b"b", b"a", b"b"], third));
+    assert!(rt; is_bad_at_third(rt.alloc(), &mut disk));
     Ok(())
 }
 
@@ -319,8 +352,7 @@ fn names_at_their_limits(rt: HostRuntime) -> Result<(), Fail> {
 fn full_one(alloc: Global) -> Result<Vec<u8>, Fail> {
     let mut bytes = Vec::from_slice(alloc, FRONT)?;
     for k in 0..65_536u32 {
-        let name = format!(in alloc; "{}", k.wrapping_mul(40_503) % 65_536)?;
-        add_empty(&mut bytes, name.as_bytes(), 1)?;
+        add_number(alloc, &mut bytes, k.wrapping_mul(40_503) % 65_536)?;
     }
     Ok(bytes)
 }

@@ -40,34 +40,41 @@ fn first_bad(fields: &[(u64, bool)]) -> Option<u64> {
     None
 }
 
+// Whether a number is one of these.
+fn is_within(number: u64, least: u64, greatest: u64) -> bool {
+    least <= number && number <= greatest
+}
+
+// Whether s is one that α may have.
+fn is_s(alpha: u64, s: u64) -> bool {
+    if alpha == 1 {
+        s == 1
+    } else {
+        is_within(s, 2, 16)
+    }
+}
+
+// Whether p is one that α and s may have.
+fn is_p(alpha: u64, s: u64, p: u64) -> bool {
+    if alpha == 1 {
+        p == 0
+    } else {
+        is_within(p, s, 64)
+    }
+}
+
 // The fields of the header.
 fn header_fields(bytes: &[u8]) -> [(u64, bool); 6] {
     let alpha = number(bytes, 9, 1);
     let s = number(bytes, 10, 1);
     let p = number(bytes, 11, 1);
-    let sites = number(bytes, 12, 1);
-    let block = number(bytes, 13, 4);
     [
         (1, part(bytes, 1, 8) == b"AEALEDG1".as_slice()),
-        (9, 1 <= alpha && alpha <= 3),
-        (
-            10,
-            if alpha == 1 {
-                s == 1
-            } else {
-                2 <= s && s <= 16
-            },
-        ),
-        (
-            11,
-            if alpha == 1 {
-                p == 0
-            } else {
-                s <= p && p <= 64
-            },
-        ),
-        (12, 1 <= sites && sites <= 64),
-        (13, 16 <= block && block <= 65_536),
+        (9, is_within(alpha, 1, 3)),
+        (10, is_s(alpha, s)),
+        (11, is_p(alpha, s, p)),
+        (12, is_within(number(bytes, 12, 1), 1, 64)),
+        (13, is_within(number(bytes, 13, 4), 16, 65_536)),
     ]
 }
 
@@ -117,83 +124,141 @@ fn are_parts(bytes: &[u8], at: u64, parts: u64, last: u64, nodes: u64) -> bool {
     sum == nodes
 }
 
+// Whether there are so many bytes.
+fn has(bytes: &[u8], end: u64) -> bool {
+    end <= bytes.len() as u64
+}
+
 // The fields of a fence or a raise after an open gate, with which the bytes begin.
 fn short_fields(far: &SoFar, bytes: &[u8], kind: u64) -> [(u64, bool); 4] {
-    let has = |end: u64| end <= bytes.len() as u64;
     let value = number(bytes, 6, 4);
+    let may_be = if kind == 2 {
+        far.may_fence(value)
+    } else {
+        value == 1_048_576 && !far.raised
+    };
     [
-        (1, has(2) && far.may_come(kind)),
-        (2, has(6)),
-        (
-            6,
-            has(10)
-                && if kind == 2 {
-                    far.may_fence(value)
-                } else {
-                    value == 1_048_576 && !far.raised
-                },
-        ),
+        (1, has(bytes, 2) && far.may_come(kind)),
+        (2, has(bytes, 6)),
+        (6, has(bytes, 10) && may_be),
         (2, number(bytes, 2, 4) == 4),
     ]
 }
 
+// Whether an object has this name.
+fn is_taken(far: &SoFar, name: &[u8]) -> bool {
+    far.names.iter().any(|known| known.as_slice() == name)
+}
+
 // The fields of an object after an open gate, with which the bytes begin, up to its name.
 fn name_fields(far: &SoFar, bytes: &[u8], kind: u64) -> [(u64, bool); 4] {
-    let has = |end: u64| end <= bytes.len() as u64;
     let long = number(bytes, 6, 2);
     let name = part(bytes, 8, long);
-    let taken = far.names.iter().any(|known| known.as_slice() == name);
+    let may_be = check_name(name) && !is_taken(far, name);
     [
-        (1, has(2) && far.may_come(kind)),
-        (2, has(6)),
-        (6, has(8) && 1 <= long && long <= 255),
-        (8, has(long.saturating_add(8)) && check_name(name) && !taken),
+        (1, has(bytes, 2) && far.may_come(kind)),
+        (2, has(bytes, 6)),
+        (6, has(bytes, 8) && is_within(long, 1, 255)),
+        (8, has(bytes, long.saturating_add(8)) && may_be),
     ]
 }
 
-// The fields of an object after its name, and last the value of the number of bytes. One in parts has four bytes and the
-// parts between.
-fn object_fields(far: &SoFar, bytes: &[u8], joined: bool) -> [(u64, bool); 8] {
-    let has = |end: u64| end <= bytes.len() as u64;
-    let after = number(bytes, 6, 2).saturating_add(8);
-    let first = number(bytes, after.saturating_add(40), 4);
-    let count = number(bytes, after.saturating_add(44), 4);
-    let last = far.nodes.saturating_add(count);
-    let parts = if joined {
+// Where the fields of an object begin after its name: those of each object, the parts, the digests, and what comes behind them.
+#[derive(Clone, Copy)]
+struct Places {
+    after: u64,
+    parts: u64,
+    digests: u64,
+    end: u64,
+}
+
+// How many nodes an object adds, whose fields after its name begin there.
+fn added_nodes(bytes: &[u8], after: u64) -> u64 {
+    number(bytes, after.saturating_add(44), 4)
+}
+
+// How many nodes its bytes take.
+fn own_nodes(far: &SoFar, bytes: &[u8], after: u64) -> u64 {
+    number(bytes, after, 8).div_ceil(far.block.max(1))
+}
+
+// How many parts it has; none where it is not one in parts.
+fn part_count(bytes: &[u8], after: u64, joined: bool) -> u64 {
+    if joined {
         number(bytes, after.saturating_add(48), 4)
     } else {
         0
-    };
-    let behind = after.saturating_add(if joined { 52 } else { 48 });
-    let parts_end = behind.saturating_add(parts.saturating_mul(8));
-    let end = parts_end.saturating_add(
-        count
-            .saturating_mul(far.alpha.saturating_add(1))
-            .saturating_mul(32),
-    );
-    let nodes = number(bytes, after, 8).div_ceil(far.block.max(1));
+    }
+}
+
+// Where its fields begin. One in parts has four bytes and the parts between.
+fn places_of(far: &SoFar, bytes: &[u8], joined: bool) -> Places {
+    let after = number(bytes, 6, 2).saturating_add(8);
+    let parts = after.saturating_add(if joined { 52 } else { 48 });
+    let digests = parts.saturating_add(part_count(bytes, after, joined).saturating_mul(8));
+    let blocks = added_nodes(bytes, after).saturating_mul(far.alpha.saturating_add(1));
+    Places {
+        after,
+        parts,
+        digests,
+        end: digests.saturating_add(blocks.saturating_mul(32)),
+    }
+}
+
+// Whether the numbers of nodes that an object adds may be.
+fn may_add(far: &SoFar, bytes: &[u8], after: u64, joined: bool) -> bool {
+    let count = added_nodes(bytes, after);
+    (joined || count == own_nodes(far, bytes, after))
+        && far.nodes.saturating_add(count) <= far.limit()
+}
+
+// The fields of an object after its name, up to the number of nodes that it adds.
+fn node_fields(far: &SoFar, bytes: &[u8], joined: bool, after: u64) -> [(u64, bool); 4] {
+    let size_end = after.saturating_add(8);
+    let digest_end = after.saturating_add(40);
+    let first_end = after.saturating_add(44);
+    let is_next = number(bytes, digest_end, 4) == far.nodes.saturating_add(1);
+    let is_added = may_add(far, bytes, after, joined);
     [
-        (after, has(after.saturating_add(8))),
-        (after.saturating_add(8), has(after.saturating_add(40))),
-        (
-            after.saturating_add(40),
-            has(after.saturating_add(44)) && first == far.nodes.saturating_add(1),
-        ),
-        (
-            after.saturating_add(44),
-            has(after.saturating_add(48)) && (joined || count == nodes) && last <= far.limit(),
-        ),
-        (
-            after.saturating_add(48),
-            !joined || (has(behind) && parts <= 1_048_576),
-        ),
-        (
-            behind,
-            !joined || (has(parts_end) && are_parts(bytes, behind, parts, last, nodes)),
-        ),
-        (parts_end, has(end)),
+        (after, has(bytes, size_end)),
+        (size_end, has(bytes, digest_end)),
+        (digest_end, has(bytes, first_end) && is_next),
+        (first_end, has(bytes, after.saturating_add(48)) && is_added),
+    ]
+}
+
+// Whether its parts may be.
+fn may_join(far: &SoFar, bytes: &[u8], places: Places) -> bool {
+    let after = places.after;
+    let count = part_count(bytes, after, true);
+    let last = far.nodes.saturating_add(added_nodes(bytes, after));
+    let own = own_nodes(far, bytes, after);
+    are_parts(bytes, places.parts, count, last, own)
+}
+
+// Its fields after these, and last the value of the number of bytes.
+fn part_fields(far: &SoFar, bytes: &[u8], joined: bool, places: Places) -> [(u64, bool); 4] {
+    let Places {
+        after,
+        parts,
+        digests,
+        end,
+    } = places;
+    let is_few = !joined || has(bytes, parts) && part_count(bytes, after, true) <= 1_048_576;
+    let is_joined = !joined || has(bytes, digests) && may_join(far, bytes, places);
+    [
+        (after.saturating_add(48), is_few),
+        (parts, is_joined),
+        (digests, has(bytes, end)),
         (2, number(bytes, 2, 4) == end.saturating_sub(6)),
     ]
+}
+
+// The place of what is bad in an object after its name, if anything is.
+fn bad_object(far: &SoFar, bytes: &[u8], joined: bool) -> Option<u64> {
+    let places = places_of(far, bytes, joined);
+    let bad = first_bad(&node_fields(far, bytes, joined, places.after));
+    bad.or(first_bad(&part_fields(far, bytes, joined, places)))
 }
 
 // Takes the record after an open gate, which is valid.
@@ -218,12 +283,28 @@ fn bad_record(far: &SoFar, bytes: &[u8], kind: u64) -> Option<u64> {
     if kind == 2 || kind == 4 {
         first_bad(&short_fields(far, bytes, kind))
     } else {
-        first_bad(&name_fields(far, bytes, kind)).or(first_bad(&object_fields(
-            far,
-            bytes,
-            kind == 3,
-        )))
+        first_bad(&name_fields(far, bytes, kind)).or(bad_object(far, bytes, kind == 3))
     }
+}
+
+// What the bytes are by the gate there, from which on there are these: none where it is open, and the record after it is valid.
+fn judge_record(far: &SoFar, gate: u64, rest: &[u8]) -> Option<Reading> {
+    let Some(first) = rest.first() else {
+        return Some(Reading::Bad { at: gate });
+    };
+    let objects = far.names.len() as u64;
+    if *first != 1 {
+        return Some(Reading::Ledger {
+            nodes: far.nodes,
+            objects,
+        });
+    }
+    let kind = number(rest, 1, 1);
+    if objects == 65_536 && (kind == 1 || (kind == 3 && far.raised)) {
+        return Some(Reading::Bad { at: gate });
+    }
+    let at = gate.saturating_add(bad_record(far, rest, kind)?);
+    Some(Reading::Bad { at })
 }
 
 // What the bytes after the header are.
@@ -231,26 +312,10 @@ fn read_records(alloc: Global, far: &mut SoFar, bytes: &[u8]) -> Result<Reading,
     let mut gate = 17u64;
     for _ in 0..70_000u64 {
         let rest = part(bytes, gate, u64::MAX);
-        if rest.is_empty() {
-            return Ok(Reading::Bad { at: gate });
+        if let Some(reading) = judge_record(far, gate, rest) {
+            return Ok(reading);
         }
-        let objects = far.names.len() as u64;
-        if rest[0] != 1 {
-            return Ok(Reading::Ledger {
-                nodes: far.nodes,
-                objects,
-            });
-        }
-        let kind = number(rest, 1, 1);
-        if objects == 65_536 && (kind == 1 || (kind == 3 && far.raised)) {
-            return Ok(Reading::Bad { at: gate });
-        }
-        if let Some(at) = bad_record(far, rest, kind) {
-            return Ok(Reading::Bad {
-                at: gate.saturating_add(at),
-            });
-        }
-        take(alloc, far, rest, kind)?;
+        take(alloc, far, rest, number(rest, 1, 1))?;
         gate = gate.saturating_add(number(rest, 2, 4)).saturating_add(6);
     }
     Ok(Reading::NoArchive)

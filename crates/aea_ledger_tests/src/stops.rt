@@ -5,7 +5,7 @@ ghost use Rattle.aea_disk.specs.State.{IsFixed};
 ghost use Rattle.aea_ledger.specs.Values.{IsThisOne};
 
 use crate::example::{ABC, CLASSES, FRONT, SHAPE, example, first_digest};
-use crate::openings::{add_empty, open_disk};
+use crate::openings::{add_number, open_disk};
 use crate::plain::{Reading, part};
 use aea_catalog::check_name;
 use aea_disk::{Disk, Loss, MemDisk, SureDisk};
@@ -16,7 +16,9 @@ use std::alloc::Global;
 use std::test::Fail;
 
 /// What may be lost in a stop.
-pub const LOSSES: [Loss; 4] = [Loss::Kept, Loss::Dropped, Loss::Ones, Loss::Zeros];
+pub fn losses() -> [Loss; 4] {
+    [Loss::Kept, Loss::Dropped, Loss::Ones, Loss::Zeros]
+}
 
 // A ledger without records, with the first object, and with the second.
 const NONE: Reading = Reading::Ledger {
@@ -164,14 +166,27 @@ fn fits(opened: Reading, after: u64, ends: Ends) -> bool {
     }
 }
 
+/// What a stop after this call with this loss leaves; none where there is no such call, or no memory.
+pub fn left_by(alloc: Global, disk: &MemDisk, after: u64, loss: Loss) -> Option<SureDisk> {
+    if after > disk.calls() {
+        return None;
+    }
+    disk.image(alloc, after, loss).ok()
+}
+
+// Whether a stop after this call with this loss leaves what fits.
+fn leaves_what_fits(alloc: Global, disk: &MemDisk, after: u64, loss: Loss, ends: Ends) -> bool {
+    match left_by(alloc, disk, after, loss) {
+        Some(mut left) => fits(open_disk(alloc, &mut left), after, ends),
+        None => false,
+    }
+}
+
 // The first call after which a stop leaves what does not fit; 0 where there is none.
 fn first_wrong_stop(alloc: Global, disk: &MemDisk, ends: Ends) -> u64 {
     for after in 1..=disk.calls() {
-        for loss in LOSSES {
-            let Ok(mut left) = disk.image(alloc, after, loss) else {
-                return after;
-            };
-            if !fits(open_disk(alloc, &mut left), after, ends) {
+        for loss in losses() {
+            if !leaves_what_fits(alloc, disk, after, loss, ends) {
                 return after;
             }
         }
@@ -179,19 +194,28 @@ fn first_wrong_stop(alloc: Global, disk: &MemDisk, ends: Ends) -> u64 {
     0
 }
 
-#[test]
-fn each_image_opens_as_the_old_or_the_new(rt: HostRuntime) -> Result<(), Fail> {
-    let mut disk = listed(rt.alloc(), 64, 1024)?;
+// Adds both objects, and says after how many calls the archive was made, and each was added; an error where one was not.
+fn ends_of_adding(alloc: Global, disk: &mut MemDisk) -> Result<Ends, Fail> {
     let made = disk.calls();
-    assert!(rt; adds_abc(rt.alloc(), &mut disk, &first_digests()));
+    if !adds_abc(alloc, disk, &first_digests()) {
+        return Err(Fail::new("a is not added"));
+    }
     let first = disk.calls();
-    assert!(rt; adds(rt.alloc(), &mut disk, b"e", 0, [7; 32], &[]));
+    if !adds(alloc, disk, b"e", 0, [7; 32], &[]) {
+        return Err(Fail::new("e is not added"));
+    }
     let second = disk.calls();
-    let ends = Ends {
+    Ok(Ends {
         made,
         first,
         second,
-    };
+    })
+}
+
+#[test]
+fn each_image_opens_as_the_old_or_the_new(rt: HostRuntime) -> Result<(), Fail> {
+    let mut disk = listed(rt.alloc(), 64, 1024)?;
+    let ends = ends_of_adding(rt.alloc(), &mut disk)?;
     let after = first_wrong_stop(rt.alloc(), &disk, ends);
     assert!(rt; after == 0, "after {after}");
     Ok(())
@@ -256,8 +280,7 @@ fn is_full_after_one<D: Disk>(alloc: Global, disk: &mut D) -> bool {
 fn nearly_full(alloc: Global) -> Result<Vec<u8>, Fail> {
     let mut bytes = Vec::from_slice(alloc, FRONT)?;
     for k in 0..65_535u32 {
-        let name = format!(in alloc; "{k}")?;
-        add_empty(&mut bytes, name.as_bytes(), 1)?;
+        add_number(alloc, &mut bytes, k)?;
     }
     Ok(bytes)
 }

@@ -51,33 +51,51 @@ const OTHER: MessageFault = MessageFault::BadMessage { at: u64::MAX };
 // More bytes than a stream of these tests has.
 const LONGEST: u64 = 1_000_000;
 
+// Whether the message is the wanted one, where one is wanted.
+fn is_wanted(wanted: Option<&Wanted>, message: &Message) -> bool {
+    match wanted {
+        Some(wanted) => wanted.is(message),
+        None => false,
+    }
+}
+
+// Reads the wanted message. Where it does not come, the error says why, if the stream did not end.
+fn read_wanted<S: Source>(
+    alloc: Global,
+    source: &mut S,
+    wanted: Option<&Wanted>,
+    taken: &mut u64,
+) -> Result<(), Option<MessageFault>> {
+    if *taken > LONGEST {
+        return Err(Some(OTHER));
+    }
+    match read_message(alloc, source, taken) {
+        Ok(Some(message)) => {
+            if is_wanted(wanted, &message) {
+                Ok(())
+            } else {
+                Err(Some(OTHER))
+            }
+        }
+        Ok(None) => Err(None),
+        Err(fault) => Err(Some(fault)),
+    }
+}
+
 /// Reads the wanted messages, and then up to what is none.
 pub fn read_all<S: Source>(alloc: Global, source: &mut S, wanted: &[Wanted]) -> Found {
     let mut taken = 0;
-    let mut count = 0;
-    for _ in 0..=wanted.len() {
-        if taken > LONGEST {
-            break;
+    for count in 0..=wanted.len() {
+        if let Err(fault) = read_wanted(alloc, source, wanted.get(count), &mut taken) {
+            return Found {
+                count,
+                fault,
+                taken,
+            };
         }
-        let fault = match read_message(alloc, source, &mut taken) {
-            Ok(Some(message)) => {
-                if count < wanted.len() && wanted[count].is(&message) {
-                    count += 1;
-                    continue;
-                }
-                Some(OTHER)
-            }
-            Ok(None) => None,
-            Err(fault) => Some(fault),
-        };
-        return Found {
-            count,
-            fault,
-            taken,
-        };
     }
     Found {
-        count,
+        count: wanted.len(),
         fault: Some(OTHER),
         taken,
     }

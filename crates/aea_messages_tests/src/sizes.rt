@@ -47,27 +47,37 @@ fn one_byte_more_is_bad_at_its_length(rt: HostRuntime) -> Result<(), Fail> {
     Ok(())
 }
 
-#[test]
-fn the_longest_names_are_read(rt: HostRuntime) -> Result<(), Fail> {
-    let opened = long_stream(rt.alloc(), b"\x01\x07\xff\xff", 65_535)?;
-    let read = long_stream(rt.alloc(), b"\x05\xff\xff", 65_535)?;
+// Whether the message that opens an upload under the longest name is read, and the one behind it.
+fn opens_longest(alloc: Global) -> Result<bool, Fail> {
+    let bytes = long_stream(alloc, b"\x01\x07\xff\xff", 65_535)?;
     let wanted = [
         Wanted::Open {
             slot: 7,
-            name: opened.get(4..65_539).unwrap_or(&[]),
+            name: bytes.get(4..65_539).unwrap_or(&[]),
         },
         Wanted::Abort { slot: 0 },
     ];
-    let others = [
+    let found = read_bytes(alloc, &bytes, &wanted);
+    Ok(found.count == 2 && found.taken == 65_541)
+}
+
+// Whether the one that reads an object under it is.
+fn reads_longest(alloc: Global) -> Result<bool, Fail> {
+    let bytes = long_stream(alloc, b"\x05\xff\xff", 65_535)?;
+    let wanted = [
         Wanted::Read {
-            name: read.get(3..65_538).unwrap_or(&[]),
+            name: bytes.get(3..65_538).unwrap_or(&[]),
         },
         Wanted::Abort { slot: 0 },
     ];
-    let first = read_bytes(rt.alloc(), &opened, &wanted);
-    let second = read_bytes(rt.alloc(), &read, &others);
-    assert!(rt; first.count == 2 && first.taken == 65_541);
-    assert!(rt; second.count == 2 && second.taken == 65_540);
+    let found = read_bytes(alloc, &bytes, &wanted);
+    Ok(found.count == 2 && found.taken == 65_540)
+}
+
+#[test]
+fn the_longest_names_are_read(rt: HostRuntime) -> Result<(), Fail> {
+    assert!(rt; opens_longest(rt.alloc())?);
+    assert!(rt; reads_longest(rt.alloc())?);
     Ok(())
 }
 
@@ -88,14 +98,21 @@ fn each_first_byte_begins_a_message_or_none(rt: HostRuntime) {
     }
 }
 
+// Whether the next message is the one that closes slot 2, where at most 100 bytes are taken before it.
+fn is_close(alloc: Global, source: &mut SureSource, taken: &mut u64) -> bool {
+    *taken <= 100
+        && matches!(
+            read_message(alloc, source, taken),
+            Ok(Some(Message::Close { slot: 2 }))
+        )
+}
+
 #[test]
 fn bytes_behind_a_message_stay_in_the_source(rt: HostRuntime) {
     let mut source = SureSource::new(b"\x03\x02\x09\x09");
     let mut taken = 100;
-    let found = read_message(rt.alloc(), &mut source, &mut taken);
-    assert!(rt; matches!(found, Ok(Some(Message::Close { slot: 2 }))));
-    assert!(rt; source.rest == b"\x09\x09".as_slice());
-    assert!(rt; taken == 102);
+    let is_so = is_close(rt.alloc(), &mut source, &mut taken);
+    assert!(rt; is_so && source.rest == b"\x09\x09".as_slice() && taken == 102);
 }
 
 #[test]

@@ -42,13 +42,17 @@ fn each_read_may_fail(rt: HostRuntime) {
     }
 }
 
+// Whether a failed read is found where this read in memory fails, and counted once.
+fn fails_in_memory(alloc: Global, fails: u32) -> Result<bool, Fail> {
+    let mut source = MemSource::new(alloc, stream(), &[fails])?;
+    let found = read_all(alloc, &mut source, &messages());
+    Ok(found.fault == Some(MessageFault::ReadFault) && source.faults == 1)
+}
+
 #[test]
 fn a_read_that_fails_in_memory_is_no_end(rt: HostRuntime) -> Result<(), Fail> {
-    let wanted = messages();
     for fails in [1, 2, 5, 9, 20] {
-        let mut source = MemSource::new(rt.alloc(), stream(), &[fails])?;
-        let found = read_all(rt.alloc(), &mut source, &wanted);
-        assert!(rt; found.fault == Some(MessageFault::ReadFault) && source.faults == 1);
+        assert!(rt; fails_in_memory(rt.alloc(), fails)?, "{fails}");
     }
     Ok(())
 }

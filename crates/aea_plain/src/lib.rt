@@ -15,8 +15,5 @@ mod sweeps;
 
 pub use codewords::codeword;
 pub use strands::{last_on, next, prefix, previous};
-pub use sums::sum;
+pub use sums::{all_equations, sum};
 pub use sweeps::closure;
-
-#[cfg(test)]
-mod tests;

@@ -19,8 +19,8 @@ fn push_equations(lattice: &Lattice, equations: &mut Vec<EqId>, node: u32) -> Re
     Ok(())
 }
 
-// The equations of the lattice, in equation order.
-pub(crate) fn all_equations(alloc: Global, lattice: &Lattice) -> Result<Vec<EqId>, AllocError>
+/// The equations of the lattice, in equation order. An error is lack of memory.
+pub fn all_equations(alloc: Global, lattice: &Lattice) -> Result<Vec<EqId>, AllocError>
     ensures all { IfOk result (λ equations. equations.items ≡ equations_of lattice.now) }
     ensures inside { IfOk result (λ equations. All (HasEquation lattice.now) equations.items) }
 {

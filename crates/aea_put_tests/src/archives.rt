@@ -9,11 +9,29 @@ use std::test::Fail;
 /// The line that makes an archive of AE(3,2,5) with blocks of 64 bytes, so cells of 112, on four sites.
 pub const LINE: &str = "create 3 2 5 64 4";
 
+/// Whether a run of the line over the disk is done.
+pub fn is_done<D: Disk>(alloc: Global, disk: &mut D, line: &str) -> Result<bool, AllocError> {
+    let left = run_over(alloc, line, disk, 999)?;
+    Ok(left.status == Status::Done)
+}
+
+/// The archive that a line makes on a disk of so many sites, whose ledger and whose sites have so much space.
+pub fn archive_of(
+    alloc: Global,
+    line: &str,
+    sites: u8,
+    ledger: usize,
+    site: usize,
+) -> Result<SureDisk, AllocError> {
+    let mut disk = SureDisk::new(alloc, sites, ledger, site)?;
+    run_over(alloc, line, &mut disk, 999)?;
+    Ok(disk)
+}
+
 /// The archive of that line with the object `a` of the bytes `abc`.
 pub fn with_abc(alloc: Global) -> Result<SureDisk, AllocError> {
-    let mut disk = SureDisk::new(alloc, 4, 1024, 1024)?;
-    let _made = run_over(alloc, LINE, &mut disk, 99)?;
-    let _stored = run_put(alloc, &mut disk, "a", b"abc")?;
+    let mut disk = archive_of(alloc, LINE, 4, 1024, 1024)?;
+    run_put(alloc, &mut disk, "a", b"abc")?;
     Ok(disk)
 }
 
@@ -54,8 +72,10 @@ pub fn refuses<D: Disk>(
 ) -> Result<bool, Fail> {
     let before = all_bytes(alloc, disk)?;
     let want = (Status::Refused, "", line);
-    let is_so = puts(alloc, disk, (name, bytes), want, unread)?;
-    Ok(is_so && has_bytes(alloc, disk, before.as_slice())?)
+    Ok(
+        puts(alloc, disk, (name, bytes), want, unread)?
+            && has_bytes(alloc, disk, before.as_slice())?,
+    )
 }
 
 /// Whether a run of the line ends so, and flushes what it prints.

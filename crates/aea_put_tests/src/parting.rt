@@ -5,13 +5,14 @@ ghost use Rattle.std.specs.Prelude.{◌≡◌, ◌≤◌, true, OnOk, IfOk};
 ghost use Rattle.aea_disk.specs.State.{IsFixed};
 ghost use Rattle.aea_ledger.specs.Values.{IsThisOne};
 
+use crate::archives::{is_done, takes};
 use aea_append::{HeadFault, PutFault, commit_parts, load_heads, weave_node};
 use aea_catalog::{Extent, check_name};
 use aea_cli::Status;
 use aea_disk::{Disk, FailDisk, Loss, MemDisk, SureDisk};
 use aea_ledger::{AppendFault, Ledger, open_ledger};
 use aea_records::are_parts;
-use aea_runs::{run_get, run_over, run_put};
+use aea_runs::{run_get, run_over};
 use aea_test_helpers::{shorten, spoil};
 use aea_weave::Heads;
 use sha2::{Digest, Sha256};
@@ -45,10 +46,11 @@ fn parts_of(first: u32) -> [Extent; 2] {
 
 // An archive whose limit was raised, with the object `old` of two nodes.
 fn begin<D: Disk>(alloc: Global, disk: &mut D) -> Result<bool, Fail> {
-    let made = run_over(alloc, "create 3 2 5 16 4", disk, 99)?;
-    let raised = run_over(alloc, "upgrade", disk, 99)?;
-    let put = run_put(alloc, disk, "old", b"it has seventeen.")?;
-    Ok(made.status == Status::Done && raised.status == Status::Done && put.status == Status::Done)
+    Ok(
+        is_done(alloc, disk, "create 3 2 5 16 4")?
+            && is_done(alloc, disk, "upgrade")?
+            && takes(alloc, disk, "old", b"it has seventeen.")?,
+    )
 }
 
 // The heads by which the next node of the archive is woven, where it has as many classes of parities as its shape says.
@@ -188,39 +190,46 @@ fn commit_both<D: Disk>(
     Ok(Step::Both)
 }
 
+// Whether an object is there, which has this text. None where it is got otherwise, or refused otherwise than by its name.
+fn is_there<D: Disk>(
+    alloc: Global,
+    disk: &mut D,
+    name: &str,
+    text: &str,
+) -> Result<Option<bool>, AllocError> {
+    let left = run_get(alloc, disk, name, 99)?;
+    if left.is(Status::Done, text, "") {
+        return Ok(Some(true));
+    }
+    let is_unknown = left.is(Status::Refused, "", "refused: unknown name\n");
+    Ok(is_unknown.then_some(false))
+}
+
 // How far an archive came, by what is got of it. Nothing where one of its blocks is damaged, or an object is not what it was.
 fn step_of<D: Disk>(alloc: Global, disk: &mut D) -> Result<Step, Fail> {
-    let scrubbed = run_over(alloc, "scrub", disk, 999)?;
-    let old = run_get(alloc, disk, "old", 99)?;
-    if scrubbed.status != Status::Done || !old.is(Status::Done, "it has seventeen.", "") {
+    let is_sound = is_done(alloc, disk, "scrub")?;
+    if is_there(alloc, disk, "old", "it has seventeen.")? != Some(true) || !is_sound {
         return Ok(Step::Nothing);
     }
-    let a = run_get(alloc, disk, "a", 99)?;
-    let b = run_get(alloc, disk, "b", 99)?;
-    if a.is(Status::Done, A, "") && b.is(Status::Done, B, "") {
-        return Ok(Step::Both);
-    }
-    if !b.is(Status::Refused, "", "refused: unknown name\n") {
-        return Ok(Step::Nothing);
-    }
-    if a.is(Status::Done, A, "") {
-        return Ok(Step::First);
-    }
-    if a.is(Status::Refused, "", "refused: unknown name\n") {
-        return Ok(Step::Woven);
-    }
-    Ok(Step::Nothing)
+    let both = (
+        is_there(alloc, disk, "a", A)?,
+        is_there(alloc, disk, "b", B)?,
+    );
+    Ok(match both {
+        (Some(true), Some(true)) => Step::Both,
+        (Some(true), Some(false)) => Step::First,
+        (Some(false), Some(false)) => Step::Woven,
+        _ => Step::Nothing,
+    })
 }
 
 // Whether one object more is stored and got back, by heads that go on from the last blocks, of whatever object.
 fn goes_on<D: Disk>(alloc: Global, disk: &mut D) -> Result<bool, Fail> {
-    let put = run_put(alloc, disk, "later", b"it comes behind them all")?;
-    let got = run_get(alloc, disk, "later", 99)?;
-    let scrubbed = run_over(alloc, "scrub", disk, 999)?;
+    let text = "it comes behind them all";
     Ok(
-        put.status == Status::Done
-            && got.is(Status::Done, "it comes behind them all", "")
-            && scrubbed.status == Status::Done,
+        takes(alloc, disk, "later", text.as_bytes())?
+            && is_there(alloc, disk, "later", text)? == Some(true)
+            && is_done(alloc, disk, "scrub")?,
     )
 }
 
@@ -247,14 +256,15 @@ fn ends<D: Disk>(
 // Whether a changed byte of a cell of this site is found, and the site is repaired once it is lost.
 fn is_repaired(alloc: Global, site: u8) -> Result<bool, Fail> {
     let mut disk = uploaded(alloc)?;
-    let is_there = step_of(alloc, &mut disk)? == Step::Both;
-    let is_spoiled = spoil(&mut disk, site, 150)?;
-    let is_found = ends(alloc, &mut disk, "scrub", Status::Damage)?;
-    shorten(&mut disk, site, 0)?;
-    let is_done = ends(alloc, &mut disk, "repair", Status::Done)?;
-    let is_back = step_of(alloc, &mut disk)? == Step::Both;
-    let goes_on = goes_on(alloc, &mut disk)?;
-    Ok(is_there && is_spoiled && is_found && is_done && is_back && goes_on)
+    Ok(
+        step_of(alloc, &mut disk)? == Step::Both
+            && spoil(&mut disk, site, 150)?
+            && ends(alloc, &mut disk, "scrub", Status::Damage)?
+            && shorten(&mut disk, site, 0)?
+            && ends(alloc, &mut disk, "repair", Status::Done)?
+            && step_of(alloc, &mut disk)? == Step::Both
+            && goes_on(alloc, &mut disk)?,
+    )
 }
 
 #[test]
@@ -274,17 +284,20 @@ fn calls_of(alloc: Global) -> Result<[u64; 2], Fail> {
     Ok([begun, disk.calls()])
 }
 
-// How far an upload comes over a disk of which the call after so many fails, and what is there then; none where one object more is
-// not stored.
+// How far an upload comes over a disk, and what is there then; none where no archive is begun, or one object more is not stored.
+fn upload_over<D: Disk>(alloc: Global, disk: &mut D) -> Result<Option<(Step, Step)>, Fail> {
+    if !begin(alloc, disk)? {
+        return Ok(None);
+    }
+    let came_and_stands = (upload(alloc, disk)?, step_of(alloc, disk)?);
+    Ok(goes_on(alloc, disk)?.then_some(came_and_stands))
+}
+
+// The same over a disk of which the call after so many fails.
 fn failing_after(alloc: Global, before: u64) -> Result<Option<(Step, Step)>, Fail> {
     let inner = SureDisk::new(alloc, 4, 2048, 2048)?;
     let mut disk = FailDisk::new(alloc, inner, &[before.saturating_add(1)])?;
-    if !begin(alloc, &mut disk)? {
-        return Ok(None);
-    }
-    let came = upload(alloc, &mut disk)?;
-    let stands = step_of(alloc, &mut disk)?;
-    Ok(goes_on(alloc, &mut disk)?.then_some((came, stands)))
+    upload_over(alloc, &mut disk)
 }
 
 #[test]

@@ -1,9 +1,8 @@
 //! Objects that are put: what is printed, and what is then in the files.
 
-use crate::archives::{LINE, counts, puts, stores, with_abc};
+use crate::archives::{LINE, archive_of, counts, is_done, puts, stores, with_abc};
 use aea_cli::Status;
-use aea_disk::{Disk, DiskFault, SureDisk};
-use aea_runs::run_over;
+use aea_disk::{Disk, DiskFault};
 use std::alloc::{AllocError, Global};
 use std::test::Fail;
 
@@ -59,15 +58,22 @@ fn has_cells<D: Disk>(disk: &mut D) -> Result<bool, DiskFault> {
     Ok(count == 112 && is_cell)
 }
 
+// Whether the files are those of the archive with the object `a`, and `stat` counts it.
+fn has_one_object<D: Disk>(alloc: Global, disk: &mut D) -> Result<bool, Fail> {
+    Ok(has_ledger(disk)? && has_cells(disk)? && counts(alloc, disk, ONE_OBJECT)?)
+}
+
+// Whether `stat` counts an empty object besides, and the sites have no cell of it.
+fn has_two_objects<D: Disk>(alloc: Global, disk: &mut D) -> Result<bool, Fail> {
+    Ok(counts(alloc, disk, TWO_OBJECTS)? && has_cells(disk)?)
+}
+
 #[test]
 fn an_object_of_three_bytes(rt: HostRuntime) -> Result<(), Fail> {
     let alloc = rt.alloc();
-    let mut disk = SureDisk::new(alloc, 4, 203, 112)?;
-    let _made = run_over(alloc, LINE, &mut disk, 99)?;
+    let mut disk = archive_of(alloc, LINE, 4, 203, 112)?;
     assert!(rt; stores(alloc, &mut disk, "a", b"abc", STORED_ABC)?);
-    assert!(rt; has_ledger(&mut disk)?);
-    assert!(rt; has_cells(&mut disk)?);
-    assert!(rt; counts(alloc, &mut disk, ONE_OBJECT)?);
+    assert!(rt; has_one_object(alloc, &mut disk)?);
     Ok(())
 }
 
@@ -76,8 +82,7 @@ fn an_empty_object_has_no_nodes(rt: HostRuntime) -> Result<(), Fail> {
     let alloc = rt.alloc();
     let mut disk = with_abc(alloc)?;
     assert!(rt; stores(alloc, &mut disk, "e", b"", STORED_EMPTY)?);
-    assert!(rt; counts(alloc, &mut disk, TWO_OBJECTS)?);
-    assert!(rt; has_cells(&mut disk)?);
+    assert!(rt; has_two_objects(alloc, &mut disk)?);
     Ok(())
 }
 
@@ -91,21 +96,19 @@ const SEVENTEEN: &str =
 const THREE_NODES: &str =
     "{\"alpha\":1,\"block\":16,\"nodes\":3,\"objects\":2,\"p\":0,\"s\":1,\"sites\":1}\n";
 
+// Whether objects of a whole block and of a byte more are stored.
+fn stores_both<D: Disk>(alloc: Global, disk: &mut D) -> Result<bool, AllocError> {
+    Ok(
+        stores(alloc, disk, "sixteen", b"0123456789abcdef", SIXTEEN)?
+            && stores(alloc, disk, "seventeen", b"0123456789abcdefg", SEVENTEEN)?,
+    )
+}
+
 #[test]
 fn objects_of_whole_blocks_and_one_byte_more(rt: HostRuntime) -> Result<(), Fail> {
     let alloc = rt.alloc();
-    let mut disk = SureDisk::new(alloc, 1, 1024, 1024)?;
-    let _made = run_over(alloc, "create 1 1 0 16 1", &mut disk, 99)?;
-    assert!(rt; stores(alloc, &mut disk, "sixteen", b"0123456789abcdef", SIXTEEN)?);
-    assert!(rt;
-        stores(
-            alloc,
-            &mut disk,
-            "seventeen",
-            b"0123456789abcdefg",
-            SEVENTEEN
-        )?
-    );
+    let mut disk = archive_of(alloc, "create 1 1 0 16 1", 1, 1024, 1024)?;
+    assert!(rt; stores_both(alloc, &mut disk)?);
     assert!(rt; counts(alloc, &mut disk, THREE_NODES)?);
     Ok(())
 }
@@ -137,19 +140,31 @@ fn fills<D: Disk>(alloc: Global, disk: &mut D, count: usize) -> Result<bool, All
     stores(alloc, disk, "a", bytes.as_slice(), STORED_ALL)
 }
 
+// Whether an object of more bytes than an archive has space for is refused, and one of as many is stored.
+fn is_filled<D: Disk>(alloc: Global, disk: &mut D) -> Result<bool, AllocError> {
+    Ok(
+        is_too_large(alloc, disk, 1_048_580, 3)?
+            && counts(alloc, disk, NO_NODES)?
+            && fills(alloc, disk, 1_048_576)?,
+    )
+}
+
+// Whether an archive with all nodes takes an object of no bytes alone, and one of a byte once its limit is raised.
+fn takes_more_once_raised<D: Disk>(alloc: Global, disk: &mut D) -> Result<bool, AllocError> {
+    let full = (Status::Refused, "", "refused: full at 65536 nodes\n");
+    Ok(
+        puts(alloc, disk, ("b", b"xyz"), full, 2)?
+            && stores(alloc, disk, "e", b"", STORED_EMPTY)?
+            && is_done(alloc, disk, "upgrade")?
+            && stores(alloc, disk, "b", b"x", STORED_X)?,
+    )
+}
+
 #[test]
 fn as_many_nodes_as_there_may_be_and_a_byte_more(rt: HostRuntime) -> Result<(), Fail> {
     let alloc = rt.alloc();
-    let mut disk = SureDisk::new(alloc, 1, 4_200_000, 8_400_000)?;
-    let _made = run_over(alloc, "create 1 1 0 16 1", &mut disk, 99)?;
-    assert!(rt; is_too_large(alloc, &mut disk, 1_048_580, 3)?);
-    assert!(rt; counts(alloc, &mut disk, NO_NODES)?);
-    assert!(rt; fills(alloc, &mut disk, 1_048_576)?);
-    let full = (Status::Refused, "", "refused: full at 65536 nodes\n");
-    assert!(rt; puts(alloc, &mut disk, ("b", b"xyz"), full, 2)?);
-    assert!(rt; stores(alloc, &mut disk, "e", b"", STORED_EMPTY)?);
-    let left = run_over(alloc, "upgrade", &mut disk, 99)?;
-    assert!(rt; left.status == Status::Done);
-    assert!(rt; stores(alloc, &mut disk, "b", b"x", STORED_X)?);
+    let mut disk = archive_of(alloc, "create 1 1 0 16 1", 1, 4_200_000, 8_400_000)?;
+    assert!(rt; is_filled(alloc, &mut disk)?);
+    assert!(rt; takes_more_once_raised(alloc, &mut disk)?);
     Ok(())
 }

@@ -1,9 +1,9 @@
 //! Objects that are refused, with the line, and that a refusal changes nothing.
 
-use crate::archives::{LINE, counts, ends, puts, refuses, takes, with_abc};
+use crate::archives::{LINE, archive_of, counts, ends, puts, refuses, takes, with_abc};
 use aea_cli::Status;
 use aea_disk::{Disk, SureDisk};
-use aea_runs::{run_over, run_put, run_words};
+use aea_runs::{run_put, run_words};
 use aea_test_helpers::{fill_file, shorten, spoil};
 use std::alloc::{AllocError, Global};
 use std::test::Fail;
@@ -27,8 +27,10 @@ fn names_that_are_refused(rt: HostRuntime) -> Result<(), Fail> {
     let alloc = rt.alloc();
     let mut disk = with_abc(alloc)?;
     for (name, line) in bad_names() {
-        let is_so = refuses(alloc, &mut disk, name, b"abc", line, 3)?;
-        assert!(rt; is_so, "{name:?}");
+        assert!(rt;
+            refuses(alloc, &mut disk, name, b"abc", line, 3)?,
+            "{name:?}"
+        );
     }
     // names that are taken, a word like a command among them
     for name in ["put", "fence", "b c", "A", "\u{e9}"] {
@@ -166,32 +168,48 @@ fn with_bad_ledger(alloc: Global, end: u64, place: u8, value: u8) -> Result<Sure
     Ok(disk)
 }
 
+// Puts objects, and runs the other commands that open the ledger. The answer is the name or the command that is not refused with this
+// line first.
+fn first_unrefused<D: Disk>(
+    alloc: Global,
+    disk: &mut D,
+    line: &str,
+) -> Result<Option<&'static str>, Fail> {
+    for name in ["b", "a", ""] {
+        if !refuses(alloc, disk, name, b"x", line, 1)? {
+            return Ok(Some(name));
+        }
+    }
+    for other in [
+        "get a", "get z", "list", "stat", "scrub", "fence", "upgrade", "ingest",
+    ] {
+        if !ends(alloc, disk, other, (Status::Refused, "", line))? {
+            return Ok(Some(other));
+        }
+    }
+    Ok(None)
+}
+
 #[test]
 fn a_bad_ledger_takes_no_object(rt: HostRuntime) -> Result<(), Fail> {
-    let alloc = rt.alloc();
     for (end, place, value, line) in bad_ledgers() {
-        let mut disk = with_bad_ledger(alloc, end, place, value)?;
-        for name in ["b", "a", ""] {
-            let is_so = refuses(alloc, &mut disk, name, b"x", line, 1)?;
-            assert!(rt; is_so, "{name} {end} {place}");
-        }
-        for other in [
-            "get a", "get z", "list", "stat", "scrub", "fence", "upgrade", "ingest",
-        ] {
-            let is_so = ends(alloc, &mut disk, other, (Status::Refused, "", line))?;
-            assert!(rt; is_so, "{other} {end} {place}");
-        }
+        let mut disk = with_bad_ledger(rt.alloc(), end, place, value)?;
+        let taken = first_unrefused(rt.alloc(), &mut disk, line)?;
+        assert!(rt; taken == None, "{taken:?} {end} {place}");
     }
     Ok(())
 }
 
+// Whether `put` of the object of three bytes ends with a fault of the disk.
+fn puts_at_fault<D: Disk>(alloc: Global, disk: &mut D) -> Result<bool, AllocError> {
+    let left = run_put(alloc, disk, "a", b"abc")?;
+    Ok(left.is(Status::Disk, "", "fault: disk\n"))
+}
+
 // Whether an object is refused on a disk whose ledger and whose sites have so much space, and none is there then.
 fn is_at_fault(alloc: Global, ledger: usize, site: usize) -> Result<bool, AllocError> {
-    let mut disk = SureDisk::new(alloc, 4, ledger, site)?;
-    let _made = run_over(alloc, LINE, &mut disk, 99)?;
-    let left = run_put(alloc, &mut disk, "a", b"abc")?;
-    let is_revealed = left.is(Status::Disk, "", "fault: disk\n");
-    Ok(is_revealed && counts(alloc, &mut disk, NO_OBJECT)?)
+    let mut disk = archive_of(alloc, LINE, 4, ledger, site)?;
+    Ok(puts_at_fault(alloc, &mut disk)? && counts(alloc, &mut disk, NO_OBJECT)?)
 }
 
 #[test]

@@ -1,12 +1,11 @@
 //! Scrubs: which blocks of an archive are damaged.
 
-use crate::archives::ends;
+use crate::archives::{archive_of, ends, is_done};
 use aea_append::put;
 use aea_cli::Status;
 use aea_disk::{Disk, SureDisk};
 use aea_io::SureSource;
 use aea_ledger::open_ledger;
-use aea_runs::run_over;
 use aea_test_helpers::shorten;
 use std::alloc::{AllocError, Global};
 use std::test::Fail;
@@ -32,9 +31,8 @@ fn put_bytes<D: Disk>(alloc: Global, disk: &mut D, name: &[u8], bytes: &[u8]) ->
 // A disk with that archive, and two objects of three nodes and of one.
 fn filled(alloc: Global) -> Result<SureDisk, Fail> {
     let mut disk = SureDisk::new(alloc, 4, 4096, 4096)?;
-    let made = run_over(alloc, LINE, &mut disk, 99)?;
     let bytes = b"an object of three blocks, 36 bytes.";
-    if made.status == Status::Done
+    if is_done(alloc, &mut disk, LINE)?
         && put_bytes(alloc, &mut disk, b"first", bytes)
         && put_bytes(alloc, &mut disk, b"second", b"abc")
     {
@@ -58,20 +56,22 @@ fn a_fresh_archive_has_no_block(rt: HostRuntime) -> Result<(), Fail> {
     let mut disk = SureDisk::new(rt.alloc(), 0, 18, 0)?;
     let none = (Status::Refused, "", "refused: no archive\n");
     assert!(rt; ends(rt.alloc(), &mut disk, "scrub", none)?);
-    let _made = run_over(rt.alloc(), LINE, &mut disk, 99)?;
+    assert!(rt; is_done(rt.alloc(), &mut disk, LINE)?);
     assert!(rt; scrubs(rt.alloc(), &mut disk, "total 0 damaged 0\n")?);
     Ok(())
+}
+
+// Whether an archive is sound, and its third site is told once it is lost.
+fn reveals_lost_site<D: Disk>(alloc: Global, disk: &mut D) -> Result<bool, Fail> {
+    Ok(scrubs(alloc, disk, SOUND)? && shorten(disk, 3, 0)? && scrubs(alloc, disk, SITE_3_LOST)?)
 }
 
 #[test]
 fn a_lost_site_is_reported(rt: HostRuntime) -> Result<(), Fail> {
     let mut disk = filled(rt.alloc())?;
-    assert!(rt; scrubs(rt.alloc(), &mut disk, SOUND)?);
-    assert!(rt; shorten(&mut disk, 3, 0)?);
-    assert!(rt; scrubs(rt.alloc(), &mut disk, SITE_3_LOST)?);
+    assert!(rt; reveals_lost_site(rt.alloc(), &mut disk)?);
     // the objects are there
-    let left = run_over(rt.alloc(), "stat", &mut disk, 99)?;
-    assert!(rt; left.status == Status::Done);
+    assert!(rt; is_done(rt.alloc(), &mut disk, "stat")?);
     Ok(())
 }
 
@@ -121,8 +121,7 @@ fn a_cell_at_another_home_is_damaged(rt: HostRuntime) -> Result<(), Fail> {
 #[test]
 fn words_beside_it_are_no_command(rt: HostRuntime) -> Result<(), Fail> {
     for line in ["scrub 1", "scrubs", "Scrub", "scru"] {
-        let mut disk = SureDisk::new(rt.alloc(), 0, 18, 0)?;
-        let _made = run_over(rt.alloc(), LINE, &mut disk, 99)?;
+        let mut disk = archive_of(rt.alloc(), LINE, 0, 18, 0)?;
         let words = (Status::Words, "", "words: no such command\n");
         assert!(rt; ends(rt.alloc(), &mut disk, line, words)?, "{line}");
     }

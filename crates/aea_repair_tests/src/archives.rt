@@ -10,13 +10,25 @@ use std::test::Fail;
 /// The line that makes an archive of AE(3,2,5) with blocks of 64 bytes, so cells of 112, on four sites.
 pub const FOUR_LINE: &str = "create 3 2 5 64 4";
 
+/// A disk with the archive that this line makes, and in it the object `a` of these bytes. The space is of so many sites, and so
+/// many bytes for the ledger and for each site.
+pub fn filled(
+    alloc: Global,
+    space: (u8, usize, usize),
+    line: &str,
+    bytes: &[u8],
+) -> Result<SureDisk, AllocError> {
+    let (sites, ledger_room, site_room) = space;
+    let mut disk = SureDisk::new(alloc, sites, ledger_room, site_room)?;
+    run_over(alloc, line, &mut disk, 99)?;
+    run_put(alloc, &mut disk, "a", bytes)?;
+    Ok(disk)
+}
+
 /// A disk with that archive and the object `a` of these bytes. Of one node it is: d1 is first in the file of site 1, h1 in
 /// that of site 2, r1 of site 3 and l1 of site 4.
 pub fn archive_of_four(alloc: Global, bytes: &[u8]) -> Result<SureDisk, AllocError> {
-    let mut disk = SureDisk::new(alloc, 4, 4096, 4096)?;
-    let _made = run_over(alloc, FOUR_LINE, &mut disk, 99)?;
-    let _stored = run_put(alloc, &mut disk, "a", bytes)?;
-    Ok(disk)
+    filled(alloc, (4, 4096, 4096), FOUR_LINE, bytes)
 }
 
 /// Whether a run of the command ends with this status and prints this, and this on the errors.

@@ -1,11 +1,11 @@
 //! Clashes: blocks whose computed or re-read payloads have other digests than the ledger keeps of them.
 
-use crate::archives::{repairs, run_repair};
+use crate::archives::{filled, repairs, run_repair};
 use aea_cli::Status;
 use aea_disk::{Disk, SureDisk};
 use aea_runs::{FIRST_DIGEST, all_bytes, clash_line, digest_of, has_bytes, run_over, run_put};
 use aea_test_helpers::{FlippingDisk, shorten, spoil_cell};
-use std::alloc::Global;
+use std::alloc::{AllocError, Global};
 use std::test::Fail;
 
 const Y: &[u8; 16] = b"a payload of h1.";
@@ -13,33 +13,68 @@ const Y: &[u8; 16] = b"a payload of h1.";
 // An archive of one node on two sites whose h1 has the payload Y, whose d1 is gone, and whose ledger keeps the digest of
 // another payload as that of d1.
 fn dishonest(alloc: Global) -> Result<SureDisk, Fail> {
-    let mut disk = SureDisk::new(alloc, 2, 4096, 1024)?;
-    let _made = run_over(alloc, "create 1 1 0 16 2", &mut disk, 99)?;
-    let _stored = run_put(alloc, &mut disk, "a", Y)?;
-    let other = digest_of(alloc, 0, 1, b"another payload.")?;
-    disk.write(0, FIRST_DIGEST, &other)?;
+    let mut disk = filled(alloc, (2, 4096, 1024), "create 1 1 0 16 2", Y)?;
+    disk.write(
+        0,
+        FIRST_DIGEST,
+        &digest_of(alloc, 0, 1, b"another payload.")?,
+    )?;
     shorten(&mut disk, 1, 0)?;
     Ok(disk)
 }
 
-// Whether a repair of that archive, with space for so many bytes on the errors, ends in a clash, prints as much of this line as there
-// is space for, reads nothing, and leaves the files.
+// Whether a repair, with space for so many bytes on the errors, ends in a clash, prints nothing but this on the errors, and reads
+// nothing.
+fn clashes<D: Disk>(
+    alloc: Global,
+    disk: &mut D,
+    room: usize,
+    err: &[u8],
+) -> Result<bool, AllocError> {
+    let left = run_repair(alloc, disk, 999, 0, room)?;
+    let is_revealed = left.status == Status::Clash && left.err.bytes() == err;
+    Ok(is_revealed && left.out.bytes().is_empty() && left.unread == 6)
+}
+
+// Whether it clashes so, and leaves the files.
+fn clashes_alone<D: Disk>(
+    alloc: Global,
+    disk: &mut D,
+    room: usize,
+    err: &[u8],
+) -> Result<bool, Fail> {
+    let stands = all_bytes(alloc, disk)?;
+    Ok(clashes(alloc, disk, room, err)? && has_bytes(alloc, disk, stands.as_slice())?)
+}
+
+// Whether a repair of that archive ends in a clash, prints as much of this line as there is space for, and leaves the files.
 fn is_clash(alloc: Global, line: &str, room: usize) -> Result<bool, Fail> {
-    let mut disk = dishonest(alloc)?;
-    let stands = all_bytes(alloc, &mut disk)?;
-    let left = run_repair(alloc, &mut disk, 999, 0, room)?;
     let revealed = line.as_bytes().get(..room.min(157)).ok_or("a short line")?;
-    let is_revealed = left.status == Status::Clash && left.err.bytes() == revealed;
-    let is_silent = left.out.bytes().is_empty() && left.unread == 6;
-    Ok(is_revealed && is_silent && has_bytes(alloc, &mut disk, stands.as_slice())?)
+    clashes_alone(alloc, &mut dishonest(alloc)?, room, revealed)
+}
+
+// The line of a clash of the block of this class at node 1 whose recorded digest is that of the one payload, where the other is
+// computed.
+fn line_of(
+    alloc: Global,
+    block: &str,
+    class: u8,
+    recorded: &[u8],
+    computed: &[u8],
+) -> Result<String, Fail> {
+    let recorded = digest_of(alloc, class, 1, recorded)?;
+    clash_line(
+        alloc,
+        block,
+        &recorded,
+        &digest_of(alloc, class, 1, computed)?,
+    )
 }
 
 #[test]
 fn a_sum_with_another_digest_is_a_clash(rt: HostRuntime) -> Result<(), Fail> {
     let alloc = rt.alloc();
-    let recorded = digest_of(alloc, 0, 1, b"another payload.")?;
-    let computed = digest_of(alloc, 0, 1, Y)?;
-    let line = clash_line(alloc, "d1", &recorded, &computed)?;
+    let line = line_of(alloc, "d1", 0, b"another payload.", Y)?;
     assert!(rt; line.len() == 157);
     for room in [200usize, 157, 156, 64, 6, 0] {
         assert!(rt; is_clash(alloc, line.as_str(), room)?, "{room}");
@@ -50,8 +85,8 @@ fn a_sum_with_another_digest_is_a_clash(rt: HostRuntime) -> Result<(), Fail> {
 // That archive with a second node, after a fence, whose blocks are damaged.
 fn dishonest_and_lost(alloc: Global) -> Result<SureDisk, Fail> {
     let mut disk = dishonest(alloc)?;
-    let _fenced = run_over(alloc, "fence", &mut disk, 99)?;
-    let _stored = run_put(alloc, &mut disk, "b", b"abc")?;
+    run_over(alloc, "fence", &mut disk, 99)?;
+    run_put(alloc, &mut disk, "b", b"abc")?;
     spoil_cell(&mut disk, 2, 64, 2, 16)?;
     spoil_cell(&mut disk, 2, 64, 3, 16)?;
     Ok(disk)
@@ -69,20 +104,23 @@ fn a_clash_goes_before_a_lost_block_and_a_failing_output(rt: HostRuntime) -> Res
 
 // An archive of AE(1,1,0) of three nodes, whose d1 and h1 are damaged where it says so.
 fn of_three(alloc: Global, damaged: &[u32]) -> Result<SureDisk, Fail> {
-    let mut disk = SureDisk::new(alloc, 2, 4096, 1024)?;
-    let _made = run_over(alloc, "create 1 1 0 16 2", &mut disk, 99)?;
     let bytes = b"a payload of h1.and two more blocks of bytes....";
-    let _stored = run_put(alloc, &mut disk, "a", bytes)?;
+    let mut disk = filled(alloc, (2, 4096, 1024), "create 1 1 0 16 2", bytes)?;
     for number in damaged {
         spoil_cell(&mut disk, 2, 64, *number, 30)?;
     }
     Ok(disk)
 }
 
+// The files of that archive where none is damaged.
+fn whole_three(alloc: Global) -> Result<Vec<Vec<u8>>, Fail> {
+    all_bytes(alloc, &mut of_three(alloc, &[])?)
+}
+
 #[test]
 fn a_restored_block_serves_the_next(rt: HostRuntime) -> Result<(), Fail> {
     let alloc = rt.alloc();
-    let whole = all_bytes(alloc, &mut of_three(alloc, &[])?)?;
+    let whole = whole_three(alloc)?;
     let mut disk = of_three(alloc, &[0, 1])?;
     let lines = "counts 2 2 0 0\npeeled d1\npeeled h1\n";
     let files = whole.as_slice();
@@ -106,20 +144,18 @@ fn flipping(alloc: Global, byte: usize) -> Result<FlippingDisk<SureDisk>, Fail> 
 fn is_left(alloc: Global, byte: usize, err: &str) -> Result<bool, Fail> {
     let mut disk = flipping(alloc, byte)?;
     let damaged = all_bytes(alloc, &mut disk.inner)?;
-    let left = run_repair(alloc, &mut disk, 999, 0, 200)?;
-    let is_revealed = left.status == Status::Clash && left.err.bytes() == err.as_bytes();
-    let is_silent = left.out.bytes().is_empty();
-    Ok(is_revealed && is_silent && has_bytes(alloc, &mut disk.inner, damaged.as_slice())?)
+    Ok(
+        clashes(alloc, &mut disk, 200, err.as_bytes())?
+            && has_bytes(alloc, &mut disk.inner, damaged.as_slice())?,
+    )
 }
 
 #[test]
 fn a_survivor_that_changes_under_way_is_a_clash(rt: HostRuntime) -> Result<(), Fail> {
     let alloc = rt.alloc();
-    let recorded = digest_of(alloc, 1, 1, Y)?;
     let mut flipped = *Y;
     flipped[2] ^= 1;
-    let computed = digest_of(alloc, 1, 1, &flipped)?;
-    let line = clash_line(alloc, "h1", &recorded, &computed)?;
+    let line = line_of(alloc, "h1", 1, Y, &flipped)?;
     assert!(rt; is_left(alloc, 18, line.as_str())?);
     Ok(())
 }
@@ -134,7 +170,7 @@ fn is_done(alloc: Global, byte: usize, files: &[Vec<u8>]) -> Result<bool, Fail> 
 #[test]
 fn a_head_that_changes_under_way_does_no_harm(rt: HostRuntime) -> Result<(), Fail> {
     let alloc = rt.alloc();
-    let whole = all_bytes(alloc, &mut of_three(alloc, &[])?)?;
+    let whole = whole_three(alloc)?;
     // the letters of the cell, its class, its node, and its digest
     for byte in [0usize, 4, 15, 32, 63] {
         assert!(rt; is_done(alloc, byte, whole.as_slice())?, "{byte}");

@@ -1,20 +1,20 @@
 //! Repairs of archives of many blocks.
 
-use crate::archives::{ends, gets, repairs, run_repair};
+use crate::archives::{ends, filled, gets, repairs, run_repair};
 use crate::lines::drilled;
 use aea_cli::Status;
-use aea_disk::SureDisk;
-use aea_lattice::Lattice;
+use aea_disk::{Disk, DiskFault, SureDisk};
+use aea_lattice::{BlockId, Lattice};
 use aea_plain::codeword;
-use aea_runs::{all_bytes, has_bytes, run_over, run_put};
+use aea_runs::{all_bytes, has_bytes};
 use aea_test_helpers::{
     NINETEEN, TWO_CODEWORDS, add_line, report_of, shorten, some_bytes, spoil_cell,
 };
 use std::alloc::{AllocError, Global};
 use std::test::Fail;
 
-/// The lines of the report where all blocks of a lattice whose homes are on this one of four sites are peeled.
-pub fn lines_of_site(alloc: Global, lattice: &Lattice, site: u32) -> Result<String, AllocError> {
+// The lines of the report where all blocks of a lattice whose homes are on this one of four sites are peeled.
+fn lines_of_site(alloc: Global, lattice: &Lattice, site: u32) -> Result<String, AllocError> {
     let mut text = String::new(alloc);
     let count = lattice.n();
     writeln!(text, "counts {count} {count} 0 0")?;
@@ -26,8 +26,11 @@ pub fn lines_of_site(alloc: Global, lattice: &Lattice, site: u32) -> Result<Stri
     Ok(text)
 }
 
-// Files of sites that are lost, with the numbers of the sites from 0 on, and the first lines of the reports.
-fn sites() -> [(u8, u32, &'static str); 2] {
+/// The file of a site that is lost, the number of the site from 0 on, and the first lines of the report.
+pub type LostSite = (u8, u32, &'static str);
+
+// Lost sites of an archive of forty nodes.
+fn sites() -> [LostSite; 2] {
     [
         (
             2,
@@ -38,35 +41,41 @@ fn sites() -> [(u8, u32, &'static str); 2] {
     ]
 }
 
-// Whether this site of an archive of forty nodes, once it is lost, is peeled with a report that begins so: then the files are what
-// they were, a scrub finds no damage, and the object is got.
-fn is_site_peeled(alloc: Global, file: u8, site: u32, first: &str) -> Result<bool, Fail> {
-    let bytes = some_bytes(alloc, 640, 0)?;
-    let lattice = Lattice::new(3, 2, 5, 40).ok_or("no lattice")?;
-    let lines = lines_of_site(alloc, &lattice, site)?;
-    let mut disk = SureDisk::new(alloc, 4, 8192, 4096)?;
-    let _made = run_over(alloc, "create 3 2 5 16 4", &mut disk, 99)?;
-    let _stored = run_put(alloc, &mut disk, "a", bytes.as_slice())?;
-    let whole = all_bytes(alloc, &mut disk)?;
-    shorten(&mut disk, file, 0)?;
+/// Whether this site of an archive on four sites, whose lattice has these numbers, is peeled once it is lost: its blocks are told,
+/// and the files are then what they were.
+pub fn restores_site<D: Disk>(
+    alloc: Global,
+    disk: &mut D,
+    lattice: &Lattice,
+    numbers: &str,
+    lost: LostSite,
+) -> Result<bool, Fail> {
+    let (file, site, first) = lost;
+    let lines = lines_of_site(alloc, lattice, site)?;
+    let whole = all_bytes(alloc, disk)?;
+    shorten(disk, file, 0)?;
     let (lines, whole) = (lines.as_str(), whole.as_slice());
-    let is_revealed = repairs(alloc, &mut disk, "3 2 5 40", lines, Status::Done, whole)?;
-    let is_sound = ends(
-        alloc,
-        &mut disk,
-        "scrub",
-        Status::Done,
-        "total 160 damaged 0\n",
-        "",
-    )?;
-    let is_got = gets(alloc, &mut disk, "a", bytes.as_slice())?;
-    Ok(lines.starts_with(first) && is_revealed && is_sound && is_got)
+    Ok(lines.starts_with(first) && repairs(alloc, disk, numbers, lines, Status::Done, whole)?)
+}
+
+// Whether this site of an archive of forty nodes is restored once it is lost, a scrub then finds no damage, and the object is got.
+fn is_site_peeled(alloc: Global, lost: LostSite) -> Result<bool, Fail> {
+    let bytes = some_bytes(alloc, 640, 0)?;
+    let bytes = bytes.as_slice();
+    let mut disk = filled(alloc, (4, 8192, 4096), "create 3 2 5 16 4", bytes)?;
+    let lattice = Lattice::new(3, 2, 5, 40).ok_or("no lattice")?;
+    let sound = "total 160 damaged 0\n";
+    Ok(
+        restores_site(alloc, &mut disk, &lattice, "3 2 5 40", lost)?
+            && ends(alloc, &mut disk, "scrub", Status::Done, sound, "")?
+            && gets(alloc, &mut disk, "a", bytes)?,
+    )
 }
 
 #[test]
 fn a_lost_site_of_four_is_peeled(rt: HostRuntime) -> Result<(), Fail> {
-    for (file, site, first) in sites() {
-        assert!(rt; is_site_peeled(rt.alloc(), file, site, first)?, "{file}");
+    for lost in sites() {
+        assert!(rt; is_site_peeled(rt.alloc(), lost)?, "{}", lost.0);
     }
     Ok(())
 }
@@ -89,10 +98,13 @@ fn lines_of_lost(alloc: Global) -> Result<String, AllocError> {
 
 // An archive in which the nineteen blocks but these are damaged.
 fn nineteen_but(alloc: Global, others: &[u32]) -> Result<SureDisk, Fail> {
-    let bytes = some_bytes(alloc, 176, 5)?;
-    let mut disk = SureDisk::new(alloc, 4, 8192, 4096)?;
-    let _made = run_over(alloc, "create 2 2 2 16 3", &mut disk, 99)?;
-    let _stored = run_put(alloc, &mut disk, "a", bytes.as_slice())?;
+    let space = (4, 8192, 4096);
+    let mut disk = filled(
+        alloc,
+        space,
+        "create 2 2 2 16 3",
+        &some_bytes(alloc, 176, 5)?,
+    )?;
     for number in NINETEEN {
         if !others.contains(&number) {
             spoil_cell(&mut disk, 3, 64, number, 20)?;
@@ -101,37 +113,39 @@ fn nineteen_but(alloc: Global, others: &[u32]) -> Result<SureDisk, Fail> {
     Ok(disk)
 }
 
+// Whether a repair of it reports these lines, and leaves these files.
+fn reveals<D: Disk>(
+    alloc: Global,
+    disk: &mut D,
+    lines: &str,
+    files: &[Vec<u8>],
+) -> Result<bool, Fail> {
+    repairs(alloc, disk, "2 2 2 11", lines, Status::Damage, files)
+}
+
+// Whether a second repair of it tells what is lost still, and leaves these files.
+fn reveals_again<D: Disk>(alloc: Global, disk: &mut D, files: &[Vec<u8>]) -> Result<bool, Fail> {
+    let lost = lines_of_lost(alloc)?;
+    reveals(alloc, disk, lost.as_str(), files)
+}
+
+// Whether a repair of it tells what is solved and lost, a scrub what is damaged then, and a second repair, which changes nothing,
+// what is lost still.
+fn reveals_all<D: Disk>(alloc: Global, disk: &mut D, files: &[Vec<u8>]) -> Result<bool, Fail> {
+    Ok(
+        reveals(alloc, disk, TWO_CODEWORDS, files)?
+            && ends(alloc, disk, "scrub", Status::Damage, STILL_DAMAGED, "")?
+            && reveals_again(alloc, disk, files)?,
+    )
+}
+
 #[test]
 fn what_is_solved_and_what_is_lost_is_reported(rt: HostRuntime) -> Result<(), Fail> {
     let alloc = rt.alloc();
     let mut disk = nineteen_but(alloc, &[])?;
     // h3, d5 and r5 are solved
     let solved = all_bytes(alloc, &mut nineteen_but(alloc, &[7, 12, 14])?)?;
-    let solved = solved.as_slice();
-    let numbers = "2 2 2 11";
-    assert!(rt;
-        repairs(
-            alloc,
-            &mut disk,
-            numbers,
-            TWO_CODEWORDS,
-            Status::Damage,
-            solved
-        )?
-    );
-    assert!(rt; ends(alloc, &mut disk, "scrub", Status::Damage, STILL_DAMAGED, "")?);
-    // a second repair changes nothing
-    let lost = lines_of_lost(alloc)?;
-    assert!(rt;
-        repairs(
-            alloc,
-            &mut disk,
-            numbers,
-            lost.as_str(),
-            Status::Damage,
-            solved
-        )?
-    );
+    assert!(rt; reveals_all(alloc, &mut disk, solved.as_slice())?);
     Ok(())
 }
 
@@ -143,25 +157,52 @@ struct Long {
     report: String,
 }
 
-fn long_one(alloc: Global) -> Result<Long, Fail> {
-    let lattice = Lattice::new(3, 3, 7, 60).ok_or("no lattice")?;
+// The codeword of the nodes 1 to 60.
+fn word_of_all(alloc: Global, lattice: &Lattice) -> Result<Vec<BlockId>, AllocError> {
     let mut nodes = Vec::new(alloc);
     for node in 1..61u32 {
         nodes.push(node)?;
     }
-    let word = codeword(alloc, &lattice, nodes.as_slice())?;
-    let mut disk = SureDisk::new(alloc, 4, 1 << 15, 1 << 14)?;
-    let _made = run_over(alloc, "create 3 3 7 16 4", &mut disk, 99)?;
-    let bytes = some_bytes(alloc, 960, 0)?;
-    let _stored = run_put(alloc, &mut disk, "a", bytes.as_slice())?;
+    codeword(alloc, lattice, nodes.as_slice())
+}
+
+// Damages the blocks of this codeword.
+fn spoil_word<D: Disk>(disk: &mut D, lattice: &Lattice, word: &[BlockId]) -> Result<(), DiskFault> {
     for k in 0..lattice.blocks() {
-        if word.as_slice().contains(&lattice.block(k)) {
-            spoil_cell(&mut disk, 4, 64, k, 16)?;
+        if word.contains(&lattice.block(k)) {
+            spoil_cell(disk, 4, 64, k, 16)?;
         }
     }
-    let lines = drilled(alloc, "3 3 7 60", word.as_slice())?;
-    let report = report_of(alloc, &mut disk, "3 3 7 60", lines.as_str())?;
-    Ok(Long { disk, report })
+    Ok(())
+}
+
+// Damages the codeword of all nodes. The answer is the report.
+fn lose_all<D: Disk>(alloc: Global, disk: &mut D) -> Result<String, Fail> {
+    let lattice = Lattice::new(3, 3, 7, 60).ok_or("no lattice")?;
+    let word = word_of_all(alloc, &lattice)?;
+    spoil_word(disk, &lattice, word.as_slice())?;
+    let numbers = "3 3 7 60";
+    report_of(
+        alloc,
+        disk,
+        numbers,
+        drilled(alloc, numbers, word.as_slice())?.as_str(),
+    )
+}
+
+// Makes that archive, and its report.
+fn long_one(alloc: Global) -> Result<Long, Fail> {
+    let space = (4, 1 << 15, 1 << 14);
+    let mut disk = filled(
+        alloc,
+        space,
+        "create 3 3 7 16 4",
+        &some_bytes(alloc, 960, 0)?,
+    )?;
+    Ok(Long {
+        report: lose_all(alloc, &mut disk)?,
+        disk,
+    })
 }
 
 // The call of the output that fails, and how many bytes it has taken then, at least and at most, of so many: there are three writes
@@ -206,8 +247,11 @@ fn each_write_of_a_long_report_fails(rt: HostRuntime) -> Result<(), Fail> {
     let first = "\ncounts 154 0 0 154\nlost d1 by 1 2 3 4 5 6 7 8 9 10 11 ";
     assert!(rt; archive.report.as_str().contains(first));
     for call in calls(archive.report.len()) {
-        let is_so = is_cut(alloc, &mut archive, call, stands.as_slice())?;
-        assert!(rt; is_so, "call {}", call.0);
+        assert!(rt;
+            is_cut(alloc, &mut archive, call, stands.as_slice())?,
+            "call {}",
+            call.0
+        );
     }
     Ok(())
 }

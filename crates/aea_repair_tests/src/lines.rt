@@ -2,7 +2,7 @@
 
 use aea_lattice::{BlockId, Lattice};
 use aea_plain::closure;
-use aea_runs::{run_line, text_of};
+use aea_runs::{Left, run_line, text_of};
 use aea_test_helpers::add_line;
 use std::alloc::{AllocError, Global};
 use std::test::Fail;
@@ -16,15 +16,19 @@ fn damage_list(alloc: Global, lost: &[BlockId]) -> Result<String, AllocError> {
     Ok(list)
 }
 
-/// The lines that a drill of a lattice without fences prints where these blocks are lost, from the fourth on.
-pub fn drilled(alloc: Global, numbers: &str, lost: &[BlockId]) -> Result<String, Fail> {
+// Runs a drill of a lattice with these numbers where these blocks are lost.
+fn drill(alloc: Global, numbers: &str, lost: &[BlockId]) -> Result<Left, AllocError> {
     let line = format!(in alloc; "drill {numbers}")?;
     let list = damage_list(alloc, lost)?;
-    let left = run_line(alloc, line.as_str(), list.as_bytes())?;
-    let text = text_of(left.out.bytes())?;
-    let Some((_head, lines)) = text.split_once("ledger none\n") else {
-        return Err(Fail::new("no drill"));
-    };
+    run_line(alloc, line.as_str(), list.as_bytes())
+}
+
+/// The lines that a drill of a lattice without fences prints where these blocks are lost, from the fourth on.
+pub fn drilled(alloc: Global, numbers: &str, lost: &[BlockId]) -> Result<String, Fail> {
+    let left = drill(alloc, numbers, lost)?;
+    let (_head, lines) = text_of(left.out.bytes())?
+        .split_once("ledger none\n")
+        .ok_or("no drill")?;
     Ok(String::from_str(alloc, lines)?)
 }
 

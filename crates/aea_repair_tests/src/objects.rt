@@ -1,30 +1,53 @@
 //! An archive of many objects that loses a site.
 
-use crate::archives::repairs;
-use crate::lattices::lines_of_site;
+use crate::lattices::restores_site;
 use aea_cli::Status;
-use aea_disk::SureDisk;
+use aea_disk::{Disk, SureDisk};
 use aea_lattice::Lattice;
-use aea_runs::{all_bytes, run_get, run_over, run_put};
-use aea_test_helpers::{shorten, some_bytes};
-use std::alloc::Global;
+use aea_runs::{run_get, run_over, run_put};
+use aea_test_helpers::some_bytes;
+use std::alloc::{AllocError, Global};
 use std::test::Fail;
 
 // How many objects the archive of many has.
 const OBJECTS: u32 = 75;
 
-// Puts the objects, and compares what is got: the object of number k has 125 k bytes. False where one is not as it was put.
-fn put_and_get(alloc: Global, disk: &mut SureDisk, puts: bool) -> Result<bool, Fail> {
+// Whether `put` of this object is done.
+fn is_put<D: Disk>(
+    alloc: Global,
+    disk: &mut D,
+    name: &str,
+    bytes: &[u8],
+) -> Result<bool, AllocError> {
+    Ok(run_put(alloc, disk, name, bytes)?.status == Status::Done)
+}
+
+// Whether `get` of this object is done, and prints these bytes.
+fn is_got<D: Disk>(
+    alloc: Global,
+    disk: &mut D,
+    name: &str,
+    bytes: &[u8],
+) -> Result<bool, AllocError> {
+    let left = run_get(alloc, disk, name, bytes.len())?;
+    Ok(left.status == Status::Done && left.out.bytes() == bytes)
+}
+
+// Puts the object of number k, which has 125 k bytes, or gets it. Whether it is done so.
+fn is_done<D: Disk>(alloc: Global, disk: &mut D, k: u32, puts: bool) -> Result<bool, AllocError> {
+    let name = format!(in alloc; "object {k}")?;
+    let bytes = some_bytes(alloc, k.wrapping_mul(125), k)?;
+    if puts {
+        is_put(alloc, disk, name.as_str(), bytes.as_slice())
+    } else {
+        is_got(alloc, disk, name.as_str(), bytes.as_slice())
+    }
+}
+
+// Puts all objects, or gets them. Whether each is done so.
+fn put_or_get<D: Disk>(alloc: Global, disk: &mut D, puts: bool) -> Result<bool, AllocError> {
     for k in 1..OBJECTS + 1 {
-        let name = format!(in alloc; "object {k}")?;
-        let bytes = some_bytes(alloc, k.wrapping_mul(125), k)?;
-        let done = if puts {
-            run_put(alloc, disk, name.as_str(), bytes.as_slice())?.status == Status::Done
-        } else {
-            let left = run_get(alloc, disk, name.as_str(), bytes.len())?;
-            left.status == Status::Done && left.out.bytes() == bytes.as_slice()
-        };
-        if !done {
+        if !is_done(alloc, disk, k, puts)? {
             return Ok(false);
         }
     }
@@ -32,22 +55,10 @@ fn put_and_get(alloc: Global, disk: &mut SureDisk, puts: bool) -> Result<bool, F
 }
 
 // Whether the second site, once it is lost, is told and restored to the byte.
-fn is_site_peeled(alloc: Global, disk: &mut SureDisk) -> Result<bool, Fail> {
-    let whole = all_bytes(alloc, disk)?;
-    shorten(disk, 2, 0)?;
+fn is_site_peeled<D: Disk>(alloc: Global, disk: &mut D) -> Result<bool, Fail> {
     let lattice = Lattice::new(3, 2, 5, 2817).ok_or("no lattice")?;
-    let lines = lines_of_site(alloc, &lattice, 1)?;
-    let lines = lines.as_str();
-    let is_counted = lines.starts_with("counts 2817 2817 0 0\n");
-    let is_revealed = repairs(
-        alloc,
-        disk,
-        "3 2 5 2817",
-        lines,
-        Status::Done,
-        whole.as_slice(),
-    )?;
-    Ok(is_counted && is_revealed)
+    let lost = (2, 1, "counts 2817 2817 0 0\n");
+    restores_site(alloc, disk, &lattice, "3 2 5 2817", lost)
 }
 
 #[test]
@@ -55,9 +66,9 @@ fn many_objects_are_got_back_without_a_site(rt: HostRuntime) -> Result<(), Fail>
     let alloc = rt.alloc();
     // 2,817 nodes of blocks of 128 bytes, so cells of 176
     let mut disk = SureDisk::new(alloc, 4, 1 << 19, 1 << 19)?;
-    let _made = run_over(alloc, "create 3 2 5 128 4", &mut disk, 99)?;
-    assert!(rt; put_and_get(alloc, &mut disk, true)?);
+    run_over(alloc, "create 3 2 5 128 4", &mut disk, 99)?;
+    assert!(rt; put_or_get(alloc, &mut disk, true)?);
     assert!(rt; is_site_peeled(alloc, &mut disk)?);
-    assert!(rt; put_and_get(alloc, &mut disk, false)?);
+    assert!(rt; put_or_get(alloc, &mut disk, false)?);
     Ok(())
 }

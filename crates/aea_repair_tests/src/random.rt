@@ -5,7 +5,7 @@ use crate::lines::{counts_of, drilled};
 use crate::plain::{SITES, determined, lost_blocks, repaired_files};
 use aea_cli::Status;
 use aea_disk::{Disk, DiskFault, SureDisk};
-use aea_lattice::Lattice;
+use aea_lattice::{BlockId, Lattice};
 use aea_runs::{all_bytes, has_bytes, run_over, run_put, step, text_of};
 use aea_test_helpers::{fill_file, report_of, shorten, spoil_cell};
 use std::alloc::{AllocError, Global};
@@ -69,29 +69,47 @@ fn behind(lattice: &Lattice, fenced: bool) -> Result<Lattice, Fail> {
     Ok(fenced)
 }
 
+// An archive of this shape without objects.
+fn fresh(alloc: Global, shape: (u8, u8, u8)) -> Result<SureDisk, AllocError> {
+    let (alpha, s, p) = shape;
+    let line = format!(in alloc; "create {alpha} {s} {p} 16 {SITES}")?;
+    let mut disk = SureDisk::new(alloc, SITES, 1 << 14, 1 << 13)?;
+    run_over(alloc, line.as_str(), &mut disk, 99)?;
+    Ok(disk)
+}
+
+// Puts an object of so many random bytes, and a fence after it or none. The answer is the lattice then.
+fn grow<D: Disk>(
+    alloc: Global,
+    disk: &mut D,
+    lattice: &Lattice,
+    object: (u32, &str),
+    fences: bool,
+) -> Result<Lattice, Fail> {
+    let (count, name) = object;
+    let bytes = random_bytes(alloc, count, u64::from(count))?;
+    run_put(alloc, disk, name, bytes.as_slice())?;
+    if fences {
+        run_over(alloc, "fence", disk, 99)?;
+    }
+    let nodes = lattice.n().saturating_add(count.div_ceil(16)).min(64);
+    let grown = lattice.grown(nodes).ok_or("no growth")?;
+    behind(&grown, fences)
+}
+
 // Makes the archive of a row.
 fn random_archive(alloc: Global, row: Row) -> Result<Archive, Fail> {
     let ((alpha, s, p), counts, fenced) = row;
-    let line = format!(in alloc; "create {alpha} {s} {p} 16 {SITES}")?;
-    let mut disk = SureDisk::new(alloc, SITES, 1 << 14, 1 << 13)?;
-    let _made = run_over(alloc, line.as_str(), &mut disk, 99)?;
+    let mut disk = fresh(alloc, (alpha, s, p))?;
     let mut lattice = Lattice::new(alpha, s, p, 0).ok_or("no lattice")?;
     for (count, name) in counts.iter().zip(["a", "b", "c"]) {
-        let bytes = random_bytes(alloc, *count, u64::from(*count))?;
-        let _stored = run_put(alloc, &mut disk, name, bytes.as_slice())?;
-        let nodes = lattice.n().saturating_add(count.div_ceil(16)).min(64);
-        lattice = lattice.grown(nodes).ok_or("no growth")?;
         let fences = fenced && name != "c";
-        if fences {
-            let _fence = run_over(alloc, "fence", &mut disk, 99)?;
-        }
-        lattice = behind(&lattice, fences)?;
+        lattice = grow(alloc, &mut disk, &lattice, (*count, name), fences)?;
     }
-    let whole = all_bytes(alloc, &mut disk)?;
     Ok(Archive {
-        disk,
+        whole: all_bytes(alloc, &mut disk)?,
         lattice,
-        whole,
+        disk,
     })
 }
 
@@ -134,6 +152,100 @@ fn damage<D: Disk>(
     Ok(())
 }
 
+// What a damage does: the files then, the blocks that are lost, and those of them that the others determine.
+#[derive(Drop)]
+struct Losses {
+    files: Vec<Vec<u8>>,
+    lost: Vec<BlockId>,
+    restored: Vec<BlockId>,
+}
+
+// The losses of the archive as it is damaged.
+fn losses_of<D: Disk>(
+    alloc: Global,
+    disk: &mut D,
+    lattice: &Lattice,
+    whole: &[Vec<u8>],
+) -> Result<Losses, Fail> {
+    let files = all_bytes(alloc, disk)?;
+    let lost = lost_blocks(alloc, lattice, whole, files.as_slice())?;
+    Ok(Losses {
+        restored: determined(alloc, lattice, lost.as_slice())?,
+        lost,
+        files,
+    })
+}
+
+// How a repair of these losses ends.
+fn status_of(losses: &Losses) -> Status {
+    if losses.lost.len() == losses.restored.len() {
+        Status::Done
+    } else {
+        Status::Damage
+    }
+}
+
+// Whether the files are those of the plain repair.
+fn is_restored<D: Disk>(
+    alloc: Global,
+    disk: &mut D,
+    lattice: &Lattice,
+    whole: &[Vec<u8>],
+    losses: &Losses,
+) -> Result<bool, Fail> {
+    let restored = losses.restored.as_slice();
+    let want = repaired_files(alloc, lattice, whole, losses.files.as_slice(), restored)?;
+    has_bytes(alloc, disk, want.as_slice())
+}
+
+// Whether a report has the counts of these losses.
+fn is_counted(
+    alloc: Global,
+    lattice: &Lattice,
+    losses: &Losses,
+    revealed: &str,
+) -> Result<bool, AllocError> {
+    let (lost, restored) = (losses.lost.as_slice(), losses.restored.as_slice());
+    let counts = counts_of(alloc, lattice, lost, restored)?;
+    Ok(revealed.contains(counts.as_str()))
+}
+
+// Whether a report has the lines of a drill with these numbers where these blocks are lost; there is none to compare where there
+// are no numbers.
+fn is_drilled<D: Disk>(
+    alloc: Global,
+    disk: &mut D,
+    numbers: Option<&str>,
+    lost: &[BlockId],
+    revealed: &str,
+) -> Result<bool, Fail> {
+    let Some(numbers) = numbers else {
+        return Ok(true);
+    };
+    let lines = drilled(alloc, numbers, lost)?;
+    let report = report_of(alloc, disk, numbers, lines.as_str())?;
+    Ok(revealed == report.as_str())
+}
+
+// What differs of a printed report from the plain one of these losses, if anything does.
+fn report_difference<D: Disk>(
+    alloc: Global,
+    disk: &mut D,
+    lattice: &Lattice,
+    losses: &Losses,
+    numbers: Option<&str>,
+    printed: &[u8],
+) -> Result<Option<&'static str>, Fail> {
+    let revealed = text_of(printed)?;
+    Ok(if !is_counted(alloc, lattice, losses, revealed)? {
+        Some("the counts")
+    } else if !is_drilled(alloc, disk, numbers, losses.lost.as_slice(), revealed)? {
+        Some("the report")
+    } else {
+        None
+    })
+}
+
 // Repairs the archive as it is damaged, and compares the status, the files and the report with the plain ones; the numbers of
 // the lattice are those of a drill, none where it has a fence. The answer says what differs.
 fn first_difference(
@@ -143,35 +255,15 @@ fn first_difference(
     whole: &[Vec<u8>],
     numbers: Option<&str>,
 ) -> Result<Option<&'static str>, Fail> {
-    let after = all_bytes(alloc, disk)?;
-    let lost = lost_blocks(alloc, lattice, whole, after.as_slice())?;
-    let restored = determined(alloc, lattice, lost.as_slice())?;
-    let want = repaired_files(alloc, lattice, whole, after.as_slice(), restored.as_slice())?;
-    let counts = counts_of(alloc, lattice, lost.as_slice(), restored.as_slice())?;
-    let status = if lost.len() == restored.len() {
-        Status::Done
-    } else {
-        Status::Damage
-    };
+    let losses = losses_of(alloc, disk, lattice, whole)?;
     let left = run_repair(alloc, disk, 1 << 15, 0, 64)?;
-    if left.status != status {
-        return Ok(Some("the status"));
-    }
-    if !has_bytes(alloc, disk, want.as_slice())? {
-        return Ok(Some("a file"));
-    }
-    let revealed = text_of(left.out.bytes())?;
-    if !revealed.contains(counts.as_str()) {
-        return Ok(Some("the counts"));
-    }
-    if let Some(numbers) = numbers {
-        let lines = drilled(alloc, numbers, lost.as_slice())?;
-        let report = report_of(alloc, disk, numbers, lines.as_str())?;
-        if revealed != report.as_str() {
-            return Ok(Some("the report"));
-        }
-    }
-    Ok(None)
+    Ok(if left.status != status_of(&losses) {
+        Some("the status")
+    } else if !is_restored(alloc, disk, lattice, whole, &losses)? {
+        Some("a file")
+    } else {
+        report_difference(alloc, disk, lattice, &losses, numbers, left.out.bytes())?
+    })
 }
 
 // Damages the archive in each way, and repairs it. The answer says what differs first from the plain repair, and where.
@@ -190,10 +282,8 @@ fn first_fault(alloc: Global, row: Row, seed: u64) -> Result<Option<String>, Fai
         make_whole(&mut disk, whole.as_slice())?;
         damage(&mut disk, lattice.blocks(), percents, x)?;
         let drill = if fenced { None } else { Some(numbers.as_str()) };
-        let found = first_difference(alloc, &mut disk, &lattice, whole.as_slice(), drill)?;
-        if let Some(what) = found {
-            let text = format!(in alloc; "{what} of {numbers}, from {x}")?;
-            return Ok(Some(text));
+        if let Some(what) = first_difference(alloc, &mut disk, &lattice, whole.as_slice(), drill)? {
+            return Ok(Some(format!(in alloc; "{what} of {numbers}, from {x}")?));
         }
     }
     Ok(None)

@@ -4,7 +4,7 @@ use crate::archives::archive_of_four;
 use aea_cli::Status;
 use aea_disk::{Disk, SureDisk};
 use aea_runs::{all_bytes, has_bytes, run_over, run_words};
-use aea_test_helpers::{file_bytes, fill_file, spoil};
+use aea_test_helpers::{fill_file, shorten, spoil};
 use std::alloc::{AllocError, Global};
 use std::test::Fail;
 
@@ -32,11 +32,17 @@ fn is_no_command<D: Disk>(alloc: Global, disk: &mut D, words: &[&str]) -> Result
     Ok(left.is(Status::Words, "", "words: no such command\n") && left.unread == 6)
 }
 
+// An archive whose third site is damaged.
+fn with_bad_site(alloc: Global) -> Result<SureDisk, Fail> {
+    let mut disk = archive_of_four(alloc, b"abc")?;
+    spoil(&mut disk, 3, 20)?;
+    Ok(disk)
+}
+
 #[test]
 fn words_beside_it_are_no_command(rt: HostRuntime) -> Result<(), Fail> {
     let alloc = rt.alloc();
-    let mut disk = archive_of_four(alloc, b"abc")?;
-    spoil(&mut disk, 3, 20)?;
+    let mut disk = with_bad_site(alloc)?;
     let stands = all_bytes(alloc, &mut disk)?;
     for words in no_commands() {
         assert!(rt; is_no_command(alloc, &mut disk, words)?, "{words:?}");
@@ -46,7 +52,7 @@ fn words_beside_it_are_no_command(rt: HostRuntime) -> Result<(), Fail> {
 }
 
 // Bad ledgers: how many bytes of the ledger are kept, a byte that is then written, and the line.
-fn bad_ledgers() -> [(usize, u8, u8, &'static str); 5] {
+fn bad_ledgers() -> [(u64, u8, u8, &'static str); 5] {
     [
         (203, 9, 4, "refused: ledger bad at 9\n"),
         (202, 0, 1, "refused: ledger bad at 202\n"),
@@ -57,11 +63,12 @@ fn bad_ledgers() -> [(usize, u8, u8, &'static str); 5] {
 }
 
 // An archive whose first site is damaged, and whose ledger is bad so.
-fn with_bad_ledger(alloc: Global, end: usize, place: u8, value: u8) -> Result<SureDisk, Fail> {
+fn with_bad_ledger(alloc: Global, end: u64, place: u8, value: u8) -> Result<SureDisk, Fail> {
     let mut disk = archive_of_four(alloc, b"abc")?;
-    let ledger = file_bytes(alloc, &mut disk, 0)?;
     spoil(&mut disk, 1, 20)?;
-    fill_file(&mut disk, 0, ledger.as_slice().get(..end).ok_or("short")?)?;
+    if !shorten(&mut disk, 0, end)? {
+        return Err(Fail::new("a short ledger"));
+    }
     disk.write(0, u64::from(place), &[value])?;
     Ok(disk)
 }
@@ -77,12 +84,13 @@ fn is_refused<D: Disk>(alloc: Global, disk: &mut D, line: &str) -> Result<bool, 
 #[test]
 fn what_is_no_archive_is_not_repaired(rt: HostRuntime) -> Result<(), Fail> {
     let alloc = rt.alloc();
-    let mut none = SureDisk::new(alloc, 4, 4096, 4096)?;
-    assert!(rt; is_refused(alloc, &mut none, "refused: no archive\n")?);
+    let line = "refused: no archive\n";
+    assert!(rt; is_refused(alloc, &mut SureDisk::new(alloc, 4, 4096, 4096)?, line)?);
     for (end, place, value, line) in bad_ledgers() {
-        let mut disk = with_bad_ledger(alloc, end, place, value)?;
-        let is_so = is_refused(alloc, &mut disk, line)?;
-        assert!(rt; is_so, "{end} {place}");
+        assert!(rt;
+            is_refused(alloc, &mut with_bad_ledger(alloc, end, place, value)?, line)?,
+            "{end} {place}"
+        );
     }
     Ok(())
 }
@@ -96,8 +104,8 @@ fn ends_so(alloc: Global, whole: &[Vec<u8>], sites: u8, status: Status) -> Resul
     }
     let left = run_over(alloc, "repair", &mut disk, 999)?;
     let is_done = status == Status::Done;
-    let is_whole = has_bytes(alloc, &mut disk, whole)?;
-    Ok(left.status == status && left.out.bytes().is_empty() != is_done && is_whole == is_done)
+    let is_revealed = left.status == status && left.out.bytes().is_empty() != is_done;
+    Ok(is_revealed && has_bytes(alloc, &mut disk, whole)? == is_done)
 }
 
 #[test]
@@ -106,8 +114,7 @@ fn a_site_without_room_is_at_fault(rt: HostRuntime) -> Result<(), Fail> {
     let whole = all_bytes(alloc, &mut archive_of_four(alloc, &[7; 150])?)?;
     // there is space for the fourth site, or none
     for (sites, status) in [(3u8, Status::Disk), (4, Status::Done)] {
-        let is_so = ends_so(alloc, whole.as_slice(), sites, status)?;
-        assert!(rt; is_so, "{sites}");
+        assert!(rt; ends_so(alloc, whole.as_slice(), sites, status)?, "{sites}");
     }
     Ok(())
 }

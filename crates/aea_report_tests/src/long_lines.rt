@@ -12,6 +12,17 @@ fn long_line(alloc: Global, before: &[u8], count: usize) -> Result<Vec<u8>, Allo
     Ok(bytes)
 }
 
+// Whether a report that begins with so many bytes `x` is refused with this fault, and so many bytes of it are left.
+fn is_refused(alloc: Global, count: usize, fault: ReportFault, left: usize) -> Result<bool, Fail> {
+    let bytes = long_line(alloc, b"", count)?;
+    let mut source = SureSource::new(&bytes);
+    let is_so = match Reader::begin(alloc, &mut source) {
+        Ok(_) => false,
+        Err(found) => found == fault,
+    };
+    Ok(is_so && source.rest.len() == left)
+}
+
 #[test]
 fn a_first_line_may_be_too_long(rt: HostRuntime) -> Result<(), Fail> {
     for (count, fault, left) in [
@@ -19,37 +30,51 @@ fn a_first_line_may_be_too_long(rt: HostRuntime) -> Result<(), Fail> {
         (16_777_217, ReportFault::LineTooLong { line: 1 }, 0),
         (16_777_317, ReportFault::LineTooLong { line: 1 }, 100),
     ] {
-        let bytes = long_line(rt.alloc(), b"", count)?;
-        let mut source = SureSource::new(&bytes);
-        match Reader::begin(rt.alloc(), &mut source) {
-            Ok(_) => assert!(rt; false),
-            Err(found) => assert!(rt; found == fault),
-        }
-        assert!(rt; source.rest.len() == left);
+        assert!(rt; is_refused(rt.alloc(), count, fault, left)?, "{count}");
     }
     Ok(())
 }
 
+// A head, and the beginning of a line with nodes.
+const BEFORE: &[u8; 67] =
+    b"aea-report 1\nlattice 2 2 2 11\nledger none\ncounts 0 0 0 0\nlost d1 by";
+
+// Whether the next line of the reader is refused with this fault, and so many bytes are left.
+fn stops(
+    alloc: Global,
+    reader: &mut Reader,
+    source: &mut SureSource,
+    fault: ReportFault,
+    left: usize,
+) -> bool {
+    let is_so = match reader.next(alloc, source) {
+        Ok(_) => false,
+        Err(found) => found == fault,
+    };
+    is_so && source.rest.len() == left
+}
+
+// Whether that is so, and so once more, of a line of a report that goes on with so many bytes `x`.
+fn stops_twice(alloc: Global, count: usize, fault: ReportFault, left: usize) -> Result<bool, Fail> {
+    let bytes = long_line(alloc, BEFORE, count)?;
+    let mut source = SureSource::new(&bytes);
+    match Reader::begin(alloc, &mut source) {
+        Ok((mut reader, _)) => Ok(
+            stops(alloc, &mut reader, &mut source, fault, left)
+                && stops(alloc, &mut reader, &mut source, fault, left),
+        ),
+        Err(_) => Err(Fail::new("a head that is not read")),
+    }
+}
+
 #[test]
 fn a_later_line_may_be_too_long(rt: HostRuntime) -> Result<(), Fail> {
-    let before = b"aea-report 1\nlattice 2 2 2 11\nledger none\ncounts 0 0 0 0\nlost d1 by";
     for (count, fault, left) in [
         (16_777_206, ReportFault::BadLine { line: 5 }, 0),
         (16_777_207, ReportFault::LineTooLong { line: 5 }, 0),
         (16_777_208, ReportFault::LineTooLong { line: 5 }, 1),
     ] {
-        let bytes = long_line(rt.alloc(), before, count)?;
-        let mut source = SureSource::new(&bytes);
-        let (mut reader, _) = Reader::begin(rt.alloc(), &mut source).map_err(
-            |_| "a head that is not read",
-        )?;
-        for _ in 0..2 {
-            match reader.next(rt.alloc(), &mut source) {
-                Ok(_) => assert!(rt; false),
-                Err(found) => assert!(rt; found == fault),
-            }
-            assert!(rt; source.rest.len() == left);
-        }
+        assert!(rt; stops_twice(rt.alloc(), count, fault, left)?, "{count}");
     }
     Ok(())
 }

@@ -64,6 +64,30 @@ fn has_payload<D: Disk>(
     &cell[16..cell.len() - 32] == sum
 }
 
+// How many payloads the fate of this number gives, none or one, as the whole archive has it; no count where another one comes, or a
+// fault.
+fn count_of_fate<D: Disk, E: Disk>(
+    ledger: &Ledger,
+    disk: &mut D,
+    whole: &mut E,
+    marks: &Marks,
+    fates: &FateList,
+    k: usize,
+    cell: &mut [u8],
+    sum: &mut [u8],
+) -> Option<usize>
+    requires fates { AreFates ledger.now.lattice (is_marked marks.now) fates.now }
+    requires cell { length cell.old ≡ cell_size ledger.now.shape }
+    requires sum { length sum.old ≡ ledger.now.shape.block }
+{
+    match computed(ledger, disk, marks, fates, k, cell, sum) {
+        None => Some(0),
+        Some(Err(_)) => None,
+        Some(Ok(b)) if !has_payload(ledger, whole, b, cell, sum) => None,
+        Some(Ok(_)) => Some(1),
+    }
+}
+
 // How many payloads are computed, each as the whole archive has it; none where another one comes, or a fault.
 fn count_right<D: Disk, E: Disk>(
     alloc: Global,
@@ -84,11 +108,9 @@ fn count_right<D: Disk, E: Disk>(
     let sum = sum.as_mut_slice();
     let mut right = 0usize;
     for k in 0..fates.len() {
-        match computed(&ledger, disk, &marks, &fates, k, cell, sum) {
-            None => (),
-            Some(Err(_)) => return Ok(None),
-            Some(Ok(b)) if !has_payload(&ledger, whole, b, cell, sum) => return Ok(None),
-            Some(Ok(_)) => right = right.saturating_add(1),
+        match count_of_fate(&ledger, disk, whole, &marks, &fates, k, cell, sum) {
+            Some(count) => right = right.saturating_add(count),
+            None => return Ok(None),
         }
     }
     Ok(Some(right))
@@ -107,13 +129,13 @@ fn damages() -> [(&'static str, &'static [u32], usize); 4] {
 
 // Whether so many payloads are computed where these blocks are damaged, each as it was stored, and the blocks stay damaged.
 fn are_computed(alloc: Global, numbers: &[u32], sums: usize) -> bool {
+    let Ok(count) = u32::try_from(numbers.len()) else {
+        return false;
+    };
     let Some(mut whole) = archive(alloc, &WOVEN, BYTES.as_bytes()) else {
         return false;
     };
     let Some(mut disk) = damaged_archive(alloc, &WOVEN, BYTES.as_bytes(), numbers) else {
-        return false;
-    };
-    let Ok(count) = u32::try_from(numbers.len()) else {
         return false;
     };
     are_right(alloc, &mut disk, &mut whole, sums) && damaged(alloc, &mut disk) == Some(count)
@@ -135,6 +157,14 @@ fn payloads_are_those_that_were_stored(rt: HostRuntime) -> Result<(), Fail> {
     Ok(())
 }
 
+// Damages the block of this number of a small archive, where there is a number. It says whether it did, or there is no number.
+fn spoil_one<D: Disk>(disk: &mut D, number: Option<u32>) -> bool {
+    match number {
+        Some(number) => spoil_block(disk, &SMALL, number) == Ok(true),
+        None => true,
+    }
+}
+
 // Computes the payload of the first fate of a small archive with this object, whose datum is damaged, after one more block was
 // damaged that the scan found intact. Returns the answer and the payload; none where it could not be tried.
 fn first_of<D: Disk>(
@@ -150,13 +180,7 @@ fn first_of<D: Disk>(
         return Ok(None);
     };
     let fates = solve(alloc, &ledger.lattice(), &marks)?;
-    if let Some(number) = number {
-        match spoil_block(disk, &SMALL, number) {
-            Ok(true) => (),
-            _ => return Ok(None),
-        }
-    }
-    if ledger.shape().block() != 16 {
+    if !spoil_one(disk, number) || ledger.shape().block() != 16 {
         return Ok(None);
     }
     let mut cell = [7; 64];

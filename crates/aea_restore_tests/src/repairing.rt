@@ -99,13 +99,22 @@ fn is_site_peeled(
     Ok(is_lost && is_revealed && damaged(alloc, disk) == Some(0) && same_files(disk, whole))
 }
 
+// The same of an archive of forty nodes.
+fn is_peeled_of_forty(alloc: Global, lines: &str) -> Result<bool, Fail> {
+    let Some(mut whole) = archive(alloc, &WIDE, &[98; 640]) else {
+        return Ok(false);
+    };
+    let Some(mut disk) = archive(alloc, &WIDE, &[98; 640]) else {
+        return Ok(false);
+    };
+    is_site_peeled(alloc, &mut disk, &mut whole, lines)
+}
+
 #[test]
 fn a_lost_site_is_peeled(rt: HostRuntime) -> Result<(), Fail> {
     let lines = lines_of_site(rt.alloc())?;
     assert!(rt; lines.as_str().starts_with(FIRST_LINES));
-    let mut whole = archive(rt.alloc(), &WIDE, &[98; 640]).ok_or("no archive")?;
-    let mut disk = archive(rt.alloc(), &WIDE, &[98; 640]).ok_or("no archive")?;
-    assert!(rt; is_site_peeled(rt.alloc(), &mut disk, &mut whole, lines.as_str())?);
+    assert!(rt; is_peeled_of_forty(rt.alloc(), lines.as_str())?);
     Ok(())
 }
 
@@ -139,16 +148,21 @@ fn a_damaged_head_is_repaired_before_the_next_put(rt: HostRuntime) -> Result<(),
     Ok(())
 }
 
-#[test]
-fn what_is_solved_and_lost_is_reported(rt: HostRuntime) -> Result<(), Fail> {
-    let mut disk = damaged_archive(rt.alloc(), &WOVEN, &BYTES, &NINETEEN).ok_or("no archive")?;
+// Whether of nineteen damaged blocks three are told as solved and sixteen as lost, and these stay damaged.
+fn are_solved_and_lost(alloc: Global, disk: &mut SureDisk) -> Result<bool, Fail> {
     let outcome = Outcome {
         peeled: 0,
         solved: 3,
         lost: 16,
     };
-    assert!(rt; reveals(rt.alloc(), &mut disk, "2 2 2 11", TWO_CODEWORDS, outcome)?);
-    assert!(rt; damaged(rt.alloc(), &mut disk) == Some(16));
+    let is_revealed = reveals(alloc, disk, "2 2 2 11", TWO_CODEWORDS, outcome)?;
+    Ok(is_revealed && damaged(alloc, disk) == Some(16))
+}
+
+#[test]
+fn what_is_solved_and_lost_is_reported(rt: HostRuntime) -> Result<(), Fail> {
+    let mut disk = damaged_archive(rt.alloc(), &WOVEN, &BYTES, &NINETEEN).ok_or("no archive")?;
+    assert!(rt; are_solved_and_lost(rt.alloc(), &mut disk)?);
     Ok(())
 }
 
@@ -275,14 +289,29 @@ fn is_repaired(alloc: Global, disk: &mut MemDisk) -> bool {
     }
 }
 
+// Makes that archive on the disk, and repairs it. It returns after how many calls the repair began; none where it failed.
+fn repaired_from(alloc: Global, disk: &mut MemDisk) -> Option<u64> {
+    if !damages(alloc, disk) {
+        return None;
+    }
+    let begun = disk.calls();
+    if is_repaired(alloc, disk) {
+        return Some(begun);
+    }
+    None
+}
+
+// After how many calls such a stop comes in the repair of that archive, 0 where there is none; an error where it is not repaired.
+fn wrong_stop_of_three(alloc: Global) -> Result<u64, Fail> {
+    let mut disk = MemDisk::new(alloc, 4, 8192, 4096, 256, 4096)?;
+    let begun = repaired_from(alloc, &mut disk).ok_or("not repaired")?;
+    let mut whole = archive(alloc, &WOVEN, &BYTES[..48]).ok_or("no archive")?;
+    Ok(first_wrong_stop(alloc, &disk, begun, &mut whole))
+}
+
 #[test]
 fn each_stop_leaves_what_can_be_repaired(rt: HostRuntime) -> Result<(), Fail> {
-    let mut whole = archive(rt.alloc(), &WOVEN, &BYTES[..48]).ok_or("no archive")?;
-    let mut disk = MemDisk::new(rt.alloc(), 4, 8192, 4096, 256, 4096)?;
-    assert!(rt; damages(rt.alloc(), &mut disk));
-    let begun = disk.calls();
-    assert!(rt; is_repaired(rt.alloc(), &mut disk));
-    let after = first_wrong_stop(rt.alloc(), &disk, begun, &mut whole);
+    let after = wrong_stop_of_three(rt.alloc())?;
     assert!(rt; after == 0, "after {after}");
     Ok(())
 }
@@ -309,15 +338,19 @@ fn is_restored_unsaid(
     Ok(is_revealed && is_whole(alloc, disk))
 }
 
+// The same of an archive whose first datum is damaged.
+fn is_datum_restored(alloc: Global, call: u32, is_printed: bool) -> Result<bool, Fail> {
+    match damaged_archive(alloc, &WOVEN, &BYTES, &[0]) {
+        Some(mut disk) => is_restored_unsaid(alloc, &mut disk, call, is_printed),
+        None => Ok(false),
+    }
+}
+
 #[test]
 fn an_output_that_fails_leaves_all_restored(rt: HostRuntime) -> Result<(), Fail> {
     // the report is one write, and then a flush
     for (call, is_printed) in [(1, false), (2, true)] {
-        let mut disk = damaged_archive(rt.alloc(), &WOVEN, &BYTES, &[0]).ok_or("no archive")?;
-        assert!(rt;
-            is_restored_unsaid(rt.alloc(), &mut disk, call, is_printed)?,
-            "{call}"
-        );
+        assert!(rt; is_datum_restored(rt.alloc(), call, is_printed)?, "{call}");
     }
     Ok(())
 }

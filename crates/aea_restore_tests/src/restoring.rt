@@ -118,13 +118,13 @@ fn is_restored(
 
 // The same for the blocks of these numbers.
 fn are_restored(alloc: Global, numbers: &[u32], lost: u32) -> bool {
+    let Ok(count) = u32::try_from(numbers.len()) else {
+        return false;
+    };
     let Some(mut whole) = archive(alloc, &WOVEN, BYTES.as_bytes()) else {
         return false;
     };
     let Some(mut disk) = damaged_archive(alloc, &WOVEN, BYTES.as_bytes(), numbers) else {
-        return false;
-    };
-    let Ok(count) = u32::try_from(numbers.len()) else {
         return false;
     };
     is_restored(alloc, &mut disk, &mut whole, count, lost)
@@ -270,9 +270,21 @@ fn restored_at(alloc: Global, call: u64) -> Came {
     let Ok(mut failing) = FailDisk::new(alloc, disk, &[call]) else {
         return Came::Otherwise;
     };
-    match restore_from(alloc, &ledger, &mut failing, &mut marks) {
+    restored_over(alloc, &ledger, &mut failing, &mut marks)
+}
+
+// Restores what the marked blocks determine over this disk. It returns what came of it.
+fn restored_over(
+    alloc: Global,
+    ledger: &Ledger,
+    disk: &mut FailDisk<SureDisk>,
+    marks: &mut Marks,
+) -> Came
+    requires { marks.old.lattice ≡ ledger.now.lattice }
+{
+    match restore_from(alloc, ledger, disk, marks) {
         Ok(Ok(())) => Came::Restored,
-        Ok(Err(RestoreFault::DiskFault)) => later(is_made_whole(alloc, &mut failing)),
+        Ok(Err(RestoreFault::DiskFault)) => later(is_made_whole(alloc, disk)),
         _ => Came::Otherwise,
     }
 }

@@ -7,17 +7,21 @@ use aea_disk::{MemDisk, SureDisk};
 use aea_ledger::create_ledger;
 use aea_session::{BeginFault, Stop};
 use aea_test_helpers::SMALL;
+use std::alloc::Global;
 use std::test::Fail;
+
+// Whether the example is served with these replies, and leaves the object `a`.
+fn leaves_a(alloc: Global, disk: &mut MemDisk, wanted: &[u8]) -> Result<bool, Fail> {
+    Ok(serves(alloc, disk, stream(), Ended::Done, wanted)? && contents(alloc, disk) == WITH_A)
+}
 
 #[test]
 fn the_first_example(rt: HostRuntime) -> Result<(), Fail> {
     let alloc = rt.alloc();
     let mut disk = MemDisk::new(alloc, 1, 4096, 1024, 400, 8192)?;
     assert!(rt; make(alloc, &mut disk));
-    assert!(rt; serves(alloc, &mut disk, stream(), Ended::Done, replies())?);
-    assert!(rt; contents(alloc, &mut disk) == WITH_A);
-    assert!(rt; serves(alloc, &mut disk, stream(), Ended::Done, replies_again())?);
-    assert!(rt; contents(alloc, &mut disk) == WITH_A);
+    assert!(rt; leaves_a(alloc, &mut disk, replies())?);
+    assert!(rt; leaves_a(alloc, &mut disk, replies_again())?);
     Ok(())
 }
 

@@ -15,26 +15,33 @@ pub enum Act {
     Patrol { first: u32, count: u32 },
 }
 
+// These bytes, one part after the other.
+fn joined(alloc: Global, first: &[u8], next: &[u8], last: &[u8]) -> Result<Vec<u8>, AllocError> {
+    let mut bytes = Vec::new(alloc);
+    bytes.extend_from_slice(first)?;
+    bytes.extend_from_slice(next)?;
+    bytes.extend_from_slice(last)?;
+    Ok(bytes)
+}
+
+// How a chunk of so many bytes from a first one on is spelled.
+fn spelled_chunk(alloc: Global, slot: u8, count: u32, first: u32) -> Result<Vec<u8>, AllocError> {
+    let bytes = some_bytes(alloc, count, first)?;
+    joined(alloc, &[2, slot], &count.to_be_bytes(), bytes.as_slice())
+}
+
 /// How a message is spelled.
 pub fn spelled(alloc: Global, act: &Act) -> Result<Vec<u8>, AllocError> {
-    let mut bytes = Vec::new(alloc);
     match act {
-        Act::Open { slot, name } => bytes.extend_from_slice(&[1, *slot, 0, 1, *name])?,
-        Act::Chunk { slot, count, first } => {
-            bytes.extend_from_slice(&[2, *slot])?;
-            bytes.extend_from_slice(&count.to_be_bytes())?;
-            bytes.extend_from_slice(some_bytes(alloc, *count, *first)?.as_slice())?;
-        }
-        Act::Close { slot } => bytes.extend_from_slice(&[3, *slot])?,
-        Act::Abort { slot } => bytes.extend_from_slice(&[4, *slot])?,
-        Act::Read { name } => bytes.extend_from_slice(&[5, 0, 1, *name])?,
+        Act::Open { slot, name } => joined(alloc, &[1, *slot], &[0, 1], &[*name]),
+        Act::Chunk { slot, count, first } => spelled_chunk(alloc, *slot, *count, *first),
+        Act::Close { slot } => joined(alloc, &[3], &[*slot], &[]),
+        Act::Abort { slot } => joined(alloc, &[4], &[*slot], &[]),
+        Act::Read { name } => joined(alloc, &[5], &[0, 1], &[*name]),
         Act::Patrol { first, count } => {
-            bytes.push(6)?;
-            bytes.extend_from_slice(&first.to_be_bytes())?;
-            bytes.extend_from_slice(&count.to_be_bytes())?;
+            joined(alloc, &[6], &first.to_be_bytes(), &count.to_be_bytes())
         }
     }
-    Ok(bytes)
 }
 
 // A number of 4 bytes.
@@ -48,6 +55,25 @@ pub struct Upload {
     pub name: u8,
     pub bytes: Vec<u8>,
     pub nodes: Vec<u32>,
+}
+
+// The reply to the close of this upload.
+fn closed(alloc: Global, upload: &Upload) -> Result<Vec<u8>, AllocError> {
+    let nodes = count_of(upload.nodes.len());
+    let long = upload.bytes.len() as u64;
+    let mut reply = joined(alloc, &[3, 0], &nodes.to_be_bytes(), &long.to_be_bytes())?;
+    reply.extend_from_slice(&Sha256::digest(upload.bytes.as_slice()))?;
+    Ok(reply)
+}
+
+// The reply to a patrol that found these blocks damaged.
+fn patrolled(alloc: Global, numbers: &[u32]) -> Result<Vec<u8>, AllocError> {
+    let count = count_of(numbers.len());
+    let mut reply = joined(alloc, &[6], &[0], &count.to_be_bytes())?;
+    for number in numbers {
+        reply.extend_from_slice(&number.to_be_bytes())?;
+    }
+    Ok(reply)
 }
 
 /// An archive in blocks of 16 bytes, with so many blocks a node, and what a session over it keeps.
@@ -147,28 +173,35 @@ impl Plain {
         }
     }
 
+    // The reply to a chunk of so many bytes from a first one on.
+    fn take_chunk(&mut self, slot: u8, count: u32, first: u32) -> Result<Vec<u8>, AllocError> {
+        let bytes = some_bytes(self.alloc, count, first)?;
+        let code = self.chunk(slot, bytes.as_slice())?;
+        joined(self.alloc, &[2], &[code], &[])
+    }
+
+    // The reply to the close of this upload, which becomes an object.
+    fn record(&mut self, mut upload: Upload) -> Result<Vec<u8>, AllocError> {
+        if upload.bytes.len() % 16 != 0 {
+            self.woven = self.woven.saturating_add(1);
+            upload.nodes.push(self.woven)?;
+        }
+        self.recorded = self.woven;
+        let reply = closed(self.alloc, &upload)?;
+        self.objects.push(upload)?;
+        Ok(reply)
+    }
+
     // The reply to a close.
     fn close(&mut self, slot: u8) -> Result<Vec<u8>, AllocError> {
-        let mut reply = Vec::new(self.alloc);
-        match self.slots.get_mut(usize::from(slot)) {
-            None => reply.push(1)?,
-            Some(place) => match place.take() {
-                None => reply.push(3)?,
-                Some(mut upload) => {
-                    if upload.bytes.len() % 16 != 0 {
-                        self.woven = self.woven.saturating_add(1);
-                        upload.nodes.push(self.woven)?;
-                    }
-                    self.recorded = self.woven;
-                    reply.push(0)?;
-                    reply.extend_from_slice(&count_of(upload.nodes.len()).to_be_bytes())?;
-                    reply.extend_from_slice(&(upload.bytes.len() as u64).to_be_bytes())?;
-                    reply.extend_from_slice(&Sha256::digest(upload.bytes.as_slice()))?;
-                    self.objects.push(upload)?;
-                }
-            },
+        let upload = match self.slots.get_mut(usize::from(slot)) {
+            None => return joined(self.alloc, &[3], &[1], &[]),
+            Some(place) => place.take(),
+        };
+        match upload {
+            None => joined(self.alloc, &[3], &[3], &[]),
+            Some(upload) => self.record(upload),
         }
-        Ok(reply)
     }
 
     // The code of an abort.
@@ -182,36 +215,36 @@ impl Plain {
         }
     }
 
-    // The reply to a read.
-    fn read(&self, name: u8) -> Result<Vec<u8>, AllocError> {
-        let mut reply = Vec::new(self.alloc);
-        let Some(object) = self.objects.iter().find(|object| object.name == name) else {
-            reply.push(9)?;
-            return Ok(reply);
-        };
-        for node in object.nodes.iter() {
+    // The number of the first damaged data block of these nodes.
+    fn first_damaged(&self, nodes: &[u32]) -> Option<u32> {
+        for node in nodes {
             let number = node.saturating_sub(1).saturating_mul(self.classes);
             if self.is_damaged(number) {
-                reply.push(10)?;
-                reply.extend_from_slice(&number.to_be_bytes())?;
-                return Ok(reply);
+                return Some(number);
             }
         }
-        reply.push(0)?;
-        reply.extend_from_slice(&(object.bytes.len() as u64).to_be_bytes())?;
-        reply.extend_from_slice(object.bytes.as_slice())?;
-        Ok(reply)
+        None
     }
 
-    // The reply to a patrol.
-    fn patrol(&self, first: u32, count: u32) -> Result<Vec<u8>, AllocError> {
-        let mut reply = Vec::new(self.alloc);
-        let blocks = u64::from(self.recorded).saturating_mul(u64::from(self.classes));
-        let end = u64::from(first).saturating_add(u64::from(count));
-        if count == 0 || 4096 < count || blocks < end {
-            reply.push(11)?;
-            return Ok(reply);
+    // The reply to a read.
+    fn read(&self, name: u8) -> Result<Vec<u8>, AllocError> {
+        let Some(object) = self.objects.iter().find(|object| object.name == name) else {
+            return joined(self.alloc, &[5], &[9], &[]);
+        };
+        if let Some(number) = self.first_damaged(object.nodes.as_slice()) {
+            return joined(self.alloc, &[5], &[10], &number.to_be_bytes());
         }
+        let long = object.bytes.len() as u64;
+        joined(
+            self.alloc,
+            &[5, 0],
+            &long.to_be_bytes(),
+            object.bytes.as_slice(),
+        )
+    }
+
+    // The numbers of the damaged ones of so many blocks from a first one on.
+    fn damaged_among(&self, first: u32, count: u32) -> Result<Vec<u32>, AllocError> {
         let mut numbers = Vec::new(self.alloc);
         for more in 0..count {
             let number = first.saturating_add(more);
@@ -219,39 +252,35 @@ impl Plain {
                 numbers.push(number)?;
             }
         }
-        reply.push(0)?;
-        reply.extend_from_slice(&count_of(numbers.len()).to_be_bytes())?;
-        for number in numbers.iter() {
-            reply.extend_from_slice(&number.to_be_bytes())?;
+        Ok(numbers)
+    }
+
+    // The reply to a patrol.
+    fn patrol(&self, first: u32, count: u32) -> Result<Vec<u8>, AllocError> {
+        let blocks = u64::from(self.recorded).saturating_mul(u64::from(self.classes));
+        let end = u64::from(first).saturating_add(u64::from(count));
+        if count == 0 || 4096 < count || blocks < end {
+            return joined(self.alloc, &[6], &[11], &[]);
         }
-        Ok(reply)
+        let numbers = self.damaged_among(first, count)?;
+        patrolled(self.alloc, numbers.as_slice())
     }
 
     /// Makes the step of a message, and gives its reply.
     pub fn take(&mut self, act: &Act) -> Result<Vec<u8>, AllocError> {
-        let mut reply = Vec::new(self.alloc);
         match act {
             Act::Open { slot, name } => {
-                reply.extend_from_slice(&[1, self.open(*slot, *name)])?;
+                let code = self.open(*slot, *name);
+                joined(self.alloc, &[1], &[code], &[])
             }
-            Act::Chunk { slot, count, first } => {
-                let bytes = some_bytes(self.alloc, *count, *first)?;
-                reply.extend_from_slice(&[2, self.chunk(*slot, bytes.as_slice())?])?;
+            Act::Chunk { slot, count, first } => self.take_chunk(*slot, *count, *first),
+            Act::Close { slot } => self.close(*slot),
+            Act::Abort { slot } => {
+                let code = self.abort(*slot);
+                joined(self.alloc, &[4], &[code], &[])
             }
-            Act::Close { slot } => {
-                reply.push(3)?;
-                reply.extend_from_slice(self.close(*slot)?.as_slice())?;
-            }
-            Act::Abort { slot } => reply.extend_from_slice(&[4, self.abort(*slot)])?,
-            Act::Read { name } => {
-                reply.push(5)?;
-                reply.extend_from_slice(self.read(*name)?.as_slice())?;
-            }
-            Act::Patrol { first, count } => {
-                reply.push(6)?;
-                reply.extend_from_slice(self.patrol(*first, *count)?.as_slice())?;
-            }
+            Act::Read { name } => self.read(*name),
+            Act::Patrol { first, count } => self.patrol(*first, *count),
         }
-        Ok(reply)
     }
 }

@@ -87,6 +87,36 @@ fn rot(x: &mut u64, disk: &mut Changing, shape: &Shape, plain: &mut Plain) -> Re
     Ok(())
 }
 
+// Whether the session may be used and replies so to this message.
+fn replies_so(
+    alloc: Global,
+    session: &mut Session,
+    disk: &mut Changing,
+    message: &[u8],
+    want: &[u8],
+) -> Result<bool, Fail> {
+    if !session.live() {
+        return Ok(false);
+    }
+    let mut input = MemSource::new(alloc, message, &[])?;
+    let mut out = MemSink::new(alloc, 16_384, &[])?;
+    let done = serve(alloc, session, disk, &mut input, &mut out).is_ok();
+    Ok(done && out.bytes() == want)
+}
+
+// Whether the session replies to this as the plain machine does.
+fn is_alike(
+    alloc: Global,
+    session: &mut Session,
+    disk: &mut Changing,
+    plain: &mut Plain,
+    act: &Act,
+) -> Result<bool, Fail> {
+    let message = spelled(alloc, act)?;
+    let want = plain.take(act)?;
+    replies_so(alloc, session, disk, message.as_slice(), want.as_slice())
+}
+
 // Takes so many random messages in one session, each with its reply compared. Returns how many had another one.
 fn unlike_in(
     alloc: Global,
@@ -105,20 +135,23 @@ fn unlike_in(
     plain.begin();
     let mut unlike = 0u32;
     for _ in 0..count {
-        if !session.live() {
-            return Ok(count);
-        }
         let act = some_act(x, plain.recorded.saturating_mul(plain.classes));
-        let message = spelled(alloc, &act)?;
-        let mut input = MemSource::new(alloc, message.as_slice(), &[])?;
-        let mut out = MemSink::new(alloc, 16_384, &[])?;
-        let done = serve(alloc, &mut session, disk, &mut input, &mut out).is_ok();
-        if !done || out.bytes() != plain.take(&act)?.as_slice() {
+        if !is_alike(alloc, &mut session, disk, plain, &act)? {
             unlike = unlike.saturating_add(1);
         }
         rot(x, disk, shape, plain)?;
     }
     Ok(unlike)
+}
+
+// Mends every damaged block.
+fn mend(disk: &mut Changing, shape: &Shape, plain: &mut Plain) -> Result<(), Fail> {
+    for _ in 0..plain.damaged.len() {
+        if let Some(number) = plain.damaged.pop() {
+            let _mended = spoil_block(disk, shape, number)?;
+        }
+    }
+    Ok(())
 }
 
 // How many replies of sessions one after the other are not those of the plain machine.
@@ -131,11 +164,7 @@ fn unlike_from(alloc: Global, shape: &Shape, classes: u32, seed: u64) -> Result<
         let more = unlike_in(alloc, &mut x, &mut disk, shape, &mut plain, 120)?;
         unlike = unlike.saturating_add(more);
         // a damaged last parity would refuse the next session
-        for _ in 0..plain.damaged.len() {
-            if let Some(number) = plain.damaged.pop() {
-                let _mended = spoil_block(&mut disk, shape, number)?;
-            }
-        }
+        mend(&mut disk, shape, &mut plain)?;
     }
     Ok(if plain.objects.len() < 5 { 999 } else { unlike })
 }

@@ -1,17 +1,24 @@
 //! Whole runs of `session`.
 
-use crate::sessions::{ends, replies, replies_again, reply_ends, stream};
+use crate::sessions::{ends, is_there, replies, replies_again, reply_ends, stream};
 use aea_cli::Status;
 use aea_disk::{Disk, FailDisk, Loss, MemDisk, SureDisk};
 use aea_runs::{Faults, NONE, run_failing, run_input, run_over, run_slowly, run_words};
-use std::alloc::Global;
+use std::alloc::{AllocError, Global};
 use std::test::Fail;
+
+// The line that makes an archive of AE(1) with blocks of 16 bytes on one site.
+const CREATE: &str = "create 1 1 0 16 1";
+
+// Whether the command of a line is done.
+fn is_done<D: Disk>(alloc: Global, disk: &mut D, line: &str) -> Result<bool, AllocError> {
+    let left = run_over(alloc, line, disk, 99)?;
+    Ok(left.status == Status::Done)
+}
 
 /// Makes an archive of AE(1) with blocks of 16 bytes on one site, and raises its limit. Says whether it did.
 pub fn make_raised<D: Disk>(alloc: Global, disk: &mut D) -> Result<bool, Fail> {
-    let made = run_over(alloc, "create 1 1 0 16 1", disk, 99)?;
-    let raised = run_over(alloc, "upgrade", disk, 99)?;
-    Ok(made.status == Status::Done && raised.status == Status::Done)
+    Ok(is_done(alloc, disk, CREATE)? && is_done(alloc, disk, "upgrade")?)
 }
 
 // A raised archive on a disk that does not fail.
@@ -64,51 +71,47 @@ fn runs() -> [(&'static [u8], Status, &'static [u8], &'static str); 5] {
     ]
 }
 
+// The number of the first of these runs that ends otherwise, none where there is none.
+fn first_unlike(alloc: Global, disk: &mut SureDisk) -> Result<Option<usize>, Fail> {
+    let rows = runs();
+    for (case, row) in rows.iter().enumerate() {
+        let (bytes, status, out, err) = *row;
+        if !says(alloc, disk, bytes, status, out, err)? {
+            return Ok(Some(case));
+        }
+    }
+    Ok(None)
+}
+
+// Whether the archive then has the object `a` alone.
+fn lists_a(alloc: Global, disk: &mut SureDisk) -> Result<bool, AllocError> {
+    let left = run_over(alloc, "list", disk, 999)?;
+    let list = "3 ba7816bf8f01cfea414140de5dae2223b00361a396177a9cb410ff61f20015ad a\n";
+    Ok(left.is(Status::Done, list, ""))
+}
+
 #[test]
 fn the_examples(rt: HostRuntime) -> Result<(), Fail> {
     let alloc = rt.alloc();
     let mut disk = raised(alloc)?;
-    let mut case = 0;
-    for (bytes, status, out, err) in runs() {
-        assert!(rt; says(alloc, &mut disk, bytes, status, out, err)?, "{case}");
-        case = if case < 9 { case + 1 } else { case };
-    }
-    let left = run_over(alloc, "list", &mut disk, 999)?;
-    assert!(rt;
-        left.is(
-            Status::Done,
-            "3 ba7816bf8f01cfea414140de5dae2223b00361a396177a9cb410ff61f20015ad a\n",
-            ""
-        )
-    );
+    let unlike = first_unlike(alloc, &mut disk)?;
+    assert!(rt; unlike == None, "{unlike:?}");
+    assert!(rt; lists_a(alloc, &mut disk)?);
     Ok(())
+}
+
+// Whether the session is refused, with this on the errors.
+fn is_refused(alloc: Global, disk: &mut SureDisk, err: &str) -> Result<bool, Fail> {
+    says(alloc, disk, stream(), Status::Refused, b"", err)
 }
 
 #[test]
 fn an_archive_that_was_not_raised_and_none(rt: HostRuntime) -> Result<(), Fail> {
     let alloc = rt.alloc();
     let mut disk = SureDisk::new(alloc, 1, 8192, 8192)?;
-    assert!(rt;
-        says(
-            alloc,
-            &mut disk,
-            stream(),
-            Status::Refused,
-            b"",
-            "refused: no archive\n"
-        )?
-    );
-    let _made = run_over(alloc, "create 1 1 0 16 1", &mut disk, 99)?;
-    assert!(rt;
-        says(
-            alloc,
-            &mut disk,
-            stream(),
-            Status::Refused,
-            b"",
-            "refused: not upgraded\n"
-        )?
-    );
+    assert!(rt; is_refused(alloc, &mut disk, "refused: no archive\n")?);
+    assert!(rt; is_done(alloc, &mut disk, CREATE)?);
+    assert!(rt; is_refused(alloc, &mut disk, "refused: not upgraded\n")?);
     Ok(())
 }
 
@@ -137,38 +140,65 @@ fn goes_on<D: Disk>(alloc: Global, disk: &mut D, there: bool) -> Result<bool, Fa
     Ok(has && says(alloc, disk, stream(), Status::Done, again, "")?)
 }
 
-// Whether a run whose input fails at the read behind so many bytes says so, and prints the replies to what came before it.
+// Whether a run whose input fails at the read behind so many bytes says so, and prints so many bytes of the replies.
+fn ends_early(
+    alloc: Global,
+    disk: &mut SureDisk,
+    end: usize,
+    given: usize,
+) -> Result<bool, AllocError> {
+    let left = run_slowly(alloc, "session", disk, stream(), end.saturating_add(1))?;
+    let revealed = left.status == Status::Input && left.err.bytes() == b"fault: input\n".as_slice();
+    Ok(revealed && replies().get(..given) == Some(left.out.bytes()))
+}
+
+// Whether such a run prints the replies to what came before it, and the archive goes on with what was closed there.
 fn bears_no_input(alloc: Global, end: usize) -> Result<bool, Fail> {
     let mut disk = raised(alloc)?;
-    let left = run_slowly(alloc, "session", &mut disk, stream(), end.saturating_add(1))?;
     let given = given_by(end);
-    let revealed = left.status == Status::Input && left.err.bytes() == b"fault: input\n".as_slice();
-    let printed = replies().get(..given) == Some(left.out.bytes());
-    Ok(revealed && printed && goes_on(alloc, &mut disk, given >= 54)?)
+    Ok(ends_early(alloc, &mut disk, end, given)? && goes_on(alloc, &mut disk, given >= 54)?)
+}
+
+// Whether a run over an input that does not fail prints the replies.
+fn is_read_slowly(alloc: Global) -> Result<bool, Fail> {
+    let mut disk = raised(alloc)?;
+    let left = run_slowly(alloc, "session", &mut disk, stream(), 0)?;
+    Ok(left.status == Status::Done && left.out.bytes() == replies())
 }
 
 #[test]
 fn each_read_of_the_input_fails(rt: HostRuntime) -> Result<(), Fail> {
     let alloc = rt.alloc();
-    let mut disk = raised(alloc)?;
-    let left = run_slowly(alloc, "session", &mut disk, stream(), 0)?;
-    assert!(rt; left.status == Status::Done && left.out.bytes() == replies());
+    assert!(rt; is_read_slowly(alloc)?);
     for end in 0..=stream().len() {
         assert!(rt; bears_no_input(alloc, end)?, "{end}");
     }
     Ok(())
 }
 
-// Whether a run whose output fails so says so, and prints a first part of the replies, with what was closed there.
-fn bears_no_output(alloc: Global, faults: Faults) -> Result<bool, Fail> {
-    let mut disk = raised(alloc)?;
-    let ended = run_failing(alloc, "session", &mut disk, stream(), faults)?;
+// Whether the object was closed in a run whose output fails so; none where the run does not say so, or prints anything but a first
+// part of the replies.
+fn closed_before(
+    alloc: Global,
+    disk: &mut SureDisk,
+    faults: Faults,
+) -> Result<Option<bool>, AllocError> {
+    let ended = run_failing(alloc, "session", disk, stream(), faults)?;
     let revealed = ended.status == Status::Output
         && ended.err.bytes() == b"fault: output\n".as_slice();
     let out = ended.out.bytes();
     // a close is made where its reply fails: what it is refused for then is that of a reply which fits
     let there = out.len() >= 8 && ended.unread <= stream().len().saturating_sub(43);
-    Ok(revealed && replies().starts_with(out) && goes_on(alloc, &mut disk, there)?)
+    Ok((revealed && replies().starts_with(out)).then_some(there))
+}
+
+// Whether a run whose output fails so says so, and prints a first part of the replies, with what was closed there.
+fn bears_no_output(alloc: Global, faults: Faults) -> Result<bool, Fail> {
+    let mut disk = raised(alloc)?;
+    match closed_before(alloc, &mut disk, faults)? {
+        Some(there) => goes_on(alloc, &mut disk, there),
+        None => Ok(false),
+    }
 }
 
 #[test]
@@ -202,10 +232,36 @@ fn calls_of(alloc: Global, messages: usize) -> Result<[u64; 2], Fail> {
     let mut disk = listed(alloc)?;
     let _made = make_raised(alloc, &mut disk)?;
     let made = disk.calls();
+    reply_to_first(alloc, &mut disk, messages)?;
+    Ok([made, disk.calls()])
+}
+
+// Replies to the first messages of the example. What the run leaves is not looked at.
+fn reply_to_first(alloc: Global, disk: &mut MemDisk, messages: usize) -> Result<(), AllocError> {
     let end = ends().get(messages).copied().unwrap_or(0);
     let bytes = stream().get(..end).unwrap_or(&[]);
-    let _left = run_input(alloc, "session", &mut disk, bytes)?;
-    Ok([made, disk.calls()])
+    let _left = run_input(alloc, "session", disk, bytes)?;
+    Ok(())
+}
+
+// Makes a raised archive, and replies to the example. Says whether it did.
+fn is_given(alloc: Global, disk: &mut MemDisk) -> Result<bool, Fail> {
+    Ok(make_raised(alloc, disk)? && says(alloc, disk, stream(), Status::Done, replies(), "")?)
+}
+
+// Whether the archive goes on where the disk stops after so many calls with this loss, and the object is closed after so many.
+fn survives(
+    alloc: Global,
+    disk: &MemDisk,
+    after: u64,
+    loss: Loss,
+    closed: u64,
+) -> Result<bool, Fail> {
+    if disk.calls() < after {
+        return Ok(false);
+    }
+    let mut stopped = disk.image(alloc, after, loss)?;
+    goes_on(alloc, &mut stopped, is_there(after, loss, closed))
 }
 
 #[test]
@@ -213,16 +269,11 @@ fn each_stop_leaves_the_object_or_none(rt: HostRuntime) -> Result<(), Fail> {
     let alloc = rt.alloc();
     let [made, closed] = calls_of(alloc, 5)?;
     let mut disk = listed(alloc)?;
-    assert!(rt; make_raised(alloc, &mut disk)?);
-    assert!(rt; says(alloc, &mut disk, stream(), Status::Done, replies(), "")?);
+    assert!(rt; is_given(alloc, &mut disk)?);
     for loss in [Loss::Kept, Loss::Dropped, Loss::Ones, Loss::Zeros] {
-        // the gate of the record is written by the last call of the close but one, and made durable by the last
-        let early = loss == Loss::Kept || loss == Loss::Ones;
         for after in made..=disk.calls() {
-            let mut stopped = disk.image(alloc, after, loss)?;
-            let there = after >= closed || early && after.saturating_add(1) == closed;
             assert!(rt;
-                goes_on(alloc, &mut stopped, there)?,
+                survives(alloc, &disk, after, loss, closed)?,
                 "{loss:?} after {after}"
             );
         }
@@ -230,13 +281,17 @@ fn each_stop_leaves_the_object_or_none(rt: HostRuntime) -> Result<(), Fail> {
     Ok(())
 }
 
-// Whether a run over a disk one of whose calls fails says so, and prints a first part of the replies; and whether the archive then
-// has the object or has none, as it is said.
+// Whether a run over a disk one of whose calls fails says so, and prints a first part of the replies.
+fn reveals_of_the_disk<D: Disk>(alloc: Global, disk: &mut D) -> Result<bool, AllocError> {
+    let left = run_input(alloc, "session", disk, stream())?;
+    let revealed = left.status == Status::Disk && left.err.bytes() == b"fault: disk\n".as_slice();
+    Ok(revealed && replies().starts_with(left.out.bytes()))
+}
+
+// The same of the disk whose call of this number fails; and whether the archive then has the object or has none, as it is said.
 fn bears_no_disk(alloc: Global, fails: u64, there: bool) -> Result<bool, Fail> {
     let mut disk = FailDisk::new(alloc, raised(alloc)?, &[fails])?;
-    let left = run_input(alloc, "session", &mut disk, stream())?;
-    let revealed = left.status == Status::Disk && left.err.bytes() == b"fault: disk\n".as_slice();
-    Ok(revealed && replies().starts_with(left.out.bytes()) && goes_on(alloc, &mut disk, there)?)
+    Ok(reveals_of_the_disk(alloc, &mut disk)? && goes_on(alloc, &mut disk, there)?)
 }
 
 #[test]

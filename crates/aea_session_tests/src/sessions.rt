@@ -1,7 +1,7 @@
 //! Sessions over archives in memory, and the first worked example.
 
 use aea_catalog::Extent;
-use aea_disk::{Disk, SureDisk};
+use aea_disk::{Disk, Loss, SureDisk};
 use aea_io::{MemSink, MemSource, Sink, Source};
 use aea_lattice::Shape;
 use aea_ledger::{create_ledger, open_ledger};
@@ -126,4 +126,11 @@ pub fn raised(alloc: Global) -> Result<SureDisk, Fail> {
     let mut disk = SureDisk::new(alloc, 1, 65_536, 65_536)?;
     let _made = make(alloc, &mut disk);
     Ok(disk)
+}
+
+/// Whether the object is there where the disk stops after so many calls with this loss, and it is closed after so many: the gate of its
+/// record is written by the last call of the close but one, and made durable by the last.
+pub fn is_there(after: u64, loss: Loss, closed: u64) -> bool {
+    let early = loss == Loss::Kept || loss == Loss::Ones;
+    after >= closed || early && after.saturating_add(1) == closed
 }

@@ -25,18 +25,20 @@ fn cut_at(end: usize) -> (Ended, usize) {
     (ended, given)
 }
 
+// Whether the session ends so and gives these replies where this is the stream.
+fn serves_all(alloc: Global, bytes: &[u8], ended: Ended, wanted: &[u8]) -> Result<bool, Fail> {
+    let mut disk = raised(alloc)?;
+    serves(alloc, &mut disk, bytes, ended, wanted)
+}
+
 #[test]
 fn the_stream_is_cut_at_each_byte(rt: HostRuntime) -> Result<(), Fail> {
-    let alloc = rt.alloc();
     let bytes = stream();
     for end in 0..=bytes.len() {
-        let mut disk = raised(alloc)?;
         let (ended, given) = cut_at(end);
         let wanted = replies().get(..given).unwrap_or(&[]);
-        assert!(rt;
-            serves(alloc, &mut disk, &bytes[..end], ended, wanted)?,
-            "{end}"
-        );
+        let is_so = serves_all(rt.alloc(), &bytes[..end], ended, wanted)?;
+        assert!(rt; is_so, "{end}");
     }
     Ok(())
 }

@@ -24,6 +24,3 @@ mod sites;
 pub use laws::{first_words_show, losses_are_one, lost_are_on_sites};
 pub use lost::{FirstLost, SiteLoss, loss};
 pub use sites::without;
-
-#[cfg(test)]
-mod tests;

@@ -7,6 +7,17 @@ use aea_test_helpers::some_bytes;
 use std::alloc::{AllocError, Global};
 use std::test::Fail;
 
+// Puts an object, and returns whether it was done.
+fn is_put<D: Disk>(
+    alloc: Global,
+    disk: &mut D,
+    name: &str,
+    bytes: &[u8],
+) -> Result<bool, AllocError> {
+    let left = run_put(alloc, disk, name, bytes)?;
+    Ok(left.status == Status::Done)
+}
+
 // Puts an object of the nodes up to this one, if it is some, after so many nodes, whose number is its name. Blocks have 16 bytes.
 fn put_nodes<D: Disk>(alloc: Global, disk: &mut D, from: u32, to: u32) -> Result<bool, Fail> {
     let nodes = to.saturating_sub(from);
@@ -15,8 +26,7 @@ fn put_nodes<D: Disk>(alloc: Global, disk: &mut D, from: u32, to: u32) -> Result
     }
     let bytes = some_bytes(alloc, nodes.saturating_mul(16), from)?;
     let name = format!(in alloc; "{from}")?;
-    let left = run_put(alloc, disk, name.as_str(), bytes.as_slice())?;
-    Ok(left.status == Status::Done)
+    Ok(is_put(alloc, disk, name.as_str(), bytes.as_slice())?)
 }
 
 // Runs the command of the line, and returns whether it was done.

@@ -2,8 +2,9 @@
 
 use crate::archives::{make_archive, prints};
 use aea_cli::Status;
-use aea_disk::SureDisk;
+use aea_disk::{Disk, SureDisk};
 use aea_runs::{run_over, text_of};
+use std::alloc::Global;
 use std::test::Fail;
 
 // How many blocks each line of `sites` without a loss says.
@@ -46,41 +47,60 @@ fn rows() -> [(&'static str, &'static [u32], u32, &'static str); 6] {
     ]
 }
 
+// Whether `sites` prints these lines over the archive of this line of `create`, with these fences and so many nodes.
+fn is_revealed(
+    alloc: Global,
+    create: &str,
+    fences: &[u32],
+    nodes: u32,
+    lines: &str,
+) -> Result<bool, Fail> {
+    let mut disk = SureDisk::new(alloc, 64, 4096, 4096)?;
+    Ok(make_archive(alloc, &mut disk, create, fences, nodes)? && prints(alloc, &mut disk, lines)?)
+}
+
 #[test]
 fn the_loss_of_one_site_and_of_two(rt: HostRuntime) -> Result<(), Fail> {
-    let alloc = rt.alloc();
     for (create, fences, nodes, lines) in rows() {
-        let mut disk = SureDisk::new(alloc, 64, 4096, 4096)?;
-        let made = make_archive(alloc, &mut disk, create, fences, nodes)?;
-        let done = made && prints(alloc, &mut disk, lines)?;
-        assert!(rt; done, "{create}");
+        let revealed = is_revealed(rt.alloc(), create, fences, nodes, lines)?;
+        assert!(rt; revealed, "{create}");
     }
     Ok(())
 }
 
-#[test]
-fn no_site_of_four_alone_costs_a_block(rt: HostRuntime) -> Result<(), Fail> {
-    let alloc = rt.alloc();
-    let mut disk = SureDisk::new(alloc, 64, 65_536, 65_536)?;
-    let made = make_archive(alloc, &mut disk, "create 3 2 5 16 4", &[], 40)?;
-    let left = run_over(alloc, "sites", &mut disk, 4096)?;
+// Whether the first four lines of `sites`, which is done, say that no block is lost.
+fn four_are_free<D: Disk>(alloc: Global, disk: &mut D) -> Result<bool, Fail> {
+    let left = run_over(alloc, "sites", disk, 4096)?;
     let free = text_of(left.out.bytes())?
         .lines()
         .take(4)
         .all(|line| line.ends_with(FREE));
-    assert!(rt; made && left.status == Status::Done && free);
+    Ok(left.status == Status::Done && free)
+}
+
+#[test]
+fn no_site_of_four_alone_costs_a_block(rt: HostRuntime) -> Result<(), Fail> {
+    let mut disk = SureDisk::new(rt.alloc(), 64, 65_536, 65_536)?;
+    let made = make_archive(rt.alloc(), &mut disk, "create 3 2 5 16 4", &[], 40)?;
+    let free = four_are_free(rt.alloc(), &mut disk)?;
+    assert!(rt; made && free);
     Ok(())
+}
+
+// Whether `sites`, which is done, prints a line for each of 64 sites and each pair of them, and ends so.
+fn has_all_pairs<D: Disk>(alloc: Global, disk: &mut D) -> Result<bool, Fail> {
+    let left = run_over(alloc, "sites", disk, 65_536)?;
+    let text = text_of(left.out.bytes())?;
+    let count = text.lines().count();
+    let last = text.ends_with("\npair 62 64 lost 0\npair 63 64 lost 0\n");
+    Ok(left.status == Status::Done && count == 2_080 && last)
 }
 
 #[test]
 fn sixty_four_sites_have_as_many_lines_as_pairs(rt: HostRuntime) -> Result<(), Fail> {
-    let alloc = rt.alloc();
-    let mut disk = SureDisk::new(alloc, 64, 65_536, 65_536)?;
-    let made = make_archive(alloc, &mut disk, "create 1 1 0 16 64", &[], 3)?;
-    let left = run_over(alloc, "sites", &mut disk, 65_536)?;
-    let text = text_of(left.out.bytes())?;
-    let count = text.lines().count();
-    let last = text.ends_with("\npair 62 64 lost 0\npair 63 64 lost 0\n");
-    assert!(rt; made && left.status == Status::Done && count == 2_080 && last);
+    let mut disk = SureDisk::new(rt.alloc(), 64, 65_536, 65_536)?;
+    let made = make_archive(rt.alloc(), &mut disk, "create 1 1 0 16 64", &[], 3)?;
+    let right = has_all_pairs(rt.alloc(), &mut disk)?;
+    assert!(rt; made && right);
     Ok(())
 }

@@ -1,5 +1,5 @@
 //! Tests of what the loss of sites would cost: whole runs of `sites` over archives in memory, beside a plain elimination among sets
-//! of nodes.
+//! of nodes, and calls by themselves over the smallest lattices.
 #![tactic(auto)]
 
 #[cfg(test)]
@@ -10,3 +10,5 @@ mod examples;
 mod plain;
 #[cfg(test)]
 mod random;
+#[cfg(test)]
+mod small;

@@ -98,20 +98,31 @@ fn add_loss(
     text.push_str("\n")
 }
 
-/// The lines of an archive of this lattice over so many sites.
-pub fn lines_of(alloc: Global, lattice: &Lattice, sites: u8) -> Result<String, AllocError> {
-    let masks = masks_of(alloc, lattice)?;
-    let masks = masks.as_slice();
-    let mut text = String::new(alloc);
+// Adds the lines of each site, and then those of each pair.
+fn add_lines(
+    alloc: Global,
+    text: &mut String,
+    lattice: &Lattice,
+    masks: &[Mask],
+    sites: u8,
+) -> Result<(), AllocError> {
     for a in 1..sites.saturating_add(1) {
         write!(text, "site {a}")?;
-        add_loss(alloc, &mut text, lattice, masks, sites, a, a)?;
+        add_loss(alloc, text, lattice, masks, sites, a, a)?;
     }
     for a in 1..sites.saturating_add(1) {
         for b in a.saturating_add(1)..sites.saturating_add(1) {
             write!(text, "pair {a} {b}")?;
-            add_loss(alloc, &mut text, lattice, masks, sites, a, b)?;
+            add_loss(alloc, text, lattice, masks, sites, a, b)?;
         }
     }
+    Ok(())
+}
+
+/// The lines of an archive of this lattice over so many sites.
+pub fn lines_of(alloc: Global, lattice: &Lattice, sites: u8) -> Result<String, AllocError> {
+    let masks = masks_of(alloc, lattice)?;
+    let mut text = String::new(alloc);
+    add_lines(alloc, &mut text, lattice, masks.as_slice(), sites)?;
     Ok(text)
 }

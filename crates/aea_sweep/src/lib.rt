@@ -27,8 +27,3 @@ mod word_list;
 
 pub use laws::{ends_stand_aside, not_spare};
 pub use listing::{LossList, MarkedLosses, losses, marked_losses};
-
-#[cfg(test)]
-mod random;
-#[cfg(test)]
-mod tests;

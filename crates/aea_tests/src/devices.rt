@@ -42,18 +42,36 @@ fn is_revealed(
     Ok(left.status == Status::Disk && is_revealed && is_printed)
 }
 
+// Whether the run over this disk ends as where nothing fails.
+fn ends_whole<D: Disk>(alloc: Global, disk: &mut D, case: &Case) -> Result<bool, AllocError> {
+    let left = run_case(alloc, case, disk)?;
+    Ok(is_whole(case, left.status, left.out.bytes(), left.err.bytes()))
+}
+
+// Whether the run over this disk, which fails, says so, and has printed what so many commits print.
+fn reveals_fault<D: Disk>(
+    alloc: Global,
+    disk: &mut D,
+    case: &Case,
+    commits: usize,
+) -> Result<bool, AllocError> {
+    let left = run_case(alloc, case, disk)?;
+    is_revealed(alloc, case, &left, commits)
+}
+
 // Whether the run over a disk whose call of this number, counted from 1, fails ends as it should, and leaves what it should.
 // There is no call after the last one, so that the run is whole then.
 fn is_borne(alloc: Global, case: &Case, call: u64) -> Result<bool, Fail> {
-    let mut disk = FailDisk::new(alloc, prepared(alloc, case)?, &[call])?;
-    let left = run_case(alloc, case, &mut disk)?;
-    if case.calls < call {
-        return Ok(is_whole(case, left.status, left.out.bytes(), left.err.bytes()));
-    }
     // the calls before it have been made: a gate that they opened is open
     let sure = commits_by(case, call.saturating_sub(1));
-    let is_revealed = is_revealed(alloc, case, &left, sure)?;
-    Ok(is_revealed && stands(alloc, &mut disk, case, sure, commits_by(case, call))?)
+    let mut disk = FailDisk::new(alloc, prepared(alloc, case)?, &[call])?;
+    if case.calls < call {
+        return Ok(ends_whole(alloc, &mut disk, case)?);
+    }
+    Ok(
+        reveals_fault(alloc, &mut disk, case, sure)?
+            && stands(alloc, &mut disk, case, sure, commits_by(case, call))?,
+    )
 }
 
 // The first failing call of the disk that the run does not bear as it should.
@@ -99,22 +117,31 @@ fn is_stopped_well(
     Ok(true)
 }
 
-// After how many calls of the disk a stop does not leave what it should, the fewest.
-fn first_wrong_stop(alloc: Global, case: &Case) -> Result<Option<u64>, Fail> {
-    let mut disk = MemDisk::new(alloc, 4, 2048, 1024, 256, 8192)?;
-    prepare(alloc, case, &mut disk)?;
-    let begun = disk.calls();
-    let left = run_case(alloc, case, &mut disk)?;
-    let is_whole = is_whole(case, left.status, left.out.bytes(), left.err.bytes());
-    if !is_whole || disk.calls() != begun.saturating_add(case.calls) {
-        return Ok(Some(0));
-    }
+// After how many calls of the run, `begun` calls after the first of the disk, a stop does not leave what it should, the fewest.
+fn first_wrong_stop_since(
+    alloc: Global,
+    case: &Case,
+    disk: &MemDisk,
+    begun: u64,
+) -> Result<Option<u64>, Fail> {
     for calls in 0..case.calls.saturating_add(1) {
-        if !is_stopped_well(alloc, case, &disk, begun, calls)? {
+        if !is_stopped_well(alloc, case, disk, begun, calls)? {
             return Ok(Some(calls));
         }
     }
     Ok(None)
+}
+
+// The same of a run over a new disk; 0 where the run does not end as it should, or not with as many calls.
+fn first_wrong_stop(alloc: Global, case: &Case) -> Result<Option<u64>, Fail> {
+    let mut disk = MemDisk::new(alloc, 4, 2048, 1024, 256, 8192)?;
+    prepare(alloc, case, &mut disk)?;
+    let begun = disk.calls();
+    let is_whole = ends_whole(alloc, &mut disk, case)?;
+    if !is_whole || disk.calls() != begun.saturating_add(case.calls) {
+        return Ok(Some(0));
+    }
+    first_wrong_stop_since(alloc, case, &disk, begun)
 }
 
 #[test]
@@ -128,15 +155,26 @@ fn each_run_is_stopped_after_each_call(rt: HostRuntime) -> Result<(), Fail> {
     Ok(())
 }
 
+// Makes an archive with an object of one node.
+fn store_abc<D: Disk>(alloc: Global, disk: &mut D) -> Result<(), AllocError> {
+    let _made = run_over(alloc, "create 3 2 5 64 4", disk, 99)?;
+    let _stored = run_put(alloc, disk, "a", b"abc")?;
+    Ok(())
+}
+
+// Whether a scrub finds four intact blocks.
+fn is_intact<D: Disk>(alloc: Global, disk: &mut D) -> Result<bool, AllocError> {
+    let left = run_over(alloc, "scrub", disk, 99)?;
+    Ok(left.is(Status::Done, "total 4 damaged 0\n", ""))
+}
+
 #[test]
 fn bytes_behind_the_last_cell_are_no_damage(rt: HostRuntime) -> Result<(), Fail> {
-    let alloc = rt.alloc();
-    let mut disk = SureDisk::new(alloc, 4, 1024, 2048)?;
-    let _made = run_over(alloc, "create 3 2 5 64 4", &mut disk, 99)?;
-    let _stored = run_put(alloc, &mut disk, "a", b"abc")?;
+    let mut disk = SureDisk::new(rt.alloc(), 4, 1024, 2048)?;
+    store_abc(rt.alloc(), &mut disk)?;
     assert!(rt; disk.len(1) == Ok(112));
     disk.write(1, 112, &[255; 1000])?;
-    let left = run_over(alloc, "scrub", &mut disk, 99)?;
-    assert!(rt; left.is(Status::Done, "total 4 damaged 0\n", ""));
+    let right = is_intact(rt.alloc(), &mut disk)?;
+    assert!(rt; right);
     Ok(())
 }

@@ -6,7 +6,7 @@ use aea_cli::Status;
 use aea_disk::Disk;
 use aea_runs::run_over;
 use aea_test_helpers::shorten;
-use std::alloc::Global;
+use std::alloc::{AllocError, Global};
 use std::test::Fail;
 
 // Whether the object that was put last is got where one copy alone is left, either of them, and then where the ledger alone is.
@@ -22,18 +22,40 @@ fn is_kept_by_each<D: Disk>(alloc: Global, disk: &mut D) -> Result<bool, Fail> {
     Ok(true)
 }
 
+// How many bytes of its input the run without copies does not read.
+fn unread_without(alloc: Global, case: &Case) -> Result<usize, Fail> {
+    let mut disk = prepared(alloc, case)?;
+    let left = run_case(alloc, case, &mut disk)?;
+    Ok(left.unread)
+}
+
+// Whether copies are begun.
+fn begins<D: Disk>(alloc: Global, disk: &mut D) -> Result<bool, AllocError> {
+    let begun = run_over(alloc, "copies", disk, 99)?;
+    Ok(begun.status == Status::Done)
+}
+
+// Whether the run over this disk ends as where nothing fails, and does not read so many bytes.
+fn ends_whole<D: Disk>(
+    alloc: Global,
+    disk: &mut D,
+    case: &Case,
+    unread: usize,
+) -> Result<bool, AllocError> {
+    let left = run_case(alloc, case, disk)?;
+    let is_whole = is_whole(case, left.status, left.out.bytes(), left.err.bytes());
+    Ok(is_whole && left.unread == unread)
+}
+
 // Whether the run ends as without copies, and reads as much; and whether the archive is then the one of its commits, and each of the
 // three files alone keeps it.
 fn is_as_without(alloc: Global, case: &Case) -> Result<bool, Fail> {
-    let plain = run_case(alloc, case, &mut prepared(alloc, case)?)?;
-    let mut disk = prepared(alloc, case)?;
-    let begun = run_over(alloc, "copies", &mut disk, 99)?;
-    let left = run_case(alloc, case, &mut disk)?;
-    let is_whole = is_whole(case, left.status, left.out.bytes(), left.err.bytes());
+    let unread = unread_without(alloc, case)?;
     let commits = case.commits.len();
-    let right = begun.status == Status::Done && is_whole && left.unread == plain.unread;
+    let mut disk = prepared(alloc, case)?;
     Ok(
-        right
+        begins(alloc, &mut disk)?
+            && ends_whole(alloc, &mut disk, case, unread)?
             && stands(alloc, &mut disk, case, commits, commits)?
             && is_kept_by_each(alloc, &mut disk)?,
     )

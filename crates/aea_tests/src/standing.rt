@@ -133,6 +133,18 @@ fn goes_on<D: Disk>(alloc: Global, disk: &mut D, found: Found) -> Result<bool, A
     }
 }
 
+// Whether a run of the line is done.
+fn is_done<D: Disk>(alloc: Global, disk: &mut D, line: &str) -> Result<bool, AllocError> {
+    let left = run_over(alloc, line, disk, 400)?;
+    Ok(left.status == Status::Done)
+}
+
+// Whether a repair prints this.
+fn reports<D: Disk>(alloc: Global, disk: &mut D, report: &str) -> Result<bool, AllocError> {
+    let revealed = run_over(alloc, "repair", disk, 400)?;
+    Ok(revealed.out.bytes() == report.as_bytes())
+}
+
 // Repairs the archive, and where it took no object before puts one now. Whether all is intact then, and this is reported.
 fn is_mended<D: Disk>(
     alloc: Global,
@@ -140,13 +152,12 @@ fn is_mended<D: Disk>(
     found: Found,
     report: &str,
 ) -> Result<bool, AllocError> {
-    let repaired = run_over(alloc, "repair", disk, 400)?;
-    let is_done = repaired.status == Status::Done;
-    let is_taken = found != Found::HeadDamaged || takes_more(alloc, disk)?;
-    let scrubbed = run_over(alloc, "scrub", disk, 400)?;
-    let revealed = run_over(alloc, "repair", disk, 400)?;
-    let is_intact = scrubbed.status == Status::Done && revealed.out.bytes() == report.as_bytes();
-    Ok(is_done && is_taken && is_intact)
+    Ok(
+        is_done(alloc, disk, "repair")?
+            && (found != Found::HeadDamaged || takes_more(alloc, disk)?)
+            && is_done(alloc, disk, "scrub")?
+            && reports(alloc, disk, report)?,
+    )
 }
 
 /// Whether what is on this disk is, by runs over it, what so many commits leave, of which so many are durable: no block is

@@ -21,6 +21,3 @@ mod witnessing;
 
 pub use ending::Witness;
 pub use witnessing::witness;
-
-#[cfg(test)]
-mod tests;

@@ -130,14 +130,52 @@ fn first_unwoven<D: Disk>(
 }
 
 // Each shape, and how many bytes the three objects have.
-const SHAPES: [(&str, [u32; 3]); 6] = [
-    ("create 1 1 0 16 4", [16, 100, 1]),
-    ("create 2 2 2 16 4", [15, 250, 33]),
-    ("create 2 2 5 16 4", [0, 33, 300]),
-    ("create 3 2 2 16 4", [17, 200, 48]),
-    ("create 3 2 5 16 4", [1, 33, 400]),
-    ("create 3 5 5 16 4", [300, 5, 300]),
-];
+fn shapes() -> [(&'static str, [u32; 3]); 6] {
+    [
+        ("create 1 1 0 16 4", [16, 100, 1]),
+        ("create 2 2 2 16 4", [15, 250, 33]),
+        ("create 2 2 5 16 4", [0, 33, 300]),
+        ("create 3 2 2 16 4", [17, 200, 48]),
+        ("create 3 2 5 16 4", [1, 33, 400]),
+        ("create 3 5 5 16 4", [300, 5, 300]),
+    ]
+}
+
+// Whether `put` of these bytes is done.
+fn puts<D: Disk>(
+    alloc: Global,
+    disk: &mut D,
+    name: &str,
+    bytes: &[u8],
+) -> Result<bool, AllocError> {
+    Ok(run_put(alloc, disk, name, bytes)?.status == Status::Done)
+}
+
+// Puts an object with this name, so many bytes and this first one, and a fence after it or none, and adds its blocks to the data.
+// Whether the put is done.
+fn adds<D: Disk>(
+    alloc: Global,
+    disk: &mut D,
+    datas: &mut Vec<[u8; 16]>,
+    object: (&str, u32, u32),
+    is_fenced: bool,
+) -> Result<bool, AllocError> {
+    let (name, count, first) = object;
+    let bytes = some_bytes(alloc, count, first)?;
+    add_blocks(datas, &bytes)?;
+    let is_put = puts(alloc, disk, name, &bytes)?;
+    if is_fenced {
+        run_words(alloc, &["fence"], disk, b"", 99)?;
+    }
+    Ok(is_put)
+}
+
+// An archive that this line makes.
+fn fresh(alloc: Global, line: &str) -> Result<SureDisk, AllocError> {
+    let mut disk = SureDisk::new(alloc, 4, 8192, 4096)?;
+    run_over(alloc, line, &mut disk, 99)?;
+    Ok(disk)
+}
 
 // Whether three objects of so many bytes, with a fence after each or with none, are plain sums after each put.
 fn are_woven(
@@ -147,17 +185,13 @@ fn are_woven(
     first: u32,
     are_fenced: bool,
 ) -> Result<bool, Fail> {
-    let mut disk = SureDisk::new(alloc, 4, 8192, 4096)?;
-    let _made = run_over(alloc, line, &mut disk, 99)?;
+    let mut disk = fresh(alloc, line)?;
     let mut datas = Vec::new(alloc);
     for (count, name) in counts.iter().zip(["a", "b", "c"]) {
-        let bytes = some_bytes(alloc, *count, first)?;
-        add_blocks(&mut datas, &bytes)?;
-        let left = run_put(alloc, &mut disk, name, &bytes)?;
-        if are_fenced {
-            let _fenced = run_words(alloc, &["fence"], &mut disk, b"", 99)?;
-        }
-        if left.status != Status::Done || first_unwoven(alloc, &mut disk, &datas)? != None {
+        let object = (name, *count, first);
+        if !adds(alloc, &mut disk, &mut datas, object, are_fenced)?
+            || first_unwoven(alloc, &mut disk, &datas)? != None
+        {
             return Ok(false);
         }
     }
@@ -166,7 +200,7 @@ fn are_woven(
 
 #[test]
 fn three_objects_are_plain_sums(rt: HostRuntime) -> Result<(), Fail> {
-    for (line, counts) in SHAPES {
+    for (line, counts) in shapes() {
         assert!(rt; are_woven(rt.alloc(), line, &counts, 0, false)?, "{line}");
     }
     Ok(())
@@ -174,44 +208,67 @@ fn three_objects_are_plain_sums(rt: HostRuntime) -> Result<(), Fail> {
 
 #[test]
 fn strands_begin_anew_behind_a_fence(rt: HostRuntime) -> Result<(), Fail> {
-    for (line, counts) in SHAPES {
+    for (line, counts) in shapes() {
         assert!(rt; are_woven(rt.alloc(), line, &counts, 11, true)?, "{line}");
     }
     Ok(())
 }
 
+// Three objects.
+const FIRST: &[u8] = b"seventeen bytes..";
+
+const SECOND: &[u8] = b"later";
+
+const THIRD: &[u8] = b"and one more object";
+
+// Whether the second object is refused, since the head h1 is lost.
+fn is_refused<D: Disk>(alloc: Global, disk: &mut D) -> Result<bool, AllocError> {
+    let left = run_put(alloc, disk, "b", SECOND)?;
+    Ok(left.is(Status::Refused, "", "refused: head damaged h1\n"))
+}
+
+// Whether a run of this command is done, and prints this.
+fn says<D: Disk>(
+    alloc: Global,
+    disk: &mut D,
+    command: &str,
+    out: &str,
+) -> Result<bool, AllocError> {
+    let left = run_words(alloc, &[command], disk, b"", 99)?;
+    Ok(left.is(Status::Done, out, ""))
+}
+
+// Whether the second object is stored after a fence, and the third one after a raise of the limit.
+fn goes_on<D: Disk>(alloc: Global, disk: &mut D) -> Result<bool, AllocError> {
+    Ok(
+        says(alloc, disk, "fence", "fence 2\n")?
+            && puts(alloc, disk, "b", SECOND)?
+            && says(alloc, disk, "upgrade", "upgraded 1048576\n")?
+            && puts(alloc, disk, "c", THIRD)?,
+    )
+}
+
+// Whether all blocks of the archive are the plain sums of these objects.
+fn are_sums<D: Disk>(alloc: Global, disk: &mut D, objects: &[&[u8]]) -> Result<bool, Fail> {
+    let mut datas = Vec::new(alloc);
+    for bytes in objects {
+        add_blocks(&mut datas, *bytes)?;
+    }
+    Ok(first_unwoven(alloc, disk, &datas)? == None)
+}
+
 #[test]
 fn a_fence_serves_where_a_head_is_lost(rt: HostRuntime) -> Result<(), Fail> {
     let alloc = rt.alloc();
-    let mut disk = SureDisk::new(alloc, 4, 4096, 1024)?;
-    let _made = run_words(
-        alloc,
-        &["create", "3", "2", "5", "16", "4"],
-        &mut disk,
-        b"",
-        99,
-    )?;
-    let mut datas = Vec::new(alloc);
-    add_blocks(&mut datas, b"seventeen bytes..")?;
-    let left = run_put(alloc, &mut disk, "a", b"seventeen bytes..")?;
-    assert!(rt; left.status == Status::Done);
+    let mut disk = fresh(alloc, "create 3 2 5 16 4")?;
+    assert!(rt; puts(alloc, &mut disk, "a", FIRST)?);
     // h1 is block 1: the first cell of the second site
     let mut cell = [0; 64];
     assert!(rt; disk.read(2, 0, &mut cell) == Ok(64));
     disk.write(2, 0, &[0; 64])?;
-    let left = run_put(alloc, &mut disk, "b", b"later")?;
-    assert!(rt; left.err.bytes() == "refused: head damaged h1\n".as_bytes());
-    let left = run_words(alloc, &["fence"], &mut disk, b"", 99)?;
-    assert!(rt; left.out.bytes() == "fence 2\n".as_bytes());
-    let left = run_put(alloc, &mut disk, "b", b"later")?;
-    assert!(rt; left.status == Status::Done);
-    let left = run_words(alloc, &["upgrade"], &mut disk, b"", 99)?;
-    assert!(rt; left.status == Status::Done);
-    let left = run_put(alloc, &mut disk, "c", b"and one more object")?;
-    assert!(rt; left.status == Status::Done);
-    add_blocks(&mut datas, b"later")?;
-    add_blocks(&mut datas, b"and one more object")?;
+    assert!(rt; is_refused(alloc, &mut disk)?);
+    assert!(rt; goes_on(alloc, &mut disk)?);
     disk.write(2, 0, &cell)?;
-    assert!(rt; first_unwoven(alloc, &mut disk, &datas)? == None);
+    assert!(rt; are_sums(alloc, &mut disk, &[FIRST, SECOND, THIRD])?);
     Ok(())
 }

@@ -53,6 +53,13 @@ fn ended(alloc: Global, status: Status, out: String) -> Revealed {
     }
 }
 
+// Of a damage list whose last line ends with a newline: what the run itself does.
+fn revealed_of_whole_list(alloc: Global, case: &Case, list: &str) -> Result<Revealed, Fail> {
+    let left = run_line(alloc, case.line, list.as_bytes())?;
+    let out = String::from_str(alloc, text_of(left.out.bytes())?)?;
+    Ok(ended(alloc, left.status, out))
+}
+
 // Of a damage list: its last line need not end with a newline, but it has to be the text of a block.
 fn revealed_of_list(alloc: Global, case: &Case, part: &str) -> Result<Revealed, Fail> {
     let last = match part.rsplit_once('\n') {
@@ -66,9 +73,7 @@ fn revealed_of_list(alloc: Global, case: &Case, part: &str) -> Result<Revealed, 
     }
     let end = if last.is_empty() { "" } else { "\n" };
     let list = format!(in alloc; "{part}{end}")?;
-    let left = run_line(alloc, case.line, list.as_bytes())?;
-    let out = String::from_str(alloc, text_of(left.out.bytes())?)?;
-    Ok(ended(alloc, left.status, out))
+    revealed_of_whole_list(alloc, case, list.as_str())
 }
 
 // Of an object: each part of it is one, in blocks of 16 bytes.

@@ -1,7 +1,7 @@
 //! Inputs that end early, come a byte at a time or fail: each reader with its input cut at each place, and with each of its reads
 //! failing.
 
-use super::ends::{Kind, commits_in, lines_in, revealed_of};
+use super::ends::{Kind, Revealed, commits_in, lines_in, revealed_of};
 use crate::cases::{Case, DRILL, INGEST, PUT, VERIFY, cases};
 use crate::standing::{is_got, is_whole, prepared, printed, stands};
 use aea_cli::Status;
@@ -41,17 +41,56 @@ fn stores(
     }
 }
 
+// Whether the run over this part of its input says this, where the part comes at once.
+fn reveals_at_once(
+    alloc: Global,
+    disk: &mut SureDisk,
+    case: &Case,
+    part: &[u8],
+    revealed: &Revealed,
+) -> Result<bool, AllocError> {
+    let left = run_input(alloc, case.line, disk, part)?;
+    Ok(revealed.is_of(&left))
+}
+
+// The same where the part comes a byte at a time.
+fn reveals_slowly(
+    alloc: Global,
+    disk: &mut SureDisk,
+    case: &Case,
+    part: &[u8],
+    revealed: &Revealed,
+) -> Result<bool, AllocError> {
+    let left = run_slowly(alloc, case.line, disk, part, 0)?;
+    Ok(revealed.is_of(&left))
+}
+
+// Whether the run over this part of its input, at once or slowly, says this and stores what it should.
+fn ends_so(
+    alloc: Global,
+    case: &Case,
+    kind: Kind,
+    part: &[u8],
+    revealed: &Revealed,
+    slowly: bool,
+) -> Result<bool, Fail> {
+    let mut disk = prepared(alloc, case)?;
+    let is_revealed = if slowly {
+        reveals_slowly(alloc, &mut disk, case, part, revealed)?
+    } else {
+        reveals_at_once(alloc, &mut disk, case, part, revealed)?
+    };
+    Ok(is_revealed && stores(alloc, &mut disk, case, kind, part)?)
+}
+
 // Whether the run over this first part of its input says and stores what it should, and the same where the part comes a byte at
 // a time.
 fn ends_well(alloc: Global, case: &Case, kind: Kind, part: &[u8]) -> Result<bool, Fail> {
     let revealed = revealed_of(alloc, case, kind, part)?;
-    let mut disk = prepared(alloc, case)?;
-    let at_once = run_input(alloc, case.line, &mut disk, part)?;
-    let is_stored = stores(alloc, &mut disk, case, kind, part)?;
-    let mut disk = prepared(alloc, case)?;
-    let slowly = run_slowly(alloc, case.line, &mut disk, part, 0)?;
-    let is_same = stores(alloc, &mut disk, case, kind, part)?;
-    Ok(revealed.is_of(&at_once) && revealed.is_of(&slowly) && is_stored && is_same)
+    Ok(
+        ends_so(alloc, case, kind, part, &revealed, false)?
+            && ends_so(alloc, case, kind, part, &revealed, true)?,
+    )
 }
 
 // The first place where the input may be cut so that the run does not end as it should.
@@ -87,18 +126,36 @@ fn reveals_fault(
     Ok(is_revealed && out == printed(alloc, case, commits)?.as_bytes())
 }
 
-// Whether the run whose read of this number fails, of an input that gives a byte at a time, ends as it should, and leaves what it
-// should. There are as many reads as bytes, and one that finds the end.
-fn bears_slow_read(alloc: Global, case: &Case, read: usize) -> Result<bool, Fail> {
-    let mut disk = prepared(alloc, case)?;
-    let left = run_slowly(alloc, case.line, &mut disk, case.input.as_bytes(), read)?;
+// Whether the run over this disk whose read of this number fails, of an input that gives a byte at a time, says what it should
+// after so many commits: all where there is no such read.
+fn reveals_slow_read(
+    alloc: Global,
+    disk: &mut SureDisk,
+    case: &Case,
+    read: usize,
+    commits: usize,
+) -> Result<bool, AllocError> {
+    let left = run_slowly(alloc, case.line, disk, case.input.as_bytes(), read)?;
     let (out, err) = (left.out.bytes(), left.err.bytes());
-    if case.input.len().saturating_add(1) < read {
+    if has_no_read(case, read) {
         return Ok(is_whole(case, left.status, out, err));
     }
+    reveals_fault(alloc, case, left.status, out, err, commits)
+}
+
+// Whether the run has no read of this number: there are as many reads as bytes, and one that finds the end.
+fn has_no_read(case: &Case, read: usize) -> bool {
+    case.input.len().saturating_add(1) < read
+}
+
+// Whether the run whose read of this number fails, of an input that gives a byte at a time, ends as it should, and leaves what it
+// should.
+fn bears_slow_read(alloc: Global, case: &Case, read: usize) -> Result<bool, Fail> {
     let commits = commits_in(case, read.saturating_sub(1));
-    let is_revealed = reveals_fault(alloc, case, left.status, out, err, commits)?;
-    Ok(is_revealed && stands(alloc, &mut disk, case, commits, commits)?)
+    let mut disk = prepared(alloc, case)?;
+    let is_revealed = reveals_slow_read(alloc, &mut disk, case, read, commits)?;
+    let is_left = has_no_read(case, read) || stands(alloc, &mut disk, case, commits, commits)?;
+    Ok(is_revealed && is_left)
 }
 
 // The first such read that the run does not bear.

@@ -6,7 +6,7 @@ use crate::standing::{is_whole, prepared, stands};
 use aea_cli::Status;
 use aea_disk::SureDisk;
 use aea_runs::{Faults, NONE, run_failing, run_line};
-use std::alloc::Global;
+use std::alloc::{AllocError, Global};
 use std::test::Fail;
 
 // Whether the run with an output that fails so says so, has printed this many bytes of the whole, and leaves what so many
@@ -47,6 +47,13 @@ fn length_of(case: &Case, pieces: usize) -> usize {
     length
 }
 
+// Whether the run with an output that fails so is whole.
+fn is_whole_with(alloc: Global, case: &Case, faults: Faults) -> Result<bool, Fail> {
+    let mut disk = prepared(alloc, case)?;
+    let left = run_failing(alloc, case.line, &mut disk, case.input.as_bytes(), faults)?;
+    Ok(is_whole(case, left.status, left.out.bytes(), left.err.bytes()))
+}
+
 // The first call of the output, counted from 1, whose failing the run does not bear. Each piece is written and flushed, and its
 // commit made before; there is no call after the last one, so that the run is whole then.
 fn first_call(alloc: Global, case: &Case) -> Result<Option<u32>, Fail> {
@@ -57,9 +64,7 @@ fn first_call(alloc: Global, case: &Case) -> Result<Option<u32>, Fail> {
         };
         let begun = (call as usize).div_ceil(2);
         if case.pieces < begun {
-            let mut disk = prepared(alloc, case)?;
-            let left = run_failing(alloc, case.line, &mut disk, case.input.as_bytes(), faults)?;
-            let is_whole = is_whole(case, left.status, left.out.bytes(), left.err.bytes());
+            let is_whole = is_whole_with(alloc, case, faults)?;
             return Ok((!is_whole).then_some(call));
         }
         let length = length_of(case, call as usize / 2);
@@ -233,26 +238,52 @@ fn what_is_no_command_reads_and_prints_nothing(rt: HostRuntime) -> Result<(), Fa
     Ok(())
 }
 
-#[test]
-fn a_failed_page_leaves_those_before_it(rt: HostRuntime) -> Result<(), Fail> {
-    let line = "drill 1 1 0 2000";
-    let mut list = String::new(rt.alloc());
+// A run that prints more than a page.
+const PAGES: &str = "drill 1 1 0 2000";
+
+// The damage list that it reads: each block of data.
+fn list_of_pages(alloc: Global) -> Result<String, AllocError> {
+    let mut list = String::new(alloc);
     for node in 1..2001 {
         writeln!(list, "d{node}")?;
     }
-    let whole = run_line(rt.alloc(), line, list.as_bytes())?;
-    for (out_call, out_room) in [(2, 99_999), (0, 10_000)] {
+    Ok(list)
+}
+
+// Whether that run with an output that fails so says so, and has printed a first part of the whole, at most 10,000 bytes.
+fn leaves_pages(alloc: Global, list: &[u8], whole: &[u8], faults: Faults) -> Result<bool, Fail> {
+    let mut disk = SureDisk::new(alloc, 0, 0, 0)?;
+    let left = run_failing(alloc, PAGES, &mut disk, list, faults)?;
+    let out = left.out.bytes();
+    let is_some = !out.is_empty() && out.len() <= 10_000;
+    Ok(left.status == Status::Output && is_some && whole.starts_with(out))
+}
+
+// The first of these calls of the output, counted from 1, and capacities with which it is not so.
+fn first_wrong_page(
+    alloc: Global,
+    list: &[u8],
+    rows: &[(u32, usize)],
+) -> Result<Option<(u32, usize)>, Fail> {
+    let whole = run_line(alloc, PAGES, list)?;
+    for (out_call, out_room) in rows {
         let faults = Faults {
-            out_call,
-            out_room,
+            out_call: *out_call,
+            out_room: *out_room,
             ..NONE
         };
-        let mut disk = SureDisk::new(rt.alloc(), 0, 0, 0)?;
-        let left = run_failing(rt.alloc(), line, &mut disk, list.as_bytes(), faults)?;
-        let out = left.out.bytes();
-        assert!(rt; left.status == Status::Output, "{out_call}");
-        assert!(rt; !out.is_empty() && out.len() <= 10_000, "{out_call}");
-        assert!(rt; whole.out.bytes().starts_with(out), "{out_call}");
+        if !leaves_pages(alloc, list, whole.out.bytes(), faults)? {
+            return Ok(Some((*out_call, *out_room)));
+        }
     }
+    Ok(None)
+}
+
+#[test]
+fn a_failed_page_leaves_those_before_it(rt: HostRuntime) -> Result<(), Fail> {
+    let list = list_of_pages(rt.alloc())?;
+    let rows = [(2, 99_999), (0, 10_000)];
+    let found = first_wrong_page(rt.alloc(), list.as_bytes(), &rows)?;
+    assert!(rt; found == None, "{found:?}");
     Ok(())
 }

@@ -1,4 +1,4 @@
-use Rattle.std.proofs.Common.{◌≡◌, inl, ℕ, ◌+◌, ◌≤◌, List, refl, sym, subst, arith}
+use Rattle.std.proofs.Common.{inl, ℕ, ◌+◌, List, refl, sym, subst, arith}
 use Rattle.aea_ledger.specs.Values.{IsThisOne}
 use Rattle.aea_archive.proofs.Cells.{fixed_kept}
 use Rattle.aea_put_tests.proofs.parting.weave.Goals as goal

@@ -1,5 +1,7 @@
-use crate::{SiteLoss, loss, without};
+//! What the smallest lattices lose with sites, call by call.
+
 use aea_lattice::{BlockId, Class, Lattice};
+use aea_sites::{SiteLoss, loss, without};
 use aea_view::View;
 use std::alloc::{AllocError, Global};
 use std::test::Fail;

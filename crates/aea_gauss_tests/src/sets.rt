@@ -1,10 +1,11 @@
-//! Random damage, against a plain elimination among sets of nodes.
+//! What is lost by random damage, against a plain elimination among sets of nodes.
 
 ghost use Rattle.std.specs.Prelude.{◌≡◌, IfOk};
 ghost use Rattle.aea_lattice.specs.Blocks.{HasBlock, HasNode, HasParity};
 
-use crate::losses;
+use crate::random::{fenced, step};
 use aea_lattice::{BlockId, Class, Lattice};
+use aea_sweep::losses;
 use aea_view::Marks;
 use std::alloc::{AllocError, Global};
 use std::test::Fail;
@@ -29,26 +30,13 @@ const SHAPES: [(u8, u8, u8, [u32; 3]); 16] = [
     (3, 5, 5, [0, 0, 60]),
 ];
 
+// The shapes.
+fn shapes() -> [(u8, u8, u8, [u32; 3]); 16] {
+    SHAPES
+}
+
 // How many of a hundred blocks are lost.
 const PERCENTS: [u64; 6] = [10, 50, 70, 80, 95, 100];
-
-// One step of the linear congruential generator of Knuth's MMIX.
-fn step(x: u64) -> u64 {
-    x.wrapping_mul(6_364_136_223_846_793_005)
-        .wrapping_add(1_442_695_040_888_963_407)
-}
-
-// A lattice with fences at the first two numbers of nodes, where they are not 0.
-fn fenced(alpha: u8, s: u8, p: u8, nodes: [u32; 3]) -> Option<Lattice> {
-    let [first, second, n] = nodes;
-    let mut lattice = Lattice::new(alpha, s, p, 0)?;
-    for fence in [first, second] {
-        if fence != 0 {
-            lattice = lattice.grown(fence)?.fenced()?;
-        }
-    }
-    lattice.grown(n)
-}
 
 // Whether the node is one of a set of nodes below 64.
 fn holds(set: u64, node: u32) -> bool {
@@ -227,16 +215,21 @@ fn damage(alloc: Global, lattice: &Lattice, percent: u64, seed: u64) -> Result<M
     Ok(known)
 }
 
+// Whether what is lost by this seed is what the sets of the ends have.
+fn agree_on(alloc: Global, lattice: &Lattice, percent: u64, seed: u64) -> Result<bool, AllocError> {
+    let known = damage(alloc, lattice, percent, seed)?;
+    agree(alloc, lattice, &known)
+}
+
 #[test]
 fn losses_agree_with_the_plain_elimination(rt: HostRuntime) -> Result<(), Fail> {
     let mut seed = 0;
-    for (alpha, s, p, nodes) in SHAPES {
+    for (alpha, s, p, nodes) in shapes() {
         let lattice = fenced(alpha, s, p, nodes).ok_or("no lattice")?;
         for percent in PERCENTS {
             seed = step(seed);
-            let known = damage(rt.alloc(), &lattice, percent, seed)?;
             assert!(rt;
-                agree(rt.alloc(), &lattice, &known)?,
+                agree_on(rt.alloc(), &lattice, percent, seed)?,
                 "{percent} of 100 in {lattice:?}, from {seed}"
             );
         }

@@ -13,20 +13,30 @@ use std::test::Fail;
 const OF_ANOTHER: &[u8] = b"aea-report 1\nlattice 1 1 0 1\nledger \
 ba7816bf8f01cfea414140de5dae2223b00361a396177a9cb410ff61f20015ad\ncounts 0 0 0 0\n";
 
-// Opens the archive and judges these bytes. It says whether the answer is the wanted one.
+// Opens the archive and judges what the source has. It says whether the answer is the wanted one.
+fn judges<D: Disk>(
+    alloc: Global,
+    disk: &mut D,
+    source: &mut MemSource,
+    want: Result<Verdict, VerifyFault>,
+) -> bool {
+    match open_ledger(alloc, disk) {
+        Ok(ledger) => verify(alloc, &ledger, disk, source) == want,
+        Err(_) => false,
+    }
+}
+
+// The same of these bytes.
 fn is_judged<D: Disk>(
     alloc: Global,
     disk: &mut D,
     bytes: &[u8],
     want: Result<Verdict, VerifyFault>,
 ) -> bool {
-    let Ok(mut source) = MemSource::new(alloc, bytes, &[]) else {
-        return false;
-    };
-    let Ok(ledger) = open_ledger(alloc, disk) else {
-        return false;
-    };
-    verify(alloc, &ledger, disk, &mut source) == want
+    match MemSource::new(alloc, bytes, &[]) {
+        Ok(mut source) => judges(alloc, disk, &mut source, want),
+        Err(_) => false,
+    }
 }
 
 // Whether the report is accepted, and that of another archive is rejected by its third line.
@@ -55,11 +65,20 @@ fn are_cuts_bad(alloc: Global, disk: &mut SureDisk, report: &[u8]) -> bool {
         && is_bad(alloc, disk, report, 115, 4)
 }
 
+// Whether the report of the archive is told from others, and is bad where it is cut.
+fn is_report_judged(alloc: Global, disk: &mut SureDisk) -> bool {
+    match report_of(alloc, disk, "1 1 0 1", "counts 0 0 0 0\n") {
+        Some(report) => {
+            are_distinguished(alloc, disk, report.as_bytes())
+                && are_cuts_bad(alloc, disk, report.as_bytes())
+        }
+        None => false,
+    }
+}
+
 #[test]
 fn a_report_is_judged(rt: HostRuntime) -> Result<(), Fail> {
-    let mut disk = archive(rt.alloc(), &PLAIN, &[97; 16])?;
-    let report = report_of(rt.alloc(), &mut disk, "1 1 0 1", "counts 0 0 0 0\n")?;
-    assert!(rt; are_distinguished(rt.alloc(), &mut disk, report.as_bytes()));
-    assert!(rt; are_cuts_bad(rt.alloc(), &mut disk, report.as_bytes()));
+    let mut disk = archive(rt.alloc(), &PLAIN, &[97; 16]).ok_or("no archive")?;
+    assert!(rt; is_report_judged(rt.alloc(), &mut disk));
     Ok(())
 }

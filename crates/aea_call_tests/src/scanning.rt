@@ -1,10 +1,9 @@
 //! Scans: each mark beside a read of the block, damage of each kind, and each read failing in turn.
 
-use crate::archives::store;
-use aea_archive::read_block;
-use aea_disk::{Disk, FailDisk, SureDisk};
+use crate::archives::{Failing, Scanned, fresh, open_and_scan, open_to_fail, read_cell, store};
+use aea_disk::{Disk, SureDisk};
 use aea_lattice::{BlockId, Class};
-use aea_ledger::{Ledger, create_ledger, open_ledger};
+use aea_ledger::Ledger;
 use aea_scrub::{ScanFault, scan};
 use aea_shelf::Cell;
 use aea_test_helpers::{WIDE, shorten};
@@ -14,57 +13,48 @@ use std::test::Fail;
 
 // Whether the mark of the block is what reading the block says.
 fn agrees<D: Disk>(disk: &mut D, ledger: &Ledger, marks: &Marks, b: BlockId) -> bool {
-    if ledger.shape().block() != 16
-        || !ledger.lattice().contains(b)
-        || !marks.lattice().contains(b)
-    {
-        return false;
+    let found = read_cell(disk, ledger, b);
+    if !marks.lattice().contains(b) {
+        false
+    } else if marks.get(b) {
+        found == Some(Cell::Intact)
+    } else {
+        found == Some(Cell::Bad)
     }
-    let mut cell = [0; 64];
-    match read_block(disk, ledger, b, &mut cell) {
-        Ok(Cell::Intact) => marks.get(b),
-        Ok(Cell::Bad) => !marks.get(b),
-        Err(_) => false,
+}
+
+// Whether each mark of four nodes says what the cell of its block is.
+fn all_agree<D: Disk>(disk: &mut D, ledger: &Ledger, marks: &Marks) -> bool {
+    let mut are_alike = true;
+    for node in 1..=4u32 {
+        for class in [Class::Datum, Class::Horiz, Class::Right, Class::Left] {
+            are_alike = are_alike && agrees(disk, ledger, marks, BlockId { node, class });
+        }
     }
+    are_alike
 }
 
 // How many blocks of four nodes a scan finds damaged; none where it fails, or where a mark is not what reading the block
 // says.
 fn damaged<D: Disk>(alloc: Global, disk: &mut D) -> Option<u32> {
-    let Ok(ledger) = open_ledger(alloc, disk) else {
-        return None;
-    };
-    let Ok(marks) = scan(alloc, &ledger, disk) else {
-        return None;
-    };
-    for node in 1..=4u32 {
-        for class in [Class::Datum, Class::Horiz, Class::Right, Class::Left] {
-            if !agrees(disk, &ledger, &marks, BlockId { node, class }) {
-                return None;
-            }
+    match open_and_scan(alloc, disk) {
+        Some(Scanned { ledger, marks }) => {
+            all_agree(disk, &ledger, &marks).then_some(marks.unmarked())
         }
+        None => None,
     }
-    Some(marks.unmarked())
 }
 
 // An archive of two objects, with four nodes, so that each site's file has four cells.
-fn two_objects(alloc: Global) -> Result<SureDisk, Fail> {
-    let mut disk = SureDisk::new(alloc, 4, 4096, 4096)?;
-    if create_ledger(&mut disk, &WIDE).is_ok()
-        && store(
-            alloc,
-            &mut disk,
-            b"first",
-            b"an object of three blocks, 36 bytes.",
-        )
-        && store(alloc, &mut disk, b"second", b"abc")
-    {
-        return Ok(disk);
-    }
-    Err(Fail::new("no archive"))
+fn two_objects(alloc: Global) -> Option<SureDisk> {
+    let mut disk = fresh(alloc, 4, &WIDE)?;
+    let first = b"an object of three blocks, 36 bytes.";
+    let are_stored = store(alloc, &mut disk, b"first", first)
+        && store(alloc, &mut disk, b"second", b"abc");
+    are_stored.then_some(disk)
 }
 
-// Whether a scan finds cells damaged whose bytes are changed or are gone.
+// Whether a scan finds cells damaged whose bytes are changed or are gone, and no more where bytes come past the last cell.
 fn are_cells_found(alloc: Global, disk: &mut SureDisk) -> bool {
     damaged(alloc, disk) == Some(0)
         // the first byte of a cell
@@ -75,17 +65,22 @@ fn are_cells_found(alloc: Global, disk: &mut SureDisk) -> bool {
         && damaged(alloc, disk) == Some(2)
         && shorten(disk, 3, 0) == Ok(true)
         && damaged(alloc, disk) == Some(6)
+        // bytes past the last cell
+        && disk.write(4, 256, &[255; 100]).is_ok()
+        && damaged(alloc, disk) == Some(6)
 }
 
-// Whether a scan finds no more damaged where bytes come past the last cell.
-fn are_others_passed(alloc: Global, disk: &mut SureDisk) -> bool {
-    disk.write(4, 256, &[255; 100]).is_ok() && damaged(alloc, disk) == Some(6)
+// Whether it does so in the archive of two objects.
+fn is_damage_found(alloc: Global) -> bool {
+    match two_objects(alloc) {
+        Some(mut disk) => are_cells_found(alloc, &mut disk),
+        None => false,
+    }
 }
 
 #[test]
 fn damage_is_found(rt: HostRuntime) -> Result<(), Fail> {
-    let mut disk = two_objects(rt.alloc())?;
-    assert!(rt; are_cells_found(rt.alloc(), &mut disk) && are_others_passed(rt.alloc(), &mut disk));
+    assert!(rt; is_damage_found(rt.alloc()));
     Ok(())
 }
 
@@ -97,7 +92,7 @@ fn is_counted(alloc: Global, disk: &mut SureDisk, k: u8) -> bool {
 
 #[test]
 fn each_byte_counts(rt: HostRuntime) -> Result<(), Fail> {
-    let mut disk = two_objects(rt.alloc())?;
+    let mut disk = two_objects(rt.alloc()).ok_or("no archive")?;
     for k in 0..40u8 {
         let place = u64::from(k) * 379 % 256;
         assert!(rt; is_counted(rt.alloc(), &mut disk, k), "{k} at {place}");
@@ -106,13 +101,19 @@ fn each_byte_counts(rt: HostRuntime) -> Result<(), Fail> {
 }
 
 // Whether a scan, once the archive is opened, ends so over a disk of which this read fails.
-fn ends(alloc: Global, read: u64, want: Option<ScanFault>) -> Result<bool, Fail> {
-    let mut disk = two_objects(alloc)?;
-    let Ok(ledger) = open_ledger(alloc, &mut disk) else {
-        return Ok(false);
-    };
-    let mut failing = FailDisk::new(alloc, disk, &[read])?;
-    Ok(scan(alloc, &ledger, &mut failing).err() == want)
+fn ends_on(alloc: Global, disk: SureDisk, read: u64, want: Option<ScanFault>) -> bool {
+    match open_to_fail(alloc, disk, read) {
+        Some(Failing { ledger, mut disk }) => scan(alloc, &ledger, &mut disk).err() == want,
+        None => false,
+    }
+}
+
+// The same of the archive of two objects.
+fn ends(alloc: Global, read: u64, want: Option<ScanFault>) -> bool {
+    match two_objects(alloc) {
+        Some(disk) => ends_on(alloc, disk, read, want),
+        None => false,
+    }
 }
 
 #[test]
@@ -123,7 +124,7 @@ fn a_read_that_fails_is_a_fault(rt: HostRuntime) -> Result<(), Fail> {
         } else {
             None
         };
-        assert!(rt; ends(rt.alloc(), k, want)?, "read {k}");
+        assert!(rt; ends(rt.alloc(), k, want), "read {k}");
     }
     Ok(())
 }

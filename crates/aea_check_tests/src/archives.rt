@@ -1,62 +1,52 @@
-//! Archives in memory: how they are made, and runs over them.
+//! Archives in memory: how they are made, and runs over them. Where memory runs out, what
+//! says whether something is so says no, and what gives something gives none, or names the case that was wrong.
 
+use crate::lines::text_in;
 use aea_cli::Status;
-use aea_disk::{Disk, DiskFault, SureDisk};
+use aea_disk::{Disk, SureDisk};
 use aea_lattice::{BlockId, parse_block};
-use aea_runs::{Left, run_over, run_put, run_words, text_of};
+use aea_runs::{Left, run_over, run_put, run_words};
 use aea_test_helpers::{NINETEEN, some_bytes, spoil_cell};
 use std::alloc::{AllocError, Global};
-use std::test::Fail;
 
 /// Runs the command of a line over this disk, with so many bytes of space on its output. What it leaves is not looked at.
-pub fn run_only<D: Disk>(
-    alloc: Global,
-    disk: &mut D,
-    line: &str,
-    room: usize,
-) -> Result<(), AllocError> {
-    let _left = run_over(alloc, line, disk, room)?;
-    Ok(())
+pub fn run_only<D: Disk>(alloc: Global, disk: &mut D, line: &str, room: usize) -> bool {
+    run_over(alloc, line, disk, room).is_ok()
 }
 
 /// Stores an object of this name and these bytes. What the run leaves is not looked at.
-pub fn put_only<D: Disk>(
-    alloc: Global,
-    disk: &mut D,
-    name: &str,
-    bytes: &[u8],
-) -> Result<(), AllocError> {
-    let _left = run_put(alloc, disk, name, bytes)?;
-    Ok(())
+pub fn put_only<D: Disk>(alloc: Global, disk: &mut D, name: &str, bytes: &[u8]) -> bool {
+    run_put(alloc, disk, name, bytes).is_ok()
 }
 
 /// A disk with an archive that this line makes, and an object `a` of these bytes.
-pub fn archive_of(alloc: Global, line: &str, bytes: &[u8]) -> Result<SureDisk, AllocError> {
-    let mut disk = SureDisk::new(alloc, 4, 8192, 4096)?;
-    run_only(alloc, &mut disk, line, 99)?;
-    put_only(alloc, &mut disk, "a", bytes)?;
-    Ok(disk)
+pub fn archive_of(alloc: Global, line: &str, bytes: &[u8]) -> Option<SureDisk> {
+    let mut disk = SureDisk::new(alloc, 4, 8192, 4096).ok()?;
+    let is_made = run_only(alloc, &mut disk, line, 99) && put_only(alloc, &mut disk, "a", bytes);
+    is_made.then_some(disk)
 }
 
 /// A disk with an archive that this line makes, and an object `a` of so many bytes.
-pub fn archive_with(alloc: Global, line: &str, count: u32) -> Result<SureDisk, AllocError> {
-    let bytes = some_bytes(alloc, count, 0)?;
-    archive_of(alloc, line, bytes.as_slice())
+pub fn archive_with(alloc: Global, line: &str, count: u32) -> Option<SureDisk> {
+    match some_bytes(alloc, count, 0) {
+        Ok(bytes) => archive_of(alloc, line, bytes.as_slice()),
+        Err(_) => None,
+    }
 }
 
 /// Damages the blocks with these numbers in an archive on so many sites whose blocks have 16 bytes.
-pub fn spoil_cells(disk: &mut SureDisk, sites: u8, numbers: &[u32]) -> Result<(), DiskFault> {
+pub fn spoil_cells(disk: &mut SureDisk, sites: u8, numbers: &[u32]) -> bool {
+    let mut goes_on = true;
     for number in numbers {
-        spoil_cell(disk, sites, 64, *number, 20)?;
+        goes_on = goes_on && spoil_cell(disk, sites, 64, *number, 20).is_ok();
     }
-    Ok(())
+    goes_on
 }
 
 /// An archive in which the nineteen blocks are damaged.
-pub fn nineteen(alloc: Global) -> Result<SureDisk, Fail> {
+pub fn nineteen(alloc: Global) -> Option<SureDisk> {
     let mut disk = archive_with(alloc, "create 2 2 2 16 3", 176)?;
-    spoil_cells(&mut disk, 3, &NINETEEN)?;
-    Ok(disk)
+    spoil_cells(&mut disk, 3, &NINETEEN).then_some(disk)
 }
 
 /// Runs `verify` of this report over this disk.
@@ -67,33 +57,6 @@ pub fn run_verify<D: Disk>(alloc: Global, disk: &mut D, report: &[u8]) -> Result
 /// Runs `explain` of this block over this disk.
 pub fn run_explain<D: Disk>(alloc: Global, disk: &mut D, block: &str) -> Result<Left, AllocError> {
     run_words(alloc, &["explain", block], disk, b"unread", 999)
-}
-
-/// What a run said: on its output and after that on its errors, of which one is empty. The status is another than that of what
-/// was said only where the answer is none.
-pub fn revealed_of(alloc: Global, left: &Left) -> Result<Option<String>, Fail> {
-    let out = text_of(left.out.bytes())?;
-    let err = text_of(left.err.bytes())?;
-    let status = if out.is_empty() {
-        Status::Refused
-    } else if out == "accepted\n" {
-        Status::Done
-    } else {
-        Status::Damage
-    };
-    let revealed = format!(in alloc; "{out}{err}")?;
-    let is_one = out.is_empty() != err.is_empty();
-    Ok((is_one && left.status == status).then_some(revealed))
-}
-
-/// What `verify` says of this report, none where its status does not fit that.
-pub fn verdict_of<D: Disk>(
-    alloc: Global,
-    disk: &mut D,
-    report: &str,
-) -> Result<Option<String>, Fail> {
-    let left = run_verify(alloc, disk, report.as_bytes())?;
-    revealed_of(alloc, &left)
 }
 
 /// Whether a run said this, on its output or on its errors, and ended with the status that goes with it.
@@ -108,14 +71,13 @@ pub fn reveals(left: &Left, want: &str) -> bool {
 }
 
 /// Whether `verify` says this of the report.
-pub fn judges<D: Disk>(
-    alloc: Global,
-    disk: &mut D,
-    report: &str,
-    want: &str,
-) -> Result<bool, AllocError> {
-    let left = run_verify(alloc, disk, report.as_bytes())?;
-    Ok(reveals(&left, want))
+pub fn judges<D: Disk>(alloc: Global, disk: &mut D, report: &str, want: &str) -> bool {
+    judges_bytes(alloc, disk, report.as_bytes(), want)
+}
+
+/// Whether `verify` says this of these bytes.
+pub fn judges_bytes<D: Disk>(alloc: Global, disk: &mut D, bytes: &[u8], want: &str) -> bool {
+    run_verify(alloc, disk, bytes).is_ok_and(|left| reveals(&left, want))
 }
 
 /// The first of these reports of which `verify` says something else; each has beside it what is to be said. None where there is none.
@@ -123,67 +85,65 @@ pub fn first_misjudged<D: Disk>(
     alloc: Global,
     disk: &mut D,
     rows: &[(&'static str, &'static str)],
-) -> Result<Option<&'static str>, AllocError> {
+) -> Option<&'static str> {
     for (report, want) in rows {
-        if !judges(alloc, disk, report, want)? {
-            return Ok(Some(report));
+        if !judges(alloc, disk, report, want) {
+            return Some(report);
         }
     }
-    Ok(None)
+    None
 }
 
 /// Whether a repair ends with this status and prints this report.
-pub fn repairs<D: Disk>(
-    alloc: Global,
-    disk: &mut D,
-    status: Status,
-    report: &str,
-) -> Result<bool, AllocError> {
-    let left = run_over(alloc, "repair", disk, 16_384)?;
-    Ok(left.is(status, report, ""))
+pub fn repairs<D: Disk>(alloc: Global, disk: &mut D, status: Status, report: &str) -> bool {
+    run_over(alloc, "repair", disk, 16_384).is_ok_and(|left| left.is(status, report, ""))
 }
 
 /// Whether a scrub ends with this status and prints this.
-pub fn scrubs<D: Disk>(
-    alloc: Global,
-    disk: &mut D,
-    status: Status,
-    out: &str,
-) -> Result<bool, AllocError> {
-    let left = run_over(alloc, "scrub", disk, 999)?;
-    Ok(left.is(status, out, ""))
+pub fn scrubs<D: Disk>(alloc: Global, disk: &mut D, status: Status, out: &str) -> bool {
+    run_over(alloc, "scrub", disk, 999).is_ok_and(|left| left.is(status, out, ""))
 }
 
-/// The report of a repair that ends with this status.
-pub fn report_with<D: Disk>(alloc: Global, disk: &mut D, status: Status) -> Result<String, Fail> {
-    let left = run_over(alloc, "repair", disk, 16_384)?;
-    if left.status != status || !left.err.bytes().is_empty() {
-        return Err(Fail::new("another status"));
+/// The text that the command of a line prints over this disk, with so many bytes of space.
+pub fn printed<D: Disk>(alloc: Global, disk: &mut D, line: &str, room: usize) -> Option<String> {
+    match run_over(alloc, line, disk, room) {
+        Ok(left) => text_in(alloc, left.out.bytes()),
+        Err(_) => None,
     }
-    Ok(String::from_str(alloc, text_of(left.out.bytes())?)?)
+}
+
+// The text that this run printed, none where its status is another, or it said something on its errors.
+fn out_with(alloc: Global, left: &Left, status: Status) -> Option<String> {
+    if left.status == status && left.err.bytes().is_empty() {
+        text_in(alloc, left.out.bytes())
+    } else {
+        None
+    }
+}
+
+/// The report of a repair that ends with this status, none where it ends with another.
+pub fn report_with<D: Disk>(alloc: Global, disk: &mut D, status: Status) -> Option<String> {
+    match run_over(alloc, "repair", disk, 16_384) {
+        Ok(left) => out_with(alloc, &left, status),
+        Err(_) => None,
+    }
 }
 
 // The blocks that these lines of a scrub name.
-fn blocks_named(alloc: Global, lines: &str) -> Result<Vec<BlockId>, Fail> {
+fn blocks_named(alloc: Global, lines: &str) -> Option<Vec<BlockId>> {
     let mut blocks = Vec::new(alloc);
     for line in lines.lines() {
         if let Some(text) = line.strip_prefix("damaged ") {
-            blocks.push(parse_block(text.as_bytes()).ok_or("no block")?)?;
+            blocks.push(parse_block(text.as_bytes())?).ok()?;
         }
     }
-    Ok(blocks)
+    Some(blocks)
 }
 
 /// The blocks that a scrub of this archive names.
-pub fn damaged_blocks<D: Disk>(alloc: Global, disk: &mut D) -> Result<Vec<BlockId>, Fail> {
-    let left = run_over(alloc, "scrub", disk, 65_536)?;
-    blocks_named(alloc, text_of(left.out.bytes())?)
-}
-
-/// The text, none where there is none.
-pub fn said(text: &Option<String>) -> &str {
-    match text {
-        Some(text) => text.as_str(),
-        None => "none",
+pub fn damaged_blocks<D: Disk>(alloc: Global, disk: &mut D) -> Option<Vec<BlockId>> {
+    match printed(alloc, disk, "scrub", 65_536) {
+        Some(text) => blocks_named(alloc, text.as_str()),
+        None => None,
     }
 }

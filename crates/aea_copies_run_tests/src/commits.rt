@@ -1,12 +1,11 @@
 //! Runs that commit once, over an archive whose ledger has copies, and what is there after one that did not end.
 
-use crate::archives::{B, LISTED, ends, is_done};
-use crate::harms::{Harm, inflict};
+use crate::archives::{B, LISTED, ends, ends_with_input, is_done};
+use crate::harms::remove_both;
 use aea_cli::Status;
 use aea_disk::Disk;
-use aea_runs::{run_input, run_over};
-use std::alloc::{AllocError, Global};
-use std::test::Fail;
+use aea_runs::{Left, run_input, run_over};
+use std::alloc::Global;
 
 /// A run that commits once.
 #[derive(Clone, Copy)]
@@ -82,81 +81,74 @@ pub fn copies() -> Commit {
 }
 
 /// Whether the run ends as where nothing fails.
-pub fn commits<D: Disk>(alloc: Global, disk: &mut D, commit: &Commit) -> Result<bool, AllocError> {
+pub fn commits<D: Disk>(alloc: Global, disk: &mut D, commit: &Commit) -> bool {
     is_done(alloc, disk, commit.line, commit.input, commit.out)
 }
 
 // Whether the run is refused, since it has committed, and `list` prints what it does after it.
-fn has_committed<D: Disk>(
-    alloc: Global,
-    disk: &mut D,
-    commit: &Commit,
-) -> Result<bool, AllocError> {
-    let left = run_input(alloc, commit.line, disk, commit.input.as_bytes())?;
-    let is_refused = left.is(Status::Refused, "", commit.again);
-    Ok(is_refused && ends(alloc, disk, "list", (Status::Done, commit.listed, ""))?)
+fn has_committed<D: Disk>(alloc: Global, disk: &mut D, commit: &Commit) -> bool {
+    let refused = (Status::Refused, "", commit.again);
+    ends_with_input(alloc, disk, commit.line, commit.input, refused)
+        && ends(alloc, disk, "list", (Status::Done, commit.listed, ""))
 }
 
 // Whether each object of after the run is got, and no block is damaged.
-fn has_objects<D: Disk>(alloc: Global, disk: &mut D, commit: &Commit) -> Result<bool, AllocError> {
+fn has_objects<D: Disk>(alloc: Global, disk: &mut D, commit: &Commit) -> bool {
+    let mut are_got = true;
     for (line, bytes) in commit.gets {
-        if !is_done(alloc, disk, line, "", bytes)? {
-            return Ok(false);
-        }
+        are_got = are_got && is_done(alloc, disk, line, "", bytes);
     }
-    ends(alloc, disk, "scrub", (Status::Done, commit.scrubbed, ""))
+    are_got && ends(alloc, disk, "scrub", (Status::Done, commit.scrubbed, ""))
 }
 
 // Whether the archive is the one after the run where these two of the three files are removed.
-fn is_kept_by_one<D: Disk>(
-    alloc: Global,
-    disk: &mut D,
-    commit: &Commit,
-    removed: [u8; 2],
-) -> Result<bool, Fail> {
-    for file in removed {
-        inflict(disk, Harm::Cut(file, 0))?;
-    }
-    Ok(has_committed(alloc, disk, commit)?)
+fn is_kept_by_one<D: Disk>(alloc: Global, disk: &mut D, commit: &Commit, removed: [u8; 2]) -> bool {
+    remove_both(disk, removed) && has_committed(alloc, disk, commit)
 }
 
 // Whether each of the three files alone keeps the archive after the run. Copies are begun again where both are removed.
-fn is_kept_by_each<D: Disk>(alloc: Global, disk: &mut D, commit: &Commit) -> Result<bool, Fail> {
-    Ok(
-        is_kept_by_one(alloc, disk, commit, [0, 65])?
-            && is_kept_by_one(alloc, disk, commit, [0, 66])?
-            && (commit.begins || is_kept_by_one(alloc, disk, commit, [65, 66])?),
-    )
+fn is_kept_by_each<D: Disk>(alloc: Global, disk: &mut D, commit: &Commit) -> bool {
+    is_kept_by_one(alloc, disk, commit, [0, 65])
+        && is_kept_by_one(alloc, disk, commit, [0, 66])
+        && (commit.begins || is_kept_by_one(alloc, disk, commit, [65, 66]))
 }
 
 // Whether the archive is listed as before the run, which is then made and ends as where nothing fails; or as after it, when it is
-// refused. Only the latter where this is said.
-fn is_found<D: Disk>(
-    alloc: Global,
-    disk: &mut D,
-    commit: &Commit,
-    is_sure: bool,
-) -> Result<bool, AllocError> {
-    let found = run_over(alloc, "list", disk, 999)?;
-    let left = run_input(alloc, commit.line, disk, commit.input.as_bytes())?;
-    Ok(if left.status == Status::Done {
+// refused. Only the latter where this is said. These are what the list leaves and what the run leaves.
+fn are_before_or_after(found: &Left, left: &Left, commit: &Commit, is_sure: bool) -> bool {
+    if left.status == Status::Done {
         !is_sure && left.is(Status::Done, commit.out, "") && found.is(Status::Done, LISTED, "")
     } else {
         left.is(Status::Refused, "", commit.again) && found.is(Status::Done, commit.listed, "")
-    })
+    }
+}
+
+// Whether the run is made, or refused, as this says beside what the list left before it.
+fn is_made_or_refused<D: Disk>(
+    alloc: Global,
+    disk: &mut D,
+    found: &Left,
+    commit: &Commit,
+    is_sure: bool,
+) -> bool {
+    match run_input(alloc, commit.line, disk, commit.input.as_bytes()) {
+        Ok(left) => are_before_or_after(found, &left, commit, is_sure),
+        Err(_) => false,
+    }
+}
+
+// Whether this is so of the list, and of the run that is made after it.
+fn is_found<D: Disk>(alloc: Global, disk: &mut D, commit: &Commit, is_sure: bool) -> bool {
+    match run_over(alloc, "list", disk, 999) {
+        Ok(found) => is_made_or_refused(alloc, disk, &found, commit, is_sure),
+        Err(_) => false,
+    }
 }
 
 /// Whether the archive is the one before the run or the one after it, only the one after it where this is said; and whether, once
 /// the run was made again, it is the one after it, and each of the three files alone keeps it.
-pub fn stands<D: Disk>(
-    alloc: Global,
-    disk: &mut D,
-    commit: &Commit,
-    is_sure: bool,
-) -> Result<bool, Fail> {
-    Ok(
-        is_found(alloc, disk, commit, is_sure)?
-            && has_objects(alloc, disk, commit)?
-            && is_kept_by_each(alloc, disk, commit)?,
-    )
+pub fn stands<D: Disk>(alloc: Global, disk: &mut D, commit: &Commit, is_sure: bool) -> bool {
+    is_found(alloc, disk, commit, is_sure)
+        && has_objects(alloc, disk, commit)
+        && is_kept_by_each(alloc, disk, commit)
 }

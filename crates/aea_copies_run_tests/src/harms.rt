@@ -1,6 +1,6 @@
 //! Damage of the ledger and its copies.
 
-use aea_disk::{Disk, DiskFault};
+use aea_disk::Disk;
 use aea_test_helpers::shorten;
 
 /// What is done to a file.
@@ -14,34 +14,44 @@ pub enum Harm {
     Flip(u8, u64),
 }
 
-// Gives the byte at a place of a file this value, or else flips its last bit. Returns whether the file has one there.
-fn change<D: Disk>(disk: &mut D, file: u8, at: u64, value: Option<u8>) -> Result<bool, DiskFault> {
-    if 66 < file || 1 << 40 < at {
-        return Ok(false);
-    }
+// Gives the byte at a place of a file this value, or else flips its last bit. No where the file has none there.
+fn change<D: Disk>(disk: &mut D, file: u8, at: u64, value: Option<u8>) -> bool {
     let mut byte = [0u8; 1];
-    if disk.read(file, at, &mut byte)? != 1 {
-        return Ok(false);
-    }
-    disk.write(file, at, &[value.unwrap_or(byte[0] ^ 1)])?;
-    Ok(true)
+    file <= 66
+        && at <= 1 << 40
+        && disk.read(file, at, &mut byte) == Ok(1)
+        && disk
+            .write(file, at, &[value.unwrap_or(byte[0] ^ 1)])
+            .is_ok()
 }
 
-/// Harms a file. Returns whether it is long enough.
-pub fn inflict<D: Disk>(disk: &mut D, harm: Harm) -> Result<bool, DiskFault> {
+/// Harms a file. No where it is not long enough.
+pub fn inflict<D: Disk>(disk: &mut D, harm: Harm) -> bool {
     match harm {
-        Harm::Cut(file, to) => shorten(disk, file, to),
+        Harm::Cut(file, to) => shorten(disk, file, to) == Ok(true),
         Harm::Byte(file, at, value) => change(disk, file, at, Some(value)),
         Harm::Flip(file, at) => change(disk, file, at, None),
     }
 }
 
-/// Harms files. Returns whether they are long enough.
-pub fn inflict_all<D: Disk>(disk: &mut D, harms: &[Harm]) -> Result<bool, DiskFault> {
-    for one in harms {
-        if !inflict(disk, *one)? {
-            return Ok(false);
-        }
+/// Harms files. No where one of them is not long enough.
+pub fn inflict_all<D: Disk>(disk: &mut D, harms: &[Harm]) -> bool {
+    let mut are_inflicted = true;
+    for harm in harms {
+        are_inflicted = are_inflicted && inflict(disk, *harm);
     }
-    Ok(true)
+    are_inflicted
+}
+
+/// Removes two files.
+pub fn remove_both<D: Disk>(disk: &mut D, files: [u8; 2]) -> bool {
+    inflict(disk, Harm::Cut(files[0], 0)) && inflict(disk, Harm::Cut(files[1], 0))
+}
+
+/// Removes a file, if one is given.
+pub fn remove_any<D: Disk>(disk: &mut D, file: Option<u8>) -> bool {
+    match file {
+        Some(file) => inflict(disk, Harm::Cut(file, 0)),
+        None => true,
+    }
 }

@@ -5,7 +5,7 @@ use crate::harms::{Harm, inflict, inflict_all};
 use aea_cli::Status;
 use aea_disk::Disk;
 use aea_runs::{Left, run_input};
-use std::alloc::{AllocError, Global};
+use std::alloc::Global;
 use std::test::Fail;
 
 // Damage, a run over the archive with it, and its status, what it prints, and what it prints on the errors.
@@ -46,81 +46,83 @@ fn rows() -> &'static [Row] {
 }
 
 // Whether the run of this row over this archive ends so, and leaves all files as they were before the damage.
-fn mends<D: Disk>(alloc: Global, disk: &mut D, row: &Row) -> Result<bool, Fail> {
+fn mends<D: Disk>(alloc: Global, disk: &mut D, row: &Row) -> bool {
     let (harms, line, want) = row;
-    let whole = files_of(alloc, disk)?;
-    Ok(
-        inflict_all(disk, harms)?
-            && ends(alloc, disk, line, *want)?
-            && has_files(alloc, disk, whole.as_slice())?,
-    )
+    match files_of(alloc, disk) {
+        Some(whole) => {
+            inflict_all(disk, harms)
+                && ends(alloc, disk, line, *want)
+                && has_files(alloc, disk, whole.as_slice())
+        }
+        None => false,
+    }
 }
 
 // The same of an archive whose ledger has copies.
-fn is_mended(alloc: Global, row: &Row) -> Result<bool, Fail> {
-    let mut disk = copied(alloc)?;
-    mends(alloc, &mut disk, row)
+fn is_mended(alloc: Global, row: &Row) -> bool {
+    match copied(alloc) {
+        Some(mut disk) => mends(alloc, &mut disk, row),
+        None => false,
+    }
 }
 
 #[test]
 fn one_good_copy_mends_the_others(rt: HostRuntime) -> Result<(), Fail> {
     for row in rows() {
-        let right = is_mended(rt.alloc(), row)?;
-        assert!(rt; right, "{}", row.1);
+        assert!(rt; is_mended(rt.alloc(), row), "{}", row.1);
     }
     Ok(())
 }
 
-// A run over a whole archive, and what it leaves.
+// A run: its line, and its input.
+type Run = (&'static str, &'static str);
+
+// What a run leaves, and the files after it.
 #[derive(Drop)]
 struct Whole {
     left: Left,
     files: Vec<Vec<u8>>,
 }
 
-fn whole_run(alloc: Global, line: &str, input: &str) -> Result<Whole, Fail> {
+// The same of a run over a whole archive.
+fn whole_run(alloc: Global, run: Run) -> Option<Whole> {
     let mut disk = copied(alloc)?;
-    let left = run_input(alloc, line, &mut disk, input.as_bytes())?;
+    let left = run_input(alloc, run.0, &mut disk, run.1.as_bytes()).ok()?;
     let files = files_of(alloc, &mut disk)?;
-    Ok(Whole { left, files })
+    Some(Whole { left, files })
 }
 
-// Whether the run over this disk ends with the same status as that one, and prints the same.
-fn ends_the_same<D: Disk>(
-    alloc: Global,
-    line: &str,
-    input: &str,
-    disk: &mut D,
-    other: &Left,
-) -> Result<bool, AllocError> {
-    let left = run_input(alloc, line, disk, input.as_bytes())?;
-    Ok(
-        left.status == other.status
-            && left.out.bytes() == other.out.bytes()
-            && left.err.bytes() == other.err.bytes(),
-    )
+// Whether a run ended with the same status as another one, and printed the same.
+fn are_same(left: &Left, other: &Left) -> bool {
+    left.status == other.status
+        && left.out.bytes() == other.out.bytes()
+        && left.err.bytes() == other.err.bytes()
 }
 
-// Whether the run ends so after this damage too, and leaves the same files.
-fn is_as_whole(
-    alloc: Global,
-    line: &str,
-    input: &str,
-    damage: Harm,
-    whole: &Whole,
-) -> Result<bool, Fail> {
-    let mut disk = copied(alloc)?;
-    Ok(
-        inflict(&mut disk, damage)?
-            && ends_the_same(alloc, line, input, &mut disk, &whole.left)?
-            && has_files(alloc, &mut disk, whole.files.as_slice())?,
-    )
+// Whether the run over this disk ends as that one, and leaves the same files.
+fn leaves_the_same<D: Disk>(alloc: Global, disk: &mut D, run: Run, whole: &Whole) -> bool {
+    match run_input(alloc, run.0, disk, run.1.as_bytes()) {
+        Ok(left) => {
+            are_same(&left, &whole.left) && has_files(alloc, disk, whole.files.as_slice())
+        }
+        Err(_) => false,
+    }
+}
+
+// Whether this is so of an archive after this damage.
+fn is_as_whole(alloc: Global, run: Run, damage: Harm, whole: &Whole) -> bool {
+    match copied(alloc) {
+        Some(mut disk) => {
+            inflict(&mut disk, damage) && leaves_the_same(alloc, &mut disk, run, whole)
+        }
+        None => false,
+    }
 }
 
 // The length of a file of such an archive.
-fn length_of(alloc: Global, file: u8) -> Result<u64, Fail> {
+fn length_of(alloc: Global, file: u8) -> Option<u64> {
     let mut disk = copied(alloc)?;
-    Ok(disk.len(file.min(66))?)
+    disk.len(file.min(66)).ok()
 }
 
 // Of a file the places are tried that are multiples of this, and those where a gate is in the ledger or in a copy.
@@ -128,45 +130,36 @@ const STEP: u64 = 17;
 
 const GATES: [u64; 5] = [9, 17, 63, 202, 285];
 
-// The first of these places of the file where a flipped bit, or a cut there, is not mended by the run, which leaves this over a whole
-// archive.
-fn first_wrong_place(
-    alloc: Global,
-    line: &str,
-    input: &str,
-    file: u8,
-    whole: &Whole,
-) -> Result<Option<u64>, Fail> {
-    let long = length_of(alloc, file)?;
-    for at in 0..long {
-        if at % STEP != 0 && !GATES.contains(&at) {
-            continue;
-        }
-        for damage in [Harm::Flip(file, at), Harm::Cut(file, at)] {
-            if !is_as_whole(alloc, line, input, damage, whole)? {
-                return Ok(Some(at));
-            }
-        }
-    }
-    Ok(None)
+// Whether a flipped bit at this place, and a cut there, are mended by the run, which leaves this over a whole archive.
+fn is_place_mended(alloc: Global, run: Run, file: u8, at: u64, whole: &Whole) -> bool {
+    is_as_whole(alloc, run, Harm::Flip(file, at), whole)
+        && is_as_whole(alloc, run, Harm::Cut(file, at), whole)
 }
 
-// The first of the three files where a place is not mended by the run.
-fn first_wrong_file(alloc: Global, line: &str, input: &str) -> Result<Option<u8>, Fail> {
-    let whole = whole_run(alloc, line, input)?;
-    for file in THREE {
-        if first_wrong_place(alloc, line, input, file, &whole)?.is_some() {
-            return Ok(Some(file));
-        }
+// Whether this is so of each of the places that are tried of the file.
+fn is_file_mended(alloc: Global, run: Run, file: u8, whole: &Whole) -> bool {
+    match length_of(alloc, file) {
+        Some(long) => (0..long).all(|at| {
+            at % STEP != 0 && !GATES.contains(&at) || is_place_mended(alloc, run, file, at, whole)
+        }),
+        None => false,
     }
-    Ok(None)
+}
+
+// Whether this is so of each of the three files.
+fn are_files_mended(alloc: Global, run: Run) -> bool {
+    match whole_run(alloc, run) {
+        Some(whole) => THREE
+            .iter()
+            .all(|file| is_file_mended(alloc, run, *file, &whole)),
+        None => false,
+    }
 }
 
 #[test]
 fn each_place_of_each_file_is_mended(rt: HostRuntime) -> Result<(), Fail> {
-    for (line, input) in [("list", ""), ("get a", ""), ("put b", B), ("scrub", "")] {
-        let wrong = first_wrong_file(rt.alloc(), line, input)?;
-        assert!(rt; wrong == None, "{line}");
+    for run in [("list", ""), ("get a", ""), ("put b", B), ("scrub", "")] {
+        assert!(rt; are_files_mended(rt.alloc(), run), "{}", run.0);
     }
     Ok(())
 }

@@ -1,14 +1,13 @@
 //! Copies that are refused: where both are bad, and where they differ.
 
 use crate::archives::{
-    LINE, LISTED, begin_copies, copied, ends, files_of, has_files, leaves_files, other, store,
-    take_from,
+    LINE, LISTED, begin_copies, copied, ends, ends_with_input, files_of, has_files, leaves_files,
+    other, store, take_from,
 };
 use crate::harms::{Harm, inflict_all};
 use aea_cli::Status;
 use aea_disk::{Disk, SureDisk};
-use aea_runs::run_input;
-use std::alloc::{AllocError, Global};
+use std::alloc::Global;
 use std::test::Fail;
 
 // A line for each command that uses the disk.
@@ -36,34 +35,32 @@ fn lines() -> &'static [&'static str] {
     LINES
 }
 
-// The first of these lines that is not refused so, or does not leave its input or a file as it is; none where there is none.
-fn first_not_refused<D: Disk>(
-    alloc: Global,
-    disk: &mut D,
-    err: &str,
-) -> Result<Option<&'static str>, Fail> {
-    let files = files_of(alloc, disk)?;
+// Whether each of these lines is refused so, and leaves its input and the files, which have these bytes, as they are.
+fn are_lines_refused<D: Disk>(alloc: Global, disk: &mut D, files: &[Vec<u8>], err: &str) -> bool {
+    let mut are_refused = true;
     for line in lines() {
-        if !ends(alloc, disk, line, (Status::Refused, "", err))?
-            || !has_files(alloc, disk, files.as_slice())?
-        {
-            return Ok(Some(line));
-        }
+        are_refused = are_refused
+            && ends(alloc, disk, line, (Status::Refused, "", err))
+            && has_files(alloc, disk, files);
     }
-    Ok(None)
+    are_refused
 }
 
-// The first line that is not refused so once this is done to the files.
-fn first_past_harms(
-    alloc: Global,
-    harms: &[Harm],
-    err: &str,
-) -> Result<Option<&'static str>, Fail> {
-    let mut disk = copied(alloc)?;
-    if !inflict_all(&mut disk, harms)? {
-        return Ok(Some("no such place"));
+// Whether this is so of the files as they are, once they are harmed.
+fn refuses_all<D: Disk>(alloc: Global, disk: &mut D, harms: &[Harm], err: &str) -> bool {
+    let are_harmed = inflict_all(disk, harms);
+    match files_of(alloc, disk) {
+        Some(files) => are_harmed && are_lines_refused(alloc, disk, files.as_slice(), err),
+        None => false,
     }
-    first_not_refused(alloc, &mut disk, err)
+}
+
+// Whether each line is refused so once this is done to the files.
+fn is_refused_past_harms(alloc: Global, harms: &[Harm], err: &str) -> bool {
+    match copied(alloc) {
+        Some(mut disk) => refuses_all(alloc, &mut disk, harms, err),
+        None => false,
+    }
 }
 
 // Damage of both copies, and its line.
@@ -115,117 +112,103 @@ fn rows() -> &'static [Row] {
 #[test]
 fn two_bad_copies_refuse_each_command(rt: HostRuntime) -> Result<(), Fail> {
     for (harms, err) in rows() {
-        let found = first_past_harms(rt.alloc(), harms, err)?;
-        assert!(rt; found.is_none(), "{err}");
+        assert!(rt; is_refused_past_harms(rt.alloc(), harms, err), "{err}");
     }
     Ok(())
 }
 
 // The example's archive with another object, of the same length and with a name that is as long.
-fn twin(alloc: Global) -> Result<SureDisk, Fail> {
-    let mut disk = SureDisk::new(alloc, 4, 1024, 1024)?;
-    store(alloc, &mut disk, LINE, "b", b"abc")?;
-    begin_copies(alloc, &mut disk)?;
-    Ok(disk)
+fn twin(alloc: Global) -> Option<SureDisk> {
+    let mut disk = SureDisk::new(alloc, 4, 1024, 1024).ok()?;
+    let is_made = store(alloc, &mut disk, LINE, "b", b"abc") && begin_copies(alloc, &mut disk);
+    is_made.then_some(disk)
 }
 
-// The first line that is not refused so where this file is that of another archive, whatever the ledger is.
-fn first_past_other(
+// Whether each line is refused so where this file is that of another archive, whatever the ledger is.
+fn is_refused_past_other(
     alloc: Global,
     from: &mut SureDisk,
     file: u8,
     harms: &[Harm],
     err: &str,
-) -> Result<Option<&'static str>, Fail> {
-    let mut disk = copied(alloc)?;
-    take_from(alloc, &mut disk, from, &[file])?;
-    if !inflict_all(&mut disk, harms)? {
-        return Ok(Some("no such place"));
-    }
-    first_not_refused(alloc, &mut disk, err)
-}
-
-// The first line that is not refused so, where one copy is that of another archive, either of them; with the ledger, a bad one, and none.
-fn first_past_difference(
-    alloc: Global,
-    from: &mut SureDisk,
-    err: &str,
-) -> Result<Option<&'static str>, Fail> {
-    for file in [65u8, 66] {
-        for harms in [[].as_slice(), &[Harm::Byte(0, 9, 4)], &[Harm::Cut(0, 0)]] {
-            let found = first_past_other(alloc, from, file, harms, err)?;
-            if found.is_some() {
-                return Ok(found);
-            }
+) -> bool {
+    match copied(alloc) {
+        Some(mut disk) => {
+            take_from(alloc, &mut disk, from, &[file]) && refuses_all(alloc, &mut disk, harms, err)
         }
+        None => false,
     }
-    Ok(None)
 }
 
-// The first line that is not refused where the texts differ first in the shape, at place 9.
-fn first_past_other_shape(alloc: Global) -> Result<Option<&'static str>, Fail> {
-    let mut from = other(alloc)?;
-    first_past_difference(alloc, &mut from, "refused: copies differ at 9\n")
+// Whether each line is refused so where this copy is that of another archive; with the ledger, a bad one, and none.
+fn is_refused_past_copy(alloc: Global, from: &mut SureDisk, file: u8, err: &str) -> bool {
+    is_refused_past_other(alloc, from, file, &[], err)
+        && is_refused_past_other(alloc, from, file, &[Harm::Byte(0, 9, 4)], err)
+        && is_refused_past_other(alloc, from, file, &[Harm::Cut(0, 0)], err)
 }
 
-// The first line that is not refused where the texts differ first in the name of the object, at 25.
-fn first_past_other_name(alloc: Global) -> Result<Option<&'static str>, Fail> {
-    let mut from = twin(alloc)?;
-    first_past_difference(alloc, &mut from, "refused: copies differ at 25\n")
+// Whether this is so of either copy.
+fn is_refused_past_each_copy(alloc: Global, other: Option<SureDisk>, err: &str) -> bool {
+    match other {
+        Some(mut from) => {
+            is_refused_past_copy(alloc, &mut from, 65, err)
+                && is_refused_past_copy(alloc, &mut from, 66, err)
+        }
+        None => false,
+    }
+}
+
+// Whether each line is refused where the texts differ first in the shape, at place 9, and where in the name of the object, at 25.
+fn are_differences_refused(alloc: Global) -> bool {
+    is_refused_past_each_copy(alloc, other(alloc), "refused: copies differ at 9\n")
+        && is_refused_past_each_copy(alloc, twin(alloc), "refused: copies differ at 25\n")
 }
 
 #[test]
 fn two_copies_that_differ_refuse_each_command(rt: HostRuntime) -> Result<(), Fail> {
-    let shape = first_past_other_shape(rt.alloc())?;
-    let name = first_past_other_name(rt.alloc())?;
-    assert!(rt; shape.is_none() && name.is_none());
+    assert!(rt; are_differences_refused(rt.alloc()));
     Ok(())
 }
 
-// Whether a run of the line with a block on its input ends so, with nothing on the errors.
-fn prints<D: Disk>(
-    alloc: Global,
-    disk: &mut D,
-    line: &str,
-    status: Status,
-    out: &str,
-) -> Result<bool, AllocError> {
-    let left = run_input(alloc, line, disk, b"d1\n")?;
-    Ok(left.is(status, out, ""))
-}
-
-// Whether a line of a command that uses no disk prints this over two bad copies.
-fn is_not_refused(alloc: Global, line: &str, status: Status, out: &str) -> Result<bool, Fail> {
-    let mut disk = copied(alloc)?;
+// Whether a line of a command that uses no disk, with a block on its input, ends so over two bad copies, without errors.
+fn is_not_refused(alloc: Global, line: &str, status: Status, out: &str) -> bool {
     let harms = [Harm::Flip(65, 100), Harm::Flip(66, 100)];
-    Ok(inflict_all(&mut disk, &harms)? && prints(alloc, &mut disk, line, status, out)?)
+    match copied(alloc) {
+        Some(mut disk) => {
+            inflict_all(&mut disk, &harms)
+                && ends_with_input(alloc, &mut disk, line, "d1\n", (status, out, ""))
+        }
+        None => false,
+    }
 }
 
 const DRILLED: &str = "aea-report 1\nlattice 1 1 0 3\nledger none\ncounts 1 1 0 0\npeeled d1\n";
 
 const REHEARSED: &str = "nodes 1 blocks 4 damaged 4 peeled 0 solved 0 lost 4 accepted\n";
 
+// Whether this is so of both such commands.
+fn are_not_refused(alloc: Global) -> bool {
+    is_not_refused(alloc, "drill 1 1 0 3", Status::Done, DRILLED)
+        && is_not_refused(alloc, "rehearse 7 1 1000", Status::Damage, REHEARSED)
+}
+
 #[test]
 fn a_command_that_uses_no_disk_is_not_refused(rt: HostRuntime) -> Result<(), Fail> {
-    let drills = is_not_refused(rt.alloc(), "drill 1 1 0 3", Status::Done, DRILLED)?;
-    let rehearses = is_not_refused(rt.alloc(), "rehearse 7 1 1000", Status::Damage, REHEARSED)?;
-    assert!(rt; drills && rehearses);
+    assert!(rt; are_not_refused(rt.alloc()));
     Ok(())
 }
 
 // Whether `list` ends so where neither copy is begun, with this damage of the ledger.
-fn is_of_the_ledger(
-    alloc: Global,
-    harms: &[Harm],
-    want: (Status, &str, &str),
-) -> Result<bool, Fail> {
-    let mut disk = copied(alloc)?;
+fn is_of_the_ledger(alloc: Global, harms: &[Harm], want: (Status, &str, &str)) -> bool {
     let gone = [Harm::Cut(65, 9), Harm::Byte(66, 0, 255)];
-    Ok(
-        inflict_all(&mut disk, &gone)?
-            && inflict_all(&mut disk, harms)?
-            && leaves_files(alloc, &mut disk, "list", want)?,
-    )
+    match copied(alloc) {
+        Some(mut disk) => {
+            inflict_all(&mut disk, &gone)
+                && inflict_all(&mut disk, harms)
+                && leaves_files(alloc, &mut disk, "list", want)
+        }
+        None => false,
+    }
 }
 
 #[test]
@@ -242,8 +225,7 @@ fn copies_that_are_gone_refuse_nothing(rt: HostRuntime) -> Result<(), Fail> {
         ),
     ];
     for (harms, want) in rows {
-        let right = is_of_the_ledger(rt.alloc(), harms, want)?;
-        assert!(rt; right, "{}", want.2);
+        assert!(rt; is_of_the_ledger(rt.alloc(), harms, want), "{}", want.2);
     }
     Ok(())
 }

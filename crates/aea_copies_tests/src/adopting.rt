@@ -1,10 +1,11 @@
 //! Copies with each byte changed and each cut, beside a plain judge; and two good copies with other texts.
 
-use crate::example::{ENDS, copy_of, example_copy, fenced, joined, ledger};
+use crate::example::{ENDS, copy_of, example_copy, fenced, ledger, other_text};
+use crate::joining::joined;
 use crate::plain::{Plain, judge_plainly, part};
 use crate::three::{Answer, EXAMPLE, Three, adopts, copied_disk, has_example, leaves, whole};
 use sha2::{Digest, Sha256};
-use std::alloc::{AllocError, Global};
+use std::alloc::Global;
 use std::test::Fail;
 
 // The SHA-256 of the example's copy, as another program computes it.
@@ -17,12 +18,21 @@ const WHOLE: Plain = Plain::Good {
     text: 202,
 };
 
+// Whether the example's copy has this digest, and is that for the plain judge.
+fn is_spelled_as_by_another(alloc: Global) -> bool {
+    match example_copy(alloc) {
+        Some(copy) => {
+            copy.len() == 286
+                && Sha256::digest(copy.as_slice()) == *SUM
+                && judge_plainly(alloc, copy.as_slice()) == Some(WHOLE)
+        }
+        None => false,
+    }
+}
+
 #[test]
 fn the_example_is_spelled_as_by_another_program(rt: HostRuntime) -> Result<(), Fail> {
-    let copy = example_copy(rt.alloc())?;
-    assert!(rt; copy.len() == 286 && Sha256::digest(copy.as_slice()) == *SUM);
-    let plain = judge_plainly(rt.alloc(), copy.as_slice())?;
-    assert!(rt; plain == WHOLE);
+    assert!(rt; is_spelled_as_by_another(rt.alloc()));
     Ok(())
 }
 
@@ -53,24 +63,14 @@ fn ledger_of(plain: Plain) -> [u8; 203] {
 }
 
 // Whether both copies with these bytes, which are this, are answered and left, and the ledger mended, as the plain judge has it.
-fn are_adopted_rightly(
-    alloc: Global,
-    ledger: &[u8],
-    bytes: &[u8],
-    plain: Plain,
-) -> Result<bool, AllocError> {
+fn are_adopted_rightly(alloc: Global, ledger: &[u8], bytes: &[u8], plain: Plain) -> bool {
     let new = ledger_of(plain);
     let want = answer_of(plain);
     leaves(alloc, &whole(ledger, bytes), want, &whole(&new, bytes))
 }
 
 // Whether this ledger, the example's, and these two copies are adopted as the example, and it and these two copies are left.
-fn becomes(
-    alloc: Global,
-    ledger: &[u8],
-    copies: (&[u8], &[u8]),
-    left: (&[u8], &[u8]),
-) -> Result<bool, AllocError> {
+fn becomes(alloc: Global, ledger: &[u8], copies: (&[u8], &[u8]), left: (&[u8], &[u8])) -> bool {
     let old = Three {
         ledger,
         first: copies.0,
@@ -84,94 +84,103 @@ fn becomes(
     leaves(alloc, &old, EXAMPLE, &new)
 }
 
-// Whether a copy with these bytes is answered and mended as the plain judge has it: as both copies, and as one beside a good one.
-fn is_adopted_rightly<'a>(
-    alloc: Global,
-    bytes: &'a [u8],
-    good: &'a [u8],
-) -> Result<bool, AllocError> {
-    let plain = judge_plainly(alloc, bytes)?;
+// Whether a copy with these bytes, which is this, is answered and mended as the plain judge has it: as both copies, and as one
+// beside a good one.
+fn is_adopted_as<'a>(alloc: Global, bytes: &'a [u8], good: &'a [u8], plain: Plain) -> bool {
     let stays = if plain == WHOLE { bytes } else { good };
     let ledger = ledger();
-    Ok(
-        are_adopted_rightly(alloc, &ledger, bytes, plain)?
-            && becomes(alloc, &ledger, (bytes, good), (stays, good))?
-            && becomes(alloc, &ledger, (good, bytes), (good, stays))?,
-    )
+    are_adopted_rightly(alloc, &ledger, bytes, plain)
+        && becomes(alloc, &ledger, (bytes, good), (stays, good))
+        && becomes(alloc, &ledger, (good, bytes), (good, stays))
 }
 
-// The first place at which a change of the byte is not answered or mended as it should be.
-fn first_wrong_change(alloc: Global, flips: u8) -> Result<Option<usize>, AllocError> {
-    let copy = example_copy(alloc)?;
-    for at in 0..copy.len() {
-        let mut changed = Vec::from_slice(alloc, copy.as_slice())?;
-        if let Some(byte) = changed.get_mut(at) {
-            *byte ^= flips;
-        }
-        if !is_adopted_rightly(alloc, changed.as_slice(), copy.as_slice())? {
-            return Ok(Some(at));
-        }
+// Whether this is so of what these bytes are for the plain judge.
+fn is_adopted_rightly<'a>(alloc: Global, bytes: &'a [u8], good: &'a [u8]) -> bool {
+    match judge_plainly(alloc, bytes) {
+        Some(plain) => is_adopted_as(alloc, bytes, good, plain),
+        None => false,
     }
-    Ok(None)
+}
+
+// These bytes where the one at this place is another.
+fn flipped(alloc: Global, bytes: &[u8], at: usize, flips: u8) -> Option<Vec<u8>> {
+    let mut changed = joined(alloc, &[bytes])?;
+    if let Some(byte) = changed.get_mut(at) {
+        *byte ^= flips;
+    }
+    Some(changed)
+}
+
+// Whether a change of the byte at this place of this copy is answered and mended as it should be.
+fn is_change_judged(alloc: Global, copy: &[u8], at: usize, flips: u8) -> bool {
+    match flipped(alloc, copy, at, flips) {
+        Some(changed) => is_adopted_rightly(alloc, changed.as_slice(), copy),
+        None => false,
+    }
+}
+
+// Whether this is so of each place.
+fn is_each_byte_judged(alloc: Global, flips: u8) -> bool {
+    match example_copy(alloc) {
+        Some(copy) => {
+            (0..copy.len()).all(|at| is_change_judged(alloc, copy.as_slice(), at, flips))
+        }
+        None => false,
+    }
 }
 
 #[test]
 fn each_byte_of_a_copy_is_judged(rt: HostRuntime) -> Result<(), Fail> {
     for flips in [1u8, 2, 255] {
-        let wrong = first_wrong_change(rt.alloc(), flips)?;
-        assert!(rt; wrong.is_none(), "flips {flips}");
+        assert!(rt; is_each_byte_judged(rt.alloc(), flips), "flips {flips}");
     }
     Ok(())
 }
 
-// The first length to which a copy is cut and not answered or mended as it should be.
-fn first_wrong_cut(alloc: Global) -> Result<Option<usize>, AllocError> {
-    let copy = example_copy(alloc)?;
-    for long in 0..copy.len() {
-        if !is_adopted_rightly(
-            alloc,
-            part(copy.as_slice(), 0, long as u64),
-            copy.as_slice(),
-        )? {
-            return Ok(Some(long));
-        }
+// Whether this copy, cut to this length, is answered and mended as it should be.
+fn is_cut_judged(alloc: Global, copy: &[u8], long: usize) -> bool {
+    is_adopted_rightly(alloc, part(copy, 0, long as u64), copy)
+}
+
+// Whether this is so of each length.
+fn is_each_cut_judged(alloc: Global) -> bool {
+    match example_copy(alloc) {
+        Some(copy) => (0..copy.len()).all(|long| is_cut_judged(alloc, copy.as_slice(), long)),
+        None => false,
     }
-    Ok(None)
 }
 
 #[test]
 fn each_cut_of_a_copy_is_judged(rt: HostRuntime) -> Result<(), Fail> {
-    let wrong = first_wrong_cut(rt.alloc())?;
-    assert!(rt; wrong.is_none());
+    assert!(rt; is_each_cut_judged(rt.alloc()));
     Ok(())
+}
+
+// Whether this copy with bytes behind it is answered and mended as it should be.
+fn is_more_judged(alloc: Global, copy: &[u8]) -> bool {
+    match joined(alloc, &[copy, b"\x01behind"]) {
+        Some(more) => is_adopted_rightly(alloc, more.as_slice(), copy),
+        None => false,
+    }
+}
+
+// Whether this is so of the example's copy.
+fn is_longer_example_judged(alloc: Global) -> bool {
+    match example_copy(alloc) {
+        Some(copy) => is_more_judged(alloc, copy.as_slice()),
+        None => false,
+    }
 }
 
 // Bytes behind the gate that ends the entries are no part of a copy.
 #[test]
 fn what_is_behind_the_last_gate_stays(rt: HostRuntime) -> Result<(), Fail> {
-    let copy = example_copy(rt.alloc())?;
-    let more = joined(rt.alloc(), copy.as_slice(), b"\x01behind")?;
-    let right = is_adopted_rightly(rt.alloc(), more.as_slice(), copy.as_slice())?;
-    assert!(rt; right);
+    assert!(rt; is_longer_example_judged(rt.alloc()));
     Ok(())
 }
 
-// The text of the example where a byte of it is another.
-fn other_text(at: usize, flips: u8) -> [u8; 203] {
-    let mut text = ledger();
-    if let Some(byte) = text.get_mut(at) {
-        *byte ^= flips;
-    }
-    text
-}
-
 // Whether these two copies are refused since their texts differ first at this place, and left as they are.
-fn are_refused(
-    alloc: Global,
-    first: &[u8],
-    second: &[u8],
-    place: usize,
-) -> Result<bool, AllocError> {
+fn are_refused(alloc: Global, first: &[u8], second: &[u8], place: usize) -> bool {
     let ledger = ledger();
     let files = Three {
         ledger: &ledger,
@@ -181,52 +190,64 @@ fn are_refused(
     leaves(alloc, &files, Answer::Differ { at: place as u64 }, &files)
 }
 
-// Whether two good copies whose texts differ first at this place are refused, whichever is first, and left as they are.
-fn differ_at(alloc: Global, place: usize) -> Result<bool, AllocError> {
-    let one = example_copy(alloc)?;
-    let other = copy_of(alloc, &other_text(place, 128), ENDS)?;
-    let (one, other) = (one.as_slice(), other.as_slice());
-    Ok(are_refused(alloc, one, other, place)? && are_refused(alloc, other, one, place)?)
+// Whether this copy and one whose text differs first at this place are refused, whichever is first, and left as they are.
+fn differs_at(alloc: Global, one: &[u8], place: usize) -> bool {
+    match copy_of(alloc, &other_text(place, 128), ENDS) {
+        Some(other) => {
+            are_refused(alloc, one, other.as_slice(), place)
+                && are_refused(alloc, other.as_slice(), one, place)
+        }
+        None => false,
+    }
+}
+
+// Whether this is so of the example's copy.
+fn example_differs_at(alloc: Global, place: usize) -> bool {
+    match example_copy(alloc) {
+        Some(copy) => differs_at(alloc, copy.as_slice(), place),
+        None => false,
+    }
 }
 
 // Every byte of a text may be another one but the gates and the lengths of its records.
 #[test]
 fn texts_that_differ_are_refused_at_the_place(rt: HostRuntime) -> Result<(), Fail> {
     for place in [1usize, 9, 16, 18, 23, 100, 201] {
-        let right = differ_at(rt.alloc(), place)?;
-        assert!(rt; right, "at {place}");
+        assert!(rt; example_differs_at(rt.alloc(), place), "at {place}");
     }
     Ok(())
 }
 
-// Whether of the example's copy and one of so many of its pieces the longer one is kept, whichever is first.
-fn keeps_the_longer(alloc: Global, pieces: usize) -> Result<bool, AllocError> {
-    let copy = example_copy(alloc)?;
-    let short = copy_of(alloc, &ledger(), &ENDS[..pieces.min(ENDS.len())])?;
-    let (copy, short) = (copy.as_slice(), short.as_slice());
+// Whether of this copy and one of so many of its pieces the longer one is kept, whichever is first.
+fn is_kept(alloc: Global, copy: &[u8], pieces: usize) -> bool {
     let ledger = ledger();
-    Ok(
-        becomes(alloc, &ledger, (short, copy), (copy, copy))?
-            && becomes(alloc, &ledger, (copy, short), (copy, copy))?,
-    )
+    match copy_of(alloc, &ledger, &ENDS[..pieces.min(ENDS.len())]) {
+        Some(short) => {
+            becomes(alloc, &ledger, (short.as_slice(), copy), (copy, copy))
+                && becomes(alloc, &ledger, (copy, short.as_slice()), (copy, copy))
+        }
+        None => false,
+    }
+}
+
+// Whether this is so of the example's copy.
+fn keeps_the_longer(alloc: Global, pieces: usize) -> bool {
+    match example_copy(alloc) {
+        Some(copy) => is_kept(alloc, copy.as_slice(), pieces),
+        None => false,
+    }
 }
 
 #[test]
 fn the_longer_copy_is_kept(rt: HostRuntime) -> Result<(), Fail> {
     for pieces in [1usize, 2] {
-        let right = keeps_the_longer(rt.alloc(), pieces)?;
-        assert!(rt; right, "{pieces} pieces");
+        assert!(rt; keeps_the_longer(rt.alloc(), pieces), "{pieces} pieces");
     }
     Ok(())
 }
 
 // Whether of these copies the second one, which has a record more, is kept, and the ledger becomes this longer one.
-fn follows<'x>(
-    alloc: Global,
-    copy: &'x [u8],
-    long: &'x [u8],
-    new: &'x [u8],
-) -> Result<bool, AllocError> {
+fn follows<'x>(alloc: Global, copy: &'x [u8], long: &'x [u8], new: &'x [u8]) -> bool {
     let old = ledger();
     let files = Three {
         second: long,
@@ -239,46 +260,66 @@ fn follows<'x>(
     leaves(alloc, &files, want, &whole(new, long))
 }
 
+// The same of this copy and one of the longer ledger.
+fn follows_longer(alloc: Global, copy: &[u8], new: &[u8]) -> bool {
+    match copy_of(alloc, part(new, 0, 212), &[17, 202, 212]) {
+        Some(long) => follows(alloc, copy, long.as_slice(), new),
+        None => false,
+    }
+}
+
+// The same where the longer ledger has a fence more.
+fn follows_fenced(alloc: Global, copy: &[u8]) -> bool {
+    match fenced(alloc) {
+        Some(new) => follows_longer(alloc, copy, new.as_slice()),
+        None => false,
+    }
+}
+
 // A copy with a record more than the other: the ledger becomes the longer one.
-fn adds_the_record(alloc: Global) -> Result<bool, AllocError> {
-    let new = fenced(alloc)?;
-    let text = part(new.as_slice(), 0, 212);
-    let long = copy_of(alloc, text, &[17, 202, 212])?;
-    let copy = example_copy(alloc)?;
-    follows(alloc, copy.as_slice(), long.as_slice(), new.as_slice())
+fn adds_the_record(alloc: Global) -> bool {
+    match example_copy(alloc) {
+        Some(copy) => follows_fenced(alloc, copy.as_slice()),
+        None => false,
+    }
 }
 
 #[test]
 fn the_ledger_follows_the_longer_copy(rt: HostRuntime) -> Result<(), Fail> {
-    let right = adds_the_record(rt.alloc())?;
-    assert!(rt; right);
+    assert!(rt; adds_the_record(rt.alloc()));
     Ok(())
+}
+
+// Whether nothing is done without copies where the ledger is this.
+fn is_off(alloc: Global, ledger: &[u8]) -> bool {
+    let files = whole(ledger, b"");
+    leaves(alloc, &files, Answer::Off, &files)
 }
 
 // Without copies nothing is done, whatever the ledger is.
 #[test]
 fn no_copies_are_off(rt: HostRuntime) -> Result<(), Fail> {
     for ledger in [b"".as_slice(), b"\x01AEALEDG1", b"\0\x01"] {
-        let files = whole(ledger, b"");
-        let right = leaves(rt.alloc(), &files, Answer::Off, &files)?;
-        assert!(rt; right);
+        assert!(rt; is_off(rt.alloc(), ledger));
     }
     Ok(())
 }
 
 // Whether a disk whose copies are whole is adopted twice with the same answer, and has the example's files then.
-fn is_adopted_twice(alloc: Global) -> Result<bool, AllocError> {
-    let Some(mut disk) = copied_disk(alloc, b"")? else {
-        return Ok(false);
-    };
-    let twice = adopts(&mut disk) == EXAMPLE && adopts(&mut disk) == EXAMPLE;
-    Ok(twice && has_example(alloc, &mut disk)?)
+fn is_adopted_twice(alloc: Global) -> bool {
+    match copied_disk(alloc, b"") {
+        Some(mut disk) => {
+            adopts(&mut disk) == EXAMPLE
+                && adopts(&mut disk) == EXAMPLE
+                && has_example(alloc, &mut disk)
+        }
+        None => false,
+    }
 }
 
 // A disk whose ledger and copies are whole is adopted twice with the same answer.
 #[test]
 fn what_was_adopted_is_adopted_again(rt: HostRuntime) -> Result<(), Fail> {
-    let right = is_adopted_twice(rt.alloc())?;
-    assert!(rt; right);
+    assert!(rt; is_adopted_twice(rt.alloc()));
     Ok(())
 }

@@ -1,11 +1,11 @@
 //! The example: the ledger of AE(3,2,5) with blocks of 64 bytes on four sites, after one object `a` with the bytes `abc`; and
 //! copies that are spelled by hand.
 
+use crate::joining::{add, digest_of_parts, joined};
 use crate::plain::part;
 use aea_envelope::digest_of;
 use aea_lattice::{BlockId, Class};
-use sha2::{Digest, Sha256};
-use std::alloc::{AllocError, Global};
+use std::alloc::Global;
 
 // Its header, its first gate, and the body of its record up to the digest of the object.
 const FRONT: &[u8; 34] = b"\x01AEALEDG1\x03\x02\x05\x04\0\0\0\x40\
@@ -53,44 +53,25 @@ pub fn ledger() -> [u8; 203] {
     bytes
 }
 
-/// These bytes, and others after them.
-pub fn joined(alloc: Global, one: &[u8], other: &[u8]) -> Result<Vec<u8>, AllocError> {
-    let mut bytes = Vec::from_slice(alloc, one)?;
-    bytes.extend_from_slice(other)?;
-    Ok(bytes)
-}
-
-// The link of an entry with this piece, and these bytes for its length, after a link.
-fn next_link(
-    alloc: Global,
-    link: [u8; 32],
-    count: &[u8],
-    piece: &[u8],
-) -> Result<[u8; 32], AllocError> {
-    let mut hashed = joined(alloc, &link, count)?;
-    hashed.extend_from_slice(piece)?;
-    Ok(Sha256::digest(hashed.as_slice()))
+/// The ledger where a byte of it is another.
+pub fn other_text(at: usize, flips: u8) -> [u8; 203] {
+    let mut text = ledger();
+    if let Some(byte) = text.get_mut(at) {
+        *byte ^= flips;
+    }
+    text
 }
 
 // Adds an entry with this piece after a link, and gives its link.
-fn add_entry(
-    alloc: Global,
-    bytes: &mut Vec<u8>,
-    link: [u8; 32],
-    piece: &[u8],
-) -> Result<[u8; 32], AllocError> {
+fn add_entry(alloc: Global, bytes: &mut Vec<u8>, link: [u8; 32], piece: &[u8]) -> Option<[u8; 32]> {
     let count = u32::try_from(piece.len()).unwrap_or(0).to_be_bytes();
-    let next = next_link(alloc, link, &count, piece)?;
-    bytes.push(1)?;
-    bytes.extend_from_slice(&count)?;
-    bytes.extend_from_slice(piece)?;
-    bytes.extend_from_slice(&next)?;
-    Ok(next)
+    let next = digest_of_parts(alloc, &[link.as_slice(), &count, piece])?;
+    add(bytes, &[b"\x01".as_slice(), &count, piece, &next]).then_some(next)
 }
 
 /// The copy of a text whose pieces end at these places.
-pub fn copy_of(alloc: Global, text: &[u8], ends: &[u64]) -> Result<Vec<u8>, AllocError> {
-    let mut bytes = Vec::from_slice(alloc, b"\x01AEACOPY1")?;
+pub fn copy_of(alloc: Global, text: &[u8], ends: &[u64]) -> Option<Vec<u8>> {
+    let mut bytes = joined(alloc, &[b"\x01AEACOPY1".as_slice()])?;
     let mut link = [0; 32];
     let mut from = 0u64;
     for end in ends {
@@ -98,27 +79,23 @@ pub fn copy_of(alloc: Global, text: &[u8], ends: &[u64]) -> Result<Vec<u8>, Allo
         link = add_entry(alloc, &mut bytes, link, piece)?;
         from = *end;
     }
-    bytes.push(0)?;
-    Ok(bytes)
+    add(&mut bytes, &[b"\0".as_slice()]).then_some(bytes)
 }
 
 /// The ledger with a fence more.
-pub fn fenced(alloc: Global) -> Result<Vec<u8>, AllocError> {
-    let mut bytes = joined(alloc, part(&ledger(), 0, 202), FENCE)?;
-    bytes.push(0)?;
-    Ok(bytes)
+pub fn fenced(alloc: Global) -> Option<Vec<u8>> {
+    joined(alloc, &[part(&ledger(), 0, 202), FENCE, b"\0"])
 }
 
 /// The same where the gate before the fence is closed.
-pub fn closed(alloc: Global) -> Result<Vec<u8>, AllocError> {
-    let mut bytes = fenced(alloc)?;
-    if let Some(gate) = bytes.get_mut(202) {
-        *gate = 0;
-    }
-    Ok(bytes)
+pub fn closed(alloc: Global) -> Option<Vec<u8>> {
+    joined(
+        alloc,
+        &[part(&ledger(), 0, 202), b"\0", part(FENCE, 1, 9), b"\0"],
+    )
 }
 
 /// The copy of the example.
-pub fn example_copy(alloc: Global) -> Result<Vec<u8>, AllocError> {
+pub fn example_copy(alloc: Global) -> Option<Vec<u8>> {
     copy_of(alloc, &ledger(), ENDS)
 }

@@ -3,9 +3,13 @@
 #![tactic(auto)]
 
 #[cfg(test)]
+mod adding;
+#[cfg(test)]
 mod adopting;
 #[cfg(test)]
 mod example;
+#[cfg(test)]
+mod joining;
 #[cfg(test)]
 mod keeping;
 #[cfg(test)]
@@ -16,6 +20,8 @@ mod plain;
 mod starting;
 #[cfg(test)]
 mod stops;
+#[cfg(test)]
+mod surviving;
 #[cfg(test)]
 mod three;
 #[cfg(test)]

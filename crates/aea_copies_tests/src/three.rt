@@ -2,8 +2,8 @@
 
 use crate::example::{example_copy, ledger};
 use aea_adopt::{AdoptFault, Adopted, adopt};
-use aea_disk::{Disk, DiskFault, SureDisk};
-use std::alloc::{AllocError, Global};
+use aea_disk::{Disk, DiskFault, FailDisk, MemDisk, SureDisk};
+use std::alloc::Global;
 
 /// What the three files have.
 #[derive(Clone, Copy)]
@@ -32,49 +32,65 @@ pub fn whole<'a>(ledger: &'a [u8], copy: &'a [u8]) -> Three<'a> {
     }
 }
 
+// Cuts a file to nothing, if it has bytes.
+fn empty<D: Disk>(disk: &mut D, file: u8) -> bool {
+    let file = file.min(66);
+    match disk.len(file) {
+        Ok(long) => long == 0 || disk.cut(file, 0).is_ok(),
+        Err(_) => false,
+    }
+}
+
 /// Makes these the bytes of a file, of one of those that are used here. None of them has more than 65,536 bytes.
-pub fn set<D: Disk>(disk: &mut D, file: u8, bytes: &[u8]) -> Result<(), DiskFault> {
-    if 66 < file || 65_536 < bytes.len() {
-        return Err(DiskFault);
-    }
-    if disk.len(file)? > 0 {
-        disk.cut(file, 0)?;
-    }
-    disk.write(file, 0, bytes)
+pub fn set<D: Disk>(disk: &mut D, file: u8, bytes: &[u8]) -> bool {
+    file <= 66 && bytes.len() <= 65_536 && empty(disk, file) && disk.write(file, 0, bytes).is_ok()
 }
 
 /// Writes some bytes, at most 65,536 of them, into a file that is used here.
 pub fn put<D: Disk>(disk: &mut D, file: u8, at: u64, bytes: &[u8]) -> Result<(), DiskFault> {
     if 66 < file || 1 << 40 < at || 65_536 < bytes.len() {
-        return Err(DiskFault);
+        Err(DiskFault)
+    } else {
+        disk.write(file, at, bytes)
     }
-    disk.write(file, at, bytes)
 }
 
 /// Cuts a file that is used here to this length. No call is made where it is shorter.
 pub fn cut<D: Disk>(disk: &mut D, file: u8, long: u64) -> Result<(), DiskFault> {
     if 66 < file || 1 << 40 < long || disk.len(file)? < long {
-        return Err(DiskFault);
+        Err(DiskFault)
+    } else {
+        disk.cut(file, long)
     }
-    disk.cut(file, long)
 }
 
 /// Makes these the three files.
-pub fn set_all<D: Disk>(disk: &mut D, three: &Three) -> Result<(), DiskFault> {
-    set(disk, 0, three.ledger)?;
-    set(disk, 65, three.first)?;
-    set(disk, 66, three.second)?;
-    disk.sync()
+pub fn set_all<D: Disk>(disk: &mut D, three: &Three) -> bool {
+    set(disk, 0, three.ledger)
+        && set(disk, 65, three.first)
+        && set(disk, 66, three.second)
+        && disk.sync().is_ok()
 }
 
 /// A disk with these files, with space for 1,024 bytes in each.
-pub fn disk_of(alloc: Global, three: &Three) -> Result<Option<SureDisk>, AllocError> {
-    let mut disk = SureDisk::new(alloc, 0, 1024, 0)?;
-    Ok(set_all(&mut disk, three).is_ok().then_some(disk))
+pub fn disk_of(alloc: Global, three: &Three) -> Option<SureDisk> {
+    let mut disk = SureDisk::new(alloc, 0, 1024, 0).ok()?;
+    set_all(&mut disk, three).then_some(disk)
+}
+
+/// A disk with these files that lists its calls.
+pub fn listed_disk(alloc: Global, three: &Three) -> Option<MemDisk> {
+    let mut disk = MemDisk::new(alloc, 0, 1024, 0, 512, 8192).ok()?;
+    set_all(&mut disk, three).then_some(disk)
+}
+
+/// A disk with these files whose call of this number, counted from 1, fails.
+pub fn failing_disk(alloc: Global, three: &Three, call: u64) -> Option<FailDisk<SureDisk>> {
+    FailDisk::new(alloc, disk_of(alloc, three)?, &[call]).ok()
 }
 
 /// A disk with this ledger and two copies of the example.
-pub fn copied_disk(alloc: Global, ledger: &[u8]) -> Result<Option<SureDisk>, AllocError> {
+pub fn copied_disk(alloc: Global, ledger: &[u8]) -> Option<SureDisk> {
     let copy = example_copy(alloc)?;
     disk_of(alloc, &whole(ledger, copy.as_slice()))
 }
@@ -97,12 +113,13 @@ pub fn has_all<D: Disk>(disk: &mut D, want: &Three) -> bool {
 fn in_short(found: Result<Adopted, AdoptFault>) -> Answer {
     match found {
         Ok(found) => {
-            if !found.on {
-                return Answer::Off;
-            }
-            Answer::On {
-                end: found.end,
-                gate: found.gates[0],
+            if found.on {
+                Answer::On {
+                    end: found.end,
+                    gate: found.gates[0],
+                }
+            } else {
+                Answer::Off
             }
         }
         Err(AdoptFault::CopiesBad { first, second }) => Answer::Bad { first, second },
@@ -117,11 +134,11 @@ pub fn adopts<D: Disk>(disk: &mut D) -> Answer {
 }
 
 /// Whether adopting these files answers so, and leaves those.
-pub fn leaves(alloc: Global, old: &Three, want: Answer, new: &Three) -> Result<bool, AllocError> {
-    let Some(mut disk) = disk_of(alloc, old)? else {
-        return Ok(false);
-    };
-    Ok(adopts(&mut disk) == want && has_all(&mut disk, new))
+pub fn leaves(alloc: Global, old: &Three, want: Answer, new: &Three) -> bool {
+    match disk_of(alloc, old) {
+        Some(mut disk) => adopts(&mut disk) == want && has_all(&mut disk, new),
+        None => false,
+    }
 }
 
 /// What is answered where the example is adopted.
@@ -131,7 +148,9 @@ pub const EXAMPLE: Answer = Answer::On {
 };
 
 /// Whether the example's files are there.
-pub fn has_example<D: Disk>(alloc: Global, disk: &mut D) -> Result<bool, AllocError> {
-    let copy = example_copy(alloc)?;
-    Ok(has_all(disk, &whole(&ledger(), copy.as_slice())))
+pub fn has_example<D: Disk>(alloc: Global, disk: &mut D) -> bool {
+    match example_copy(alloc) {
+        Some(copy) => has_all(disk, &whole(&ledger(), copy.as_slice())),
+        None => false,
+    }
 }

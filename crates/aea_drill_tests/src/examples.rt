@@ -1,10 +1,10 @@
 //! Worked examples of whole runs.
 
-use crate::sizes::add_site;
-use aea_cli::{Command, Status, parse_words};
-use aea_lattice::Lattice;
-use aea_runs::{run_line, words_of};
-use std::alloc::{AllocError, Global};
+use crate::shared::command_of;
+use crate::sizes::lost_site;
+use aea_cli::{Command, Status};
+use aea_runs::run_line;
+use std::alloc::Global;
 use std::test::Fail;
 
 // The words, the damage list, the status, and what is printed. One more, of two codewords, is a case of aea_tests.
@@ -57,22 +57,16 @@ fn outcomes() -> &'static [Outcome] {
 }
 
 // Whether the run ends so, with its list read to the end and all that it prints flushed.
-fn prints(
-    alloc: Global,
-    line: &str,
-    list: &str,
-    status: Status,
-    text: &str,
-) -> Result<bool, AllocError> {
-    let left = run_line(alloc, line, list.as_bytes())?;
-    let is_whole = left.unread == 0 && left.out.flushed == left.out.bytes().len();
-    Ok(is_whole && left.is(status, text, ""))
+fn prints(alloc: Global, line: &str, list: &str, status: Status, text: &str) -> bool {
+    run_line(alloc, line, list.as_bytes()).is_ok_and(|left| {
+        left.unread == 0 && left.out.flushed == left.out.bytes().len() && left.is(status, text, "")
+    })
 }
 
 #[test]
 fn drills_print_the_outcome(rt: HostRuntime) -> Result<(), Fail> {
     for (line, list, status, text) in outcomes() {
-        assert!(rt; prints(rt.alloc(), line, list, *status, text)?, "{line}");
+        assert!(rt; prints(rt.alloc(), line, list, *status, text), "{line}");
     }
     Ok(())
 }
@@ -170,15 +164,16 @@ fn no_commands() -> &'static [&'static str] {
 }
 
 // Whether the words of the line are no command, and nothing is read.
-fn is_no_command(alloc: Global, line: &str) -> Result<bool, AllocError> {
-    let left = run_line(alloc, line, b"d1\n")?;
-    Ok(left.is(Status::Words, "", "words: no such command\n") && left.unread == 3)
+fn is_no_command(alloc: Global, line: &str) -> bool {
+    run_line(alloc, line, b"d1\n").is_ok_and(|left| {
+        left.is(Status::Words, "", "words: no such command\n") && left.unread == 3
+    })
 }
 
 #[test]
 fn words_that_are_no_command_read_nothing(rt: HostRuntime) -> Result<(), Fail> {
     for line in no_commands() {
-        assert!(rt; is_no_command(rt.alloc(), line)?, "{line}");
+        assert!(rt; is_no_command(rt.alloc(), line), "{line}");
     }
     Ok(())
 }
@@ -203,58 +198,62 @@ fn bad_lists() -> [(&'static str, u32); 13] {
 }
 
 // Whether a drill of this list is refused, with this on the errors.
-fn is_refused(alloc: Global, list: &str, err: &str) -> Result<bool, AllocError> {
-    let left = run_line(alloc, "drill 2 2 2 11", list.as_bytes())?;
-    Ok(left.is(Status::Refused, "", err))
+fn is_refused(alloc: Global, list: &str, err: &str) -> bool {
+    let left = run_line(alloc, "drill 2 2 2 11", list.as_bytes());
+    left.is_ok_and(|left| left.is(Status::Refused, "", err))
 }
 
 // Whether it is refused for the line with this number.
-fn is_refused_at(alloc: Global, list: &str, number: u32) -> Result<bool, AllocError> {
-    let want = format!(in alloc; "refused: bad block at line {number}\n")?;
-    is_refused(alloc, list, want.as_str())
+fn is_refused_at(alloc: Global, list: &str, number: u32) -> bool {
+    match format!(in alloc; "refused: bad block at line {number}\n") {
+        Ok(want) => is_refused(alloc, list, want.as_str()),
+        Err(_) => false,
+    }
 }
 
 #[test]
 fn the_first_bad_line_is_refused(rt: HostRuntime) -> Result<(), Fail> {
     for (list, number) in bad_lists() {
-        assert!(rt; is_refused_at(rt.alloc(), list, number)?, "{list:?}");
+        assert!(rt; is_refused_at(rt.alloc(), list, number), "{list:?}");
     }
     Ok(())
 }
 
 // Whether the drill of this list is done, with this report, and the list is read to its end.
-fn is_peeled(alloc: Global, list: &str, want: &str) -> Result<bool, AllocError> {
-    let left = run_line(alloc, "drill 3 2 5 40", list.as_bytes())?;
-    Ok(left.is(Status::Done, want, "") && left.unread == 0)
+fn is_peeled(alloc: Global, list: &str, want: &str) -> bool {
+    let left = run_line(alloc, "drill 3 2 5 40", list.as_bytes());
+    left.is_ok_and(|left| left.is(Status::Done, want, "") && left.unread == 0)
+}
+
+// Whether the drill of a lost site is done, with this head of its report and these lines behind it.
+fn is_site_peeled(alloc: Global, head: &str, first: &str) -> bool {
+    lost_site(alloc, 40, head).is_some_and(|site| {
+        is_peeled(alloc, site.list.as_str(), site.want.as_str())
+            && site.want.as_str().contains(first)
+    })
 }
 
 #[test]
 fn a_lost_site_of_four_is_peeled(rt: HostRuntime) -> Result<(), Fail> {
-    let lattice = Lattice::new(3, 2, 5, 40).ok_or("no lattice")?;
     let head = "aea-report 1\nlattice 3 2 5 40\nledger none\ncounts 40 40 0 0\n";
-    let mut list = String::new(rt.alloc());
-    let mut want = String::from_str(rt.alloc(), head)?;
-    add_site(&lattice, &mut list, &mut want)?;
-    let want = want.as_str();
     let first = "0\npeeled h1\npeeled d2\npeeled l3\npeeled r4\npeeled h5\n";
-    assert!(rt; is_peeled(rt.alloc(), list.as_str(), want)? && want.contains(first));
+    assert!(rt; is_site_peeled(rt.alloc(), head, first));
     Ok(())
 }
 
 // α, s, p and n of the drill that the words of the line are, none where they are none.
-fn drill_of(alloc: Global, line: &str) -> Result<Option<(u8, u8, u8, u32)>, Fail> {
-    let words = words_of(alloc, line)?;
-    let command = parse_words(alloc, words.as_slice())?;
+fn drill_of(alloc: Global, line: &str) -> Option<(u8, u8, u8, u32)> {
+    let command = command_of(alloc, line);
     match &command {
         Some(Command::Drill { lattice }) => {
-            Ok(Some((lattice.alpha(), lattice.s(), lattice.p(), lattice.n())))
+            Some((lattice.alpha(), lattice.s(), lattice.p(), lattice.n()))
         }
-        _ => Ok(None),
+        _ => None,
     }
 }
 
 #[test]
 fn words_are_parsed(rt: HostRuntime) -> Result<(), Fail> {
-    assert!(rt; drill_of(rt.alloc(), "drill 3 2 5 40")? == Some((3, 2, 5, 40)));
+    assert!(rt; drill_of(rt.alloc(), "drill 3 2 5 40") == Some((3, 2, 5, 40)));
     Ok(())
 }

@@ -4,6 +4,7 @@ ghost use Rattle.std.specs.Prelude.{◌≡◌};
 ghost use Rattle.aea_lattice.specs.Closure.{is_among};
 
 use crate::reports::plain_report;
+use crate::shared::fenced;
 use aea_cli::Status;
 use aea_lattice::{BlockId, Lattice};
 use aea_peel::{Plan, peel};
@@ -65,11 +66,12 @@ fn fenced_shapes() -> &'static [(u8, u8, u8, &'static [u32], u32)] {
 // How many of a hundred blocks are damaged.
 const PERCENTS: [u64; 4] = [1, 10, 25, 50];
 
-// The blocks of a lattice, in number order.
+// The blocks of a lattice that are lost and those that are left, in number order, and the closure of these.
 #[derive(Drop)]
 struct Damage {
     lost: Vec<BlockId>,
     left: Vec<BlockId>,
+    reached: Vec<BlockId>,
 }
 
 // Loses so many percent of the blocks, by the generator that begins with the seed.
@@ -90,7 +92,12 @@ fn lose_blocks(
             left.push(lattice.block(k))?;
         }
     }
-    Ok(Damage { lost, left })
+    let reached = closure(alloc, lattice, left.as_slice())?;
+    Ok(Damage {
+        lost,
+        left,
+        reached,
+    })
 }
 
 // Whether the block is one of these.
@@ -106,8 +113,13 @@ fn plan_repair(alloc: Global, lattice: &Lattice, left: &[BlockId]) -> Result<Pla
     peel(alloc, lattice, &view)
 }
 
-// The blocks that the steps give.
-fn given_blocks(alloc: Global, plan: &Plan) -> Result<Vec<BlockId>, AllocError> {
+// The blocks that the steps of that plan give.
+fn given_blocks(
+    alloc: Global,
+    lattice: &Lattice,
+    left: &[BlockId],
+) -> Result<Vec<BlockId>, AllocError> {
+    let plan = plan_repair(alloc, lattice, left)?;
     let mut blocks = Vec::new(alloc);
     for k in 0..plan.steps.len() {
         if let Some(step) = plan.steps.get(k) {
@@ -135,58 +147,66 @@ fn is_plan_of(steps: &[BlockId], left: &[BlockId], reached: &[BlockId]) -> bool 
             .all(|b| steps.contains(b) || left.contains(b))
 }
 
-// Whether the plan where these blocks are left gives exactly the reached ones that are not left.
-fn is_planned(
-    alloc: Global,
-    lattice: &Lattice,
-    left: &[BlockId],
-    reached: &[BlockId],
-) -> Result<bool, AllocError> {
-    let plan = plan_repair(alloc, lattice, left)?;
-    let steps = given_blocks(alloc, &plan)?;
-    Ok(is_plan_of(steps.as_slice(), left, reached))
-}
-
-// Whether the drill of the lattice and this list prints this report, and its status says whether a block is lost in it.
-fn is_drilled(
-    alloc: Global,
-    lattice: &Lattice,
-    list: &str,
-    want: &str,
-) -> Result<bool, AllocError> {
-    let (alpha, s, p, n) = (lattice.alpha(), lattice.s(), lattice.p(), lattice.n());
-    let line = format!(in alloc; "drill {alpha} {s} {p} {n}")?;
-    let left = run_line(alloc, line.as_str(), list.as_bytes())?;
-    let is_done = left.status == Status::Done;
-    Ok(left.out.bytes() == want.as_bytes() && is_done == !want.contains("\nlost "))
-}
-
-// Whether the drill of these lost blocks prints the plain report.
-fn drills_plainly(
-    alloc: Global,
-    lattice: &Lattice,
-    lost: &[BlockId],
-    reached: &[BlockId],
-) -> Result<bool, AllocError> {
-    let list = damage_list(alloc, lost)?;
-    let want = plain_report(alloc, lattice, lost, reached)?;
-    is_drilled(alloc, lattice, list.as_str(), want.as_str())
-}
-
-// What disagrees with the plain programs where so many percent of the blocks are lost, none where both agree.
-fn first_unlike(
-    alloc: Global,
-    lattice: &Lattice,
-    percent: u64,
-    seed: u64,
-) -> Result<Option<&'static str>, AllocError> {
-    let Damage { lost, left } = lose_blocks(alloc, lattice, percent, seed)?;
-    let reached = closure(alloc, lattice, left.as_slice())?;
-    if !is_planned(alloc, lattice, left.as_slice(), reached.as_slice())? {
-        return Ok(Some("the plan"));
+// Whether the plan gives exactly the reached blocks that are not left.
+fn is_planned(alloc: Global, lattice: &Lattice, damage: &Damage) -> bool {
+    let left = damage.left.as_slice();
+    match given_blocks(alloc, lattice, left) {
+        Ok(steps) => is_plan_of(steps.as_slice(), left, damage.reached.as_slice()),
+        Err(_) => false,
     }
-    let is_so = drills_plainly(alloc, lattice, lost.as_slice(), reached.as_slice())?;
-    Ok((!is_so).then_some("the drill"))
+}
+
+// Whether the run prints this report, and its status says whether a block is lost in it.
+fn prints(alloc: Global, line: &str, list: &str, want: &str) -> bool {
+    run_line(alloc, line, list.as_bytes()).is_ok_and(|left| {
+        let is_done = left.status == Status::Done;
+        left.out.bytes() == want.as_bytes() && is_done == !want.contains("\nlost ")
+    })
+}
+
+// Whether the drill of the lattice and this list does so.
+fn is_drilled(alloc: Global, lattice: &Lattice, list: &str, want: &str) -> bool {
+    let (alpha, s, p, n) = (lattice.alpha(), lattice.s(), lattice.p(), lattice.n());
+    match format!(in alloc; "drill {alpha} {s} {p} {n}") {
+        Ok(line) => prints(alloc, line.as_str(), list, want),
+        Err(_) => false,
+    }
+}
+
+// Whether the drill of this list of the lost blocks prints the plain report.
+fn is_reported(alloc: Global, lattice: &Lattice, damage: &Damage, list: &str) -> bool {
+    let (lost, reached) = (damage.lost.as_slice(), damage.reached.as_slice());
+    match plain_report(alloc, lattice, lost, reached) {
+        Ok(want) => is_drilled(alloc, lattice, list, want.as_str()),
+        Err(_) => false,
+    }
+}
+
+// Whether the drill of the lost blocks does.
+fn drills_plainly(alloc: Global, lattice: &Lattice, damage: &Damage) -> bool {
+    match damage_list(alloc, damage.lost.as_slice()) {
+        Ok(list) => is_reported(alloc, lattice, damage, list.as_str()),
+        Err(_) => false,
+    }
+}
+
+// What disagrees with the plain programs under this damage, none where both agree.
+fn unlike_under(alloc: Global, lattice: &Lattice, damage: &Damage) -> Option<&'static str> {
+    if !is_planned(alloc, lattice, damage) {
+        Some("the plan")
+    } else if !drills_plainly(alloc, lattice, damage) {
+        Some("the drill")
+    } else {
+        None
+    }
+}
+
+// The same where so many percent of the blocks are lost.
+fn first_unlike(alloc: Global, lattice: &Lattice, percent: u64, seed: u64) -> Option<&'static str> {
+    match lose_blocks(alloc, lattice, percent, seed) {
+        Ok(damage) => unlike_under(alloc, lattice, &damage),
+        Err(_) => Some("no memory"),
+    }
 }
 
 #[test]
@@ -196,7 +216,7 @@ fn plans_and_drills_agree_with_the_plain_programs(rt: HostRuntime) -> Result<(),
         let lattice = Lattice::new(*alpha, *s, *p, *n).ok_or("no lattice")?;
         for percent in PERCENTS {
             seed = step(seed);
-            let found = first_unlike(rt.alloc(), &lattice, percent, seed)?;
+            let found = first_unlike(rt.alloc(), &lattice, percent, seed);
             assert!(rt;
                 found == None,
                 "{found:?}: {lattice:?}, {percent} of 100, from {seed}"
@@ -206,26 +226,12 @@ fn plans_and_drills_agree_with_the_plain_programs(rt: HostRuntime) -> Result<(),
     Ok(())
 }
 
-// The lattice of this shape with these fences and n nodes.
-fn fenced(shape: (u8, u8, u8), fences: &[u32], n: u32) -> Option<Lattice> {
-    let (alpha, s, p) = shape;
-    let mut lattice = Lattice::new(alpha, s, p, 0)?;
-    for fence in fences {
-        lattice = lattice.grown(*fence)?.fenced()?;
-    }
-    lattice.grown(n)
-}
-
 // Whether the plan agrees with the plain closure where so many percent of the blocks are lost.
-fn is_planned_plainly(
-    alloc: Global,
-    lattice: &Lattice,
-    percent: u64,
-    seed: u64,
-) -> Result<bool, AllocError> {
-    let Damage { lost: _, left } = lose_blocks(alloc, lattice, percent, seed)?;
-    let reached = closure(alloc, lattice, left.as_slice())?;
-    is_planned(alloc, lattice, left.as_slice(), reached.as_slice())
+fn is_planned_plainly(alloc: Global, lattice: &Lattice, percent: u64, seed: u64) -> bool {
+    match lose_blocks(alloc, lattice, percent, seed) {
+        Ok(damage) => is_planned(alloc, lattice, &damage),
+        Err(_) => false,
+    }
 }
 
 #[test]
@@ -236,7 +242,7 @@ fn plans_over_fences_agree_with_the_plain_closure(rt: HostRuntime) -> Result<(),
         for percent in PERCENTS {
             seed = step(seed);
             assert!(rt;
-                is_planned_plainly(rt.alloc(), &lattice, percent, seed)?,
+                is_planned_plainly(rt.alloc(), &lattice, percent, seed),
                 "{lattice:?}, {percent} of 100, from {seed}"
             );
         }

@@ -1,24 +1,58 @@
 //! A plain report of lost blocks, where a lattice has at most 64 nodes: by an elimination among the sets of nodes whose codewords
-//! contain no known block. A set of nodes is a word, node i its bit i - 1.
+//! contain no known block.
 
+use crate::shared::{add_lost, ends_without};
 use aea_lattice::{BlockId, Lattice};
-use aea_test_helpers::{add_line, ends_of, escapes, masks_of, set_of};
+use aea_test_helpers::{add_line, masks_of, set_of};
 use std::alloc::{AllocError, Global};
 
-// Adds the line of a lost block.
-fn add_lost(alloc: Global, text: &mut String, b: BlockId, set: u64) -> Result<(), AllocError> {
-    let mut name = String::new(alloc);
-    add_line(&mut name, "lost ", b)?;
-    text.push_str(name.as_str().trim_end())?;
-    text.push_str(" by")?;
-    let mut bit = 1u64;
-    for node in 1..65u32 {
-        if set & bit != 0 {
-            write!(text, " {node}")?;
+// How many damaged blocks are peeled, solved and lost, and their lines.
+#[derive(Drop)]
+struct Fates {
+    peeled: u64,
+    solved: u64,
+    lost: u64,
+    lines: String,
+}
+
+impl Fates {
+    // Counts a damaged block, and adds its line. It is peeled where it is reached, and else lost if there is a set of nodes for it.
+    fn add(&mut self, b: BlockId, is_reached: bool, set: Option<u64>) -> Result<(), AllocError> {
+        if is_reached {
+            self.peeled = self.peeled.wrapping_add(1);
+            add_line(&mut self.lines, "peeled ", b)
+        } else if let Some(set) = set {
+            self.lost = self.lost.wrapping_add(1);
+            add_lost(&mut self.lines, "lost ", b, set)
+        } else {
+            self.solved = self.solved.wrapping_add(1);
+            add_line(&mut self.lines, "solved ", b)
         }
-        bit = bit.wrapping_mul(2);
     }
-    text.push_str("\n")
+}
+
+// What becomes of these lost blocks, in number order, where the closure of the others has the reached ones.
+fn fates_of(
+    alloc: Global,
+    lattice: &Lattice,
+    lost: &[BlockId],
+    reached: &[BlockId],
+) -> Result<Fates, AllocError> {
+    let masks = masks_of(alloc, lattice)?;
+    let ends = ends_without(alloc, lattice, masks.as_slice(), lost)?;
+    let mut fates = Fates {
+        peeled: 0,
+        solved: 0,
+        lost: 0,
+        lines: String::new(alloc),
+    };
+    for mask in masks.iter() {
+        let b = mask.block;
+        if lost.contains(&b) {
+            fates.add(b, reached.contains(&b), set_of(ends.as_slice(), mask.nodes))?;
+        }
+    }
+    Ok(fates)
 }
 
 /// The report of these lost blocks, in number order, where the closure of the others has the reached ones.
@@ -28,35 +62,11 @@ pub fn plain_report(
     lost: &[BlockId],
     reached: &[BlockId],
 ) -> Result<String, AllocError> {
-    let masks = masks_of(alloc, lattice)?;
-    let sets = escapes(alloc, lattice, masks.as_slice(), lost)?;
-    let ends = ends_of(alloc, masks.as_slice(), sets)?;
-    let mut lines = String::new(alloc);
-    let (mut peeled, mut solved, mut open) = (0u64, 0u64, 0u64);
-    for mask in masks.iter() {
-        let b = mask.block;
-        if !lost.contains(&b) {
-            continue;
-        }
-        if reached.contains(&b) {
-            peeled = peeled.wrapping_add(1);
-            add_line(&mut lines, "peeled ", b)?;
-            continue;
-        }
-        match set_of(ends.as_slice(), mask.nodes) {
-            None => {
-                solved = solved.wrapping_add(1);
-                add_line(&mut lines, "solved ", b)?;
-            }
-            Some(set) => {
-                open = open.wrapping_add(1);
-                add_lost(alloc, &mut lines, b, set)?;
-            }
-        }
-    }
+    let fates = fates_of(alloc, lattice, lost, reached)?;
     let (alpha, s, p, n) = (lattice.alpha(), lattice.s(), lattice.p(), lattice.n());
+    let (peeled, solved, open) = (fates.peeled, fates.solved, fates.lost);
     let damaged = lost.len();
-    let lines = lines.as_str();
+    let lines = fates.lines.as_str();
     format!(in alloc;
         "aea-report 1\nlattice {alpha} {s} {p} {n}\nledger none\ncounts {damaged} {peeled} {solved} {open}\n{lines}"
     )

@@ -1,24 +1,60 @@
-//! Cells that change while an object is fetched.
+//! Cells that change while an object is got or fetched.
 
+use crate::clashes::line_of_payloads;
+use crate::pages::{Change, ends_changed};
 use aea_cli::Status;
-use aea_disk::SureDisk;
-use aea_runs::{
-    Ended, Faults, NONE, PAGE, archive_of_pages, bytes_of_pages, clash_line, digest_of, run_failing,
-};
-use aea_test_helpers::{FlippingDisk, spoil_cell};
+use aea_runs::{PAGE, bytes_of_pages};
 use std::alloc::Global;
 use std::test::Fail;
 
 // The bytes of a block.
 const BLOCK: usize = 4096;
 
-// The payload of the datum of this node of the object of these bytes.
-fn payload_of(alloc: Global, bytes: &[u8], node: u32) -> Result<Vec<u8>, Fail> {
-    let mut payload = Vec::new(alloc);
-    let datum = bytes.chunks(BLOCK).nth((node as usize).saturating_sub(1));
-    payload.extend_from_slice(datum.ok_or("no datum")?)?;
-    payload.resize(BLOCK, 0)?;
-    Ok(payload)
+// The read from which on cells are changed for a get, its status and line, and how many of so many bytes are written: 49 cells are
+// read in each pass, the first read of the second pass is the 50th, and a page that is full is written when the next block comes.
+fn changes(long: usize) -> [(u64, Status, &'static str, usize); 7] {
+    [
+        (1, Status::Refused, "refused: damaged d1\n", 0),
+        (49, Status::Refused, "refused: damaged d49\n", 0),
+        (50, Status::Refused, "refused: damaged d1\n", 0),
+        (66, Status::Refused, "refused: damaged d17\n", 0),
+        (67, Status::Refused, "refused: damaged d18\n", PAGE),
+        (98, Status::Refused, "refused: damaged d49\n", 2 * PAGE),
+        (99, Status::Done, "", long),
+    ]
+}
+
+// The change of the first byte of what is read, from this read of a cell on.
+fn from_read(from: u64) -> Change {
+    Change {
+        is_damaged: false,
+        byte: 0,
+        from,
+    }
+}
+
+#[test]
+fn a_cell_that_changes_between_the_passes_is_damaged(rt: HostRuntime) -> Result<(), Fail> {
+    let bytes = bytes_of_pages(rt.alloc())?;
+    for (from, status, line, written) in changes(bytes.len()) {
+        let (change, want) = (from_read(from), (status, line, written));
+        assert!(rt;
+            ends_changed(rt.alloc(), "get pages", bytes.as_slice(), change, want),
+            "{from}"
+        );
+    }
+    Ok(())
+}
+
+// The payload of the datum of this node of the object of these bytes, whose fifth byte is flipped in these bits.
+fn payload_of(alloc: Global, bytes: &[u8], node: u32, bits: u8) -> Option<Vec<u8>> {
+    let datum = bytes.chunks(BLOCK).nth((node as usize).saturating_sub(1))?;
+    let mut payload = Vec::from_slice(alloc, datum).ok()?;
+    let is_whole = payload.resize(BLOCK, 0).is_ok();
+    if let Some(byte) = payload.as_mut_slice().get_mut(4) {
+        *byte ^= bits;
+    }
+    is_whole.then_some(payload)
 }
 
 // The line of the clash of the block of this node and class, whose payload is the datum of the node, where the fifth byte of the
@@ -29,36 +65,28 @@ fn line_of_changed(
     block: &str,
     class: u8,
     node: u32,
-) -> Result<String, Fail> {
-    let mut payload = payload_of(alloc, bytes, node)?;
-    let recorded = digest_of(alloc, class, u64::from(node), payload.as_slice())?;
-    if let Some(byte) = payload.as_mut_slice().get_mut(4) {
-        *byte ^= 1;
-    }
-    let computed = digest_of(alloc, class, u64::from(node), payload.as_slice())?;
-    clash_line(alloc, block, &recorded, &computed)
+) -> Option<String> {
+    let recorded = payload_of(alloc, bytes, node, 0)?;
+    let computed = payload_of(alloc, bytes, node, 1)?;
+    let payloads = (recorded.as_slice(), computed.as_slice());
+    line_of_payloads(alloc, block, class, u64::from(node), payloads)
 }
 
-// A fetch of the object of three pages and 7 bytes, where d1 is damaged if it says so, and a payload byte of what is read is flipped
-// from this read of a cell on.
-fn fetch_changed(alloc: Global, bytes: &[u8], is_damaged: bool, from: u64) -> Result<Ended, Fail> {
-    let mut inner: SureDisk = archive_of_pages(alloc, bytes)?;
-    if is_damaged {
-        spoil_cell(&mut inner, 1, 4144, 0, 20)?;
-    }
-    let mut disk = FlippingDisk {
-        inner,
-        file: 1,
+// Whether a fetch of the object ends with this status and line, and with this many bytes of it, where d1 is damaged if it says so,
+// and a payload byte of what is read is flipped from this read of a cell on.
+fn fetch_ends(
+    alloc: Global,
+    bytes: &[u8],
+    is_damaged: bool,
+    from: u64,
+    want: (Status, &str, usize),
+) -> bool {
+    let change = Change {
+        is_damaged,
         byte: 20,
         from,
-        reads: 0,
     };
-    let faults = Faults {
-        out_room: bytes.len(),
-        err_room: 200,
-        ..NONE
-    };
-    Ok(run_failing(alloc, "fetch pages", &mut disk, b"", faults)?)
+    ends_changed(alloc, "fetch pages", bytes, change, want)
 }
 
 // Whether d1 is damaged, the read of a cell from which on they are changed, the block of the clash with its class and node, and how
@@ -82,13 +110,15 @@ fn clashes() -> [Clash; 9] {
 }
 
 // Whether such a fetch is a clash with the line of the block, and has written this many bytes of the object.
-fn is_clash_of(alloc: Global, bytes: &[u8], clash: Clash) -> Result<bool, Fail> {
+fn is_clash_of(alloc: Global, bytes: &[u8], clash: Clash) -> bool {
     let (is_damaged, from, block, class, node, written) = clash;
-    let line = line_of_changed(alloc, bytes, block, class, node)?;
-    let left = fetch_changed(alloc, bytes, is_damaged, from)?;
-    let out = left.out.bytes();
-    let is_part = out.len() == written && bytes.starts_with(out);
-    Ok(left.status == Status::Clash && left.err.bytes() == line.as_bytes() && is_part)
+    match line_of_changed(alloc, bytes, block, class, node) {
+        Some(line) => {
+            let want = (Status::Clash, line.as_str(), written);
+            fetch_ends(alloc, bytes, is_damaged, from, want)
+        }
+        None => false,
+    }
 }
 
 #[test]
@@ -97,58 +127,43 @@ fn a_cell_that_changes_between_the_passes_is_a_clash(rt: HostRuntime) -> Result<
     for clash in clashes() {
         let (is_damaged, from, ..) = clash;
         assert!(rt;
-            is_clash_of(rt.alloc(), bytes.as_slice(), clash)?,
+            is_clash_of(rt.alloc(), bytes.as_slice(), clash),
             "{is_damaged} {from}"
         );
     }
     Ok(())
 }
 
-// Whether d1 is damaged, the read from which on cells are changed, the status, and the line.
-type Other = (bool, u64, Status, &'static str);
+// Whether d1 is damaged, the read from which on cells are changed, the status, the line, and how many bytes are on the output.
+type Other = (bool, u64, Status, &'static str, usize);
 
-fn others() -> [Other; 6] {
+// Fetches of so many bytes over cells that change at a read: before they begin, within them, or after they have ended.
+fn others(long: usize) -> [Other; 6] {
+    let (first, last) = (
+        "refused: undetermined d1 by 1 2\n",
+        "refused: undetermined d49 by 49\n",
+    );
+    let (both, alone) = (
+        "refused: undetermined d1 by 1 49\n",
+        "refused: undetermined d1 by 1\n",
+    );
     [
-        (false, 99, Status::Done, ""),
-        (true, 101, Status::Done, ""),
-        (
-            false,
-            1,
-            Status::Refused,
-            "refused: undetermined d1 by 1 2\n",
-        ),
-        (
-            false,
-            49,
-            Status::Refused,
-            "refused: undetermined d49 by 49\n",
-        ),
-        (
-            true,
-            49,
-            Status::Refused,
-            "refused: undetermined d1 by 1 49\n",
-        ),
-        (true, 50, Status::Refused, "refused: undetermined d1 by 1\n"),
+        (false, 99, Status::Done, "", long),
+        (true, 101, Status::Done, "", long),
+        (false, 1, Status::Refused, first, 0),
+        (false, 49, Status::Refused, last, 0),
+        (true, 49, Status::Refused, both, 0),
+        (true, 50, Status::Refused, alone, 0),
     ]
-}
-
-// Whether such a fetch ends with the status and the line, with the object on the output where there is no line, and else nothing.
-fn ends_so(alloc: Global, bytes: &[u8], other: Other) -> Result<bool, Fail> {
-    let (is_damaged, from, status, line) = other;
-    let out = if line.is_empty() { bytes } else { b"" };
-    let left = fetch_changed(alloc, bytes, is_damaged, from)?;
-    let is_revealed = left.status == status && left.err.bytes() == line.as_bytes();
-    Ok(is_revealed && left.out.bytes() == out)
 }
 
 #[test]
 fn cells_that_change_before_it_are_damaged(rt: HostRuntime) -> Result<(), Fail> {
     let bytes = bytes_of_pages(rt.alloc())?;
-    for other in others() {
-        let (is_damaged, from, ..) = other;
+    for (is_damaged, from, status, line, written) in others(bytes.len()) {
+        let want = (status, line, written);
         assert!(rt;
-            ends_so(rt.alloc(), bytes.as_slice(), other)?,
+            fetch_ends(rt.alloc(), bytes.as_slice(), is_damaged, from, want),
             "{is_damaged} {from}"
         );
     }

@@ -1,5 +1,6 @@
-//! Tests of objects that are fetched from damaged archives: worked examples, random damage against a plain elimination, digests
-//! that clash, and disks, outputs and cells that fail or change under way.
+//! Tests of whole runs of `get` and `fetch`: objects that are got back and listed, and that are fetched from damaged archives.
+//! Worked examples, random objects, an object in parts, random damage against a plain elimination, digests that clash, and disks,
+//! outputs and cells that fail or change under way.
 #![tactic(auto)]
 
 #[cfg(test)]
@@ -12,5 +13,11 @@ mod clashes;
 mod examples;
 #[cfg(test)]
 mod failing;
+#[cfg(test)]
+mod getting;
+#[cfg(test)]
+mod got_back;
+#[cfg(test)]
+mod pages;
 #[cfg(test)]
 mod random;

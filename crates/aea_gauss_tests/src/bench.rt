@@ -7,7 +7,6 @@ use aea_gauss::{Fate, FateList, solve, solve_open};
 use aea_lattice::{BlockId, Class, EqList, Lattice, NodeList, parse_block};
 use aea_view::Marks;
 use std::alloc::{AllocError, Global};
-use std::test::Fail;
 
 /// Marks of all blocks but these.
 pub fn marks_without(
@@ -25,120 +24,166 @@ pub fn marks_without(
     Ok(marks)
 }
 
-/// The blocks of a text of one word each.
-pub fn blocks_of(alloc: Global, text: &str) -> Result<Vec<BlockId>, Fail> {
-    let mut blocks = Vec::new(alloc);
-    for word in text.split_whitespace() {
-        blocks.push(parse_block(word.as_bytes()).ok_or("no block")?)?;
-    }
-    Ok(blocks)
+/// Marks of these blocks alone.
+pub fn marks_of(alloc: Global, lattice: &Lattice, blocks: &[BlockId]) -> Result<Marks, AllocError>
+    ensures { IfOk result (λ m. m.lattice ≡ lattice.now) }
+{
+    marks_without(alloc, lattice, blocks)?.complement(alloc)
 }
 
-/// Puts the text of this node and class last.
-pub fn add_name(
-    alloc: Global,
-    text: &mut String,
-    class: Class,
-    node: u32,
-) -> Result<(), AllocError> {
-    text.push(char::from(class.letter()))?;
-    let number = format!(in alloc; "{node}")?;
-    text.push_str(number.as_str())
+/// The blocks of a text of one word each.
+pub fn blocks_of(alloc: Global, text: &str) -> Option<Vec<BlockId>> {
+    let mut blocks = Vec::new(alloc);
+    let mut are_blocks = true;
+    for word in text.split_whitespace() {
+        let is_put = match parse_block(word.as_bytes()) {
+            Some(block) => blocks.push(block).is_ok(),
+            None => false,
+        };
+        are_blocks = are_blocks && is_put;
+    }
+    are_blocks.then_some(blocks)
+}
+
+// Puts this last. Says whether there was memory for the piece and for the longer text.
+fn add(text: &mut String, piece: Result<String, AllocError>) -> bool {
+    match piece {
+        Ok(piece) => text.push_str(piece.as_str()).is_ok(),
+        Err(_) => false,
+    }
+}
+
+// Puts the text of this node and class last.
+fn add_name(alloc: Global, text: &mut String, class: Class, node: u32) -> bool {
+    let letter = char::from(class.letter());
+    add(text, format!(in alloc; "{letter}{node}"))
 }
 
 /// Puts a line last: the block and its equations.
-pub fn add_sum(
-    alloc: Global,
-    text: &mut String,
-    block: BlockId,
-    eqs: &EqList,
-) -> Result<(), AllocError> {
-    add_name(alloc, text, block.class, block.node)?;
-    text.push_str(" =")?;
+pub fn add_sum(alloc: Global, text: &mut String, block: BlockId, eqs: &EqList) -> bool {
+    let mut are_added = add_name(alloc, text, block.class, block.node)
+        && text.push_str(" =").is_ok();
     for k in 0..eqs.len() {
         if let Some(e) = eqs.get(k) {
-            text.push_str(" ")?;
-            add_name(alloc, text, e.class, e.node)?;
+            are_added = are_added
+                && text.push_str(" ").is_ok()
+                && add_name(alloc, text, e.class, e.node);
         }
     }
-    text.push_str("\n")
+    are_added && text.push_str("\n").is_ok()
 }
 
 /// Puts a line last: the block and its nodes.
-pub fn add_word(
-    alloc: Global,
-    text: &mut String,
-    block: BlockId,
-    nodes: &NodeList,
-) -> Result<(), AllocError> {
-    add_name(alloc, text, block.class, block.node)?;
-    text.push_str(" by")?;
+pub fn add_word(alloc: Global, text: &mut String, block: BlockId, nodes: &NodeList) -> bool {
+    let mut are_added = add_name(alloc, text, block.class, block.node)
+        && text.push_str(" by").is_ok();
     for k in 0..nodes.len() {
         if let Some(node) = nodes.get(k) {
-            let number = format!(in alloc; " {node}")?;
-            text.push_str(number.as_str())?;
+            are_added = are_added && add(text, format!(in alloc; " {node}"));
         }
     }
-    text.push_str("\n")
+    are_added && text.push_str("\n").is_ok()
 }
 
-/// The fates as text, a line each.
-pub fn text_of(alloc: Global, fates: &FateList) -> Result<String, AllocError> {
+// Puts the line of a fate last.
+fn add_fate(alloc: Global, text: &mut String, fate: &Fate) -> bool {
+    match fate {
+        Fate::Sum { block, eqs } => add_sum(alloc, text, *block, eqs),
+        Fate::Word { block, nodes } => add_word(alloc, text, *block, nodes),
+    }
+}
+
+// The fates as text, a line each.
+fn text_of(alloc: Global, fates: &FateList) -> Option<String> {
     let mut text = String::new(alloc);
+    let mut are_added = true;
     for k in 0..fates.len() {
-        match fates.get(k) {
-            Some(Fate::Sum { block, eqs }) => add_sum(alloc, &mut text, *block, eqs)?,
-            Some(Fate::Word { block, nodes }) => add_word(alloc, &mut text, *block, nodes)?,
-            None => {}
+        if let Some(fate) = fates.get(k) {
+            are_added = are_added && add_fate(alloc, &mut text, fate);
         }
     }
-    Ok(text)
+    are_added.then_some(text)
 }
 
 // Whether the fates of these blocks, and of no others, are found, each with its block.
 fn are_found(lattice: &Lattice, fates: &FateList, lost: &[BlockId]) -> bool
     requires { AreInOrder lattice.now fates.now }
 {
+    let mut are_right = true;
     for k in 0..lattice.blocks() {
         let b = lattice.block(k);
         let found = fates.find(lattice, b).and_then(|at| fates.get(at));
         let block = found.map(|fate| fate.block());
-        if block != lost.contains(&b).then_some(b) {
-            return false;
-        }
+        are_right = are_right && block == lost.contains(&b).then_some(b);
     }
-    true
+    are_right
 }
 
-// The fates as text where these blocks alone are open. Each has to be found.
-fn open_fates_of(
+// Whether the fates have this text.
+fn is_text(alloc: Global, fates: &FateList, want: &str) -> bool {
+    text_of(alloc, fates).is_some_and(|text| text.as_str() == want)
+}
+
+// Whether the fates have this text where these blocks alone are open, and each is found.
+fn has_open_fates(
     alloc: Global,
     lattice: &Lattice,
     lost: &[BlockId],
     open: &Marks,
-) -> Result<String, Fail>
+    want: &str,
+) -> bool
     requires { «open».now.lattice ≡ lattice.now }
 {
-    let fates = solve_open(alloc, lattice, open)?;
-    let found = are_found(lattice, &fates, lost);
-    let text = text_of(alloc, &fates)?;
-    Ok(found.then_some(text).ok_or("a fate is not found")?)
+    match solve_open(alloc, lattice, open) {
+        Ok(fates) => are_found(lattice, &fates, lost) && is_text(alloc, &fates, want),
+        Err(_) => false,
+    }
+}
+
+// The same of the blocks that are not among the marks.
+fn has_fates_without(
+    alloc: Global,
+    lattice: &Lattice,
+    lost: &[BlockId],
+    marks: &Marks,
+    want: &str,
+) -> bool
+    requires { marks.now.lattice ≡ lattice.now }
+{
+    match marks.complement(alloc) {
+        Ok(open) => has_open_fates(alloc, lattice, lost, &open, want),
+        Err(_) => false,
+    }
 }
 
 // The fates as text where the marked blocks are known.
-fn solved(alloc: Global, lattice: &Lattice, marks: &Marks) -> Result<String, AllocError>
+fn solved(alloc: Global, lattice: &Lattice, marks: &Marks) -> Option<String>
     requires { marks.now.lattice ≡ lattice.now }
 {
-    let fates = solve(alloc, lattice, marks)?;
-    text_of(alloc, &fates)
+    match solve(alloc, lattice, marks) {
+        Ok(fates) => text_of(alloc, &fates),
+        Err(_) => None,
+    }
 }
 
-/// The fates as text where these blocks are lost. `solve_open` has to give the same.
-pub fn fates_of(alloc: Global, lattice: &Lattice, lost: &[BlockId]) -> Result<String, Fail> {
-    let marks = marks_without(alloc, lattice, lost)?;
-    let text = solved(alloc, lattice, &marks)?;
-    let open = marks.complement(alloc)?;
-    let other = open_fates_of(alloc, lattice, lost, &open)?;
-    let same = text.as_str() == other.as_str();
-    Ok(same.then_some(text).ok_or("solve_open gives other fates")?)
+/// The fates as text where these blocks are lost; none where `solve_open` gives others, or one is not found.
+pub fn fates_of(alloc: Global, lattice: &Lattice, lost: &[BlockId]) -> Option<String> {
+    match marks_without(alloc, lattice, lost) {
+        Ok(marks) => {
+            let text = solved(alloc, lattice, &marks)?;
+            let is_same = has_fates_without(alloc, lattice, lost, &marks, text.as_str());
+            is_same.then_some(text)
+        }
+        Err(_) => None,
+    }
+}
+
+/// Whether the fates have this text where these blocks are lost.
+pub fn has_fates(alloc: Global, lattice: &Lattice, lost: &[BlockId], want: &str) -> bool {
+    fates_of(alloc, lattice, lost).is_some_and(|text| text.as_str() == want)
+}
+
+/// Whether the line is one of the text.
+pub fn has_line(text: &str, want: &str) -> bool {
+    text.lines().any(|line| line == want)
 }

@@ -4,7 +4,7 @@
 use crate::bench::fates_of;
 use aea_lattice::{BlockId, Class, Lattice};
 use aea_plain::codeword;
-use std::alloc::{AllocError, Global};
+use std::alloc::Global;
 use std::test::Fail;
 
 // Whether none of the parities is at the node or after it.
@@ -15,14 +15,10 @@ fn ends_before(blocks: &[BlockId], node: u32) -> bool {
 }
 
 // The least codeword of a node and one after it that has no parity after that one, with the second node.
-fn least_pattern(
-    alloc: Global,
-    lattice: &Lattice,
-    first: u32,
-) -> Result<Option<(u32, Vec<BlockId>)>, AllocError> {
+fn least_pattern(alloc: Global, lattice: &Lattice, first: u32) -> Option<(u32, Vec<BlockId>)> {
     let mut least: Option<(u32, Vec<BlockId>)> = None;
     for second in 1..lattice.n + 1 {
-        let blocks = codeword(alloc, lattice, &[first, second])?;
+        let blocks = codeword(alloc, lattice, &[first, second]).ok()?;
         let fewer = match &least {
             Some((_, other)) => blocks.len() < other.len(),
             None => true,
@@ -31,33 +27,32 @@ fn least_pattern(
             least = Some((second, blocks));
         }
     }
-    Ok(least)
+    least
+}
+
+// Whether the text has so many lines, and each ends with the word.
+fn end_lines(text: &str, word: &str, count: usize) -> bool {
+    text.lines().count() == count && text.lines().all(|line| line.ends_with(word))
 }
 
 // Whether each of these blocks is lost in the word of the two nodes, where they are lost.
-fn have_words(
-    alloc: Global,
-    lattice: &Lattice,
-    nodes: (u32, u32),
-    blocks: &[BlockId],
-) -> Result<bool, Fail> {
+fn have_words(alloc: Global, lattice: &Lattice, nodes: (u32, u32), blocks: &[BlockId]) -> bool {
     let (first, second) = nodes;
-    let fates = fates_of(alloc, lattice, blocks)?;
-    let word = format!(in alloc; " by {first} {second}")?;
-    let lines = fates.as_str().lines().count();
-    let words = fates
-        .as_str()
-        .lines()
-        .filter(|line| line.ends_with(word.as_str()))
-        .count();
-    Ok(lines == blocks.len() && words == blocks.len())
+    match format!(in alloc; " by {first} {second}") {
+        Ok(word) => fates_of(alloc, lattice, blocks).is_some_and(|fates| end_lines(
+            fates.as_str(),
+            word.as_str(),
+            blocks.len(),
+        )),
+        Err(_) => false,
+    }
 }
 
 // The number of blocks of the least pattern of the node and a later one; none where one is not lost in its word.
-fn size_of(alloc: Global, lattice: &Lattice, first: u32) -> Result<Option<usize>, Fail> {
-    let (second, blocks) = least_pattern(alloc, lattice, first)?.ok_or("no pattern")?;
-    let are_lost = have_words(alloc, lattice, (first, second), blocks.as_slice())?;
-    Ok(are_lost.then_some(blocks.len()))
+fn size_of(alloc: Global, lattice: &Lattice, first: u32) -> Option<usize> {
+    let (second, blocks) = least_pattern(alloc, lattice, first)?;
+    let are_lost = have_words(alloc, lattice, (first, second), blocks.as_slice());
+    are_lost.then_some(blocks.len())
 }
 
 #[test]
@@ -66,7 +61,7 @@ fn smallest_patterns_are_the_published_ones(rt: HostRuntime) -> Result<(), Fail>
         let lattice = Lattice::new(alpha, s, p, 80).ok_or("no lattice")?;
         let mut counts: usize = 1_000;
         for first in 21..21 + u32::from(s) {
-            let size = size_of(rt.alloc(), &lattice, first)?;
+            let size = size_of(rt.alloc(), &lattice, first);
             assert!(rt; size.is_some(), "{first} of {alpha} {s} {p}");
             counts = counts.min(size.unwrap_or(1_000));
         }

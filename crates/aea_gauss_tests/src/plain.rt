@@ -4,16 +4,33 @@ use crate::bench::{add_sum, add_word};
 use aea_lattice::{BlockId, Class, EqId, EqList, Lattice, NodeList};
 use std::alloc::{AllocError, Global};
 
-// A row: its columns in no order, and the one that no other row has, once it is chosen.
-#[derive(Drop)]
+// A row: its columns below 192, a bit each, and the one that no other row has, once it is chosen.
+#[derive(Clone, Copy)]
 struct Row {
-    columns: Vec<usize>,
+    columns: [u64; 3],
     pivot: Option<usize>,
 }
 
 impl Row {
     fn has(&self, column: usize) -> bool {
-        self.columns.as_slice().contains(&column)
+        match self.columns.get(column / 64) {
+            Some(word) => (*word >> (column % 64)) & 1 == 1,
+            None => false,
+        }
+    }
+
+    // Puts the column in.
+    fn put(&mut self, column: usize) {
+        if let Some(word) = self.columns.get_mut(column / 64) {
+            *word |= 1 << (column % 64);
+        }
+    }
+
+    // Leaves the columns of exactly one of two rows.
+    fn add(&mut self, other: &Row) {
+        for (word, added) in self.columns.iter_mut().zip(other.columns) {
+            *word ^= added;
+        }
     }
 }
 
@@ -65,65 +82,32 @@ impl Table {
     }
 }
 
-// The columns of exactly one of two rows.
-fn sum(alloc: Global, first: &[usize], second: &[usize]) -> Result<Vec<usize>, AllocError> {
-    let mut columns = Vec::new(alloc);
-    for column in first {
-        if !second.contains(column) {
-            columns.push(*column)?;
+// Adds the chosen row to each other one that has the column.
+fn clear(rows: &mut [Row], chosen: usize, column: usize) {
+    if let Some(added) = rows.get(chosen).copied() {
+        for (at, row) in rows.iter_mut().enumerate() {
+            if at == chosen {
+                row.pivot = Some(column);
+            } else if row.has(column) {
+                row.add(&added);
+            }
         }
     }
-    for column in second {
-        if !first.contains(column) {
-            columns.push(*column)?;
-        }
-    }
-    Ok(columns)
-}
-
-// The rows with the chosen one added to each that has the column.
-fn cleared(
-    alloc: Global,
-    rows: &[Row],
-    chosen: usize,
-    column: usize,
-) -> Result<Vec<Row>, AllocError> {
-    let mut new = Vec::new(alloc);
-    for (at, row) in rows.iter().enumerate() {
-        let other = match rows.get(chosen) {
-            Some(other) if at != chosen && row.has(column) => other.columns.as_slice(),
-            _ => &[],
-        };
-        let columns = sum(alloc, row.columns.as_slice(), other)?;
-        let pivot = if at == chosen {
-            Some(column)
-        } else {
-            row.pivot
-        };
-        new.push(Row { columns, pivot })?;
-    }
-    Ok(new)
 }
 
 // The blocks of an equation that are lost, as columns, and the equation's own column.
-fn row_of(
-    alloc: Global,
-    lattice: &Lattice,
-    table: &Table,
-    at: usize,
-    e: EqId,
-) -> Result<Row, AllocError> {
-    let mut columns = Vec::new(alloc);
+fn row_of(lattice: &Lattice, table: &Table, at: usize, e: EqId) -> Row {
+    let mut row = Row {
+        columns: [0; 3],
+        pivot: None,
+    };
     for (column, b) in table.lost.as_slice().iter().enumerate() {
         if stands_in(lattice, e, *b) {
-            columns.push(column)?;
+            row.put(column);
         }
     }
-    columns.push(table.equation_column(at))?;
-    Ok(Row {
-        columns,
-        pivot: None,
-    })
+    row.put(table.equation_column(at));
+    row
 }
 
 // Whether the block is in the equation, of a lattice that has it.
@@ -175,11 +159,10 @@ fn equations_with(
 
 // The rows of a table at first.
 fn rows_of(alloc: Global, lattice: &Lattice, table: &Table) -> Result<Vec<Row>, AllocError> {
-    let mut rows = Vec::new(alloc);
-    for (at, e) in table.equations.as_slice().iter().enumerate() {
-        rows.push(row_of(alloc, lattice, table, at, *e)?)?;
-    }
-    Ok(rows)
+    let equations = table.equations.as_slice().iter().enumerate();
+    equations
+        .map(|(at, e)| row_of(lattice, table, at, *e))
+        .collect(alloc)
 }
 
 // The table of a lattice at first.
@@ -194,9 +177,8 @@ fn table_of(alloc: Global, lattice: &Lattice, lost: &[BlockId]) -> Result<Table,
     Ok(table)
 }
 
-// The table with each column cleared from all rows but one.
-fn reduced(alloc: Global, lattice: &Lattice, lost: &[BlockId]) -> Result<Table, AllocError> {
-    let mut table = table_of(alloc, lattice, lost)?;
+// Clears each column from all rows but one.
+fn reduce(table: &mut Table) {
     for column in 0..table.equation_column(0).saturating_add(1) {
         let chosen = table
             .rows
@@ -204,45 +186,60 @@ fn reduced(alloc: Global, lattice: &Lattice, lost: &[BlockId]) -> Result<Table, 
             .iter()
             .position(|row| row.pivot.is_none() && row.has(column));
         if let Some(chosen) = chosen {
-            table.rows = cleared(alloc, table.rows.as_slice(), chosen, column)?;
+            clear(table.rows.as_mut_slice(), chosen, column);
         }
     }
-    Ok(table)
+}
+
+// Puts the line of a lost block last, by the nodes of the word of a column that leads no row.
+fn add_word_of(alloc: Global, text: &mut String, table: &Table, end: usize, b: BlockId) -> bool {
+    match table.nodes_of(alloc, end) {
+        Ok(nodes) => add_word(alloc, text, b, &nodes),
+        Err(_) => false,
+    }
+}
+
+// Puts the line of a lost block last, by the equations of its row.
+fn add_sum_of(alloc: Global, text: &mut String, table: &Table, row: &Row, b: BlockId) -> bool {
+    match table.equations_of(alloc, row) {
+        Ok(equations) => add_sum(alloc, text, b, &equations),
+        Err(_) => false,
+    }
 }
 
 // Puts the line of the lost block at this place last.
-fn add_fate(
-    alloc: Global,
-    text: &mut String,
-    table: &Table,
-    at: usize,
-    b: BlockId,
-) -> Result<(), AllocError> {
+fn add_fate(alloc: Global, text: &mut String, table: &Table, at: usize, b: BlockId) -> bool {
     let row = table
         .rows
         .as_slice()
         .iter()
         .find(|row| row.pivot == Some(at));
     match row {
-        None => add_word(alloc, text, b, &table.nodes_of(alloc, at)?)?,
+        None => add_word_of(alloc, text, table, at, b),
         Some(row) => match table.next_of(row, at) {
-            None => add_sum(alloc, text, b, &table.equations_of(alloc, row)?)?,
-            Some(end) => add_word(alloc, text, b, &table.nodes_of(alloc, end)?)?,
+            None => add_sum_of(alloc, text, table, row, b),
+            Some(end) => add_word_of(alloc, text, table, end, b),
         },
     }
-    Ok(())
+}
+
+// The fates as text, none where the rows have no room for the columns.
+fn text_of(alloc: Global, table: &Table) -> Option<String> {
+    let mut text = String::new(alloc);
+    let mut are_added = table.equation_column(0) < 192;
+    for (at, b) in table.lost.as_slice().iter().enumerate() {
+        are_added = are_added && add_fate(alloc, &mut text, table, at, *b);
+    }
+    are_added.then_some(text)
 }
 
 /// The fates as text where these blocks are lost.
-pub fn plain_fates(
-    alloc: Global,
-    lattice: &Lattice,
-    lost: &[BlockId],
-) -> Result<String, AllocError> {
-    let table = reduced(alloc, lattice, lost)?;
-    let mut text = String::new(alloc);
-    for (at, b) in table.lost.as_slice().iter().enumerate() {
-        add_fate(alloc, &mut text, &table, at, *b)?;
+pub fn plain_fates(alloc: Global, lattice: &Lattice, lost: &[BlockId]) -> Option<String> {
+    match table_of(alloc, lattice, lost) {
+        Ok(mut table) => {
+            reduce(&mut table);
+            text_of(alloc, &table)
+        }
+        Err(_) => None,
     }
-    Ok(text)
 }

@@ -1,10 +1,9 @@
 //! Random damage, against a plain elimination.
 
-use crate::bench::fates_of;
+use crate::bench::has_fates;
 use crate::plain::plain_fates;
 use aea_lattice::{BlockId, Lattice};
 use std::alloc::{AllocError, Global};
-use std::test::Fail;
 
 // α, s, p, and the nodes: the first and the second number have a fence each, where they are not 0.
 const SHAPES: [(u8, u8, u8, [u32; 3]); 14] = [
@@ -38,16 +37,22 @@ pub fn step(x: u64) -> u64 {
         .wrapping_add(1_442_695_040_888_963_407)
 }
 
+// The lattice with this number of nodes and a fence after them, where it is not 0.
+fn with_fence(lattice: &Lattice, fence: u32) -> Option<Lattice> {
+    if fence == 0 {
+        Some(*lattice)
+    } else {
+        lattice.grown(fence).and_then(|longer| longer.fenced())
+    }
+}
+
 /// A lattice with fences at the first two numbers of nodes, where they are not 0.
 pub fn fenced(alpha: u8, s: u8, p: u8, nodes: [u32; 3]) -> Option<Lattice> {
     let [first, second, n] = nodes;
-    let mut lattice = Lattice::new(alpha, s, p, 0)?;
-    for fence in [first, second] {
-        if fence != 0 {
-            lattice = lattice.grown(fence)?.fenced()?;
-        }
-    }
-    lattice.grown(n)
+    Lattice::new(alpha, s, p, 0)
+        .and_then(|lattice| with_fence(&lattice, first))
+        .and_then(|lattice| with_fence(&lattice, second))
+        .and_then(|lattice| lattice.grown(n))
 }
 
 /// So many percent of the blocks, by the generator that begins with the seed.
@@ -68,25 +73,35 @@ pub fn lost_blocks(
     Ok(lost)
 }
 
-// Whether the blocks that are lost by this seed have the fates of the plain elimination.
-fn agree(alloc: Global, lattice: &Lattice, percent: u64, seed: u64) -> Result<bool, Fail> {
-    let lost = lost_blocks(alloc, lattice, percent, seed)?;
-    let fates = fates_of(alloc, lattice, lost.as_slice())?;
-    Ok(fates.as_str() == plain_fates(alloc, lattice, lost.as_slice())?.as_str())
+// Whether the lost blocks have the fates of the plain elimination.
+fn are_plain(alloc: Global, lattice: &Lattice, lost: &[BlockId]) -> bool {
+    plain_fates(alloc, lattice, lost).is_some_and(|plain| has_fates(
+        alloc,
+        lattice,
+        lost,
+        plain.as_str(),
+    ))
+}
+
+// Whether the blocks that are lost by this seed do.
+fn agree(alloc: Global, lattice: &Lattice, percent: u64, seed: u64) -> bool {
+    lost_blocks(alloc, lattice, percent, seed).is_ok_and(|lost| are_plain(
+        alloc,
+        lattice,
+        lost.as_slice(),
+    ))
 }
 
 #[test]
-fn fates_agree_with_the_plain_elimination(rt: HostRuntime) -> Result<(), Fail> {
+fn fates_agree_with_the_plain_elimination(rt: HostRuntime) {
+    let alloc = rt.alloc();
     let mut seed = 0;
     for (alpha, s, p, nodes) in shapes() {
-        let lattice = fenced(alpha, s, p, nodes).ok_or("no lattice")?;
+        let lattice = fenced(alpha, s, p, nodes);
         for percent in PERCENTS {
             seed = step(seed);
-            assert!(rt;
-                agree(rt.alloc(), &lattice, percent, seed)?,
-                "{percent} of 100 in {lattice:?}, from {seed}"
-            );
+            let are_same = lattice.is_some_and(|lattice| agree(alloc, &lattice, percent, seed));
+            assert!(rt; are_same, "{percent} of 100 in {lattice:?}, from {seed}");
         }
     }
-    Ok(())
 }

@@ -3,7 +3,6 @@
 ghost use Rattle.aea_lattice.specs.Blocks.{HasParity};
 
 use aea_lattice::{Class, Lattice};
-use std::test::Fail;
 
 // The greatest node on the strand, by a walk through all nodes.
 fn scanned(lattice: &Lattice, class: Class, strand: u32) -> Option<u32>
@@ -22,26 +21,24 @@ fn scanned(lattice: &Lattice, class: Class, strand: u32) -> Option<u32>
 fn has_lasts(lattice: &Lattice, class: Class) -> bool
     requires { HasParity lattice.now class }
 {
+    let mut are_right = true;
     for strand in 0..lattice.strands(class) {
-        if lattice.last_on(class, strand) != scanned(lattice, class, strand) {
-            return false;
-        }
+        are_right = are_right && lattice.last_on(class, strand) == scanned(lattice, class, strand);
     }
-    true
+    are_right
 }
 
 // The first class of which a strand has another last node than a walk finds.
 fn first_wrong(lattice: &Lattice) -> Option<Class> {
     if !has_lasts(lattice, Class::Horiz) {
-        return Some(Class::Horiz);
+        Some(Class::Horiz)
+    } else if lattice.alpha >= 2 && !has_lasts(lattice, Class::Right) {
+        Some(Class::Right)
+    } else if lattice.alpha >= 3 && !has_lasts(lattice, Class::Left) {
+        Some(Class::Left)
+    } else {
+        None
     }
-    if lattice.alpha >= 2 && !has_lasts(lattice, Class::Right) {
-        return Some(Class::Right);
-    }
-    if lattice.alpha >= 3 && !has_lasts(lattice, Class::Left) {
-        return Some(Class::Left);
-    }
-    None
 }
 
 // α, s and p of the lattices.
@@ -63,13 +60,14 @@ fn shapes() -> [(u8, u8, u8); 12] {
 }
 
 #[test]
-fn the_last_node_of_a_strand_is_the_one_that_a_walk_finds(rt: HostRuntime) -> Result<(), Fail> {
+fn the_last_node_of_a_strand_is_the_one_that_a_walk_finds(rt: HostRuntime) {
     for (alpha, s, p) in shapes() {
         for n in [0, 1, 5, 26, 200] {
-            let lattice = Lattice::new(alpha, s, p, n).ok_or("no lattice")?;
-            let wrong = first_wrong(&lattice);
-            assert!(rt; wrong == None, "{wrong:?}, {n} of AE({alpha},{s},{p})");
+            let wrong = Lattice::new(alpha, s, p, n).map(|lattice| first_wrong(&lattice));
+            assert!(rt;
+                wrong == Some(None),
+                "{wrong:?}, {n} of AE({alpha},{s},{p})"
+            );
         }
     }
-    Ok(())
 }

@@ -7,11 +7,15 @@ mod adding;
 #[cfg(test)]
 mod ends;
 #[cfg(test)]
+mod examples;
+#[cfg(test)]
 mod grid;
 #[cfg(test)]
 mod lists;
 #[cfg(test)]
 mod marking;
+#[cfg(test)]
+mod names;
 #[cfg(test)]
 mod peeling;
 #[cfg(test)]

@@ -1,5 +1,6 @@
 //! Texts of blocks, there and back, and others, which are refused.
 
+use crate::names::first_wrong_name;
 use aea_lattice::{BlockId, Class, parse_block, print_block};
 
 // Texts, each with the node and the class of its block.
@@ -22,8 +23,11 @@ fn is_printed(block: BlockId, text: &[u8]) -> bool {
 fn texts_of_blocks_go_there_and_back(rt: HostRuntime) {
     for (text, node, class) in texts() {
         let block = BlockId { node, class };
-        assert!(rt; parse_block(text) == Some(block), "parse {node}");
-        assert!(rt; is_printed(block, text), "print {node}");
+        let wrong = first_wrong_name(&[
+            ("parse", parse_block(text) == Some(block)),
+            ("print", is_printed(block, text)),
+        ]);
+        assert!(rt; wrong == None, "{wrong:?} {node}");
     }
 }
 

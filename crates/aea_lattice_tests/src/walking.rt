@@ -1,6 +1,6 @@
 //! Walks along codewords: by hand, beside the plain program, and that they end.
 
-ghost use Rattle.std.specs.Prelude.{◌≡◌, IfOk};
+ghost use Rattle.std.specs.Prelude.{◌≡◌, IfOk, IfSome};
 ghost use Rattle.aea_walk.specs.Codewords.{AreRising};
 
 use aea_lattice::{BlockId, Lattice, NodeList, parse_block};
@@ -8,40 +8,47 @@ use aea_plain::codeword;
 use aea_view::Marks;
 use aea_walk::{first_touched, is_in_codeword, least_missing};
 use std::alloc::{AllocError, Global};
-use std::test::Fail;
 
 /// The lattice of this shape with these fences and n nodes.
 pub fn fenced(alpha: u8, s: u8, p: u8, fences: &[u32], n: u32) -> Option<Lattice> {
-    let mut lattice = Lattice::new(alpha, s, p, 0)?;
+    let mut lattice = Lattice::new(alpha, s, p, 0);
     for fence in fences {
-        lattice = lattice.grown(*fence)?.fenced()?;
+        let longer = lattice.and_then(|shorter| shorter.grown(*fence));
+        lattice = longer.and_then(|longer| longer.fenced());
     }
-    lattice.grown(n)
+    lattice.and_then(|shorter| shorter.grown(n))
 }
 
-// The list of these nodes, an error where one is not of the lattice or not greater than the one before.
-fn rising(alloc: Global, lattice: &Lattice, listed: &[u32]) -> Result<NodeList, Fail>
-    ensures { IfOk result (AreRising lattice.now) }
+// The list of these nodes, none where one is not of the lattice or not greater than the one before.
+fn rising(alloc: Global, lattice: &Lattice, listed: &[u32]) -> Option<NodeList>
+    ensures { IfSome result (AreRising lattice.now) }
 {
     let mut nodes = NodeList::new(alloc);
     let mut last = 0;
     for node in listed {
         if *node <= last || lattice.n() < *node {
-            return Err(Fail::new("the nodes do not rise"));
+            return None;
         }
-        nodes.push(*node)?;
-        last = *node;
+        match nodes.push(*node) {
+            Ok(()) => last = *node,
+            Err(_) => return None,
+        }
     }
-    Ok(nodes)
+    Some(nodes)
 }
 
 /// The blocks of a text of one word each.
-pub fn blocks(alloc: Global, text: &str) -> Result<Vec<BlockId>, Fail> {
+pub fn blocks(alloc: Global, text: &str) -> Option<Vec<BlockId>> {
     let mut blocks = Vec::new(alloc);
+    let mut are_blocks = true;
     for word in text.split_whitespace() {
-        blocks.push(parse_block(word.as_bytes()).ok_or("no block")?)?;
+        let is_put = match parse_block(word.as_bytes()) {
+            Some(block) => blocks.push(block).is_ok(),
+            None => false,
+        };
+        are_blocks = are_blocks && is_put;
     }
-    Ok(blocks)
+    are_blocks.then_some(blocks)
 }
 
 // Marks of the lattice at these blocks.
@@ -60,27 +67,33 @@ fn marked(alloc: Global, lattice: &Lattice, listed: &[BlockId]) -> Result<Marks,
 fn has_answers(lattice: &Lattice, nodes: &NodeList, word: &[BlockId]) -> bool
     requires { AreRising lattice.now nodes.now }
 {
+    let mut are_right = true;
     for k in 0..lattice.blocks() {
         let block = lattice.block(k);
-        if is_in_codeword(lattice, nodes, block) != word.contains(&block) {
-            return false;
-        }
+        are_right = are_right && is_in_codeword(lattice, nodes, block) == word.contains(&block);
     }
-    true
+    are_right
 }
 
-// Whether walks from the nodes answer as the blocks of the text.
-fn is_text(alloc: Global, lattice: &Lattice, listed: &[u32], text: &str) -> Result<bool, Fail> {
-    let nodes = rising(alloc, lattice, listed)?;
-    let word = blocks(alloc, text)?;
-    Ok(has_answers(lattice, &nodes, word.as_slice()))
+// Whether walks from the nodes answer as these blocks.
+fn is_word(alloc: Global, lattice: &Lattice, listed: &[u32], word: &[BlockId]) -> bool {
+    match rising(alloc, lattice, listed) {
+        Some(nodes) => has_answers(lattice, &nodes, word),
+        None => false,
+    }
+}
+
+// Whether they answer as the blocks of the text.
+fn is_text(alloc: Global, lattice: &Lattice, listed: &[u32], text: &str) -> bool {
+    blocks(alloc, text).is_some_and(|word| is_word(alloc, lattice, listed, word.as_slice()))
 }
 
 // In AE(2,2,2) with a fence after node 4 the strands of the nodes are 1 3, 2 4, 5 7 9 11 and 6 8 10 of Horiz, and 1 4, 2 3,
 // 5 8 9 and 6 7 10 11 of Right.
 #[test]
-fn codewords_are_those_written_down_by_hand(rt: HostRuntime) -> Result<(), Fail> {
-    let lattice = fenced(2, 2, 2, &[4], 11).ok_or("no lattice")?;
+fn codewords_are_those_written_down_by_hand(rt: HostRuntime) {
+    let alloc = rt.alloc();
+    let lattice = fenced(2, 2, 2, &[4], 11);
     for (listed, text) in [
         ([].as_slice(), ""),
         (&[4], "d4 h4 r4"),
@@ -88,23 +101,23 @@ fn codewords_are_those_written_down_by_hand(rt: HostRuntime) -> Result<(), Fail>
         (&[1, 3, 4], "d1 h1 r1 d3 r3 d4 h4"),
         (&[1, 4, 6], "d1 h1 r1 h3 d4 h4 d6 h6 r6 r7 h8 h10 r10 r11"),
     ] {
-        assert!(rt;
-            is_text(rt.alloc(), &lattice, listed, text)?,
-            "of {listed:?}"
-        );
+        let is_right = match &lattice {
+            Some(lattice) => is_text(alloc, lattice, listed, text),
+            None => false,
+        };
+        assert!(rt; is_right, "of {listed:?}");
     }
-    Ok(())
 }
 
 // Whether they answer as the codeword of the plain program.
-fn is_plain(alloc: Global, lattice: &Lattice, listed: &[u32]) -> Result<bool, Fail> {
-    let nodes = rising(alloc, lattice, listed)?;
-    let word = codeword(alloc, lattice, listed)?;
-    Ok(has_answers(lattice, &nodes, word.as_slice()))
+fn is_plain(alloc: Global, lattice: &Lattice, listed: &[u32]) -> bool {
+    let word = codeword(alloc, lattice, listed);
+    word.is_ok_and(|word| is_word(alloc, lattice, listed, word.as_slice()))
 }
 
 #[test]
-fn codewords_are_those_of_the_plain_program(rt: HostRuntime) -> Result<(), Fail> {
+fn codewords_are_those_of_the_plain_program(rt: HostRuntime) {
+    let alloc = rt.alloc();
     for (alpha, s, p, fences, n) in [
         (1, 1, 0, [4, 5].as_slice(), 20),
         (2, 2, 5, &[7, 15], 24),
@@ -112,13 +125,12 @@ fn codewords_are_those_of_the_plain_program(rt: HostRuntime) -> Result<(), Fail>
         (3, 3, 3, &[1, 2], 20),
         (3, 4, 5, &[10], 20),
     ] {
-        let lattice = fenced(alpha, s, p, fences, n).ok_or("no lattice")?;
+        let lattice = fenced(alpha, s, p, fences, n);
         for listed in [[1, 2, 3, 6], [4, 5, 14, 20], [2, 9, 11, 17]] {
-            let is_same = is_plain(rt.alloc(), &lattice, &listed)?;
+            let is_same = lattice.is_some_and(|lattice| is_plain(alloc, &lattice, &listed));
             assert!(rt; is_same, "of {listed:?} in {lattice:?}");
         }
     }
-    Ok(())
 }
 
 // The first block of this number or a later one that is in the codeword of the nodes.
@@ -134,34 +146,49 @@ fn first_from(lattice: &Lattice, nodes: &NodeList, least: u32) -> Option<BlockId
     None
 }
 
+// The first block of this number or a later one that is in the codeword of nodes 2 and 3.
+fn first_of_two(alloc: Global, lattice: &Lattice, least: u32) -> Option<Option<BlockId>> {
+    match rising(alloc, lattice, &[2, 3]) {
+        Some(nodes) => Some(first_from(lattice, &nodes, least)),
+        None => None,
+    }
+}
+
 // The codeword ends at node 3. Were each walk to go on to its block, a million nodes later, these calls would not end in time.
 #[test]
-fn a_walk_ends_with_its_codeword(rt: HostRuntime) -> Result<(), Fail> {
-    let lattice = Lattice::new(1, 1, 0, 1_048_576).ok_or("no lattice")?;
-    let nodes = rising(rt.alloc(), &lattice, &[2, 3])?;
-    let block = first_from(&lattice, &nodes, 1_900_000);
-    assert!(rt; block == None, "{block:?}");
-    Ok(())
+fn a_walk_ends_with_its_codeword(rt: HostRuntime) {
+    let alloc = rt.alloc();
+    let lattice = Lattice::new(1, 1, 0, 1_048_576);
+    let block = lattice.and_then(|lattice| first_of_two(alloc, &lattice, 1_900_000));
+    assert!(rt; block == Some(None), "{block:?}");
 }
 
 // The first block of a text, if there is one.
-fn first_of(alloc: Global, text: &str) -> Result<Option<BlockId>, Fail> {
-    Ok(blocks(alloc, text)?.first().copied())
+fn first_of(alloc: Global, text: &str) -> Option<Option<BlockId>> {
+    blocks(alloc, text).map(|blocks| blocks.first().copied())
 }
 
-// Whether the least of the intact blocks in the codeword of nodes 1, 4 and 6 is this one.
-fn is_touched(alloc: Global, lattice: &Lattice, intact: &str, want: &str) -> Result<bool, Fail> {
-    let want = first_of(alloc, want)?;
+// The least of the intact blocks in the codeword of nodes 1, 4 and 6, if there is one.
+fn touched(alloc: Global, lattice: &Lattice, intact: &[BlockId]) -> Option<Option<BlockId>> {
     let nodes = rising(alloc, lattice, &[1, 4, 6])?;
-    let intact = blocks(alloc, intact)?;
-    let marks = marked(alloc, lattice, intact.as_slice())?;
-    Ok(first_touched(&marks, &nodes) == want)
+    match marked(alloc, lattice, intact) {
+        Ok(marks) => Some(first_touched(&marks, &nodes)),
+        Err(_) => None,
+    }
+}
+
+// Whether it is this one.
+fn is_touched(alloc: Global, lattice: &Lattice, intact: &str, want: &str) -> bool {
+    let intact = blocks(alloc, intact);
+    let found = intact.and_then(|intact| touched(alloc, lattice, intact.as_slice()));
+    found.is_some() && found == first_of(alloc, want)
 }
 
 // The codeword of the nodes is d1 h1 r1 h3 d4 h4 d6 h6 r6 r7 h8 h10 r10 r11.
 #[test]
-fn the_least_marked_block_of_a_codeword_is_found(rt: HostRuntime) -> Result<(), Fail> {
-    let lattice = fenced(2, 2, 2, &[4], 11).ok_or("no lattice")?;
+fn the_least_marked_block_of_a_codeword_is_found(rt: HostRuntime) {
+    let alloc = rt.alloc();
+    let lattice = fenced(2, 2, 2, &[4], 11);
     for (text, want) in [
         ("", ""),
         (
@@ -173,23 +200,45 @@ fn the_least_marked_block_of_a_codeword_is_found(rt: HostRuntime) -> Result<(), 
         ("h1 r1 d1", "d1"),
         ("r11", "r11"),
     ] {
-        let is_found = is_touched(rt.alloc(), &lattice, text, want)?;
+        let is_found = match &lattice {
+            Some(lattice) => is_touched(alloc, lattice, text, want),
+            None => false,
+        };
         assert!(rt; is_found, "where {text} are intact");
     }
-    Ok(())
 }
 
-// Whether the least missing block of these numbers is this one, where all but h2 and h4 of five nodes are intact.
-fn is_missing(alloc: Global, least: u32, next: u32, want: &str) -> Result<bool, Fail> {
-    let want = first_of(alloc, want)?;
-    let lattice = fenced(1, 1, 0, &[2], 5).ok_or("no lattice")?;
-    let intact = blocks(alloc, "d1 h1 d2 d3 h3 d4 d5 h5")?;
-    let marks = marked(alloc, &lattice, intact.as_slice())?;
-    Ok(next <= lattice.blocks() && least_missing(&marks, least, next) == want)
+// The least block of these numbers that is not intact, if there is one; none where the lattice has fewer.
+fn missing(
+    alloc: Global,
+    lattice: &Lattice,
+    intact: &[BlockId],
+    range: (u32, u32),
+) -> Option<Option<BlockId>> {
+    let (least, next) = range;
+    match marked(alloc, lattice, intact) {
+        Ok(marks) => {
+            if next <= lattice.blocks() {
+                Some(least_missing(&marks, least, next))
+            } else {
+                None
+            }
+        }
+        Err(_) => None,
+    }
+}
+
+// Whether it is this one, where all but h2 and h4 of five nodes are intact.
+fn is_missing(alloc: Global, lattice: &Lattice, range: (u32, u32), want: &str) -> bool {
+    let intact = blocks(alloc, "d1 h1 d2 d3 h3 d4 d5 h5");
+    let found = intact.and_then(|intact| missing(alloc, lattice, intact.as_slice(), range));
+    found.is_some() && found == first_of(alloc, want)
 }
 
 #[test]
-fn the_least_missing_block_is_in_its_range(rt: HostRuntime) -> Result<(), Fail> {
+fn the_least_missing_block_is_in_its_range(rt: HostRuntime) {
+    let alloc = rt.alloc();
+    let lattice = fenced(1, 1, 0, &[2], 5);
     // h2 has number 3, and h4 number 7
     for (least, next, want) in [
         (0, 10, "h2"),
@@ -200,8 +249,11 @@ fn the_least_missing_block_is_in_its_range(rt: HostRuntime) -> Result<(), Fail> 
         (10, 10, ""),
         (9, 5, ""),
     ] {
-        let is_found = is_missing(rt.alloc(), least, next, want)?;
+        let range = (least, next);
+        let is_found = match &lattice {
+            Some(lattice) => is_missing(alloc, lattice, range, want),
+            None => false,
+        };
         assert!(rt; is_found, "from {least} to {next}");
     }
-    Ok(())
 }

@@ -1,8 +1,10 @@
-//! Tests of objects that are put, and of scrubs of their archives.
+//! Tests of objects that are put, of streams of them that are ingested, and of scrubs of their archives.
 #![tactic(auto)]
 
 #[cfg(test)]
 mod archives;
+#[cfg(test)]
+mod frames;
 #[cfg(test)]
 mod parting;
 #[cfg(test)]
@@ -11,3 +13,5 @@ mod putting;
 mod refusing;
 #[cfg(test)]
 mod scrubbing;
+#[cfg(test)]
+mod streams;

@@ -42,9 +42,11 @@ fn reveals<D: Disk>(
     numbers: &str,
     lines: &str,
     outcome: Outcome,
-) -> Result<bool, Fail> {
-    let report = report_of(alloc, disk, numbers, lines)?;
-    Ok(repairs(alloc, disk, &[], Ok(outcome), report.as_bytes()))
+) -> bool {
+    match report_of(alloc, disk, numbers, lines) {
+        Some(report) => repairs(alloc, disk, &[], Ok(outcome), report.as_bytes()),
+        None => false,
+    }
 }
 
 // Opens the archive and repairs it. It says whether the answer is a report, and the files are those of the whole one then.
@@ -83,29 +85,26 @@ fn lines_of_site(alloc: Global) -> Result<String, Fail> {
 }
 
 // Whether the second of four sites, once it is lost, is told with these lines and restored as the whole archive has it.
-fn is_site_peeled(
-    alloc: Global,
-    disk: &mut SureDisk,
-    whole: &mut SureDisk,
-    lines: &str,
-) -> Result<bool, Fail> {
+fn is_site_peeled(alloc: Global, disk: &mut SureDisk, whole: &mut SureDisk, lines: &str) -> bool {
     let is_lost = shorten(disk, 2, 0) == Ok(true) && damaged(alloc, disk) == Some(40);
     let outcome = Outcome {
         peeled: 40,
         solved: 0,
         lost: 0,
     };
-    let is_revealed = reveals(alloc, disk, "3 2 5 40", lines, outcome)?;
-    Ok(is_lost && is_revealed && damaged(alloc, disk) == Some(0) && same_files(disk, whole))
+    is_lost
+        && reveals(alloc, disk, "3 2 5 40", lines, outcome)
+        && damaged(alloc, disk) == Some(0)
+        && same_files(disk, whole)
 }
 
 // The same of an archive of forty nodes.
-fn is_peeled_of_forty(alloc: Global, lines: &str) -> Result<bool, Fail> {
+fn is_peeled_of_forty(alloc: Global, lines: &str) -> bool {
     let Some(mut whole) = archive(alloc, &WIDE, &[98; 640]) else {
-        return Ok(false);
+        return false;
     };
     let Some(mut disk) = archive(alloc, &WIDE, &[98; 640]) else {
-        return Ok(false);
+        return false;
     };
     is_site_peeled(alloc, &mut disk, &mut whole, lines)
 }
@@ -114,27 +113,22 @@ fn is_peeled_of_forty(alloc: Global, lines: &str) -> Result<bool, Fail> {
 fn a_lost_site_is_peeled(rt: HostRuntime) -> Result<(), Fail> {
     let lines = lines_of_site(rt.alloc())?;
     assert!(rt; lines.as_str().starts_with(FIRST_LINES));
-    assert!(rt; is_peeled_of_forty(rt.alloc(), lines.as_str())?);
+    assert!(rt; is_peeled_of_forty(rt.alloc(), lines.as_str()));
     Ok(())
 }
 
 // Whether an object is refused since this block is damaged, and put once the archive is repaired.
-fn is_put_later(alloc: Global, disk: &mut SureDisk, block: BlockId) -> Result<bool, Fail> {
+fn is_put_later(alloc: Global, disk: &mut SureDisk, block: BlockId) -> bool {
     let outcome = Outcome {
         peeled: 1,
         solved: 0,
         lost: 0,
     };
     let fault = Err(PutFault::HeadDamaged { block });
-    let is_refused = puts(alloc, disk, b"two", b"abc", fault);
-    let is_revealed = reveals(
-        alloc,
-        disk,
-        "3 2 5 1",
-        "counts 1 1 0 0\npeeled r1\n",
-        outcome,
-    )?;
-    Ok(is_refused && is_revealed && puts(alloc, disk, b"two", b"abc", Ok(())))
+    let lines = "counts 1 1 0 0\npeeled r1\n";
+    puts(alloc, disk, b"two", b"abc", fault)
+        && reveals(alloc, disk, "3 2 5 1", lines, outcome)
+        && puts(alloc, disk, b"two", b"abc", Ok(()))
 }
 
 #[test]
@@ -144,25 +138,24 @@ fn a_damaged_head_is_repaired_before_the_next_put(rt: HostRuntime) -> Result<(),
         node: 1,
         class: Class::Right,
     };
-    assert!(rt; is_put_later(rt.alloc(), &mut disk, block)?);
+    assert!(rt; is_put_later(rt.alloc(), &mut disk, block));
     Ok(())
 }
 
 // Whether of nineteen damaged blocks three are told as solved and sixteen as lost, and these stay damaged.
-fn are_solved_and_lost(alloc: Global, disk: &mut SureDisk) -> Result<bool, Fail> {
+fn are_solved_and_lost(alloc: Global, disk: &mut SureDisk) -> bool {
     let outcome = Outcome {
         peeled: 0,
         solved: 3,
         lost: 16,
     };
-    let is_revealed = reveals(alloc, disk, "2 2 2 11", TWO_CODEWORDS, outcome)?;
-    Ok(is_revealed && damaged(alloc, disk) == Some(16))
+    reveals(alloc, disk, "2 2 2 11", TWO_CODEWORDS, outcome) && damaged(alloc, disk) == Some(16)
 }
 
 #[test]
 fn what_is_solved_and_lost_is_reported(rt: HostRuntime) -> Result<(), Fail> {
     let mut disk = damaged_archive(rt.alloc(), &WOVEN, &BYTES, &NINETEEN).ok_or("no archive")?;
-    assert!(rt; are_solved_and_lost(rt.alloc(), &mut disk)?);
+    assert!(rt; are_solved_and_lost(rt.alloc(), &mut disk));
     Ok(())
 }
 
@@ -325,24 +318,22 @@ fn is_whole(alloc: Global, disk: &mut SureDisk) -> bool {
 }
 
 // Whether a repair whose output fails at this call has printed its report, where it says so, or nothing of it, and restored all.
-fn is_restored_unsaid(
-    alloc: Global,
-    disk: &mut SureDisk,
-    call: u32,
-    is_printed: bool,
-) -> Result<bool, Fail> {
-    let report = report_of(alloc, disk, "2 2 2 11", "counts 1 1 0 0\npeeled d1\n")?;
-    let printed = if is_printed { report.as_bytes() } else { b"" };
+fn is_restored_unsaid(alloc: Global, disk: &mut SureDisk, call: u32, is_printed: bool) -> bool {
     let fault = Err(RepairFault::WriteFault);
-    let is_revealed = repairs(alloc, disk, &[call], fault, printed);
-    Ok(is_revealed && is_whole(alloc, disk))
+    match report_of(alloc, disk, "2 2 2 11", "counts 1 1 0 0\npeeled d1\n") {
+        Some(report) => {
+            let printed = if is_printed { report.as_bytes() } else { b"" };
+            repairs(alloc, disk, &[call], fault, printed) && is_whole(alloc, disk)
+        }
+        None => false,
+    }
 }
 
 // The same of an archive whose first datum is damaged.
-fn is_datum_restored(alloc: Global, call: u32, is_printed: bool) -> Result<bool, Fail> {
+fn is_datum_restored(alloc: Global, call: u32, is_printed: bool) -> bool {
     match damaged_archive(alloc, &WOVEN, &BYTES, &[0]) {
         Some(mut disk) => is_restored_unsaid(alloc, &mut disk, call, is_printed),
-        None => Ok(false),
+        None => false,
     }
 }
 
@@ -350,7 +341,7 @@ fn is_datum_restored(alloc: Global, call: u32, is_printed: bool) -> Result<bool,
 fn an_output_that_fails_leaves_all_restored(rt: HostRuntime) -> Result<(), Fail> {
     // the report is one write, and then a flush
     for (call, is_printed) in [(1, false), (2, true)] {
-        assert!(rt; is_datum_restored(rt.alloc(), call, is_printed)?, "{call}");
+        assert!(rt; is_datum_restored(rt.alloc(), call, is_printed), "{call}");
     }
     Ok(())
 }

@@ -3,7 +3,6 @@
 use aea_test_helpers::digits_of;
 use sha2::{Digest, Sha256};
 use std::alloc::{AllocError, Global};
-use std::test::Fail;
 
 /// The place in the ledger of the first digest of an archive's first object, where its name is of one byte.
 pub const FIRST_DIGEST: u64 = 74;
@@ -38,9 +37,8 @@ pub fn clash_line(
     block: &str,
     recorded: &[u8; 32],
     computed: &[u8; 32],
-) -> Result<String, Fail> {
+) -> Result<String, AllocError> {
     let revealed = digits_of(alloc, recorded)?;
     let found = digits_of(alloc, computed)?;
-    let line = format!(in alloc; "clash {block} recorded {revealed} computed {found}\n")?;
-    Ok(line)
+    format!(in alloc; "clash {block} recorded {revealed} computed {found}\n")
 }

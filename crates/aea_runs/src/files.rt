@@ -3,24 +3,23 @@
 use aea_disk::Disk;
 use aea_test_helpers::file_bytes;
 use std::alloc::Global;
-use std::test::Fail;
 
-/// The bytes of the ledger and of four sites.
-pub fn all_bytes<D: Disk>(alloc: Global, disk: &mut D) -> Result<Vec<Vec<u8>>, Fail> {
+/// The bytes of the ledger and of four sites. None where the disk fails or memory runs out.
+pub fn all_bytes<D: Disk>(alloc: Global, disk: &mut D) -> Option<Vec<Vec<u8>>> {
     let mut files = Vec::new(alloc);
     for file in 0..5u8 {
-        files.push(file_bytes(alloc, disk, file)?)?;
+        files.push(file_bytes(alloc, disk, file)?).ok()?;
     }
-    Ok(files)
+    Some(files)
 }
 
-/// Whether the ledger and four sites have these bytes.
-pub fn has_bytes<D: Disk>(alloc: Global, disk: &mut D, files: &[Vec<u8>]) -> Result<bool, Fail> {
+/// Whether the ledger and four sites have these bytes. No also where the disk fails or memory runs out.
+pub fn has_bytes<D: Disk>(alloc: Global, disk: &mut D, files: &[Vec<u8>]) -> bool {
     for (file, bytes) in files.iter().enumerate() {
-        let file = file.min(64) as u8;
-        if file_bytes(alloc, disk, file)?.as_slice() != bytes.as_slice() {
-            return Ok(false);
+        let found = file_bytes(alloc, disk, file.min(64) as u8);
+        if !found.is_some_and(|found| found.as_slice() == bytes.as_slice()) {
+            return false;
         }
     }
-    Ok(true)
+    true
 }

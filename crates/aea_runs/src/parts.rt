@@ -10,7 +10,6 @@ use aea_ledger::{AppendFault, Ledger, open_ledger};
 use aea_records::are_parts;
 use sha2::{Digest, Sha256};
 use std::alloc::Global;
-use std::test::Fail;
 
 // Adds an object without nodes of its own, in parts of those that are there. False where no ledger takes it.
 fn add_parts<D: Disk>(
@@ -42,14 +41,16 @@ fn add_parts<D: Disk>(
 }
 
 /// Opens an archive whose limit was raised, and adds an object without nodes of its own, which has these bytes in these parts of
-/// the nodes that are there. False where no ledger takes it.
+/// the nodes that are there. False where no ledger is opened or takes it.
 pub fn share_parts<D: Disk>(
     alloc: Global,
     disk: &mut D,
     name: &[u8],
     bytes: &[u8],
     parts: &[Extent],
-) -> Result<bool, Fail> {
-    let mut ledger = open_ledger(alloc, disk)?;
-    Ok(add_parts(&mut ledger, disk, name, bytes, parts)?)
+) -> bool {
+    let Ok(mut ledger) = open_ledger(alloc, disk) else {
+        return false;
+    };
+    add_parts(&mut ledger, disk, name, bytes, parts) == Ok(true)
 }

@@ -1,8 +1,7 @@
 //! Worked examples.
 
-use crate::sessions::{
-    Ended, WITH_A, contents, make, raised, replies, replies_again, serves, stream,
-};
+use crate::archives::{WITH_A, contents, listed, make, raised};
+use crate::sessions::{Ended, replies, replies_again, serves, stream};
 use aea_disk::{MemDisk, SureDisk};
 use aea_ledger::create_ledger;
 use aea_session::{BeginFault, Stop};
@@ -11,17 +10,32 @@ use std::alloc::Global;
 use std::test::Fail;
 
 // Whether the example is served with these replies, and leaves the object `a`.
-fn leaves_a(alloc: Global, disk: &mut MemDisk, wanted: &[u8]) -> Result<bool, Fail> {
-    Ok(serves(alloc, disk, stream(), Ended::Done, wanted)? && contents(alloc, disk) == WITH_A)
+fn leaves_a(alloc: Global, disk: &mut MemDisk, wanted: &[u8]) -> bool {
+    serves(alloc, disk, stream(), Ended::Done, wanted) && contents(alloc, disk) == WITH_A
+}
+
+// The first step that goes wrong where an archive is made on this disk, and the example is served twice.
+fn first_wrong_step(alloc: Global, disk: &mut MemDisk) -> Option<&'static str> {
+    let steps = [
+        ("make", make(alloc, disk)),
+        ("first", leaves_a(alloc, disk, replies())),
+        ("again", leaves_a(alloc, disk, replies_again())),
+    ];
+    steps.iter().find(|step| !step.1).map(|step| step.0)
+}
+
+// The same of a new disk.
+fn wrong_step(alloc: Global) -> Option<&'static str> {
+    match listed(alloc) {
+        Ok(mut disk) => first_wrong_step(alloc, &mut disk),
+        Err(_) => Some("no memory"),
+    }
 }
 
 #[test]
 fn the_first_example(rt: HostRuntime) -> Result<(), Fail> {
-    let alloc = rt.alloc();
-    let mut disk = MemDisk::new(alloc, 1, 4096, 1024, 400, 8192)?;
-    assert!(rt; make(alloc, &mut disk));
-    assert!(rt; leaves_a(alloc, &mut disk, replies())?);
-    assert!(rt; leaves_a(alloc, &mut disk, replies_again())?);
+    let wrong = wrong_step(rt.alloc());
+    assert!(rt; wrong.is_none(), "{wrong:?}");
     Ok(())
 }
 
@@ -68,24 +82,49 @@ fn sessions() -> [(&'static [u8], Ended, &'static [u8]); 7] {
     ]
 }
 
+// The number of the first of these sessions that ends otherwise, none where there is none.
+fn first_unlike(alloc: Global, disk: &mut SureDisk) -> Option<usize> {
+    let rows = sessions();
+    for (case, row) in rows.iter().enumerate() {
+        let (bytes, ended, wanted) = *row;
+        if !serves(alloc, disk, bytes, ended, wanted) {
+            return Some(case);
+        }
+    }
+    None
+}
+
+// The same over a new archive; 99 where it is not made.
+fn unlike_session(alloc: Global) -> Option<usize> {
+    match raised(alloc) {
+        Some(mut disk) => first_unlike(alloc, &mut disk),
+        None => Some(99),
+    }
+}
+
 #[test]
 fn sessions_one_after_the_other(rt: HostRuntime) -> Result<(), Fail> {
-    let alloc = rt.alloc();
-    let mut disk = raised(alloc)?;
-    let mut case = 0;
-    for (bytes, ended, wanted) in sessions() {
-        assert!(rt; serves(alloc, &mut disk, bytes, ended, wanted)?, "{case}");
-        case = if case < 9 { case + 1 } else { case };
-    }
+    let unlike = unlike_session(rt.alloc());
+    assert!(rt; unlike.is_none(), "{unlike:?}");
     Ok(())
+}
+
+// Whether an archive is made on this disk, and begins no session, since it was not raised.
+fn begins_none(alloc: Global, disk: &mut SureDisk) -> bool {
+    let ended = Ended::NotBegun(BeginFault::NotUpgraded);
+    create_ledger(disk, &SMALL).is_ok() && serves(alloc, disk, stream(), ended, &[])
+}
+
+// The same of a new disk.
+fn is_not_begun(alloc: Global) -> bool {
+    match SureDisk::new(alloc, 1, 4096, 1024) {
+        Ok(mut disk) => begins_none(alloc, &mut disk),
+        Err(_) => false,
+    }
 }
 
 #[test]
 fn an_archive_that_was_not_raised(rt: HostRuntime) -> Result<(), Fail> {
-    let alloc = rt.alloc();
-    let mut disk = SureDisk::new(alloc, 1, 4096, 1024)?;
-    assert!(rt; create_ledger(&mut disk, &SMALL).is_ok());
-    let ended = Ended::NotBegun(BeginFault::NotUpgraded);
-    assert!(rt; serves(alloc, &mut disk, stream(), ended, &[])?);
+    assert!(rt; is_not_begun(rt.alloc()));
     Ok(())
 }

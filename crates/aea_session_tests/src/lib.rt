@@ -2,11 +2,15 @@
 #![tactic(auto)]
 
 #[cfg(test)]
+mod archives;
+#[cfg(test)]
 mod examples;
 #[cfg(test)]
 mod plain;
 #[cfg(test)]
 mod random;
+#[cfg(test)]
+mod run_stops;
 #[cfg(test)]
 mod runs;
 #[cfg(test)]

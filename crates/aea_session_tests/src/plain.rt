@@ -15,23 +15,25 @@ pub enum Act {
     Patrol { first: u32, count: u32 },
 }
 
-// These bytes, one part after the other.
-fn joined(alloc: Global, first: &[u8], next: &[u8], last: &[u8]) -> Result<Vec<u8>, AllocError> {
+// These bytes, one part after the other. None where memory runs out, here and below.
+fn joined(alloc: Global, first: &[u8], next: &[u8], last: &[u8]) -> Option<Vec<u8>> {
     let mut bytes = Vec::new(alloc);
-    bytes.extend_from_slice(first)?;
-    bytes.extend_from_slice(next)?;
-    bytes.extend_from_slice(last)?;
-    Ok(bytes)
+    for part in [first, next, last] {
+        bytes.extend_from_slice(part).ok()?;
+    }
+    Some(bytes)
 }
 
 // How a chunk of so many bytes from a first one on is spelled.
-fn spelled_chunk(alloc: Global, slot: u8, count: u32, first: u32) -> Result<Vec<u8>, AllocError> {
-    let bytes = some_bytes(alloc, count, first)?;
-    joined(alloc, &[2, slot], &count.to_be_bytes(), bytes.as_slice())
+fn spelled_chunk(alloc: Global, slot: u8, count: u32, first: u32) -> Option<Vec<u8>> {
+    match some_bytes(alloc, count, first) {
+        Ok(bytes) => joined(alloc, &[2, slot], &count.to_be_bytes(), bytes.as_slice()),
+        Err(_) => None,
+    }
 }
 
 /// How a message is spelled.
-pub fn spelled(alloc: Global, act: &Act) -> Result<Vec<u8>, AllocError> {
+pub fn spelled(alloc: Global, act: &Act) -> Option<Vec<u8>> {
     match act {
         Act::Open { slot, name } => joined(alloc, &[1, *slot], &[0, 1], &[*name]),
         Act::Chunk { slot, count, first } => spelled_chunk(alloc, *slot, *count, *first),
@@ -57,23 +59,40 @@ pub struct Upload {
     pub nodes: Vec<u32>,
 }
 
-// The reply to the close of this upload.
-fn closed(alloc: Global, upload: &Upload) -> Result<Vec<u8>, AllocError> {
-    let nodes = count_of(upload.nodes.len());
-    let long = upload.bytes.len() as u64;
-    let mut reply = joined(alloc, &[3, 0], &nodes.to_be_bytes(), &long.to_be_bytes())?;
-    reply.extend_from_slice(&Sha256::digest(upload.bytes.as_slice()))?;
-    Ok(reply)
+impl Upload {
+    // Adds the next node that is woven. Says whether there was memory, here and below.
+    fn weave(&mut self, woven: &mut u32) -> bool {
+        *woven = woven.saturating_add(1);
+        self.nodes.push(*woven).is_ok()
+    }
+
+    // Adds these bytes, and the nodes of the blocks that they fill.
+    fn fill(&mut self, bytes: &[u8], woven: &mut u32) -> bool {
+        let mut is_kept = self.bytes.extend_from_slice(bytes).is_ok();
+        let filled = self.bytes.len() / 16;
+        for _ in self.nodes.len()..filled {
+            is_kept = is_kept && self.weave(woven);
+        }
+        is_kept
+    }
+
+    // Adds the node of the last block, where it is not filled.
+    fn finish(&mut self, woven: &mut u32) -> bool {
+        self.bytes.len() % 16 == 0 || self.weave(woven)
+    }
 }
 
-// The reply to a patrol that found these blocks damaged.
-fn patrolled(alloc: Global, numbers: &[u32]) -> Result<Vec<u8>, AllocError> {
-    let count = count_of(numbers.len());
-    let mut reply = joined(alloc, &[6], &[0], &count.to_be_bytes())?;
-    for number in numbers {
-        reply.extend_from_slice(&number.to_be_bytes())?;
-    }
-    Ok(reply)
+// The reply to the close of this upload.
+fn closed(alloc: Global, upload: &Upload) -> Option<Vec<u8>> {
+    let nodes = count_of(upload.nodes.len());
+    let long = upload.bytes.len() as u64;
+    let counts = joined(alloc, &[3, 0], &nodes.to_be_bytes(), &long.to_be_bytes())?;
+    joined(
+        alloc,
+        counts.as_slice(),
+        &Sha256::digest(upload.bytes.as_slice()),
+        &[],
+    )
 }
 
 /// An archive in blocks of 16 bytes, with so many blocks a node, and what a session over it keeps.
@@ -157,50 +176,47 @@ impl Plain {
     }
 
     // The code of a chunk.
-    fn chunk(&mut self, slot: u8, bytes: &[u8]) -> Result<u8, AllocError> {
+    fn chunk(&mut self, slot: u8, bytes: &[u8]) -> Option<u8> {
         match self.slots.get_mut(usize::from(slot)) {
-            None => Ok(1),
-            Some(None) => Ok(3),
-            Some(Some(upload)) => {
-                upload.bytes.extend_from_slice(bytes)?;
-                let filled = upload.bytes.len() / 16;
-                for _ in upload.nodes.len()..filled {
-                    self.woven = self.woven.saturating_add(1);
-                    upload.nodes.push(self.woven)?;
-                }
-                Ok(0)
-            }
+            None => Some(1),
+            Some(None) => Some(3),
+            Some(Some(upload)) => upload.fill(bytes, &mut self.woven).then_some(0),
+        }
+    }
+
+    // The reply to a chunk of these bytes.
+    fn reply_to_chunk(&mut self, slot: u8, bytes: &[u8]) -> Option<Vec<u8>> {
+        match self.chunk(slot, bytes) {
+            Some(code) => joined(self.alloc, &[2], &[code], &[]),
+            None => None,
         }
     }
 
     // The reply to a chunk of so many bytes from a first one on.
-    fn take_chunk(&mut self, slot: u8, count: u32, first: u32) -> Result<Vec<u8>, AllocError> {
-        let bytes = some_bytes(self.alloc, count, first)?;
-        let code = self.chunk(slot, bytes.as_slice())?;
-        joined(self.alloc, &[2], &[code], &[])
+    fn take_chunk(&mut self, slot: u8, count: u32, first: u32) -> Option<Vec<u8>> {
+        match some_bytes(self.alloc, count, first) {
+            Ok(bytes) => self.reply_to_chunk(slot, bytes.as_slice()),
+            Err(_) => None,
+        }
     }
 
     // The reply to the close of this upload, which becomes an object.
-    fn record(&mut self, mut upload: Upload) -> Result<Vec<u8>, AllocError> {
-        if upload.bytes.len() % 16 != 0 {
-            self.woven = self.woven.saturating_add(1);
-            upload.nodes.push(self.woven)?;
-        }
+    fn record(&mut self, mut upload: Upload) -> Option<Vec<u8>> {
+        let is_woven = upload.finish(&mut self.woven);
         self.recorded = self.woven;
-        let reply = closed(self.alloc, &upload)?;
-        self.objects.push(upload)?;
-        Ok(reply)
+        let reply = closed(self.alloc, &upload);
+        let is_kept = self.objects.push(upload).is_ok();
+        if is_woven && is_kept { reply } else { None }
     }
 
     // The reply to a close.
-    fn close(&mut self, slot: u8) -> Result<Vec<u8>, AllocError> {
-        let upload = match self.slots.get_mut(usize::from(slot)) {
-            None => return joined(self.alloc, &[3], &[1], &[]),
-            Some(place) => place.take(),
-        };
-        match upload {
-            None => joined(self.alloc, &[3], &[3], &[]),
-            Some(upload) => self.record(upload),
+    fn close(&mut self, slot: u8) -> Option<Vec<u8>> {
+        match self.slots.get_mut(usize::from(slot)) {
+            None => joined(self.alloc, &[3], &[1], &[]),
+            Some(place) => match place.take() {
+                None => joined(self.alloc, &[3], &[3], &[]),
+                Some(upload) => self.record(upload),
+            },
         }
     }
 
@@ -226,48 +242,65 @@ impl Plain {
         None
     }
 
-    // The reply to a read.
-    fn read(&self, name: u8) -> Result<Vec<u8>, AllocError> {
-        let Some(object) = self.objects.iter().find(|object| object.name == name) else {
-            return joined(self.alloc, &[5], &[9], &[]);
-        };
-        if let Some(number) = self.first_damaged(object.nodes.as_slice()) {
-            return joined(self.alloc, &[5], &[10], &number.to_be_bytes());
-        }
+    // The reply to a read of this object.
+    fn read_object(&self, object: &Upload) -> Option<Vec<u8>> {
         let long = object.bytes.len() as u64;
-        joined(
-            self.alloc,
-            &[5, 0],
-            &long.to_be_bytes(),
-            object.bytes.as_slice(),
-        )
+        match self.first_damaged(object.nodes.as_slice()) {
+            Some(number) => joined(self.alloc, &[5], &[10], &number.to_be_bytes()),
+            None => joined(
+                self.alloc,
+                &[5, 0],
+                &long.to_be_bytes(),
+                object.bytes.as_slice(),
+            ),
+        }
     }
 
-    // The numbers of the damaged ones of so many blocks from a first one on.
-    fn damaged_among(&self, first: u32, count: u32) -> Result<Vec<u32>, AllocError> {
+    // The reply to a read.
+    fn read(&self, name: u8) -> Option<Vec<u8>> {
+        match self.objects.iter().find(|object| object.name == name) {
+            Some(object) => self.read_object(object),
+            None => joined(self.alloc, &[5], &[9], &[]),
+        }
+    }
+
+    // The numbers, of 4 bytes each, of the damaged ones of so many blocks from a first one on.
+    fn damaged_among(&self, first: u32, count: u32) -> Option<Vec<u8>> {
         let mut numbers = Vec::new(self.alloc);
         for more in 0..count {
             let number = first.saturating_add(more);
             if self.is_damaged(number) {
-                numbers.push(number)?;
+                numbers.extend_from_slice(&number.to_be_bytes()).ok()?;
             }
         }
-        Ok(numbers)
+        Some(numbers)
+    }
+
+    // The reply to a patrol of blocks that there are.
+    fn patrolled(&self, first: u32, count: u32) -> Option<Vec<u8>> {
+        let numbers = self.damaged_among(first, count)?;
+        let found = count_of(numbers.len() / 4);
+        joined(
+            self.alloc,
+            &[6, 0],
+            &found.to_be_bytes(),
+            numbers.as_slice(),
+        )
     }
 
     // The reply to a patrol.
-    fn patrol(&self, first: u32, count: u32) -> Result<Vec<u8>, AllocError> {
+    fn patrol(&self, first: u32, count: u32) -> Option<Vec<u8>> {
         let blocks = u64::from(self.recorded).saturating_mul(u64::from(self.classes));
         let end = u64::from(first).saturating_add(u64::from(count));
         if count == 0 || 4096 < count || blocks < end {
-            return joined(self.alloc, &[6], &[11], &[]);
+            joined(self.alloc, &[6], &[11], &[])
+        } else {
+            self.patrolled(first, count)
         }
-        let numbers = self.damaged_among(first, count)?;
-        patrolled(self.alloc, numbers.as_slice())
     }
 
     /// Makes the step of a message, and gives its reply.
-    pub fn take(&mut self, act: &Act) -> Result<Vec<u8>, AllocError> {
+    pub fn take(&mut self, act: &Act) -> Option<Vec<u8>> {
         match act {
             Act::Open { slot, name } => {
                 let code = self.open(*slot, *name);

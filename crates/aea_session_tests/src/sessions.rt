@@ -1,14 +1,10 @@
 //! Sessions over archives in memory, and the first worked example.
 
-use aea_catalog::Extent;
-use aea_disk::{Disk, Loss, SureDisk};
+use aea_disk::Disk;
 use aea_io::{MemSink, MemSource, Sink, Source};
-use aea_lattice::Shape;
-use aea_ledger::{create_ledger, open_ledger};
+use aea_ledger::open_ledger;
 use aea_session::{BeginFault, Session, Stop, serve};
-use aea_test_helpers::SMALL;
-use std::alloc::Global;
-use std::test::Fail;
+use std::alloc::{AllocError, Global};
 
 /// The messages of the first example, as one stream.
 pub fn stream() -> &'static [u8] {
@@ -19,6 +15,12 @@ pub fn stream() -> &'static [u8] {
 /// Where each of its messages ends.
 pub fn ends() -> [usize; 9] {
     [0, 5, 10, 19, 41, 43, 45, 49, 58]
+}
+
+/// The first of its messages, so many.
+pub fn first_messages(count: usize) -> &'static [u8] {
+    let end = ends().get(count).copied().unwrap_or(0);
+    stream().get(..end).unwrap_or(&[])
 }
 
 /// The replies to them. The 32 bytes in the reply to the close are the SHA-256 of `abc`.
@@ -48,40 +50,55 @@ pub enum Ended {
     Stopped(Stop),
 }
 
-/// Makes an archive of AE(1) with blocks of 16 bytes on one site, and raises its limit. Says whether it did.
-pub fn make<D: Disk>(alloc: Global, disk: &mut D) -> bool {
-    make_of(alloc, disk, &SMALL)
+/// What a session leaves: how it ended, whether it may be used on, and its replies.
+#[derive(Drop)]
+pub struct Served {
+    pub ended: Ended,
+    pub live: bool,
+    pub out: MemSink,
 }
 
-/// Makes an archive of this shape, and raises its limit. Says whether it did.
-pub fn make_of<D: Disk>(alloc: Global, disk: &mut D, shape: &Shape) -> bool {
-    if create_ledger(disk, shape).is_err() {
-        return false;
-    }
-    let Ok(mut ledger) = open_ledger(alloc, disk) else {
-        return false;
-    };
-    ledger.append_upgrade(disk).is_ok()
-}
-
-/// Opens the archive, and serves a session over it. Returns how it ended, and whether it may be used on.
-pub fn run<D: Disk, S: Source, O: Sink>(
+// Opens the archive, and serves a session over it. Returns how it ended, and whether it may be used on.
+fn run<D: Disk, S: Source, O: Sink>(
     alloc: Global,
     disk: &mut D,
     input: &mut S,
     out: &mut O,
 ) -> (Ended, bool) {
-    let Ok(ledger) = open_ledger(alloc, disk) else {
-        return (Ended::NoLedger, false);
-    };
-    let mut session = match Session::begin(alloc, ledger, disk) {
-        Ok(session) => session,
-        Err(fault) => return (Ended::NotBegun(fault), false),
-    };
-    match serve(alloc, &mut session, disk, input, out) {
-        Ok(()) => (Ended::Done, session.live()),
-        Err(stop) => (Ended::Stopped(stop), session.live()),
+    match open_ledger(alloc, disk) {
+        Ok(ledger) => match Session::begin(alloc, ledger, disk) {
+            Ok(mut session) => match serve(alloc, &mut session, disk, input, out) {
+                Ok(()) => (Ended::Done, session.live()),
+                Err(stop) => (Ended::Stopped(stop), session.live()),
+            },
+            Err(fault) => (Ended::NotBegun(fault), false),
+        },
+        Err(_) => (Ended::NoLedger, false),
     }
+}
+
+/// Serves a session of this input over the archive, with so many bytes of space for the replies. An error is lack of memory, here
+/// and below.
+pub fn serve_input<D: Disk, S: Source>(
+    alloc: Global,
+    disk: &mut D,
+    input: &mut S,
+    space: usize,
+) -> Result<Served, AllocError> {
+    let mut out = MemSink::new(alloc, space, &[])?;
+    let (ended, live) = run(alloc, disk, input, &mut out);
+    Ok(Served { ended, live, out })
+}
+
+/// Serves a session of these bytes over the archive, with so many bytes of space for the replies.
+pub fn serve_bytes<D: Disk>(
+    alloc: Global,
+    disk: &mut D,
+    bytes: &[u8],
+    space: usize,
+) -> Result<Served, AllocError> {
+    let mut input = MemSource::new(alloc, bytes, &[])?;
+    serve_input(alloc, disk, &mut input, space)
 }
 
 /// Serves a session of these bytes. Says whether it ends so and gives these replies, and whether it may be used on unless a message
@@ -92,45 +109,9 @@ pub fn serves<D: Disk>(
     bytes: &[u8],
     ended: Ended,
     wanted: &[u8],
-) -> Result<bool, Fail> {
-    let mut input = MemSource::new(alloc, bytes, &[])?;
-    let mut out = MemSink::new(alloc, 16_384, &[])?;
-    let (found, live) = run(alloc, disk, &mut input, &mut out);
+) -> bool {
     let begun = !matches!(ended, Ended::NoLedger | Ended::NotBegun(_));
-    Ok(found == ended && live == begun && out.bytes() == wanted)
-}
-
-/// How many objects the archive has, how many nodes, and the one part of `a`, if it has one.
-pub fn contents<D: Disk>(alloc: Global, disk: &mut D) -> Option<(usize, u32, Option<Extent>)> {
-    let Ok(ledger) = open_ledger(alloc, disk) else {
-        return None;
-    };
-    let catalog = ledger.catalog();
-    let part = if catalog.parts(b"a") == Some(1) {
-        catalog.part(b"a", 0)
-    } else {
-        None
-    };
-    Some((catalog.len(), ledger.lattice().n(), part))
-}
-
-/// What the archive has after the first example.
-pub const WITH_A: Option<(usize, u32, Option<Extent>)> = Some((
-    1,
-    2,
-    Some(Extent { first: 2, count: 1 }),
-));
-
-/// A raised archive on a disk with space for some hundred nodes.
-pub fn raised(alloc: Global) -> Result<SureDisk, Fail> {
-    let mut disk = SureDisk::new(alloc, 1, 65_536, 65_536)?;
-    let _made = make(alloc, &mut disk);
-    Ok(disk)
-}
-
-/// Whether the object is there where the disk stops after so many calls with this loss, and it is closed after so many: the gate of its
-/// record is written by the last call of the close but one, and made durable by the last.
-pub fn is_there(after: u64, loss: Loss, closed: u64) -> bool {
-    let early = loss == Loss::Kept || loss == Loss::Ones;
-    after >= closed || early && after.saturating_add(1) == closed
+    serve_bytes(alloc, disk, bytes, 16_384).is_ok_and(|served| {
+        served.ended == ended && served.live == begun && served.out.bytes() == wanted
+    })
 }

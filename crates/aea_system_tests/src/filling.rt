@@ -1,8 +1,8 @@
 //! A buffer is filled, or the end is reached.
 
 use aea_io::{FillFault, MemSource, ReadFault, StdSource, fill, read_full};
+use std::alloc::Global;
 use std::io::{self, Read};
-use std::test::Fail;
 
 // A reader that gives two bytes at a time.
 #[derive(Drop)]
@@ -17,53 +17,74 @@ impl Read for Slow<'_> {
     }
 }
 
-#[test]
-fn goes_on_after_short_reads(rt: HostRuntime) -> Result<(), Fail> {
-    let mut source = StdSource::new(Slow { rest: b"abcdefgh" });
+// Where the first read begins that does not give its row: how much is read, what the buffer has, and where the read ends. It is
+// 0 where an empty buffer is wrong.
+fn wrong_read(source: &mut StdSource<Slow>) -> Option<u32> {
     let mut buf = [0; 5];
+    let mut wrong = None;
     for (start, count, want, taken) in [
         (7_u32, 5, *b"abcde", 12),
         (12, 3, *b"fghde", 15),
         (15, 0, *b"fghde", 15),
     ] {
         let mut at = u64::from(start);
-        assert!(rt; read_full(&mut source, &mut buf, &mut at) == Ok(count));
-        assert!(rt; buf == want && at == taken);
+        let is_read = read_full(source, &mut buf, &mut at) == Ok(count);
+        let is_right = is_read && buf == want && at == taken;
+        wrong = wrong.or((!is_right).then_some(start));
     }
-    assert!(rt; read_full(&mut source, &mut [], &mut 0) == Ok(0));
-    Ok(())
+    let is_right = read_full(source, &mut [], &mut 0) == Ok(0);
+    wrong.or((!is_right).then_some(0))
 }
 
 #[test]
-fn says_that_the_source_ended(rt: HostRuntime) -> Result<(), Fail> {
+fn goes_on_after_short_reads(rt: HostRuntime) {
     let mut source = StdSource::new(Slow { rest: b"abcdefgh" });
+    let wrong = wrong_read(&mut source);
+    assert!(rt; wrong == None, "from {wrong:?}");
+}
+
+// Where the first filling begins that does not give its row.
+fn wrong_filling(source: &mut StdSource<Slow>) -> Option<u32> {
     let mut buf = [0; 5];
-    for (start, result, want, taken) in [
+    let mut wrong = None;
+    for (start, filled, want, taken) in [
         (7_u32, Ok(()), *b"abcde", 12),
         (12, Err(FillFault::Ended), *b"fghde", 15),
         (15, Err(FillFault::Ended), *b"fghde", 15),
     ] {
         let mut at = u64::from(start);
-        assert!(rt; fill(&mut source, &mut buf, &mut at) == result);
-        assert!(rt; buf == want && at == taken);
+        let is_filled = fill(source, &mut buf, &mut at) == filled;
+        let is_right = is_filled && buf == want && at == taken;
+        wrong = wrong.or((!is_right).then_some(start));
     }
-    Ok(())
+    wrong
 }
 
 #[test]
-fn hands_a_read_fault_on(rt: HostRuntime) -> Result<(), Fail> {
+fn says_that_the_source_ended(rt: HostRuntime) {
+    let mut source = StdSource::new(Slow { rest: b"abcdefgh" });
+    let wrong = wrong_filling(&mut source);
+    assert!(rt; wrong == None, "from {wrong:?}");
+}
+
+// Whether a read from a source that fails at this call gives this, and takes so many bytes.
+fn reads(alloc: Global, call: u32, want: Result<usize, ReadFault>, taken: u64) -> bool {
+    match MemSource::new(alloc, b"abc", &[call]) {
+        Ok(mut source) => {
+            let mut at = 0;
+            read_full(&mut source, &mut [0; 9], &mut at) == want && at == taken
+        }
+        Err(_) => false,
+    }
+}
+
+#[test]
+fn hands_a_read_fault_on(rt: HostRuntime) {
     for (call, want, taken) in [
         (1, Err(ReadFault), 0),
         (2, Err(ReadFault), 3),
         (3, Ok(3), 3),
     ] {
-        let mut source = MemSource::new(rt.alloc(), b"abc", &[call])?;
-        let mut at = 0;
-        assert!(rt;
-            read_full(&mut source, &mut [0; 9], &mut at) == want,
-            "call {call}"
-        );
-        assert!(rt; at == taken, "call {call}");
+        assert!(rt; reads(rt.alloc(), call, want, taken), "call {call}");
     }
-    Ok(())
 }

@@ -3,16 +3,15 @@
 use crate::damage::shorten;
 use aea_disk::{Disk, DiskFault};
 use std::alloc::Global;
-use std::test::Fail;
 
-/// The bytes of a file, but none past the first 16,777,216.
-pub fn file_bytes<D: Disk>(alloc: Global, disk: &mut D, file: u8) -> Result<Vec<u8>, Fail> {
+/// The bytes of a file, but none past the first 16,777,216. None where the disk fails or memory runs out.
+pub fn file_bytes<D: Disk>(alloc: Global, disk: &mut D, file: u8) -> Option<Vec<u8>> {
     let file = file.min(66);
-    let long = disk.len(file)?.min(1 << 24) as usize;
-    let mut bytes = vec![in alloc; 0; long]?;
-    let count = disk.read(file, 0, bytes.as_mut_slice())?;
+    let long = disk.len(file).ok()?.min(1 << 24) as usize;
+    let mut bytes = vec![in alloc; 0; long].ok()?;
+    let count = disk.read(file, 0, bytes.as_mut_slice()).ok()?;
     bytes.truncate(count);
-    Ok(bytes)
+    Some(bytes)
 }
 
 /// Makes these the bytes of a file. No disk here has space for more than 16,777,216.

@@ -4,9 +4,9 @@ use crate::cases::Case;
 use crate::standing::printed;
 use aea_cli::Status;
 use aea_runs::{Left, run_line, text_of};
+use aea_test_helpers::digits_of;
 use sha2::{Digest, Sha256};
 use std::alloc::{AllocError, Global};
-use std::test::Fail;
 
 /// What an input is.
 #[derive(Clone, Copy, PartialEq, Eq)]
@@ -35,57 +35,69 @@ impl Revealed {
     }
 }
 
-// What a refused run says that has printed this.
-fn refused(out: String, err: String) -> Revealed {
-    Revealed {
-        status: Status::Refused,
-        out,
-        err,
+// What a run says that ends with this status, and prints this, and this on the errors. None where memory runs out, here and below.
+fn says(alloc: Global, status: Status, out: &str, err: &str) -> Option<Revealed> {
+    let out = String::from_str(alloc, out).ok()?;
+    let err = String::from_str(alloc, err).ok()?;
+    Some(Revealed { status, out, err })
+}
+
+// What a run says that has printed this, and is refused for this and the number behind it.
+fn refused(alloc: Global, out: &str, cause: &str, number: usize) -> Option<Revealed> {
+    match format!(in alloc; "refused: {cause} {number}\n") {
+        Ok(err) => says(alloc, Status::Refused, out, err.as_str()),
+        Err(_) => None,
     }
 }
 
-// What a run says that was not refused.
-fn ended(alloc: Global, status: Status, out: String) -> Revealed {
-    Revealed {
-        status,
-        out,
-        err: String::new(alloc),
+// What a run says that was not refused, and has left this.
+fn ended(alloc: Global, left: &Left) -> Option<Revealed> {
+    match text_of(left.out.bytes()) {
+        Ok(out) => says(alloc, left.status, out, ""),
+        Err(_) => None,
     }
 }
 
 // Of a damage list whose last line ends with a newline: what the run itself does.
-fn revealed_of_whole_list(alloc: Global, case: &Case, list: &str) -> Result<Revealed, Fail> {
-    let left = run_line(alloc, case.line, list.as_bytes())?;
-    let out = String::from_str(alloc, text_of(left.out.bytes())?)?;
-    Ok(ended(alloc, left.status, out))
+fn revealed_of_whole_list(alloc: Global, case: &Case, list: &str) -> Option<Revealed> {
+    match run_line(alloc, case.line, list.as_bytes()) {
+        Ok(left) => ended(alloc, &left),
+        Err(_) => None,
+    }
 }
 
 // Of a damage list: its last line need not end with a newline, but it has to be the text of a block.
-fn revealed_of_list(alloc: Global, case: &Case, part: &str) -> Result<Revealed, Fail> {
+fn revealed_of_list(alloc: Global, case: &Case, part: &str) -> Option<Revealed> {
     let last = match part.rsplit_once('\n') {
         Some((_lines, last)) => last,
         None => part,
     };
     if last.len() == 1 {
-        let number = part.lines().count();
-        let line = format!(in alloc; "refused: bad block at line {number}\n")?;
-        return Ok(refused(String::new(alloc), line));
+        refused(alloc, "", "bad block at line", part.lines().count())
+    } else if last.is_empty() {
+        revealed_of_whole_list(alloc, case, part)
+    } else {
+        match format!(in alloc; "{part}\n") {
+            Ok(list) => revealed_of_whole_list(alloc, case, list.as_str()),
+            Err(_) => None,
+        }
     }
-    let end = if last.is_empty() { "" } else { "\n" };
-    let list = format!(in alloc; "{part}{end}")?;
-    revealed_of_whole_list(alloc, case, list.as_str())
 }
 
-// Of an object: each part of it is one, in blocks of 16 bytes.
-fn revealed_of_object(alloc: Global, part: &[u8]) -> Result<Revealed, AllocError> {
-    let count = part.len();
+// What is printed of an object of these bytes, in blocks of 16 bytes.
+fn stored_line(alloc: Global, bytes: &[u8]) -> Result<String, AllocError> {
+    let count = bytes.len();
     let nodes = count.div_ceil(16);
-    let mut line = format!(in alloc; "stored {nodes} {count} ")?;
-    for byte in Sha256::digest(part) {
-        write!(line, "{byte:02x}")?;
+    let digits = digits_of(alloc, &Sha256::digest(bytes))?;
+    format!(in alloc; "stored {nodes} {count} {digits} b\n")
+}
+
+// Of an object: each part of it is one.
+fn revealed_of_object(alloc: Global, part: &[u8]) -> Option<Revealed> {
+    match stored_line(alloc, part) {
+        Ok(line) => says(alloc, Status::Done, line.as_str(), ""),
+        Err(_) => None,
     }
-    line.push_str(" b\n")?;
-    Ok(ended(alloc, Status::Done, line))
 }
 
 /// How many lines end in these bytes.
@@ -101,43 +113,54 @@ pub fn commits_in(case: &Case, bytes: usize) -> usize {
         .count()
 }
 
-// Of frames: those that are whole are stored, and the stream may end after each.
-fn revealed_of_frames(alloc: Global, case: &Case, end: usize) -> Result<Revealed, AllocError> {
-    let commits = commits_in(case, end);
-    let mut out = printed(alloc, case, commits)?;
-    if end == 0 || case.commits.iter().any(|commit| commit.reads == end) {
-        writeln!(out, "end {commits}")?;
-        return Ok(ended(alloc, Status::Done, out));
+// Of frames whose stream ends behind so many of them: what is printed of them, and how many they are.
+fn revealed_of_whole_frames(alloc: Global, out: &str, commits: usize) -> Option<Revealed> {
+    match format!(in alloc; "{out}end {commits}\n") {
+        Ok(out) => says(alloc, Status::Done, out.as_str(), ""),
+        Err(_) => None,
     }
-    let line = format!(in alloc; "refused: bad stream at {end}\n")?;
-    Ok(refused(out, line))
+}
+
+// Of frames: those that are whole are stored, and the stream may end after each.
+fn revealed_of_frames(alloc: Global, case: &Case, end: usize) -> Option<Revealed> {
+    let commits = commits_in(case, end);
+    let out = printed(alloc, case, commits).ok()?;
+    if end == 0 || case.commits.iter().any(|commit| commit.reads == end) {
+        revealed_of_whole_frames(alloc, out.as_str(), commits)
+    } else {
+        refused(alloc, out.as_str(), "bad stream at", end)
+    }
 }
 
 // Of a report of restored blocks alone: it may end after the fourth line and each later one, but it is short of blocks then.
-fn revealed_of_report(alloc: Global, part: &str, is_whole: bool) -> Result<Revealed, AllocError> {
+fn revealed_of_report(alloc: Global, part: &str, is_whole: bool) -> Option<Revealed> {
     let lines = lines_in(part.as_bytes());
-    if 4 <= lines && part.ends_with('\n') {
-        let (status, line) = if is_whole {
-            (Status::Done, "accepted\n")
-        } else {
-            (Status::Damage, "rejected 4 wrong-count\n")
-        };
-        return Ok(ended(alloc, status, String::from_str(alloc, line)?));
+    if lines < 4 || !part.ends_with('\n') {
+        refused(alloc, "", "bad line", lines.saturating_add(1))
+    } else if is_whole {
+        says(alloc, Status::Done, "accepted\n", "")
+    } else {
+        says(alloc, Status::Damage, "rejected 4 wrong-count\n", "")
     }
-    let number = lines.saturating_add(1);
-    let line = format!(in alloc; "refused: bad line {number}\n")?;
-    Ok(refused(String::new(alloc), line))
+}
+
+// What the run of this case says whose input, a damage list or a report, is this first part of the whole.
+fn revealed_of_text(alloc: Global, case: &Case, kind: Kind, part: &str) -> Option<Revealed> {
+    if kind == Kind::DamageList {
+        revealed_of_list(alloc, case, part)
+    } else {
+        revealed_of_report(alloc, part, part.len() == case.input.len())
+    }
 }
 
 /// What the run of this case says whose input is this first part of the whole.
-pub fn revealed_of(alloc: Global, case: &Case, kind: Kind, part: &[u8]) -> Result<Revealed, Fail> {
+pub fn revealed_of(alloc: Global, case: &Case, kind: Kind, part: &[u8]) -> Option<Revealed> {
     match kind {
-        Kind::DamageList => revealed_of_list(alloc, case, text_of(part)?),
-        Kind::Object => Ok(revealed_of_object(alloc, part)?),
-        Kind::Frames => Ok(revealed_of_frames(alloc, case, part.len())?),
-        Kind::Report => {
-            let is_whole = part.len() == case.input.len();
-            Ok(revealed_of_report(alloc, text_of(part)?, is_whole)?)
-        }
+        Kind::Object => revealed_of_object(alloc, part),
+        Kind::Frames => revealed_of_frames(alloc, case, part.len()),
+        Kind::DamageList | Kind::Report => match text_of(part) {
+            Ok(text) => revealed_of_text(alloc, case, kind, text),
+            Err(_) => None,
+        },
     }
 }

@@ -120,7 +120,12 @@ fn is_lost<D: Disk>(alloc: Global, disk: &mut D, case: &Case) -> bool {
 
 // Whether the damage is told, and the files are then the whole ones and the object is got; where blocks are lost the files are as
 // they were, and nothing is got.
-fn is_revealed<D: Disk>(alloc: Global, disk: &mut D, case: &Case, whole: &[Vec<u8>]) -> bool {
+fn is_lost_or_repaired<D: Disk>(
+    alloc: Global,
+    disk: &mut D,
+    case: &Case,
+    whole: &[Vec<u8>],
+) -> bool {
     if case.lines.contains("lost") {
         is_lost(alloc, disk, case)
     } else {
@@ -131,7 +136,9 @@ fn is_revealed<D: Disk>(alloc: Global, disk: &mut D, case: &Case, whole: &[Vec<u
 // The same of an archive of four blocks, which is damaged as the case has it.
 fn is_repaired(alloc: Global, case: &Case, whole: &[Vec<u8>]) -> bool {
     match archive_of_four(alloc, b"abc") {
-        Some(mut disk) => damages(&mut disk, case) && is_revealed(alloc, &mut disk, case, whole),
+        Some(mut disk) => {
+            damages(&mut disk, case) && is_lost_or_repaired(alloc, &mut disk, case, whole)
+        }
         None => false,
     }
 }

@@ -151,8 +151,7 @@ fn is_alike(
     }
 }
 
-// Takes so many random messages in this session, each with its reply compared. Returns how many had another reply, or met a disk that
-// failed.
+// Takes so many random messages, each with its reply compared. Returns how many had another reply, or met a disk that failed.
 fn unlike_in(
     alloc: Global,
     x: &mut u64,

@@ -17,12 +17,17 @@ from pathlib import Path
 
 from judging import Archive, Wrong, frame, shortened
 from measuring import called
-from plain_archive import Plain, stored_line
+from plain_archive import LEDGER, Plain, adopted, stored_line
 from sessions import said_of
 
 TOP = Path(__file__).resolve().parent.parent
-# what is in each archive besides its create and its first put, in an order by chance
-RUNS = ["put", "ingest", "session", "fence", "upgrade", "repair", "put", "session", "repair"]
+# what is in each archive besides its create and its first put, in an order by chance; what comes behind `copies` has these on
+RUNS = ["put", "ingest", "session", "fence", "upgrade", "repair", "copies", "put", "session", "repair"]
+# what may stand in the place of a ledger or of a copy and is none
+NO_LEDGERS = [None, b"", b"\x07" * 40, b"\x01AEALEDG1"]
+NO_COPIES = [None, b"", bytes(40), b"\x01AEACOPY1", b"\x02AEACOPY1" + bytes(range(200))]
+# where copies are on, the ledger or a copy is damaged before so many of a hundred runs, which have to mend it
+HURT = 30
 # of so many failures the folders are kept, so many are printed, and a line is printed after so many minutes
 KEPT, PRINTED, EACH = 10, 200, 10
 SHAPES = [(1, 1, 0), (2, 2, 2), (2, 2, 3), (3, 2, 2), (3, 2, 5), (3, 3, 4)]
@@ -70,7 +75,7 @@ class Story(Archive):
         chance = random.Random(f"shape {seed}")
         shape = (*chance.choice(SHAPES), chance.choice([16, 17, 64, 300, 1000, 5000]), chance.choice([1, 2, 3, 4, 5, 6, 11]))
         super().__init__(folder, program, shape, counts)
-        self.seed, self.asks = seed, True
+        self.seed, self.asks, self.hurting = seed, True, HURT
 
     def told(self, words, wanted, source=b""):
         if self.asks:
@@ -80,8 +85,13 @@ class Story(Archive):
         """The same archive where its files stand in another folder, or will."""
         other = object.__new__(Story)
         other.__dict__ |= self.__dict__
-        other.folder, other.files, other.log = folder, dict(self.files), []
+        other.folder, other.files, other.copies, other.log = folder, dict(self.files), list(self.copies), []
         return other
+
+    def lay_no_archive(self, chance, share=0.4):
+        """Puts there, in this share of the folders, what is no ledger and no copy of one."""
+        if chance.random() < share:
+            self.lay_ledgers(chance.choice(NO_LEDGERS), [chance.choice(NO_COPIES) for _ in range(2)])
 
     # the runs
 
@@ -92,6 +102,8 @@ class Story(Archive):
         if what == "repair":
             report, restored, counts = self.plain.report(self.damaged())
             return Run(["repair"], wanted=(1 if counts[2] else 0, report, b""), report=report, restored=restored)
+        if what == "copies":
+            return Run(["copies"], wanted=self.expected_copies())
         objects = []
         for _ in range({"put": 1, "ingest": chance.randrange(1, 4), "session": chance.randrange(1, 4)}.get(what, 0)):
             length = chance.choice([0, 1, self.plain.block, chance.randrange(3 * self.plain.block + 2)])
@@ -164,18 +176,28 @@ class Story(Archive):
 
     def plan_again(self, run, told):
         """The run of the same command where this one was killed and had printed this, and the files are as it left them: what was
-        under way may stand there, and is not sure yet."""
+        under way may stand there, and is not sure yet. No program is run meanwhile, which would make it so."""
         now = self.again_in(self.folder)
+        now.asks = False
         now.judge(run, told)
         if run.words[0] == "create":
             return Run(run.words, wanted=(0, self.made(), b"") if now.plain is None else self.refused("occupied"))
         if run.words[0] == "repair":
             again = now.plan("repair", None)
             return Run(run.words, wanted=again.wanted, report=again.report, restored=run.restored)
+        if run.words[0] == "copies":
+            return now.plan("copies", None)
         at = next(k for k, it in enumerate(run.states) if it.ledger == now.plain.ledger)
         again = now.plan_of(run.words[0], run.objects[at:] if run.words[0] in ("ingest", "session") else run.objects)
         again.states, again.first, again.sure = [*run.states[:at], *again.states], at, run.whole_lines(told[1])
         return again
+
+    def harm(self, what, chance):
+        """Does to the files what a run of this command has to mend, and says whether anything was done to them."""
+        if what == "repair":
+            self.damage(chance)
+        is_hurt = self.is_on() and chance.randrange(100) < self.hurting and self.hurt(chance)
+        return is_hurt or what == "repair"
 
     def damage(self, chance):
         """Takes away and changes some of the files of the sites, and says which folders were changed."""
@@ -207,6 +229,8 @@ class Story(Archive):
         elif run.words[0] == "repair":
             self.mended_or_not(told, run.report, run.restored, how, torn=True)
             self.stat_and_list()
+        elif run.words[0] == "copies":
+            self.copied_or_not(told, how, run.wanted)
         else:
             self.first_part(run.words, told, run.wanted, how)
             self.land(run.words, told, run.states, run.lines, how, run.first, run.sure, run.said(told[1]))
@@ -214,6 +238,9 @@ class Story(Archive):
     def finish(self, run, told):
         """Judges what a whole run left, as it reads, and takes it."""
         whole = self.with_cells(self.plain, run.restored) if run.restored else None
+        found = [self.read_file(LEDGER), *self.read_copies()]
+        if adopted(found[0], found[1:]) != (None, found):
+            raise Wrong(f"{run.words} has ended, and the ledger and its copies are {[shortened(it or b'gone') for it in found]}")
         self.judge(run, told, "whole")
         self.files = whole or self.files
         self.look()
@@ -228,6 +255,10 @@ class Story(Archive):
             self.ledger = self.plain.ledger + b"\x00"
         elif what == "repair":
             self.repaired()
+        elif what == "copies":
+            self.told(["copies"], self.expected_copies())
+            if not self.is_on():
+                self.begin_copies()
         else:
             standing = len(self.plain.objects) - len(run.states[0].objects)
             again = self.plan_of(what, run.objects[standing:] if what in ("ingest", "session") else run.objects)

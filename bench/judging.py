@@ -13,7 +13,8 @@ import subprocess
 import time
 
 from measuring import lay_ledgers
-from plain_archive import COPIES, LEDGER, MOST_FENCES, Plain, adopted, copy_of, grown, is_copy_begun, is_name, judged_ledger, number, stored_line
+from plain_archive import (COPIES, LEDGER, MOST_FENCES, Plain, adopted, copy_of, grown, is_copy_begun, is_name, judged_copy, judged_ledger, number, piece_ends,
+                           stored_line)
 from sessions import Machine
 
 SECONDS = 300
@@ -149,6 +150,52 @@ class Archive:
 
     def begin_copies(self):
         self.copies = [copy_of(self.plain.ledger)] * 2
+
+    def hurt(self, chance):
+        """Damages some of the three files as they are, but for a copy that is good, and has all that the archive has. Says whether there is
+        one, and so something that can be mended."""
+        files = [self.read_file(LEDGER), *self.read_copies()]
+        good = [k for k in (1, 2) if (judged_copy(files[k] or b"")[0] or b"").startswith(self.plain.ledger)]
+        if not good:
+            return False
+        kept = chance.choice(good)
+        for k in chance.choice([[0], [3 - kept], [3 - kept], [0, 3 - kept]]):
+            what, content = self.damaged_file(chance, files[k] or b"", k > 0)
+            text = judged_copy(content or b"")[0] if k else None
+            # where a gate was opened before an entry that was never there, the copy is not damaged but another one
+            files[k] = content if text is None or self.plain.ledger.startswith(text) else None
+            self.counts[f"damages of {'a copy' if k else 'a ledger with copies'}: {what}"] += 1
+        self.lay_ledgers(files[0], files[1:])
+        return True
+
+    def damaged_file(self, chance, content, is_copy):
+        """The bytes of the ledger or of a copy after damage, and which it is."""
+        what = chance.choice(["gone", "gone", "emptied", "cut", "rot", "rot", "rot", "zeros", "grown", "older", "others", "gate"])
+        if what == "gone":
+            return what, None
+        if what == "older":
+            older = self.plain.ledger[:chance.choice(piece_ends(self.plain.ledger))]
+            return what, copy_of(older) if is_copy else older + bytes([chance.choice([0, 1])]) + chance.randbytes(chance.choice([0, 30]))
+        if what == "others" or not content:
+            return "others", chance.choice([bytes(300), chance.randbytes(300), b"\x01AEACOPY1\x00", b"\x01AEACOPY1" + chance.randbytes(60),
+                                            b"\x01AEALEDG1" + chance.randbytes(60), Plain((1, 1, 0, 99, 5)).ledger + b"\x00"])
+        content, place = bytearray(content), chance.randrange(len(content))
+        if what == "emptied":
+            content.clear()
+        elif what == "cut":
+            del content[place:]
+        elif what == "rot":
+            for _ in range(chance.choice([1, 1, 2, 5])):
+                content[chance.randrange(len(content))] ^= chance.randrange(1, 256)
+        elif what == "zeros":
+            many = min(chance.randrange(1, 200), len(content) - place)
+            content[place:place + many] = bytes(many)
+        elif what == "grown":
+            content += chance.randbytes(chance.randrange(1, 300))
+        else:
+            # the gate of all, the first one, or the last byte, which often is one
+            content[chance.choice([0, min(9 if is_copy else 17, len(content) - 1), len(content) - 1])] = chance.choice([0, 1, 2, 255])
+        return what, bytes(content)
 
     # runs
 
@@ -350,13 +397,13 @@ class Archive:
         if not wanted[1].startswith(told[1]) or not wanted[2].startswith(told[2]):
             raise Wrong(f"{words}, {how}: printed {shortened(told[1])!r} {told[2]!r}; wanted the first part of {shortened(wanted[1])!r} {wanted[2]!r}")
 
-    def copied_or_not(self, told, how="killed"):
-        """Takes the files as a `copies` left them that was stopped where no copy was begun: none is, or the first one is whole; and both are
-        where it had printed or ended."""
+    def copied_or_not(self, told, how="killed", wanted=(0, b"copies on\n", b"")):
+        """Takes the files as a `copies` left them that was stopped where no copy was begun, or where a `copies` before it was stopped: none is,
+        or the first one is whole; and both are where it had printed or ended."""
         before, one = self.ledger, copy_of(self.plain.ledger)
-        self.first_part(["copies"], told, (0, b"copies on\n", b""), how)
+        self.first_part(["copies"], told, wanted, how)
         found = self.read_copies()
-        is_done, is_on = told[0] is not None or bool(told[1]), any(is_copy_begun(copy or b"") for copy in found)
+        is_done, is_on = told[0] is not None or bool(told[1]) or bool(told[2]), any(is_copy_begun(copy or b"") for copy in found)
         self.adopt_found()
         if self.ledger != before or is_on and found[0] != one or is_done and found != [one, one]:
             raise Wrong(f"copies, {how}: the files are {shortened(self.ledger or b'gone')!r} and {[shortened(it or b'gone') for it in found]}")

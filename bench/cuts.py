@@ -23,9 +23,10 @@ from sessions import said_of
 TOP = Path(__file__).resolve().parent.parent
 # what is in each archive besides its create and its first put, in an order by chance; what comes behind `copies` has these on
 RUNS = ["put", "ingest", "session", "fence", "upgrade", "repair", "copies", "put", "session", "repair"]
-# what may stand in the place of a ledger or of a copy and is none
+# what may stand in the place of a ledger or of a copy and is none, and in which share of the folders such files stand
 NO_LEDGERS = [None, b"", b"\x07" * 40, b"\x01AEALEDG1"]
 NO_COPIES = [None, b"", bytes(40), b"\x01AEACOPY1", b"\x02AEACOPY1" + bytes(range(200))]
+SHARE = 0.4
 # where copies are on, the ledger or a copy is damaged before so many of a hundred runs, which have to mend it
 HURT = 30
 # of so many failures the folders are kept, so many are printed, and a line is printed after so many minutes
@@ -88,7 +89,7 @@ class Story(Archive):
         other.folder, other.files, other.copies, other.log = folder, dict(self.files), list(self.copies), []
         return other
 
-    def lay_no_archive(self, chance, share=0.4):
+    def lay_no_archive(self, chance, share=SHARE):
         """Puts there, in this share of the folders, what is no ledger and no copy of one."""
         if chance.random() < share:
             self.lay_ledgers(chance.choice(NO_LEDGERS), [chance.choice(NO_COPIES) for _ in range(2)])

@@ -280,9 +280,10 @@ class Story(Archive):
         self.look()
 
 
-def runs_by_chance(chance):
-    """The commands of an archive behind its create and its first put; one of the sessions comes behind the raise that it needs."""
-    runs = chance.sample(RUNS, len(RUNS))
+def runs_by_chance(chance, first=None):
+    """The commands of an archive, and where one is asked for that one first behind its create and its first put; one of the sessions comes
+    behind the raise that it needs."""
+    runs = sorted(chance.sample(RUNS, len(RUNS)), key=lambda what: what != first)
     last, raised = len(runs) - 1 - runs[::-1].index("session"), runs.index("upgrade")
     if last < raised:
         runs[last], runs[raised] = runs[raised], runs[last]

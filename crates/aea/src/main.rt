@@ -21,7 +21,7 @@ fn words(rt: &HostRuntime) -> io::Result<Vec<String>> {
 
 // Runs the command that the words mean over the current folder, this input and the standard streams.
 fn run_words<R: Read + Drop>(rt: &HostRuntime, words: &[String], reader: R) -> Status {
-    let mut disk = DirDisk::new(rt);
+    let mut disk = DirDisk::new(rt.alloc(), rt);
     let mut input = StdSource::new(reader);
     let mut out = StdSink::new(rt.stdout());
     let mut err = StdSink::new(rt.stderr());

@@ -140,7 +140,7 @@ fn enter(rt: &HostRuntime) -> Result<PathBuf<Global>, Fail> {
 
 // Whether each cell that is written in the folder is intact then, and the file of the first site has three cells.
 fn keeps_cells(rt: &HostRuntime) -> Result<bool, DiskFault> {
-    let mut disk = DirDisk::new(rt);
+    let mut disk = DirDisk::new(rt.alloc(), rt);
     let intact = round_trip(&mut disk)? == None;
     Ok(intact && disk.len(1)? == 3 * 64)
 }

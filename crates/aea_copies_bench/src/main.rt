@@ -65,7 +65,7 @@ fn called(rt: &HostRuntime) -> io::Result<Call> {
 
 fn main(rt: HostRuntime) -> io::Result<()> {
     let call = called(&rt)?;
-    let mut disk = DirDisk::new(&rt);
+    let mut disk = DirDisk::new(rt.alloc(), &rt);
     let line = match call {
         Call::Adopt => adopt_line(rt.alloc(), &mut disk)?,
         Call::Start => start_line(rt.alloc(), &mut disk)?,

@@ -1,5 +1,5 @@
 -- What stays so from image to image over calls, and which image gives what another had: the lemmas by which a client composes its calls.
-use Rattle.std.proofs.Common.{◌≡◌, ◌⊎◌, ◌↔◌, ⊎_elim, ℕ, sym, subst, arith}
+use Rattle.std.proofs.Common.{◌≡◌, ◌↔◌, ⊎_elim, ℕ, sym, subst, arith}
 use Rattle.std.proofs.lemmas.Bool.{cases_lt}
 use Rattle.aea_disk.specs.Files.{Files}
 use Rattle.aea_disk.specs.State.{State, Passes, Follows, KeepsImages, Settles, During, Stays, SomeGivesEvery, HasEarlier}

@@ -7,6 +7,7 @@ ghost use Rattle.aea_disk.specs.State.{Passes};
 use crate::folder::Folder;
 use crate::{Disk, DiskFault};
 use aea_faults::risen;
+use std::alloc::Global;
 use std::fs::File;
 use std::io;
 use std::marker::Model;
@@ -30,11 +31,11 @@ impl<R: Files<File = File>> Model for DirDisk<R> {
 }
 
 impl<R: Files<File = File>> DirDisk<R> {
-    pub fn new(rt: R) -> DirDisk<R>
+    pub fn new(alloc: Global, rt: R) -> DirDisk<R>
         ensures { result ≡ 0 }
     {
         DirDisk {
-            folder: Folder::new(rt),
+            folder: Folder::new(alloc, rt),
             faults: 0,
         }
     }

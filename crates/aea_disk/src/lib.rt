@@ -58,6 +58,7 @@ mod handle;
 mod mem;
 mod names;
 mod opening;
+mod ranges;
 mod replay;
 mod space;
 mod sure;

@@ -61,19 +61,19 @@ fn enter(rt: &HostRuntime) -> io::Result<PathBuf<Global>> {
 
 // Whether a new disk reads an empty file, and another has what was written and cut on it.
 fn keeps_what_was_written(rt: &HostRuntime) -> bool {
-    let mut disk = DirDisk::new(rt);
+    let mut disk = DirDisk::new(rt.alloc(), rt);
     disk.len(7) == Ok(0)
         && write_and_cut(&mut disk)
-        && differs(&mut DirDisk::new(rt), b"far cell") == None
+        && differs(&mut DirDisk::new(rt.alloc(), rt), b"far cell") == None
 }
 
 // Whether a disk whose far site is gone reads it as empty, and makes it anew.
 fn makes_a_lost_site_anew(rt: &HostRuntime) -> bool {
-    let mut disk = DirDisk::new(rt);
+    let mut disk = DirDisk::new(rt.alloc(), rt);
     differs(&mut disk, b"") == None
         && disk.write(64, 0, b"new").is_ok()
         && disk.sync().is_ok()
-        && differs(&mut DirDisk::new(rt), b"new") == None
+        && differs(&mut DirDisk::new(rt.alloc(), rt), b"new") == None
 }
 
 // Goes back home, and removes the folder.
@@ -90,7 +90,7 @@ fn keeps_files_in_a_folder(rt: HostRuntime) -> Result<(), Fail> {
     fs::remove_dir_all(&rt, "site-64")?;
     assert!(rt; makes_a_lost_site_anew(&rt));
     fs::write(&rt, "site-05", "no folder")?;
-    assert!(rt; DirDisk::new(&rt).sync() == Err(DiskFault));
+    assert!(rt; DirDisk::new(rt.alloc(), &rt).sync() == Err(DiskFault));
     leave(&rt, &home, &folder)?;
     Ok(())
 }

@@ -1,4 +1,4 @@
-//! Walks along codewords: by hand, beside the plain program, and that they end.
+//! Codewords: by hand, beside the plain program, of drawn lattices too, and in what time.
 
 ghost use Rattle.std.specs.Prelude.{◌≡◌, IfOk, IfSome};
 ghost use Rattle.aea_walk.specs.Codewords.{AreRising};
@@ -6,7 +6,7 @@ ghost use Rattle.aea_walk.specs.Codewords.{AreRising};
 use aea_lattice::{BlockId, Lattice, NodeList, parse_block};
 use aea_plain::codeword;
 use aea_view::Marks;
-use aea_walk::{first_touched, is_in_codeword, least_missing};
+use aea_walk::{NextIntact, first_touched, is_in_codeword, least_missing};
 use std::alloc::{AllocError, Global};
 
 /// The lattice of this shape with these fences and n nodes.
@@ -63,7 +63,7 @@ fn marked(alloc: Global, lattice: &Lattice, listed: &[BlockId]) -> Result<Marks,
     Ok(marks)
 }
 
-// Whether the answer of a walk for each block is whether it is one of these.
+// Whether the answer for each block is whether it is one of these.
 fn has_answers(lattice: &Lattice, nodes: &NodeList, word: &[BlockId]) -> bool
     requires { AreRising lattice.now nodes.now }
 {
@@ -75,7 +75,7 @@ fn has_answers(lattice: &Lattice, nodes: &NodeList, word: &[BlockId]) -> bool
     are_right
 }
 
-// Whether walks from the nodes answer as these blocks.
+// Whether the codeword of the nodes is answered to be these blocks.
 fn is_word(alloc: Global, lattice: &Lattice, listed: &[u32], word: &[BlockId]) -> bool {
     match rising(alloc, lattice, listed) {
         Some(nodes) => has_answers(lattice, &nodes, word),
@@ -83,7 +83,7 @@ fn is_word(alloc: Global, lattice: &Lattice, listed: &[u32], word: &[BlockId]) -
     }
 }
 
-// Whether they answer as the blocks of the text.
+// Whether it is answered to be the blocks of the text.
 fn is_text(alloc: Global, lattice: &Lattice, listed: &[u32], text: &str) -> bool {
     blocks(alloc, text).is_some_and(|word| is_word(alloc, lattice, listed, word.as_slice()))
 }
@@ -109,7 +109,7 @@ fn codewords_are_those_written_down_by_hand(rt: HostRuntime) {
     }
 }
 
-// Whether they answer as the codeword of the plain program.
+// Whether it is answered to be that of the plain program.
 fn is_plain(alloc: Global, lattice: &Lattice, listed: &[u32]) -> bool {
     let word = codeword(alloc, lattice, listed);
     word.is_ok_and(|word| is_word(alloc, lattice, listed, word.as_slice()))
@@ -154,9 +154,9 @@ fn first_of_two(alloc: Global, lattice: &Lattice, least: u32) -> Option<Option<B
     }
 }
 
-// The codeword ends at node 3. Were each walk to go on to its block, a million nodes later, these calls would not end in time.
+// Were each call to go along the nodes up to its block, a million of them, these calls would not end in time.
 #[test]
-fn a_walk_ends_with_its_codeword(rt: HostRuntime) {
+fn a_far_block_costs_no_more_than_a_near_one(rt: HostRuntime) {
     let alloc = rt.alloc();
     let lattice = Lattice::new(1, 1, 0, 1_048_576);
     let block = lattice.and_then(|lattice| first_of_two(alloc, &lattice, 1_900_000));
@@ -168,19 +168,34 @@ fn first_of(alloc: Global, text: &str) -> Option<Option<BlockId>> {
     blocks(alloc, text).map(|blocks| blocks.first().copied())
 }
 
-// The least of the intact blocks in the codeword of nodes 1, 4 and 6, if there is one.
-fn touched(alloc: Global, lattice: &Lattice, intact: &[BlockId]) -> Option<Option<BlockId>> {
-    let nodes = rising(alloc, lattice, &[1, 4, 6])?;
-    match marked(alloc, lattice, intact) {
-        Ok(marks) => Some(first_touched(&marks, &nodes)),
+// The least of the marked blocks in the codeword of the nodes, if there is one.
+fn first_by(alloc: Global, marks: &Marks, nodes: &NodeList) -> Option<Option<BlockId>>
+    requires { AreRising marks.now.lattice nodes.now }
+{
+    match NextIntact::new(alloc, marks) {
+        Ok(next) => Some(first_touched(marks, &next, nodes)),
         Err(_) => None,
     }
 }
 
-// Whether it is this one.
+// The least of the intact blocks in the codeword of the listed nodes, if there is one.
+fn touched(
+    alloc: Global,
+    lattice: &Lattice,
+    listed: &[u32],
+    intact: &[BlockId],
+) -> Option<Option<BlockId>> {
+    let nodes = rising(alloc, lattice, listed)?;
+    match marked(alloc, lattice, intact) {
+        Ok(marks) => first_by(alloc, &marks, &nodes),
+        Err(_) => None,
+    }
+}
+
+// Whether it is this one, of nodes 1, 4 and 6.
 fn is_touched(alloc: Global, lattice: &Lattice, intact: &str, want: &str) -> bool {
     let intact = blocks(alloc, intact);
-    let found = intact.and_then(|intact| touched(alloc, lattice, intact.as_slice()));
+    let found = intact.and_then(|intact| touched(alloc, lattice, &[1, 4, 6], intact.as_slice()));
     found.is_some() && found == first_of(alloc, want)
 }
 
@@ -205,6 +220,98 @@ fn the_least_marked_block_of_a_codeword_is_found(rt: HostRuntime) {
             None => false,
         };
         assert!(rt; is_found, "where {text} are intact");
+    }
+}
+
+// The next number of a linear congruential generator (Numerical Recipes).
+fn drawn(seed: u32) -> u32 {
+    seed.wrapping_mul(1_664_525).wrapping_add(1_013_904_223)
+}
+
+// Nodes of the lattice in rising order, each drawn with a chance of one in `rarity`.
+fn drawn_nodes(alloc: Global, lattice: &Lattice, seed: u32, rarity: u32) -> Option<Vec<u32>> {
+    let mut nodes = Vec::new(alloc);
+    let mut last = seed;
+    for node in 1..lattice.n().saturating_add(1) {
+        last = drawn(last);
+        if (last >> 16) % rarity.max(1) == 0 {
+            nodes.push(node).ok()?;
+        }
+    }
+    Some(nodes)
+}
+
+// Blocks of the lattice, each drawn with a chance of one in `rarity`.
+fn drawn_blocks(alloc: Global, lattice: &Lattice, seed: u32, rarity: u32) -> Option<Vec<BlockId>> {
+    let mut blocks = Vec::new(alloc);
+    let mut last = seed;
+    for k in 0..lattice.blocks() {
+        last = drawn(last);
+        if (last >> 16) % rarity.max(1) == 0 {
+            blocks.push(lattice.block(k)).ok()?;
+        }
+    }
+    Some(blocks)
+}
+
+// The first of these blocks that is one of the others too.
+fn first_common(blocks: &[BlockId], others: &[BlockId]) -> Option<BlockId> {
+    for block in blocks {
+        if others.contains(block) {
+            return Some(*block);
+        }
+    }
+    None
+}
+
+// Whether the codeword of the listed nodes, and the least intact block in it, are those of the plain program. The intact
+// blocks are in number order.
+fn is_plainly_touched(
+    alloc: Global,
+    lattice: &Lattice,
+    listed: &[u32],
+    intact: &[BlockId],
+) -> bool {
+    let first = touched(alloc, lattice, listed, intact);
+    let word = codeword(alloc, lattice, listed);
+    word.is_ok_and(|word| {
+        is_word(alloc, lattice, listed, word.as_slice())
+            && first == Some(first_common(intact, word.as_slice()))
+    })
+}
+
+// Whether they are, where the nodes and the intact blocks are drawn.
+fn is_drawn_plainly(alloc: Global, lattice: &Lattice, seed: u32, rarities: (u32, u32)) -> bool {
+    let nodes = drawn_nodes(alloc, lattice, seed, rarities.0);
+    let intact = drawn_blocks(alloc, lattice, drawn(seed), rarities.1);
+    match (nodes, intact) {
+        (Some(nodes), Some(intact)) => {
+            is_plainly_touched(alloc, lattice, nodes.as_slice(), intact.as_slice())
+        }
+        _ => false,
+    }
+}
+
+// Few blocks are intact in some draws, so that the least one is far from its stretch's first node.
+#[test]
+fn drawn_codewords_are_those_of_the_plain_program(rt: HostRuntime) {
+    let alloc = rt.alloc();
+    for (alpha, s, p, fences, n) in [
+        (1, 1, 0, [9, 10].as_slice(), 30),
+        (1, 1, 0, &[3, 17, 18], 30),
+        (2, 2, 2, &[8], 24),
+        (2, 2, 5, &[1, 7, 15], 30),
+        (3, 2, 2, &[5, 24], 24),
+        (3, 2, 5, &[4, 11, 12, 20], 30),
+        (3, 3, 4, &[10], 30),
+    ] {
+        let lattice = fenced(alpha, s, p, fences, n);
+        for (seed, nodes, intact) in [(1, 2, 3), (2, 3, 9), (3, 4, 30), (4, 6, 4), (5, 2, 60)] {
+            let is_same = lattice.is_some_and(|lattice| {
+                is_drawn_plainly(alloc, &lattice, seed, (nodes, intact))
+            });
+            assert!(rt; is_same, "draw {seed} in {lattice:?}");
+        }
     }
 }
 

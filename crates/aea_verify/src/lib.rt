@@ -1,5 +1,4 @@
-//! The check of a loss report against the disk. It walks along the codewords of the nodes that the report lists, and plans
-//! nothing.
+//! The check of a loss report against the disk, in time linear in the archive and the report. It plans nothing.
 //!
 //! Promises to the command above, over a disk and an input whose contents are known, that `verify` accepts a report
 //! exactly where it fits the archive as it is, or names the first rule that is broken and its line; that any other

@@ -5,6 +5,7 @@ ghost use Rattle.std.specs.Io.KnownBytes.{IsAtEnd};
 ghost use Rattle.aea_faults.specs.Faults.{Rose};
 ghost use Rattle.aea_lattice.specs.Blocks.{number_of};
 ghost use Rattle.aea_view.specs.Marked.{is_marked};
+ghost use Rattle.aea_walk.specs.Stretches.{AreNextIntact};
 ghost use Rattle.aea_report.specs.declared.head.Head.{Head};
 ghost use Rattle.aea_report.specs.declared.line.Line.{Line};
 ghost use Rattle.aea_report.specs.Format.{block_in};
@@ -21,10 +22,12 @@ use aea_lattice::Lattice;
 use aea_reader::{Next, Reader, ReportFault};
 use aea_report::{Head, Line};
 use aea_view::Marks;
+use aea_walk::NextIntact;
 use std::alloc::Global;
 
 // The tally with one line more, where the lines are judged.
-fn tally_with(judged: bool, marks: &Marks, tally: &Tally, line: &Line) -> Tally
+fn tally_with(judged: bool, marks: &Marks, next: &NextIntact, tally: &Tally, line: &Line) -> Tally
+    requires next { AreNextIntact marks.now.lattice (is_marked marks.now) next.now }
     requires line { judged ≡ true → IsLine marks.now.lattice tally.now.least line.now }
     requires small { judged ≡ true → IsSmall marks.now.lattice tally.now }
     ensures tally { judged ≡ true → (lines : List Line) → IsTally marks.now.lattice (is_marked marks.now) lines tally.now → IsTally marks.now.lattice (is_marked marks.now) (lines ++ line.now ∷ []) result }
@@ -32,7 +35,7 @@ fn tally_with(judged: bool, marks: &Marks, tally: &Tally, line: &Line) -> Tally
     ensures least { judged ≡ true → result.least ≡ number_of marks.now.lattice (block_in line.now) + 1 }
 {
     if judged {
-        tally.with(marks, line)
+        tally.with(marks, next, line)
     } else {
         *tally
     }
@@ -43,10 +46,12 @@ fn read_line<S: Source>(
     alloc: Global,
     judged: bool,
     marks: &Marks,
+    next: &NextIntact,
     tally: &Tally,
     reader: &mut Reader,
     source: &mut S,
 ) -> Result<Option<Tally>, ReportFault>
+    requires next { AreNextIntact marks.now.lattice (is_marked marks.now) next.now }
     requires open_still { reader.old.settled ≡ None }
     requires going { judged ≡ true → IsGoing marks.now.lattice reader.old tally.now }
     ensures goes { IfOk result (GoesOn judged marks.now.lattice reader.old reader.new) }
@@ -57,12 +62,12 @@ fn read_line<S: Source>(
     ensures cause { result ≡ Err ReportFault.ReadFault → Rose (S.state source.old).faults (S.state source.new).faults }
     ensures still { result ≢ Err ReportFault.ReadFault → (S.state source.new).faults ≡ (S.state source.old).faults }
 {
-    let next = match reader.next(alloc, source) {
-        Ok(next) => next,
+    let read = match reader.next(alloc, source) {
+        Ok(read) => read,
         Err(fault) => return Err(fault),
     };
-    match next {
-        Next::Line { line } => Ok(Some(tally_with(judged, marks, tally, &line))),
+    match read {
+        Next::Line { line } => Ok(Some(tally_with(judged, marks, next, tally, &line))),
         Next::End => Ok(None),
     }
 }
@@ -72,9 +77,11 @@ fn read_lines<S: Source>(
     alloc: Global,
     judged: bool,
     marks: &Marks,
+    next: &NextIntact,
     reader: &mut Reader,
     source: &mut S,
 ) -> Result<Tally, ReportFault>
+    requires next { AreNextIntact marks.now.lattice (is_marked marks.now) next.now }
     requires blocks { judged ≡ true → HasSameBlocks marks.now.lattice reader.old.lattice }
     requires open_still { reader.old.settled ≡ None }
     requires first { reader.old.least ≡ 0 }
@@ -86,11 +93,11 @@ fn read_lines<S: Source>(
 {
     let mut tally = Tally::begin();
     'lines: loop {
-        let next = match read_line(alloc, judged, marks, &tally, reader, source) {
-            Ok(next) => next,
+        let read = match read_line(alloc, judged, marks, next, &tally, reader, source) {
+            Ok(read) => read,
             Err(fault) => return Err(fault),
         };
-        match next {
+        match read {
             Some(more) => tally = more,
             None => return Ok(tally),
         }
@@ -143,13 +150,15 @@ fn verdict_with(marks: &Marks, head: &Head, broken: Option<u32>, tally: &Tally) 
     }
 }
 
-/// Reads a report to its end, and judges it where the marked blocks are intact.
+/// Reads a report to its end, and judges it where the marked blocks are intact, and the table is theirs.
 pub(crate) fn judge_report<S: Source>(
     alloc: Global,
     marks: &Marks,
+    next: &NextIntact,
     seal: &[u8; 32],
     source: &mut S,
 ) -> Result<Verdict, ReportFault>
+    requires next { AreNextIntact marks.now.lattice (is_marked marks.now) next.now }
     ensures says { (input : List ℕ) → (S.state source.old).left ≡ Some input → ReportSays marks.now.lattice seal.now (is_marked marks.now) input result }
     ensures end { OnOk result (IsAtEnd (S.state source.new).left) }
     ensures kept { (S.state source.old).faults ≤ (S.state source.new).faults }
@@ -162,7 +171,7 @@ pub(crate) fn judge_report<S: Source>(
     };
     let (mut reader, head) = begun;
     let broken = judge_head(marks.lattice(), seal, &head);
-    let tally = match read_lines(alloc, broken.is_none(), marks, &mut reader, source) {
+    let tally = match read_lines(alloc, broken.is_none(), marks, next, &mut reader, source) {
         Ok(tally) => tally,
         Err(fault) => return Err(fault),
     };

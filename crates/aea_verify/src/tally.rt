@@ -7,6 +7,7 @@ ghost use Rattle.aea_lattice.specs.declared.grid.Lattice.{Lattice};
 ghost use Rattle.aea_lattice.specs.Blocks.{blocks_count, number_of};
 ghost use Rattle.aea_view.specs.Marked.{is_marked};
 ghost use Rattle.aea_walk.specs.Missing.{missing};
+ghost use Rattle.aea_walk.specs.Stretches.{AreNextIntact};
 ghost use Rattle.aea_report.specs.declared.line.Line.{Line};
 ghost use Rattle.aea_report.specs.Format.{block_in};
 ghost use Rattle.aea_report.specs.Grammar.{IsLine};
@@ -18,7 +19,7 @@ use crate::judge::judge_line;
 use crate::verdict::{Verdict, Why};
 use aea_report::{Head, Line};
 use aea_view::Marks;
-use aea_walk::least_missing;
+use aea_walk::{NextIntact, least_missing};
 
 /// What was found of the first lines of blocks: the number of the next line, the least number that its block may have, the
 /// first rule that they break with the line at which it is named, and how many there are of each kind.
@@ -66,13 +67,14 @@ fn lost_in(line: &Line) -> u32
 }
 
 // The first broken rule of the lines so far and of this one.
-fn broken_with(marks: &Marks, tally: &Tally, line: &Line) -> Option<(u32, Why)>
-    requires { IsLine marks.now.lattice tally.now.least line.now }
+fn broken_with(marks: &Marks, next: &NextIntact, tally: &Tally, line: &Line) -> Option<(u32, Why)>
+    requires next { AreNextIntact marks.now.lattice (is_marked marks.now) next.now }
+    requires line { IsLine marks.now.lattice tally.now.least line.now }
     ensures { result ≡ option_or tally.now.broken (option_map (λ why. (tally.now.line, why)) (first_broken (line_rules marks.now.lattice (is_marked marks.now) tally.now.least line.now))) }
 {
     match tally.broken {
         Some(broken) => Some(broken),
-        None => match judge_line(marks, tally.least, line) {
+        None => match judge_line(marks, next, tally.least, line) {
             Some(why) => Some((tally.line, why)),
             None => None,
         },
@@ -97,7 +99,8 @@ impl Tally {
     }
 
     /// The tally with one line more.
-    pub(crate) fn with(&self, marks: &Marks, line: &Line) -> Tally
+    pub(crate) fn with(&self, marks: &Marks, next: &NextIntact, line: &Line) -> Tally
+        requires next { AreNextIntact marks.now.lattice (is_marked marks.now) next.now }
         requires line { IsLine marks.now.lattice self.now.least line.now }
         requires small { IsSmall marks.now.lattice self.now }
         ensures tally { (lines : List Line) → IsTally marks.now.lattice (is_marked marks.now) lines self.now → IsTally marks.now.lattice (is_marked marks.now) (lines ++ line.now ∷ []) result }
@@ -106,7 +109,7 @@ impl Tally {
     {
         let block = line.block();
         let number = marks.lattice().number(block);
-        let broken = broken_with(marks, self, line);
+        let broken = broken_with(marks, next, self, line);
         let peeled = peeled_in(line);
         let solved = solved_in(line);
         let lost = lost_in(line);

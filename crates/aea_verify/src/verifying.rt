@@ -15,6 +15,7 @@ use aea_ledger::Ledger;
 use aea_reader::ReportFault;
 use aea_report::{reports_are_bad_at_one_line, reports_are_not_bad, reports_have_one_reading};
 use aea_scrub::{ScanFault, scan};
+use aea_walk::NextIntact;
 use std::alloc::Global;
 
 // The fault of a check whose reading of the report has this one.
@@ -30,8 +31,9 @@ fn verify_fault(fault: ReportFault) -> VerifyFault
 }
 
 /// Judges a report against the disk as it is now: scans the archive, and then reads the report to its end. A line is judged
-/// by the marks of the intact blocks and a walk along the codeword of its nodes. It takes memory for the marks, a bit a
-/// block, for one cell, and for one line. Nothing is written.
+/// by the marks of the intact blocks, a table of the next intact parities, and its nodes, in time linear in the line and in
+/// the blocks since the line before. It takes memory for the marks, a bit a block, for the table, 4 bytes a parity, for one
+/// cell, and for one line. Nothing is written.
 pub fn verify<D: Disk, S: Source>(
     alloc: Global,
     ledger: &Ledger,
@@ -66,7 +68,11 @@ pub fn verify<D: Disk, S: Source>(
         Err(ScanFault::DiskFault) => return Err(VerifyFault::DiskFault),
         Err(ScanFault::NoMemory) => return Err(VerifyFault::NoMemory),
     };
-    match judge_report(alloc, &marks, &ledger.seal(), source) {
+    let next = match NextIntact::new(alloc, &marks) {
+        Ok(next) => next,
+        Err(_) => return Err(VerifyFault::NoMemory),
+    };
+    match judge_report(alloc, &marks, &next, &ledger.seal(), source) {
         Ok(verdict) => Ok(verdict),
         Err(fault) => Err(verify_fault(fault)),
     }

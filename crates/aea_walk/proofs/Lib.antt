@@ -1,6 +1,9 @@
-pub mod Bits
-pub mod Carried
-pub mod Members
-pub mod Walked
+pub mod Few
+pub mod Along
+pub mod Taken
+pub mod NextParity
+pub mod Passing
+pub mod Ending
 pub mod Found
 pub mod Touched
+pub mod Firsts

@@ -1,16 +1,14 @@
 -- The least intact block in a codeword, node by node.
 use Rattle.std.proofs.Common.{◌≡◌, ℕ, ◌+◌, ◌-◌, ◌<◌, ◌≤◌, ◌⊎◌, inl, inr, List, Bool, false, Some, None, sym, ◌∙◌, ap, arith}
 use Rattle.std.specs.Prelude.{nat_le}
-use Rattle.std.proofs.lemmas.Bool.{and_parts, and_cases, and_right, leb-true, le-leb, false≢true}
+use Rattle.std.proofs.lemmas.Bool.{and_parts, and_cases, leb-true, le-leb, false≢true}
 use Rattle.aea_lattice.specs.declared.blocks.Class.{Class}
 use Rattle.aea_lattice.specs.declared.blocks.BlockId.{BlockId}
 use Rattle.aea_lattice.specs.declared.grid.Lattice.{Lattice}
 use Rattle.aea_lattice.specs.Blocks.{HasBlock, block_of, class_number, number_of}
-use Rattle.aea_lattice.specs.Equations.{is_in_codeword}
-use Rattle.aea_lattice.specs.Lists.{has_node}
 use Rattle.aea_lattice.proofs.Residues.{lexicographic}
 use Rattle.aea_walk.specs.Codewords.{is_touched, touched}
-use Rattle.aea_walk.specs.Walks.{IsClearTo, IsClearAfter, is_touched_at, IsFirstTouched}
+use Rattle.aea_walk.specs.Stretches.{is_touched_at, IsFirstTouched}
 use Rattle.aea_walk.proofs.Found.{find_first, find_nothing}
 
 -- blocks are in the order of their nodes, and then of their classes
@@ -50,10 +48,3 @@ first-touched l intact nodes i c first low high before =
 -- where no block is touched, nothing is found
 pub nothing-touched : (l : Lattice) (intact : BlockId → Bool) (nodes : List ℕ) → ((d : BlockId) → HasBlock l d → is_touched l intact nodes d ≡ false) → touched l intact nodes ≡ None
 nothing-touched l intact nodes none = find_nothing l (is_touched l intact nodes) none
-
--- the blocks of the nodes before a walk, and those past its end
-pub untouched-to : (l : Lattice) (intact : BlockId → Bool) (nodes : List ℕ) (i : ℕ) → IsClearTo l (has_node nodes) i → (d : BlockId) → d.node ≤ i → is_touched l intact nodes d ≡ false
-untouched-to l intact nodes i clear d le = and_right (intact d) (is_in_codeword l (has_node nodes) d) (clear d.class d.node le)
-
-pub untouched-after : (l : Lattice) (intact : BlockId → Bool) (nodes : List ℕ) (i : ℕ) → IsClearAfter l (has_node nodes) i → (d : BlockId) → HasBlock l d → i < d.node → is_touched l intact nodes d ≡ false
-untouched-after l intact nodes i clear d has lt = and_right (intact d) (is_in_codeword l (has_node nodes) d) (clear d.class d.node has.used lt)

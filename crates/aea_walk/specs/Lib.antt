@@ -1,3 +1,3 @@
 pub mod Codewords
 pub mod Missing
-pub mod Walks
+pub mod Stretches

@@ -8,5 +8,5 @@ pub is_in_codeword-requires-clause-nodes : goal.is_in_codeword-requires-clause-n
 is_in_codeword-requires-clause-nodes c =
     subst (λ (l : Lattice). AreRising l c.args.nodes.now) (sym c.lattice.ensures.lattice) (nodes-rising c.args.marks.now.lattice c.args.nodes.now c.requires.nodes)
 
-pub first_touched-requires : goal.first_touched-requires
-first_touched-requires c = nodes-rising c.args.marks.now.lattice c.args.nodes.now c.requires.nodes
+pub first_touched-requires-clause-nodes : goal.first_touched-requires-clause-nodes
+first_touched-requires-clause-nodes c = nodes-rising c.args.marks.now.lattice c.args.nodes.now c.requires.nodes

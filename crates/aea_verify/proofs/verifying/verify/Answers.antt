@@ -20,6 +20,14 @@ returns-in-Err-NoMemory-clause-exactly g c revealed input left = answered-err c.
 pub returns-in-Err-NoMemory-clause-read : goal.returns-in-Err-NoMemory-clause-read
 returns-in-Err-NoMemory-clause-read g c input left = read-free input NoMemory (inr (inr refl))
 
+-- ---- there was no memory for the table
+
+pub returns-in-Err-clause-exactly : goal.returns-in-Err-clause-exactly
+returns-in-Err-clause-exactly g c revealed input left = answered-err c.args.ledger.now (g.D.Disk.state c.args.disk.now).files input NoMemory
+
+pub returns-in-Err-clause-read : goal.returns-in-Err-clause-read
+returns-in-Err-clause-read g c input left = read-free input NoMemory (inr (inr refl))
+
 -- ---- the report was not read to its end
 
 pub returns-clause-exactly : goal.returns-clause-exactly
@@ -28,7 +36,7 @@ returns-clause-exactly g c revealed input left = answered-err c.args.ledger.now 
 pub returns-clause-read : goal.returns-clause-read
 returns-clause-read g c input left =
     subst (λ (fault : VerifyFault). IsReadAs input (Err fault)) (sym c.verify_fault.ensures)
-    (read-err c.reports_are_not_bad.ensures c.reports_are_bad_at_one_line.ensures input c.in-Err.fault (c.in-Err.ensures.says input left))
+    (read-err c.reports_are_not_bad.ensures c.reports_are_bad_at_one_line.ensures input c.in-Err-judge_report.fault (c.in-Err-judge_report.ensures.says input left))
 
 -- ---- a verdict
 

@@ -9,3 +9,4 @@ pub mod Placing
 pub mod LostFates
 pub mod Marking
 pub mod Depending
+pub mod Solving

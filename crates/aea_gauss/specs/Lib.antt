@@ -4,3 +4,4 @@ pub mod Revealed
 pub mod Parts
 pub mod Lost
 pub mod Outputs
+pub mod Batches

@@ -108,3 +108,13 @@ pub(crate) fn bucket_at<T: Copy>(buckets: &[Bucket<T>], label: usize) -> &[T]
 {
     buckets[label].as_slice()
 }
+
+/// Whether one of the buckets has more items than `most`.
+pub(crate) fn has_more_than<T: Copy>(buckets: &[Bucket<T>], most: usize) -> bool {
+    for bucket in buckets {
+        if bucket.as_slice().len() > most {
+            return true;
+        }
+    }
+    false
+}

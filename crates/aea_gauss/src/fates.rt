@@ -5,11 +5,12 @@ ghost use Rattle.aea_gauss.specs.declared.fates.Fate.{Fate};
 ghost use Rattle.aea_gauss.specs.Fates.{AreFates, AreInOrder, block_of_fate};
 ghost use Rattle.aea_view.specs.Marked.{is_marked};
 
-use crate::buckets::bucket_at;
+use crate::buckets::{bucket_at, has_more_than};
 use crate::determined::solve_part;
 use crate::equations::unknown_blocks;
 use crate::lost::lost_fates;
-use crate::parts::unknown_parts;
+use crate::parts::{Parts, unknown_parts};
+use crate::unknown::all_fates;
 use aea_lattice::{BlockId, EqList, Lattice, NodeList};
 use aea_readings::unknown_are_listed;
 use aea_sweep::marked_losses;
@@ -17,6 +18,9 @@ use aea_view::Marks;
 use std::alloc::{AllocError, Global};
 use std::cmp::Ordering;
 use std::marker::Model;
+
+// A part of more blocks is not solved by its own rows, which would take some 300 megabytes.
+const MOST: usize = 16_384;
 
 /// What happens to a block that is not known: the sum of equations that gives it from known blocks, or the nodes of
 /// a codeword that contains it and no known block.
@@ -130,13 +134,19 @@ impl FateList {
     }
 }
 
+// Whether a part has more than `MOST` blocks.
+fn has_large_part(parts: &Parts) -> bool {
+    has_more_than(parts.blocks.as_slice(), MOST)
+}
+
 /// The fate of each block that is not marked, in number order. What is lost, and by which nodes, `marked_losses` of `aea_sweep`
 /// says, in time that grows with the lattice, and it marks the ends too: the sums stay the same, and less is unknown. The sums
 /// are found part by part: blocks that are not marked then and that an equation has together are in one part, and each part in
 /// which some block is determined by the known ones has an elimination of its own. Beside the fates it takes what `losses`
-/// takes, a bit for each block of the lattice, some 150 bytes for each block that is not marked, some 16 bytes for
-/// each equation, and the rows of one such part at a time: of b blocks and e equations, (b + e) bits for each of the e
-/// equations. An error means that memory ran out.
+/// takes, a bit for each block of the lattice, some 150 bytes for each block that is not marked, some 16 bytes for each
+/// equation, and the rows of one part at a time: of b blocks and e equations, (b + e) bits for each of the e equations. If a
+/// part has more than 16,384 blocks, `all_fates` goes by sums instead, in memory that grows with the lattice. An error means
+/// that memory ran out.
 pub fn solve(alloc: Global, lattice: &Lattice, known: &Marks) -> Result<FateList, AllocError>
     requires same { known.now.lattice ≡ lattice.now }
     ensures { IfOk result (λ fates. AreFates lattice.now (is_marked known.now) fates) }
@@ -151,6 +161,9 @@ pub fn solve(alloc: Global, lattice: &Lattice, known: &Marks) -> Result<FateList
     let lost = &marked.losses;
     let mut fates = lost_fates(alloc, lattice, lost, blocks)?;
     let parts = unknown_parts(alloc, lattice, &marked.marks)?;
+    if has_large_part(&parts) {
+        return all_fates(alloc, lattice, known);
+    }
     for label in 0..parts.blocks.len() {
         let part_blocks = bucket_at(parts.blocks.as_slice(), label);
         let part_equations = bucket_at(parts.equations.as_slice(), label);

@@ -13,7 +13,7 @@ use aea_sweep::LossList;
 use std::alloc::{AllocError, Global};
 
 // A list of these nodes.
-fn copied(alloc: Global, nodes: &[u32]) -> Result<NodeList, AllocError>
+pub(crate) fn copied(alloc: Global, nodes: &[u32]) -> Result<NodeList, AllocError>
     ensures { IfOk result (λ list. list ≡ nodes.now) }
 {
     let mut list = NodeList::with_capacity(alloc, nodes.len())?;

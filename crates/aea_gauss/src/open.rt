@@ -5,7 +5,7 @@ ghost use Rattle.aea_readings.specs.Small.{AreListed};
 ghost use Rattle.aea_gauss.specs.Fates.{AreFates, block_of_fate};
 ghost use Rattle.aea_gauss.specs.Parts.{ArePart, IsReady, Rights, IsWanted};
 
-use crate::buckets::{Bucket, bucket_at};
+use crate::buckets::{Bucket, bucket_at, has_more_than};
 use crate::fates::{Fate, FateList, solve};
 use crate::laws::fates_depend_on_blocks;
 use crate::marked::marked_blocks;
@@ -35,16 +35,6 @@ fn blank_fates(alloc: Global, blocks: &[BlockId]) -> Result<FateList, AllocError
         fates.push(Fate::Word { block, nodes })?;
     }
     Ok(fates)
-}
-
-// Whether one of the parts has more blocks than are to be solved by their own rows.
-fn has_large(parts: &[Bucket<BlockId>]) -> bool {
-    for part in parts {
-        if part.as_slice().len() > LARGEST_PART {
-            return true;
-        }
-    }
-    false
 }
 
 // Puts the fates of the blocks of a part at their places.
@@ -100,7 +90,7 @@ fn solve_parts(
     let blocks = blocks.as_slice();
     let equations = equations_of(alloc, lattice, blocks)?;
     let parts = parts_of(alloc, lattice, blocks, equations.as_slice())?;
-    if has_large(parts.blocks.as_slice()) {
+    if has_more_than(parts.blocks.as_slice(), LARGEST_PART) {
         return Ok(None);
     }
     let mut fates = blank_fates(alloc, blocks)?;

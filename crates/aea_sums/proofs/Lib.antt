@@ -1,0 +1,16 @@
+pub mod Bits
+pub mod Algebra
+pub mod Tables
+pub mod Fitting
+pub mod Places
+pub mod Adding
+pub mod Datums
+pub mod Tagging
+pub mod Vectors
+pub mod Passing
+pub mod Stepping
+pub mod Opening
+pub mod Ending
+pub mod Backing
+pub mod Found
+pub mod Listing

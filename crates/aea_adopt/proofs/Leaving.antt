@@ -10,6 +10,7 @@ use Rattle.aea_copies.specs.Grammar.{IsBegun}
 use Rattle.aea_copies.specs.Kept.{IsGood, AreOn, AreKept, HasText, mended, LeavesAdopted}
 use Rattle.aea_copy_reader.specs.Judging.{IsJudged}
 use Rattle.aea_copy_reader.specs.declared.known.Judgement.{Judgement}
+use Rattle.aea_copy_writer.specs.Anew.{IsOldNoneOrMade, whole_text}
 use Rattle.aea_adopt.specs.declared.choice.Kept.{Kept}
 use Rattle.aea_adopt.specs.Choosing.{IsKept}
 use Rattle.aea_adopt.specs.Adopting.{MayBeAdopted, IsAdopted, IsOff, RevealsKept, IsTrueOf}
@@ -31,6 +32,7 @@ may_same old new same = record {
   good = λ pieces kept. (kept.file, kept.is, subst (IsGood pieces) (sym (same kept.file)) kept.good);
   ledger = λ pieces kept made. same 0;
   gate = λ pieces kept long text. subst (Torn (length (text_of pieces)) 1 (old 0)) (sym (same 0)) (torn_none (length (text_of pieces)) 1 (old 0));
+  anew = λ pieces kept none. inl (same 0);
 }
 
 -- and so is what is left while pieces are kept
@@ -46,6 +48,9 @@ kept_adopted pieces old new kept may = record {
       let back = sym same in
       subst (λ (l : List (List ℕ)). Torn (length (text_of l)) 1 (old 0) (new 0)) same
       (may.ledger.gate (subst (λ (l : List (List ℕ)). length (text_of l) < length (old 0)) back long) (subst (λ (l : List (List ℕ)). take (length (text_of l)) (old 0) ≡ text_of l) back text));
+  anew = λ others also none.
+      let same = kept_once old pieces others kept also in
+      subst (λ (l : List (List ℕ)). (length (text_of l) < length (old 0) → take (length (text_of l)) (old 0) ≡ text_of l → ⊥) → IsOldNoneOrMade (whole_text l) (old 0) (new 0)) same may.ledger.anew none;
 }
 
 -- what is there once all is kept

@@ -1,5 +1,5 @@
 -- The ledger that is made, by what follows the text in the one that is there.
-use Rattle.std.proofs.Common.{◌≡◌, ℕ, ◌+◌, ◌-◌, ◌<◌, Bool, true, false, ◌&&◌, List, [], ◌∷◌, ◌++◌, length, take, drop, replicate, get_or, refl, sym, ap, ◌∙◌, arith}
+use Rattle.std.proofs.Common.{◌≡◌, inl, ℕ, ◌+◌, ◌-◌, ◌<◌, Bool, true, false, ◌&&◌, List, [], ◌∷◌, ◌++◌, length, take, drop, replicate, get_or, refl, sym, ap, ◌∙◌, arith}
 use Rattle.std.specs.Prelude.{nat_lt, ◌==◌, if◌then◌else◌}
 use Rattle.std.specs.Str.{bytes_eq}
 use Rattle.std.proofs.lemmas.Bool.{and_parts, ltb-true, eqb-true, eqb-false, lt-ltb, eq-eqb}
@@ -9,6 +9,7 @@ use Rattle.aea_disk.specs.Files.{Torn, Holds}
 use Rattle.aea_disk.specs.Steps.{torn_none}
 use Rattle.aea_records.specs.Format.{open_gate}
 use Rattle.aea_copies.specs.Kept.{mended, HasText}
+use Rattle.aea_copy_writer.specs.Anew.{IsOldNoneOrMade}
 use Rattle.aea_adopt.specs.Mending.{MayBeMended, IsGateAfter}
 use Rattle.aea_adopt.specs.declared.mend.Gate.TheVariants.{Missing, Open, Closed}
 
@@ -78,7 +79,7 @@ mended_missing text ledger is = outer (nat_lt (length text) (length ledger) && b
 
 -- what may be left of it
 pub may_none : (text old : List ℕ) → MayBeMended text old old
-may_none text old = record { stays = λ same. refl; gate = λ long same. torn_none (length text) 1 old }
+may_none text old = record { stays = λ same. refl; gate = λ long same. torn_none (length text) 1 old; anew = λ none. inl refl }
 
 -- the ledger that is made is not the one that is there, where none is made or a gate is open
 pub not_missing : (text old : List ℕ) → IsGateAfter text old Missing → mended text old ≡ old → ⊥
@@ -96,13 +97,13 @@ not_opened text old is same =
     gate_of [] g r = refl
     gate_of (x ∷ t) g r = gate_of t g r
 
--- anything may be left where none is made
-pub may_missing : (text old new : List ℕ) → IsGateAfter text old Missing → MayBeMended text old new
-may_missing text old new is = record { stays = λ same. absurd (not_missing text old is same); gate = λ long same. absurd (is long same) }
+-- where none is made it is the old one, none, or the whole one that is made
+pub may_missing : (text old new : List ℕ) → IsGateAfter text old Missing → IsOldNoneOrMade (text ++ 0 ∷ []) old new → MayBeMended text old new
+may_missing text old new is may = record { stays = λ same. absurd (not_missing text old is same); gate = λ long same. absurd (is long same); anew = λ none. may }
 
 -- and one byte may be torn where the gate is closed
 pub may_opened : (text old new : List ℕ) → IsGateAfter text old Open → Torn (length text) 1 old new → MayBeMended text old new
-may_opened text old new is torn = record { stays = λ same. absurd (not_opened text old is same); gate = λ long same. torn }
+may_opened text old new is torn = record { stays = λ same. absurd (not_opened text old is same); gate = λ long same. torn; anew = λ none. absurd (none is.0 is.1) }
 
 -- the gate was closed
 pub closed_made : (text old new : List ℕ) → IsGateAfter text old Open → Holds (length text) (0 ∷ []) old new → new ≡ mended text old

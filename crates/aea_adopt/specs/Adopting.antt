@@ -5,6 +5,7 @@ use Rattle.aea_disk.specs.Files.{Files, KeepsFiles, Torn}
 use Rattle.aea_copies.specs.Format.{copied, first_link, last_link, text_of, whole_copy}
 use Rattle.aea_copies.specs.Grammar.{IsBegun}
 use Rattle.aea_copies.specs.Kept.{IsCopyFile, IsGood, AreOn, AreKept, HasText, mended, LeavesAdopted}
+use Rattle.aea_copy_writer.specs.Anew.{IsOldNoneOrMade, whole_text}
 use Rattle.aea_adopt.specs.Choosing.{AreBad, AreDifferent}
 use Rattle.aea_adopt.specs.declared.answers.Adopted.{Adopted}
 use Rattle.aea_adopt.specs.declared.answers.AdoptFault.{AdoptFault}
@@ -51,9 +52,11 @@ pub record MayBeAdopted (old new : Files) : Type 0 where
   pub idle : ((pieces : List (List ℕ)) → AreKept old pieces → ⊥) → (f : ℕ) → new f ≡ old f
   pub copies : (pieces : List (List ℕ)) → AreKept old pieces → (f : ℕ) → IsCopyFile f → (new f ≡ old f) ⊎ ((IsBegun (new f) → ⊥) ⊎ (new f ≡ whole_copy pieces))
   pub good : (pieces : List (List ℕ)) → AreKept old pieces → (f : ℕ) × IsCopyFile f × IsGood pieces (new f)
-  -- the ledger stays where it is the one that is made; where it has the text and a gate, no other byte is written
+  -- the ledger stays where it is the one that is made; where it has the text and a gate, no other byte is written; and where it has
+  -- not, it is as it was, or not begun, or the whole one that is made
   pub ledger : (pieces : List (List ℕ)) → AreKept old pieces → mended (text_of pieces) (old 0) ≡ old 0 → new 0 ≡ old 0
   pub gate : (pieces : List (List ℕ)) → AreKept old pieces → length (text_of pieces) < length (old 0) → take (length (text_of pieces)) (old 0) ≡ text_of pieces → Torn (length (text_of pieces)) 1 (old 0) (new 0)
+  pub anew : (pieces : List (List ℕ)) → AreKept old pieces → (length (text_of pieces) < length (old 0) → take (length (text_of pieces)) (old 0) ≡ text_of pieces → ⊥) → IsOldNoneOrMade (whole_text pieces) (old 0) (new 0)
 
 -- An answer has its cause in the files, and says what is there then.
 abbrev pub IsAdopted : Files → Files → Result Adopted AdoptFault → Type 0

@@ -1,5 +1,5 @@
 -- The ledger is made the one that is kept.
-use Rattle.std.specs.Prelude.{◌≡◌, ◌≢◌, ◌⊎◌, ◌<◌, ◌≤◌, ℕ, List, length, take, slice_index}
+use Rattle.std.specs.Prelude.{◌≡◌, ◌≢◌, ◌⊎◌, ◌<◌, ◌≤◌, ℕ, List, [], ◌∷◌, ◌++◌, length, take, slice_index}
 use Rattle.aea_records.specs.Format.{open_gate}
 use Rattle.aea_copy_reader.specs.declared.known.Judged.{Judged}
 use Rattle.aea_copy_reader.specs.declared.known.Judged.TheVariants.{Good, Bad}
@@ -10,13 +10,14 @@ use Rattle.aea_disk.specs.State.{State, HasRoomTo, HasRoom}
 use Rattle.aea_copies.specs.Format.{whole_copy}
 use Rattle.aea_copies.specs.Grammar.{IsBegun}
 use Rattle.aea_copies.specs.Kept.{IsCopyFile, AreKept, mended}
-use Rattle.aea_copy_writer.specs.Anew.{whole_text}
+use Rattle.aea_copy_writer.specs.Anew.{IsOldNoneOrMade, whole_text}
 
 -- What a stop may leave of a ledger of which this text is kept: it stays where it is the one that is made; where it has the text
--- and a gate, no byte but this gate is another.
+-- and a gate, no byte but this gate is another; and where it has not, it is as it was, or not begun, or the whole one that is made.
 pub record MayBeMended (text old new : List ℕ) : Type 0 where
   pub stays : mended text old ≡ old → new ≡ old
   pub gate : length text < length old → take (length text) old ≡ text → Torn (length text) 1 old new
+  pub anew : (length text < length old → take (length text) old ≡ text → ⊥) → IsOldNoneOrMade (text ++ 0 ∷ []) old new
 
 -- what it may leave of a copy where these pieces are kept: it is as it was, or not begun, or whole
 abbrev pub MayBeRenewed : List (List ℕ) → List ℕ → List ℕ → Type 0

@@ -1,5 +1,6 @@
 -- Why a run over a disk with copies is refused.
-use Rattle.std.proofs.Common.{◌≡◌, inl, inr, ⊎_elim, ℕ, Bool, true, false, Result, Ok, Err, refl, sym, arith}
+use Rattle.std.proofs.Common.{◌≡◌, inl, inr, ⊎_elim, ℕ, Bool, true, false, List, Option, None, Some, Result, Ok, Err, refl, sym, arith}
+use Rattle.std.specs.Prelude.{IsSome}
 use Rattle.aea_io.specs.Streams.{SourceState, SinkState}
 use Rattle.aea_disk.specs.State.{State}
 use Rattle.aea_adopt.specs.Adopts.{Adopts}
@@ -13,7 +14,7 @@ use Rattle.aea_command.specs.declared.refusal.Refusal.TheVariants.{CopiesBad, Co
 use Rattle.aea_command.specs.Causes.{IsFirst}
 use Rattle.aea_command.specs.Worlds.{World, world}
 use Rattle.aea_dispatch.specs.declared.command.Command.{Command}
-use Rattle.aea_dispatch.specs.Does.{UsesDisk, Causes}
+use Rattle.aea_dispatch.specs.Does.{UsesDisk, Causes, IsByInput, IsRevealedFor}
 use Rattle.aea_dispatch.proofs.Alike.{causes_alike, never_bad, never_differ}
 use Rattle.aea_cli.specs.Beneath.{met_world, CausesAdopted, CausesBeneath, RunCauses}
 use Rattle.aea_mirror.specs.States.{outer_all}
@@ -105,3 +106,11 @@ first_bad command w uses first second bad = record { stands = inl (uses, bad); n
 
 pub first_differ : (command : Command) (w : World) → UsesDisk command → (at : ℕ) → AreDifferent w.disk.files at → IsFirst (RunCauses command w) (CopiesDiffer at)
 first_differ command w uses at differ = record { stands = inl (uses, differ); none = λ other before cause. absurd (omega (arith, before)) }
+
+-- what decides a refusal of the command is not known, and the disk is: then the input is not
+pub input_unknown : (command : Command) (w : World) (why : Refusal) → (UsesDisk command → w.reveals) → (IsRevealedFor command w why → ⊥) → w.input.left ≡ None
+input_unknown command w why disk unknown = none_left w.input.left (IsByInput command why) (λ known. unknown (disk, known))
+  where
+    none_left : (left : Option (List ℕ)) (By : Type 0) → ((By → IsSome left) → ⊥) → left ≡ None
+    none_left None By unknown = refl
+    none_left (Some bytes) By unknown = absurd (unknown (λ by. refl))

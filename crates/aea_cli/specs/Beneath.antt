@@ -58,12 +58,15 @@ pub record RunsAdopted (D reveals : Type 0) (state : D → State) (command : Com
   pub adopts : Adopts reveals (state old) (state mid) (Ok adopted)
   pub name : ℕ
   pub kept : Kept
+  -- what the Mirror keeps at the end is of the same loan; and it is set as it was, but by `copies`
+  pub named : kept.name ≡ name
+  pub set : (command ≡ Copies → ⊥) → kept.on ≡ adopted.on
   pub runs : Runs command (world reveals (mirror_state reveals (state mid) (fresh name adopted)) i o) (world reveals (mirror_state reveals (state new) kept) j p) answer
   pub sound : IsSound (world reveals (mirror_state reveals (state mid) (fresh name adopted)) i o) (world reveals (mirror_state reveals (state new) kept) j p) answer
   -- no command but `copies` changes how the Mirror is set
   pub time : (command ≡ Copies → ⊥) → Passes (mirror_state reveals (state mid) (fresh name adopted)) (mirror_state reveals (state new) kept)
   pub goes : Goes (state mid) (state new)
-  pub makes : command ≡ Copies → MakesCopies reveals adopted.on (EndsBegun answer) (state mid) (state new)
+  pub makes : command ≡ Copies → MakesCopies reveals adopted.on (answer ≡ Err failure.Disk) (EndsBegun answer) (state mid) (state new)
 
 -- Of a run of a command that uses the disk, by the disk's values and what they mean.
 abbrev pub RunsBeneath : (D reveals : Type 0) (state : D → State) → Command → (old new : D) (i j : SourceState) (o p : SinkState) → Answer → Type 0

@@ -71,7 +71,7 @@ fn carry_out_mirrored<'a, D: Disk, S: Source, O: Sink>(
         (shown D.reveals (D.state mirror.old.disk.now) mirror.old.disk.ghost_name mirror.old.on mirror.old.end mirror.old.dead mirror.old.own)
         (shown D.reveals (D.state mirror.new.disk.now) mirror.new.disk.ghost_name mirror.new.on mirror.new.end mirror.new.dead mirror.new.own) }
     ensures goes { Goes (D.state mirror.old.disk.now) (D.state mirror.new.disk.now) }
-    ensures makes { command.now ≡ Command.Copies → MakesCopies D.reveals mirror.old.on (EndsBegun result) (D.state mirror.old.disk.now) (D.state mirror.new.disk.now) }
+    ensures makes { command.now ≡ Command.Copies → MakesCopies D.reveals mirror.old.on (result ≡ Err Failure.Disk) (EndsBegun result) (D.state mirror.old.disk.now) (D.state mirror.new.disk.now) }
     ensures words { result ≢ Err Failure.Words }
     ensures input { (ReadsInput command.now → ⊥) → (input.new ≡ input.old) × (result ≢ Err Failure.Input) }
     ensures lent { mirror.new.disk.ghost_name ≡ mirror.old.disk.ghost_name }
@@ -164,8 +164,8 @@ pub fn run<D: Disk, S: Source, O: Sink, E: Sink>(
     ensures err_unused { IsWell result → err.new ≡ err.old }
 
     // Where no reason for refusal holds, of those that are decided by what is known, and no count rises, all work is done,
-    // unless memory runs out, or the run is refused for a reason that is decided by what is not known; of a repair where the intact
-    // blocks are honest.
+    // unless memory runs out, or the run is refused for a reason, that of the line on `err`, that is decided by what is not known, the
+    // input; of a repair where the intact blocks are honest.
     ensures complete { (command : Command) → Means (map string_bytes words.now) command
         → ((why : Refusal) → IsRevealedFor command (world D.reveals (D.state disk.old) (S.state input.old) (O.state out.old)) why
         → IsFirst (RunCauses command (world D.reveals (D.state disk.old) (S.state input.old) (O.state out.old))) why → ⊥)
@@ -174,7 +174,7 @@ pub fn run<D: Disk, S: Source, O: Sink, E: Sink>(
         → (Rose (D.state disk.old).faults (D.state disk.new).faults → ⊥)
         → (Rose (S.state input.old).faults (S.state input.new).faults → ⊥)
         → (Rose (O.state out.old).faults (O.state out.new).faults → ⊥)
-        → IsWell result ⊎ ((result ≡ Status.Memory) ⊎ IsRefusedUnknown command (world D.reveals (D.state disk.old) (S.state input.old) (O.state out.old)) result) }
+        → IsWell result ⊎ ((result ≡ Status.Memory) ⊎ IsRefusedUnknown command (world D.reveals (D.state disk.old) (S.state input.old) (O.state out.old)) (E.state err.old) (E.state err.new) result) }
 
     // Where something failed: what did not, has the count that it had; so has each where memory ran out. Of a disk whose contents are
     // not known `ends` says whose count rose.

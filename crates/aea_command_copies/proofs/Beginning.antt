@@ -28,6 +28,7 @@ use Rattle.aea_command_copies.proofs.Over.{shown_near, stays_over, copies_over, 
 -- and l after them.
 pub record Starts (reveals fault begun : Type 0) (mid new : State) (j l : Kept) : Type 1 where
   pub off : j.on ≡ false
+  pub either : begun ⊎ fault
   pub others : reveals → KeepsFiles (λ f. f ≤ 64) mid.files new.files
   pub crash : Follows (KeepsFiles (λ f. f ≤ 64)) mid new
   pub shown : KeepsImages (mirror_state reveals mid j) (mirror_state reveals new l)
@@ -53,6 +54,7 @@ module _ (reveals : Type 0) (old mid : State) (k j : Kept) (first second : Tail)
       let held : reveals → During old mid (AreAs k.on) = copies_over reveals old mid k j k.end first second guards reads.time in
       record {
         makes = record {
+          none = λ no fine revealed off t c after before here. subst (λ (b : Bool). AreAs b c) off (held revealed t c after before here);
           made = λ is. absurd (none is);
           synced = λ is. absurd (none is);
           others = λ revealed. shown_near mid.files old.files (reads.contents revealed);
@@ -132,6 +134,7 @@ module _ (reveals : Type 0) (old mid : State) (k j : Kept) (first second : Tail)
     pub begun_over : BeginsOver reveals k.on fault begun old new (mirror_state reveals old k) (mirror_state reveals new l)
     begun_over = record {
       makes = record {
+        none = λ no fine. absurd (⊎_elim no fine starts.either);
         made = λ is revealed. let m = starts.made is revealed in (m.0, subst (λ (b : List ℕ). ArePiecesOf b m.0) (ledger revealed) m.1, m.2);
         synced = starts.synced;
         others = near;

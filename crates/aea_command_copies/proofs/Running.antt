@@ -10,9 +10,10 @@ use Rattle.aea_command.specs.Printed.{PrintsText}
 use Rattle.aea_command_copies.specs.Copies.{copies_line, EndsBegun, Begins, BeginsOver}
 
 -- an answer that says no more
-pub over_as : (reveals : Type 0) (on : Bool) (fault begun then done : Type 0) (old new seen now : State) → (then → fault) → (fault → then) → (done → begun) → BeginsOver reveals on fault begun old new seen now → BeginsOver reveals on then done old new seen now
-over_as reveals on fault begun then done old new seen now back forth has over = record {
+pub over_as : (reveals : Type 0) (on : Bool) (fault begun then done : Type 0) (old new seen now : State) → (then → fault) → (fault → then) → (done → begun) → (begun → done) → BeginsOver reveals on fault begun old new seen now → BeginsOver reveals on then done old new seen now
+over_as reveals on fault begun then done old new seen now back forth has says over = record {
   makes = record {
+    none = λ no fine. over.makes.none (λ is. no (says is)) (λ is. fine (forth is));
     made = λ is. over.makes.made (has is);
     synced = λ is. over.makes.synced (has is);
     others = over.makes.others;

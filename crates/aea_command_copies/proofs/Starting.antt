@@ -38,6 +38,7 @@ ok_not u e = cc
 pub starts_by : (reveals : Type 0) (mid new : State) (j l : Kept) (result : Result (Unit {0}) StartFault) → result ≢ Err starting.AlreadyOn → SaysStart reveals mid new j l result → Starts reveals (result ≡ Err starting.DiskFault) (IsOk result) mid new j l
 starts_by reveals mid new j l (Ok u) differs says = record {
   off = says.off;
+  either = inl refl;
   others = says.others;
   crash = says.crash;
   shown = says.shown;
@@ -60,6 +61,7 @@ starts_by reveals mid new j l (Ok u) differs says = record {
 }
 starts_by reveals mid new j l (Err starting.DiskFault) differs says = record {
   off = says.off;
+  either = inr refl;
   others = says.others;
   crash = says.crash;
   shown = says.shown;

@@ -9,7 +9,7 @@ use Rattle.aea_records.specs.Faults.{IsNoArchive, IsBadAt}
 use Rattle.aea_copies.specs.Format.{whole_copy}
 use Rattle.aea_copies.specs.Kept.{IsCopyFile}
 use Rattle.aea_ledger.specs.Stops.{HasOpening, StaysAll}
-use Rattle.aea_mirror.specs.Shown.{AreGood}
+use Rattle.aea_mirror.specs.Shown.{AreGood, NoneBegun}
 use Rattle.aea_mirror.specs.Starting.{ArePiecesOf, MayBeStarted}
 use Rattle.aea_command.specs.declared.refusal.Refusal.{Refusal}
 use Rattle.aea_command.specs.declared.refusal.Refusal.TheVariants.{NoArchive, LedgerBad, CopiesAreOn}
@@ -59,9 +59,11 @@ pub record Begins (reveals : Type 0) (old new : State) (before after : SinkState
   -- nothing fails where there is space for the copies
   pub in_room : reveals → IsReady old → FitsBeginning old → answer ≢ Err failure.Disk
 
--- Of the disk that is lent to that, over which copies were on or not, and nothing was pending at the entry: where copies were begun both
--- are whole with the pieces of the ledger, and nothing is pending; and whatever the answer is,
-pub record MakesCopies (reveals : Type 0) (on : Bool) (begun : Type 0) (old new : State) : Type 0 where
+-- Of the disk that is lent to that, over which copies were on or not, and nothing was pending at the entry, by whether the disk was at fault
+-- and whether copies were begun: where they were both are whole with the pieces of the ledger, and nothing is pending; where they were
+-- not, and the disk was not at fault, none is begun; and whatever the answer is,
+pub record MakesCopies (reveals : Type 0) (on : Bool) (fault begun : Type 0) (old new : State) : Type 0 where
+  pub none : (begun → ⊥) → (fault → ⊥) → reveals → on ≡ false → During old new NoneBegun
   pub made : begun → reveals → (pieces : List (List ℕ)) × ArePiecesOf (old.files 0) pieces × ((f : ℕ) → IsCopyFile f → new.files f ≡ whole_copy pieces)
   pub synced : begun → reveals → IsSynced new
   -- the ledger and the sites stay, as they read and in each image of each moment
@@ -74,7 +76,7 @@ pub record MakesCopies (reveals : Type 0) (on : Bool) (begun : Type 0) (old new 
 -- Of the calls that open an archive and begin copies, by what is lent before and after them (old, new) and what the disk that keeps
 -- copies up shows (seen, now); whether they were at fault, and whether copies were begun:
 pub record BeginsOver (reveals : Type 0) (on : Bool) (fault begun : Type 0) (old new seen now : State) : Type 0 where
-  pub makes : MakesCopies reveals on begun old new
+  pub makes : MakesCopies reveals on fault begun old new
   pub goes : Goes old new
   pub set : begun → now.lent.set ≡ true
   pub contents : reveals → now.files ≡ seen.files

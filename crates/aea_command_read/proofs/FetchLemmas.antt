@@ -1,7 +1,7 @@
 -- What `fetch` does, by where it ends.
 pub mod Causing
 use Rattle.std.proofs.Common.{◌≡◌, ◌≢◌, ◌⊎◌, inl, inr, ℕ, ◌≤◌, List, [], ◌∷◌, refl, sym, ap, subst, Some, None, Result, Ok, Err}
-use Rattle.std.specs.Prelude.{◌↔◌, Bool, false, IfOk, IfErr, OnOk}
+use Rattle.std.specs.Prelude.{◌↔◌, Bool, false, IfOk, IfErr, OnOk, replicate}
 use Rattle.std.specs.FinMap.{get}
 use Rattle.std.specs.Io.KnownBytes.{Appends}
 use Rattle.aea_io.specs.Streams.{SinkState}
@@ -20,6 +20,7 @@ use Rattle.aea_archive.specs.Blocks.{RevealsSurvivors}
 use Rattle.aea_archive.specs.Data.{AreSurvivorsHonest}
 use Rattle.aea_archive.specs.Objects.{data_of, object_in, ArePayloads, IsOneOf}
 use Rattle.aea_restore.specs.Drawn.{IsDrawn, IsOtherDigest, IsClash}
+use Rattle.aea_restore.proofs.Judging.{judged_moved}
 use Rattle.aea_degraded.specs.declared.fault.FetchFault.{FetchFault}
 use Rattle.aea_degraded.specs.declared.fault.FetchFault.TheVariants as fault
 use Rattle.aea_degraded.specs.Fetched.{IsFetched, HasFetched, HasFetchedPart, IsFirstOpen, IsOutside}
@@ -152,6 +153,12 @@ module _ (reveals : Type 0) (v : Opened) (c d : Files) (same : reveals → c ≡
     record {
       wide = are.0.wide;
       digest = are.0.digest;
+      readings = record {
+        blocks = are.0.readings.blocks;
+        has = are.0.readings.has;
+        sum = are.0.readings.sum;
+        judged = judged_moved reveals v d c (replicate v.shape.block 0) p are.0.readings.blocks same are.0.readings.judged;
+      };
       drawn = λ revealed known tests. subst (λ (f : Files). IsDrawn v known f b p) (same revealed) (are.0.drawn revealed known (tests_there revealed known tests));
     },
     fetched_at bs ps are.1,

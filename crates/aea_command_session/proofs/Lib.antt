@@ -4,3 +4,4 @@ pub mod Writing
 pub mod Replying
 pub mod Causing
 pub mod Opening
+mod Chaining

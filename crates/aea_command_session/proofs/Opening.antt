@@ -65,7 +65,13 @@ closes_at shape records datas closings old mid new same grows = record {
 surely_at : (shape : Shape) (records : List Record) (datas : List (List ℕ)) (closings : List Closing) (k : ℕ) (old mid new : State) → mid.files ≡ old.files → SurelyGrows shape records datas closings k mid new
     → SurelyGrows shape records datas closings k (opened_at old new mid.moment) new
 unfolding by_at closes_at
-surely_at shape records datas closings k old mid new same surely = record { grows = closes_at shape records datas closings old mid new same surely.grows; first = surely.first; reads = surely.reads }
+surely_at shape records datas closings k old mid new same surely = record {
+  grows = closes_at shape records datas closings old mid new same surely.grows;
+  first = surely.first;
+  reads = surely.reads;
+  recorded = λ recorded honest.
+      surely.recorded recorded (subst (λ (c : Files). AreLastsHonest shape surely.grows.by.lattice (digests_of records) datas c) (sym same) honest);
+}
 
 closed_at : (v : Opened) (messages : List Message) (tail : List ℕ) (result : Result (Unit {0}) Stop) (old mid new : State) → mid.files ≡ old.files → HasClosedAll v messages tail result mid new → HasClosedAll v messages tail result (opened_at old new mid.moment) new
 closed_at v messages tail result old mid new same closed records datas its long wide =

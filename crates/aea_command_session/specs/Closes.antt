@@ -1,5 +1,5 @@
 -- What a run leaves of the archive: it grows by the closes of its messages.
-use Rattle.std.specs.Prelude.{◌≡◌, ◌⊎◌, ℕ, List, [], ◌∷◌, ◌++◌, length, Result, Err}
+use Rattle.std.specs.Prelude.{◌≡◌, ◌⊎◌, ℕ, List, [], ◌∷◌, ◌++◌, length, take, Result, Err}
 use Rattle.std.specs.List.{flat_map}
 use Rattle.aea_lattice.specs.declared.shape.Shape.{Shape}
 use Rattle.aea_disk.specs.State.{State, EveryImage}
@@ -31,11 +31,14 @@ pub record GrowsByCloses (shape : Shape) (records : List Record) (datas : List (
   pub more : AreRecords shape (records ++ by.added) → AreRecordsOf shape records datas → AreLastsHonest shape by.lattice (digests_of records) datas old.files
       → AreRecordsOf shape (records ++ by.added) (datas ++ flat_map (λ c. c.blocks) closings)
 
--- And every image at its end has the first k of the records, or more; so does what is read.
+-- And every image at its end has the first k of the records, or more; so does what is read; and these record the list, if the records
+-- before did, with the blocks of the first k closes.
 pub record SurelyGrows (shape : Shape) (records : List Record) (datas : List (List ℕ)) (closings : List Closing) (k : ℕ) (old new : State) : Type 0 where
   pub grows : GrowsByCloses shape records datas closings old new
   pub first : EveryImage new (λ c. HasAtLeast shape records grows.by.added k (c 0))
   pub reads : HasAtLeast shape records grows.by.added k (new.files 0)
+  pub recorded : AreRecordsOf shape records datas → AreLastsHonest shape grows.by.lattice (digests_of records) datas old.files
+      → AreRecordsOf shape (records ++ take k grows.by.added) (datas ++ flat_map (λ c. c.blocks) (take k closings))
 
 -- the message that was made though it was not answered: that whose reply the output did not take
 abbrev pub IsMade : Result (Unit {0}) Stop → List ℕ → List Message → Type 0

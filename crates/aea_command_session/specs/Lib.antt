@@ -4,3 +4,4 @@ pub mod Closes
 pub mod Causes
 pub mod Space
 pub mod Session
+pub mod Chains

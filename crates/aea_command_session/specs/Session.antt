@@ -38,14 +38,14 @@ abbrev pub AnswersBy : Result (Unit {0}) Stop → Answer → Type 0
 AnswersBy (Ok u) answer = (answer ≡ Ok Done) ⊎ (answer ≡ Err failure.Output)
 AnswersBy (Err stop) answer = answer ≡ Err (stop_failure stop)
 
--- Messages of the input were taken over an opened archive, from these files on: which ones, what was taken of the input after them,
--- how this ended, and what was printed, whichever X of as many blocks as the archive has nodes it records.
-pub record Serves (reveals : Type 0) (v : Opened) (c : Files) (left rest : Option (List ℕ)) (before after : SinkState) (messages : List Message) (tail : List ℕ) (result : Result (Unit {0}) Stop) : Type 0 where
+-- Messages of the input were taken over an opened archive, from these files on to those: which ones, what was taken of the input after
+-- them, how this ended, and what was printed, whichever X of as many blocks as the archive has nodes it records.
+pub record Serves (reveals : Type 0) (v : Opened) (c d : Files) (left rest : Option (List ℕ)) (before after : SinkState) (messages : List Message) (tail : List ℕ) (result : Result (Unit {0}) Stop) : Type 0 where
   pub are : AreMessages messages
   pub few : length messages ≤ greatest_messages
   pub taken : Consumes left rest (spelled_all messages ++ tail)
   pub ends : TailOf rest (length (spelled_all messages)) (length messages) tail result
-  pub prints : (datas : List (List ℕ)) → length datas ≡ v.lattice.n → AreWide v.shape datas → PrintsReplies reveals (standing v datas c) messages tail before after result
+  pub prints : (datas : List (List ℕ)) → length datas ≡ v.lattice.n → AreWide v.shape datas → PrintsReplies reveals (standing v datas c) messages tail before after result d
 
 -- The session began over an opened archive: what it printed, and what it left of the archive, which `Grown` says of the closes.
 pub record HasBegun (reveals : Type 0) (v : Opened) (old new : State) (left rest : Option (List ℕ)) (before after : SinkState) (answer : Answer) (Grown : List Message → List ℕ → Result (Unit {0}) Stop → Type 0) : Type 0 where
@@ -56,7 +56,7 @@ pub record HasBegun (reveals : Type 0) (v : Opened) (old new : State) (left rest
   pub by : AnswersBy result answer
   pub files : Files
   pub same : reveals → files ≡ old.files
-  pub serves : Serves reveals v files left rest before after messages tail result
+  pub serves : Serves reveals v files new.files left rest before after messages tail result
   pub closes : reveals → Grown messages tail result
   -- but after a fault of the disk the homes of the blocks that there were read as they did, with zeros past the ends of files
   pub padded : answer ≢ Err failure.Disk → reveals → KeepsPadded v.shape (IsBlockIn v.shape v.lattice.n) old.files new.files

@@ -10,4 +10,7 @@
 #![tactic(auto)]
 
 mod failure;
+mod laws;
 pub mod session;
+
+pub use laws::replies_stay;

@@ -37,6 +37,10 @@ pub on_ok_two : {T E P Q R : Type 0} (r : Result T E) → (P → Q → R) → On
 on_ok_two (Ok v) so one two = so one two
 on_ok_two (Err e) so one two = tt
 
+pub on_ok_three : {T E P Q S R : Type 0} (r : Result T E) → (P → Q → S → R) → OnOk r P → OnOk r Q → OnOk r S → OnOk r R
+on_ok_three (Ok v) so one two three = so one two three
+on_ok_three (Err e) so one two three = tt
+
 -- ---- a right plan, of one block
 
 pub right_one : (v : Opened) (c : Files) (damaged : Marked) (fates : List Fate) (blocks : List BlockId) (b : BlockId) (known : BlockId → Bool) → IsOneOf blocks b → IsRightPlan v c damaged fates blocks known → IsFoundBy v c damaged fates b known

@@ -6,5 +6,6 @@ mod FatesAt
 mod Looked
 mod FirstPass
 mod Checked
+mod Readings
 mod Printed
 mod TwoPasses

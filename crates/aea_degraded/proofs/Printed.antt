@@ -18,6 +18,7 @@ use Rattle.aea_degraded.specs.declared.fault.FetchFault.TheVariants.{Clash, Writ
 use Rattle.aea_degraded.specs.Summed.{sum_at}
 use Rattle.aea_degraded.specs.Found.{IsSumAt}
 use Rattle.aea_degraded.specs.Fetched.{IsFetched}
+use Rattle.aea_degraded.proofs.Readings.{readings_moved}
 use Rattle.aea_degraded.specs.Planned.{IsChecked}
 use Rattle.aea_degraded.specs.Sent.{IsSendFault, IsPlanFault, fetch_fault}
 use Rattle.aea_degraded.proofs.Checked.{contained}
@@ -84,6 +85,7 @@ module _ (reveals : Type 0) (v : Opened) (c d : Files) (same : reveals → c ≡
   fetched_also b p is = record {
     wide = is.wide;
     digest = is.digest;
+    readings = readings_moved reveals v c d b p same is.readings;
     drawn = λ revealed known survivors.
         subst (λ (f : Files). IsDrawn v known f b p) (same revealed)
         (is.drawn revealed known (subst (λ (f : Files). RevealsSurvivors v.shape v.lattice.n v.digests f known) (sym (same revealed)) survivors));

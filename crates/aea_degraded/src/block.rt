@@ -12,7 +12,8 @@ ghost use Rattle.aea_gauss.specs.declared.fates.Fate.{Fate};
 ghost use Rattle.aea_gauss.specs.Fates.{IsFate};
 ghost use Rattle.aea_archive.specs.Blocks.{recorded_in, IsIntactBy};
 ghost use Rattle.aea_restore.specs.Drawn.{IsDrawn, IsOtherDigest, IsClash};
-ghost use Rattle.aea_restore.specs.Judged.{IsReadClash};
+ghost use Rattle.aea_restore.specs.Judged.{IsJudged, IsReadClash};
+ghost use Rattle.aea_degraded.specs.Fetched.{IsOfReadings};
 ghost use Rattle.aea_degraded.specs.Summed.{is_word, sum_at};
 ghost use Rattle.aea_degraded.specs.Found.{IsSumAt, IsFoundBy};
 
@@ -46,6 +47,7 @@ fn read_own<D: Disk>(
     requires cell { length cell.old ≡ cell_size ledger.now.shape }
     requires sum { length sum.old ≡ ledger.now.shape.block }
     ensures digest { OnOk result (block_digest b sum.new ≡ recorded_in ledger.now.shape ledger.now.digests b) }
+    ensures judged { OnOk result (IsJudged D.reveals ledger.now (D.state disk.old).files b sum.new) }
     ensures intact { OnOk result (D.reveals → IsIntactBy ledger.now.shape ledger.now.digests (D.state disk.old).files b → sum.new ≡ payload_at ledger.now.shape (D.state disk.old).files b) }
     ensures found { (d : BlockId) (revealed computed : List ℕ) → result ≡ Err (PayloadFault.Clash d revealed computed) → (d ≡ b) × IsReadClash D.reveals ledger.now (D.state disk.old).files d revealed computed }
     ensures reads { OnlyReads D.reveals (result ≡ Err PayloadFault.DiskFault) (D.state disk.old) (D.state disk.new) }
@@ -79,6 +81,9 @@ pub(crate) fn block_payload<D: Disk>(
     requires cell { length cell.old ≡ cell_size ledger.now.shape }
     requires sum { length sum.old ≡ ledger.now.shape.block }
     ensures digest { OnOk result (block_digest b sum.new ≡ recorded_in ledger.now.shape ledger.now.digests b) }
+
+    // Over any disk it is the XOR of payloads that were read and have their digests.
+    ensures readings { OnOk result (IsOfReadings D.reveals ledger.now (D.state disk.old).files b sum.new) }
 
     // Where the disk tells its files, and the marks and fates are right for the intact blocks, it is drawn from these, and a clash
     // is one of such a payload, of this block, which is damaged then.

@@ -69,6 +69,7 @@ fn restore<D: Disk>(
     requires willing { IsWilling (D.state disk.old) }
     requires empty { report.old.bytes.items ≡ [] }
     ensures restored { IfOk result (IsRestored (D.state disk.old).files (D.state disk.new).files) }
+    ensures time { Passes (D.state disk.old) (D.state disk.new) }
     ensures steady { (D.state disk.new).faults ≡ (D.state disk.old).faults }
 {
     let ledger = open(alloc, disk)?;
@@ -105,6 +106,7 @@ fn rehearse_on<D: Disk>(
     requires empty { (D.state disk.old).files 0 ≡ [] }
     requires room { HasRehearsalRoom nodes (D.state disk.old) }
     ensures rehearsed { IfOk result (IsRehearsed number nodes permille (D.state disk.new).files) }
+    ensures time { Passes (D.state disk.old) (D.state disk.new) }
     ensures steady { (D.state disk.new).faults ≡ (D.state disk.old).faults }
 {
     cells_have_lengths();
@@ -143,8 +145,9 @@ pub fn rehearse(
     // What is there then, and what the numbers are.
     ensures rehearsed { IfOk result (IsRehearsed number nodes permille (files_of disk.new.spaces)) }
 
-    // The disk never fails.
+    // The disk never fails, and each file has the space that it had, or more.
     ensures steady { disk.new.faults ≡ disk.old.faults }
+    ensures rooms { (f : ℕ) → room_of disk.old.spaces f ≤ room_of disk.new.spaces f }
 {
     rehearse_on(alloc, disk, number, nodes, permille)
 }

@@ -205,6 +205,7 @@ takes_put reveals v w message old new before after made fault dry code bytes lea
     space_printed prints,
   );
   part = tt;
+  unsaid = tt;
   flushed = flushed;
   leaves = leaves_as reveals v w message old new made fault dry _ _ _ (λ _. is) (λ e. absurd (let bad = e in cc)) (λ bad. absurd (fine bad)) (λ e. absurd (let bad = e in cc)) leaves;
   damaged = λ b e. absurd (let bad = e in cc);
@@ -225,6 +226,7 @@ takes_unwritten reveals v w message old new before after made fault dry code byt
   moves = tt;
   replies = tt;
   part = λ m kept. inr (bytes, inl (code, replies m kept), prints.bytes);
+  unsaid = λ other slot is. absurd (other refl);
   flushed = tt;
   leaves = leaves_as reveals v w message old new made fault dry _ _ _ (λ _. is) (λ e. absurd (let bad = e in cc)) (λ bad. absurd (fine bad)) (λ e. absurd (let bad = e in cc)) leaves;
   damaged = λ b e. absurd (let bad = e in cc);
@@ -242,6 +244,7 @@ takes_fault reveals v w message old new out made fault dry leaves is = record {
   moves = tt;
   replies = tt;
   part = λ m kept. inl refl;
+  unsaid = λ other slot is. refl;
   flushed = tt;
   leaves = leaves_as reveals v w message old new made fault dry _ _ _
       (λ e. absurd (elim e [ inl ok ↦ (let bad = ok in cc) | inr bad ↦ cc ])) (λ _. is) (λ _. refl) (λ e. absurd (let bad = e in cc)) leaves;
@@ -259,6 +262,7 @@ takes_dry reveals v w message old new out made fault dry leaves is fine = record
   moves = tt;
   replies = tt;
   part = λ m kept. inl refl;
+  unsaid = λ other slot is. refl;
   flushed = tt;
   leaves = leaves_as reveals v w message old new made fault dry _ _ _
       (λ e. absurd (elim e [ inl ok ↦ (let bad = ok in cc) | inr bad ↦ cc ])) (λ e. absurd (let bad = e in cc)) (λ bad. absurd (fine bad)) (λ _. is) leaves;

@@ -14,7 +14,7 @@ use Rattle.aea_shelf.specs.Facts.{HomesAreOnItsSites}
 use Rattle.aea_records.specs.Laws.{HasOneReading}
 use Rattle.aea_ledger.specs.Values.{Opened}
 use Rattle.aea_messages.specs.declared.message.Message.{Message}
-use Rattle.aea_messages.specs.declared.message.Message.TheVariants.{Read, Patrol}
+use Rattle.aea_messages.specs.declared.message.Message.TheVariants.{Close, Read, Patrol}
 use Rattle.aea_machine.specs.Closings.{closing_in}
 use Rattle.aea_machine.specs.Machine.{Machine, Patrols, BadRange, step, stays, read_in, is_range}
 use Rattle.aea_session.specs.declared.fault.TakeFault.{TakeFault}
@@ -32,6 +32,7 @@ use Rattle.aea_session.proofs.Taking.{goes_same, leaves_read, fixed_read}
 pub record OnlyLooks (message : Message) : Type 0 where
   pub stays : (shape : Shape) (m : Machine) → (step shape m message).state ≡ m
   pub none : (shape : Shape) (m : Machine) → closing_in shape m message ≡ []
+  pub other : (slot : ℕ) → message ≡ Close slot → ⊥
 
 read_stays : (m : Machine) (o : Option Placed) → (read_in m o).state ≡ m
 read_stays m None = refl
@@ -41,6 +42,7 @@ pub read_looks : (message : Message) (name : List ℕ) → message ≡ Read name
 read_looks message name kind = record {
   stays = λ shape m. ap (λ (a : Message). (step shape m a).state) kind ∙ read_stays m (get m.objects name);
   none = λ shape m. ap (closing_in shape m) kind;
+  other = λ slot is. (let bad : Read name ≡ Close slot = sym kind ∙ is in cc);
 }
 
 range_stays : (m : Machine) (first count : ℕ) (b : Bool) → (if b then stays m (Patrols first count) else stays m BadRange).state ≡ m
@@ -51,6 +53,7 @@ pub patrol_looks : (message : Message) (first count : ℕ) → message ≡ Patro
 patrol_looks message first count kind = record {
   stays = λ shape m. ap (λ (a : Message). (step shape m a).state) kind ∙ range_stays m first count (is_range shape m first count);
   none = λ shape m. ap (closing_in shape m) kind;
+  other = λ slot is. (let bad : Patrol first count ≡ Close slot = sym kind ∙ is in cc);
 }
 
 -- ---- where it was taken
@@ -74,6 +77,11 @@ moves_looked keep reveals fault v w message old new looks live this fixed same r
 on_any : (result : Result ℕ TakeFault) (P : Type 0) → P → OnOk result P
 on_any (Ok code) P is = is
 on_any (Err fault) P is = tt
+
+-- it is no close
+unsaid_any : (result : Result ℕ TakeFault) (message : Message) (P : Type 0) → OnlyLooks message → IfErr result (λ fault. fault ≢ WriteFault → (slot : ℕ) → message ≡ Close slot → P)
+unsaid_any (Ok code) message P looks = tt
+unsaid_any (Err fault) message P looks = λ fine slot is. absurd (looks.other slot is)
 
 -- what was appended is said of the states of the output
 part_of : (result : Result ℕ TakeFault) (v : Work) (P Q : Type 0) (may : Machine → Type 0) → (P → Q) → IfErr result (λ fault. (m : Machine) → KeepsMachine v m → P ⊎ may m)
@@ -104,6 +112,7 @@ takes_looked one sites keep reveals v w message old new before after untouched r
   moves = on_any result (Moves reveals v w message old new) (moves_looked keep reveals (result ≡ Err DiskFault) v w message old new looks live this fixed looked.same looked.reads);
   replies = looked.replies;
   part = part_of result v untouched (after ≡ before) (λ m. RepliesPart (MayBegin reveals v.ledger m old.files message) before after) so looked.part;
+  unsaid = unsaid_any result message (after ≡ before) looks;
   flushed = looked.flushed;
   leaves = leaves_read one sites reveals v w message old new (result ≡ Err DiskFault) (λ m kept. looks.none v.ledger.shape m) fixed looked.reads _ _;
   damaged = looked.damaged;

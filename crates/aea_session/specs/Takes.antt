@@ -66,6 +66,8 @@ pub record Takes (reveals : Type 0) (v w : Work) (message : Message) (old new : 
   -- the reply; where there is a fault nothing, or a part of one
   pub replies : IfOk result (λ code. (m : Machine) → KeepsMachine v m → Replies (IsReplyTo reveals v.ledger m old.files message code) before after)
   pub part : IfErr result (λ fault. (m : Machine) → KeepsMachine v m → (after ≡ before) ⊎ RepliesPart (MayBegin reveals v.ledger m old.files message) before after)
+  -- of the reply to a close nothing stands there but where the output failed, once the close was made
+  pub unsaid : IfErr result (λ fault. fault ≢ WriteFault → (slot : ℕ) → message ≡ Close slot → after ≡ before)
   pub flushed : OnOk result (IsFlushed after)
   -- what is left of the disk; a close whose reply failed was made
   pub leaves : Leaves reveals v w message old new (IsOk result ⊎ (result ≡ Err WriteFault)) (result ≡ Err DiskFault) (result ≡ Err NoMemory)

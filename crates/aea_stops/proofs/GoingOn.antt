@@ -247,6 +247,7 @@ module _ (reading : HasOneReading) (D reveals : Type 0) (state : D → State) (r
         same = began.same;
         has = began.has;
         files = began.begun.files;
+        last = (state r.new).files;
         messages = messages;
         tail = began.begun.tail;
         result = began.begun.result;

@@ -125,12 +125,14 @@ pub record AreServed (reveals : Type 0) (shape : Shape) (records : List Record) 
   pub v : Opened
   pub same : v.shape ≡ shape
   pub has : HasRecords v records
+  -- those at its beginning, and those at its end, to which it would have gone on
   pub files : Files
+  pub last : Files
   pub messages : List Message
   pub tail : List ℕ
   pub result : Result (Unit {0}) Stop
   pub by : AnswersBy result s.answer
-  pub serves : Serves reveals v files s.left s.rest s.before s.after messages tail result
+  pub serves : Serves reveals v files last s.left s.rest s.before s.after messages tail result
   pub datas : List (List ℕ)
   pub long : length datas ≡ nodes_of records
   pub wide : AreWide shape datas

@@ -124,25 +124,26 @@ begun_fixed reveals v w old mid synced began revealed c here = reads_synced reve
 -- ---- a run from there on
 
 -- what was printed is what it was after a flush
-prints_kept : (reveals : Type 0) (w : Standing) (messages : List Message) (tail : List ℕ) (before after out : SinkState) (result : Result (Unit {0}) Stop) → Keeps after.written out.written
-    → PrintsReplies reveals w messages tail before after result → PrintsReplies reveals w messages tail before out result
-prints_kept reveals w messages tail before after out result kept prints = record {
+prints_kept : (reveals : Type 0) (w : Standing) (messages : List Message) (tail : List ℕ) (before after out : SinkState) (result : Result (Unit {0}) Stop) (c : Files) → Keeps after.written out.written
+    → PrintsReplies reveals w messages tail before after result c → PrintsReplies reveals w messages tail before out result c
+prints_kept reveals w messages tail before after out result c kept prints = record {
   last = prints.last;
   bytes = prints.bytes;
   part = prints.part;
   replied = prints.replied;
   ends = prints.ends;
   appended = Appends-kept before.written after.written out.written (prints.bytes ++ prints.part) prints.appended kept;
+  there = prints.there;
 }
 
-pub serves_kept : (reveals : Type 0) (v : Opened) (c : Files) (left rest : Option (List ℕ)) (before after out : SinkState) (messages : List Message) (tail : List ℕ) (result : Result (Unit {0}) Stop) → Keeps after.written out.written
-    → Serves reveals v c left rest before after messages tail result → Serves reveals v c left rest before out messages tail result
-serves_kept reveals v c left rest before after out messages tail result kept serves = record {
+pub serves_kept : (reveals : Type 0) (v : Opened) (c d : Files) (left rest : Option (List ℕ)) (before after out : SinkState) (messages : List Message) (tail : List ℕ) (result : Result (Unit {0}) Stop) → Keeps after.written out.written
+    → Serves reveals v c d left rest before after messages tail result → Serves reveals v c d left rest before out messages tail result
+serves_kept reveals v c d left rest before after out messages tail result kept serves = record {
   are = serves.are;
   few = serves.few;
   taken = serves.taken;
   ends = serves.ends;
-  prints = λ datas long wide. prints_kept reveals _ messages tail before after out result kept (serves.prints datas long wide);
+  prints = λ datas long wide. prints_kept reveals _ messages tail before after out result d kept (serves.prints datas long wide);
 }
 
 module _ (reveals : Type 0) {D : Type 0} (state : D → State) (v : Opened) (w x : Work) (old : State) (d e : D) (left rest : Option (List ℕ)) (before after : SinkState) (result : Result (Unit {0}) Stop)
@@ -150,7 +151,7 @@ module _ (reveals : Type 0) {D : Type 0} (state : D → State) (v : Opened) (w x
   -- its answer, and what it did
   pub begun_serves : (out : SinkState) (answer : Answer) → Keeps after.written out.written → AnswersBy result answer → IfOk answer (λ status. status ≡ Done)
       → (answer ≢ Err failure.Disk → result ≢ Err (stop.Taken take.DiskFault)) → (FitsAnswers v left before → answer ≢ Err failure.Output)
-      → Serves reveals v (state d).files left rest before after run.handled run.tail result → (reveals → HasClosedAll v run.handled run.tail result old (state e))
+      → Serves reveals v (state d).files (state e).files left rest before after run.handled run.tail result → (reveals → HasClosedAll v run.handled run.tail result old (state e))
       → (result ≢ Err (stop.Taken take.DiskFault) → reveals → KeepsPadded v.shape (IsBlockIn v.shape v.lattice.n) old.files (state e).files)
       → ServesOpened reveals v old (state e) left rest before out answer
   begun_serves out answer kept by done disk fits serves closed padded = record {
@@ -163,7 +164,7 @@ module _ (reveals : Type 0) {D : Type 0} (state : D → State) (v : Opened) (w x
       by = by;
       files = (state d).files;
       same = began.reads.contents;
-      serves = serves_kept reveals v (state d).files left rest before after out run.handled run.tail result kept serves;
+      serves = serves_kept reveals v (state d).files (state e).files left rest before after out run.handled run.tail result kept serves;
       closes = closed;
       padded = λ fine. padded (disk fine);
     });

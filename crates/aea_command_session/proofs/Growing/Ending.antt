@@ -1,6 +1,6 @@
 -- What a run leaves of the archive, by how it ends.
-use Rattle.std.proofs.Common.{◌≡◌, inl, inr, ⊎_elim, ℕ, List, [], ◌∷◌, ◌++◌, length, Result, Ok, Err, refl, sym, ◌∙◌, ap, subst, arith, append_assoc, length-append}
-use Rattle.std.proofs.lemmas.List.{append-nil}
+use Rattle.std.proofs.Common.{◌≡◌, inl, inr, ⊎_elim, ℕ, List, [], ◌∷◌, ◌++◌, length, take, Result, Ok, Err, refl, sym, ◌∙◌, ap, subst, arith, append_assoc, length-append}
+use Rattle.std.proofs.lemmas.List.{append-nil, take_all, take_at}
 use Rattle.aea_io.specs.Streams.{SinkState}
 use Rattle.aea_lattice.specs.declared.grid.Lattice.{Lattice}
 use Rattle.aea_lattice.specs.declared.shape.Shape.{Shape}
@@ -10,6 +10,7 @@ use Rattle.aea_disk.specs.Frames.{OnlyWrites}
 use Rattle.aea_disk.specs.State.{State, EveryImage, HasEarlier, IsSynced, IsReady}
 use Rattle.aea_disk.proofs.Moments.{during_more}
 use Rattle.aea_records.specs.Format.{Record, nodes_of, fences_of, limit_of, raised_limit}
+use Rattle.aea_records.specs.Grammar.{AreRecords}
 use Rattle.aea_records.specs.Laws.{HasOneReading}
 use Rattle.aea_ledger.specs.Recorded.{IsLatticeOf, AreRecordsOf}
 use Rattle.aea_ledger.specs.Stops.{HasLedger}
@@ -33,7 +34,7 @@ use Rattle.aea_session.specs.Takes.{HasTakeRoom, Takes}
 use Rattle.aea_command_store.specs.Growing.{LeavesArchive}
 use Rattle.aea_command_session.specs.Closes.{GrowsByCloses, SurelyGrows, IsMade, MayBeMade}
 use Rattle.aea_command_session.proofs.Growing.Joining.{closed_many}
-use Rattle.aea_command_session.proofs.Growing.Going.{Changes, Added, HasGone, joins, first_there}
+use Rattle.aea_command_session.proofs.Growing.Going.{Changes, blocks_of, IsOf, Added, HasGone, joins, first_there}
 use Rattle.aea_command_session.proofs.Growing.Serving.{done_all}
 
 -- ---- the archive grew by closes
@@ -70,9 +71,20 @@ module _ (reveals : Type 0) (revealed : reveals) (fault : Type 0) (shape : Shape
     more = λ valid recorded honest. so.more (recorded, honest) valid;
   }
 
-  pub surely : (k : ℕ) → EveryImage new (λ c. HasAtLeast shape records so.added k (c 0)) → HasAtLeast shape records so.added k (new.files 0) → SurelyGrows shape records datas closings k old new
+  -- the first of the new records record the list with the blocks of as many closes
+  abbrev pub FirstRecord : ℕ → Type 0
+  FirstRecord k = IsOf shape first records datas old → AreRecordsOf shape (records ++ take k so.added) (datas ++ blocks_of (take k closings))
+
+  pub surely : (k : ℕ) → EveryImage new (λ c. HasAtLeast shape records so.added k (c 0)) → HasAtLeast shape records so.added k (new.files 0) → FirstRecord k → SurelyGrows shape records datas closings k old new
   unfolding grows
-  surely k images reads = record { grows = grows; first = images; reads = reads }
+  surely k images reads some = record { grows = grows; first = images; reads = reads; recorded = λ recorded honest. some (recorded, honest) }
+
+-- the first of records and closes, as they are
+first_are : (shape : Shape) (records xs added : List Record) (datas : List (List ℕ)) (closings cs : List Closing) (k : ℕ) → take k xs ≡ added → take k cs ≡ closings
+    → AreRecordsOf shape (records ++ added) (datas ++ blocks_of closings) → AreRecordsOf shape (records ++ take k xs) (datas ++ blocks_of (take k cs))
+first_are shape records xs added datas closings cs k first second is =
+    subst (λ (rs : List Record). AreRecordsOf shape (records ++ rs) (datas ++ blocks_of (take k cs))) (sym first)
+    (subst (λ (l : List Closing). AreRecordsOf shape (records ++ added) (datas ++ blocks_of l)) (sym second) is)
 
 -- ---- by how the run ends
 
@@ -119,7 +131,10 @@ module _ (reading : HasOneReading) (lengths : CellsHaveLengths) (join : ClosedRe
       subst (λ (cs : List Closing). SurelyGrows shape records datas cs (length cs) old now) (sym (append-nil closings))
       (surely reveals revealed ⊥ shape first records datas closings old now synced raised gone.is_first gone.so (length closings)
       (λ c here. at_all shape records gone.so.added (length closings) (c 0) (omega (arith, many)) (subst (HasLedger shape (records ++ gone.so.added)) (sym (gone.fixed c here)) there))
-      (at_all shape records gone.so.added (length closings) (now.files 0) (omega (arith, many)) there))
+      (at_all shape records gone.so.added (length closings) (now.files 0) (omega (arith, many)) there)
+      (λ is.
+      first_are shape records gone.so.added gone.so.added datas closings closings (length closings) (take_all (length closings) gone.so.added (omega (arith, many))) (take_all (length closings) closings (omega arith))
+      (gone.so.more is there.valid)))
 
   module _ (m : Machine) (closings : List Closing) (v : Work) (now : State) (gone : HasGone reveals v.ledger.shape first records datas closings m v old now)
       (x : Work) (message : Message) (next : State) (before then : SinkState) where
@@ -142,6 +157,9 @@ module _ (reading : HasOneReading) (lengths : CellsHaveLengths) (join : ClosedRe
           surely reveals revealed fault v.ledger.shape first records datas (closings ++ later) old next synced raised gone.is_first so_all (length closings)
           (λ c here. at (c 0) (adds.prefix next.moment c writes.time.later (omega arith) here))
           (at (next.files 0) adds.reads)
+          (λ is.
+          first_are v.ledger.shape records (gone.so.added ++ added) gone.so.added datas closings (closings ++ later) (length closings) (take_at gone.so.added added (length closings) many) (take_at closings later (length closings) refl)
+          (gone.so.more is gone.its.has.valid))
 
       -- and so are the others
       all_there : HasLedger v.ledger.shape ((records ++ gone.so.added) ++ added) (next.files 0) → EveryImage next (λ c. HasLedger v.ledger.shape ((records ++ gone.so.added) ++ added) (c 0))
@@ -156,6 +174,11 @@ module _ (reading : HasOneReading) (lengths : CellsHaveLengths) (join : ClosedRe
           surely reveals revealed fault v.ledger.shape first records datas (closings ++ later) old next synced raised gone.is_first so_all (length (closings ++ later))
           (λ c here. at (c 0) (images c here))
           (at (next.files 0) ledger)
+          (λ is.
+          first_are v.ledger.shape records (gone.so.added ++ added) (gone.so.added ++ added) datas (closings ++ later) (closings ++ later) (length (closings ++ later))
+          (take_all (length (closings ++ later)) (gone.so.added ++ added) (omega (arith, many, others, length-append closings later, length-append gone.so.added added)))
+          (take_all (length (closings ++ later)) (closings ++ later) (omega arith))
+          (so_all.more is (subst (AreRecords v.ledger.shape) nest ledger.valid)))
 
     -- the closes as those of a list of messages
     none_made : (later : List Closing) → SurelyGrows v.ledger.shape records datas (closings ++ later) (length closings) old next → SurelyGrows v.ledger.shape records datas (closings ++ later) (length (closings ++ [])) old next

@@ -5,6 +5,7 @@ use Rattle.aea_disk.proofs.Frames.{reads_faulted, writes_faulted, reads_synced, 
 use Rattle.aea_disk.proofs.Moments.{during_change, synced_fixed}
 use Rattle.aea_copies.specs.Format.{text_of}
 use Rattle.aea_copies.specs.Kept.{IsGood}
+use Rattle.aea_copy_writer.specs.Anew.{IsOldNoneOrMade, whole_text}
 use Rattle.aea_copy_writer.specs.Changes.{FitsChange}
 use Rattle.aea_copy_writer.proofs.Stretches.{fits_roomy, fits_read}
 use Rattle.aea_adopt.specs.Mending.{MayBeMended, IsGateAfter}
@@ -44,8 +45,11 @@ returns-in_err-_made-in-Missing-clause-any_moment g c revealed pieces known =
     let second = g.D.Disk.state c.gate_after.new.disk in
     let third = g.D.Disk.state c.make_ledger.new.disk in
     let is : IsGateAfter (text_of pieces) (first.files 0) Missing = (rw c.in-Missing.is at c.in_ok-gate_after.ensures.gate) revealed pieces known in
+    let same : second.files ≡ first.files = c.gate_after.ensures.reads.contents revealed in
+    let good : IsGood pieces (second.files c.args.kept.now.source) = subst (λ (d : Files). IsGood pieces (d c.args.kept.now.source)) (sym same) known.good in
     quiet_then 0 (MayBeMended (text_of pieces) (first.files 0)) first second third c.gate_after.ensures.reads.time c.make_ledger.ensures.writes.time c.gate_after.ensures.reads.crash (c.requires.synced revealed) (may_none (text_of pieces) (first.files 0))
-    (λ t d from to here. may_missing (text_of pieces) (first.files 0) (d 0) is)
+    (λ t d from to here. may_missing (text_of pieces) (first.files 0) (d 0) is
+    (subst (λ (e : Files). IsOldNoneOrMade (whole_text pieces) (e 0) (d 0)) same (c.make_ledger.ensures.any_moment revealed pieces good known.text t d from to here)))
 
 pub returns-in_err-_made-in-Missing-clause-reads : goal.returns-in_err-_made-in-Missing-clause-reads
 returns-in_err-_made-in-Missing-clause-reads g c revealed pieces known =
@@ -53,7 +57,10 @@ returns-in_err-_made-in-Missing-clause-reads g c revealed pieces known =
     let second = g.D.Disk.state c.gate_after.new.disk in
     let third = g.D.Disk.state c.make_ledger.new.disk in
     let is : IsGateAfter (text_of pieces) (first.files 0) Missing = (rw c.in-Missing.is at c.in_ok-gate_after.ensures.gate) revealed pieces known in
+    let same : second.files ≡ first.files = c.gate_after.ensures.reads.contents revealed in
+    let good : IsGood pieces (second.files c.args.kept.now.source) = subst (λ (d : Files). IsGood pieces (d c.args.kept.now.source)) (sym same) known.good in
     may_missing (text_of pieces) (first.files 0) (third.files 0) is
+    (subst (λ (e : Files). IsOldNoneOrMade (whole_text pieces) (e 0) (third.files 0)) same (c.make_ledger.ensures.reads revealed pieces good known.text))
 
 pub returns-in_err-_made-in-Missing-clause-idle : goal.returns-in_err-_made-in-Missing-clause-idle
 returns-in_err-_made-in-Missing-clause-idle g c revealed pieces known same =
@@ -78,8 +85,11 @@ returns-in_ok-_made-in-Missing-clause-any_moment g c revealed pieces known =
     let second = g.D.Disk.state c.gate_after.new.disk in
     let third = g.D.Disk.state c.make_ledger.new.disk in
     let is : IsGateAfter (text_of pieces) (first.files 0) Missing = (rw c.in-Missing.is at c.in_ok-gate_after.ensures.gate) revealed pieces known in
+    let same : second.files ≡ first.files = c.gate_after.ensures.reads.contents revealed in
+    let good : IsGood pieces (second.files c.args.kept.now.source) = subst (λ (d : Files). IsGood pieces (d c.args.kept.now.source)) (sym same) known.good in
     quiet_then 0 (MayBeMended (text_of pieces) (first.files 0)) first second third c.gate_after.ensures.reads.time c.make_ledger.ensures.writes.time c.gate_after.ensures.reads.crash (c.requires.synced revealed) (may_none (text_of pieces) (first.files 0))
-    (λ t d from to here. may_missing (text_of pieces) (first.files 0) (d 0) is)
+    (λ t d from to here. may_missing (text_of pieces) (first.files 0) (d 0) is
+    (subst (λ (e : Files). IsOldNoneOrMade (whole_text pieces) (e 0) (d 0)) same (c.make_ledger.ensures.any_moment revealed pieces good known.text t d from to here)))
 
 pub returns-in_ok-_made-in-Missing-clause-reads : goal.returns-in_ok-_made-in-Missing-clause-reads
 returns-in_ok-_made-in-Missing-clause-reads g c revealed pieces known =
@@ -87,7 +97,10 @@ returns-in_ok-_made-in-Missing-clause-reads g c revealed pieces known =
     let second = g.D.Disk.state c.gate_after.new.disk in
     let third = g.D.Disk.state c.make_ledger.new.disk in
     let is : IsGateAfter (text_of pieces) (first.files 0) Missing = (rw c.in-Missing.is at c.in_ok-gate_after.ensures.gate) revealed pieces known in
+    let same : second.files ≡ first.files = c.gate_after.ensures.reads.contents revealed in
+    let good : IsGood pieces (second.files c.args.kept.now.source) = subst (λ (d : Files). IsGood pieces (d c.args.kept.now.source)) (sym same) known.good in
     may_missing (text_of pieces) (first.files 0) (third.files 0) is
+    (subst (λ (e : Files). IsOldNoneOrMade (whole_text pieces) (e 0) (third.files 0)) same (c.make_ledger.ensures.reads revealed pieces good known.text))
 
 pub returns-in_ok-_made-in-Missing-clause-idle : goal.returns-in_ok-_made-in-Missing-clause-idle
 returns-in_ok-_made-in-Missing-clause-idle g c revealed pieces known same =

@@ -1,4 +1,5 @@
 use Rattle.std.proofs.Common.{inl, inr, refl, sym, ◌∙◌, ap, Err}
+use Rattle.aea_disk.proofs.Moments.{lasts_lent}
 use Rattle.aea_command.proofs.OpeningCases.{err_with}
 use Rattle.aea_mirror.proofs.Ready.{made_synced}
 use Rattle.aea_cli.proofs.Adopted.{unadopted_from, adopted_from}
@@ -33,6 +34,8 @@ returns-clause-beneath g c =
       adopts = adopted_from g.D.Disk.reveals (g.D.Disk.state c.args.disk.now) (g.D.Disk.state c.adopt_copies.new.disk) a given.0 given.1 given.2;
       name = c.new-mirror.result.disk.ghost_name;
       kept = record { name = w.disk.ghost_name; on = w.on; end = w.end; dead = w.dead; own = w.own };
+      named = e.lent;
+      set = λ not. (lasts_lent _ _ (e.time not).lasts).set ∙ m.on;
       runs = rw (m.now, m.on, m.end, m.alive, m.none) at e.runs;
       sound = rw (m.now, m.on, m.end, m.alive, m.none) at e.sound;
       time = λ not. rw (m.now, m.on, m.end, m.alive, m.none) at (e.time not);

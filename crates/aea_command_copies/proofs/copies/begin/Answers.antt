@@ -70,7 +70,7 @@ returns-in-Ok-clause-begins g c =
     over_as g.D.Disk.reveals m.on (c.start.result ≡ Err starting.DiskFault) (IsOk c.start.result)
     (let r : Result (Unit {0}) Failure = Ok u in r ≡ Err failure.Disk) (let r : Result (Unit {0}) Failure = Ok u in IsOk r)
     (g.D.Disk.state m.disk.now) new _ _
-    (λ e. absurd (done_not u e)) (λ e. absurd (ok_not u starting.DiskFault (sym ok ∙ e))) (λ is. rw ok refl)
+    (λ e. absurd (done_not u e)) (λ e. absurd (ok_not u starting.DiskFault (sym ok ∙ e))) (λ is. rw ok refl) (λ is. refl)
     (begun_over g.D.Disk.reveals (g.D.Disk.state m.disk.now) mid
     (record { name = m.disk.ghost_name; on = m.on; end = m.end; dead = m.dead; own = m.own }) j
     m.first m.second c.requires.synced (m.guards c.requires.alive) c.in_ok-open.field-0 c.in_ok-open.ensures new l
@@ -133,7 +133,7 @@ returns-in-Err-DiskFault-clause-begins g c =
     over_as g.D.Disk.reveals m.on (c.start.result ≡ Err starting.DiskFault) (IsOk c.start.result)
     (let r : Result (Unit {0}) Failure = Err failure.Disk in r ≡ Err failure.Disk) (let r : Result (Unit {0}) Failure = Err failure.Disk in IsOk r)
     (g.D.Disk.state m.disk.now) new _ _
-    (λ e. fails) (λ e. refl) (λ is. absurd (false≢true is))
+    (λ e. fails) (λ e. refl) (λ is. absurd (false≢true is)) (λ is. absurd (false≢true (rw fails at is)))
     (begun_over g.D.Disk.reveals (g.D.Disk.state m.disk.now) mid
     (record { name = m.disk.ghost_name; on = m.on; end = m.end; dead = m.dead; own = m.own }) j
     m.first m.second c.requires.synced (m.guards c.requires.alive) c.in_ok-open.field-0 c.in_ok-open.ensures new l

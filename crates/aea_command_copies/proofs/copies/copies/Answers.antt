@@ -1,5 +1,6 @@
 use Rattle.std.proofs.Common.{◌≡◌, Result, Ok, Err, refl}
 use Rattle.std.specs.Prelude.{IsOk}
+use Rattle.std.proofs.lemmas.Bool.{false≢true}
 use Rattle.aea_command.specs.declared.refusal.Failure.{Failure}
 use Rattle.aea_command.specs.declared.refusal.Failure.TheVariants as failure
 use Rattle.aea_command.specs.declared.status.Status.TheVariants.{Done}
@@ -34,7 +35,7 @@ returns-in_err-begin-clause-over g c =
     let none = not_output f c.in_err-begin.ensures.output in
     rw (err_with c.from_residual.result f c.from_residual.ensures.1)
     (over_as g.D.Disk.reveals c.args.mirror.now.on (let r : Result (Unit {0}) Failure = Err f in r ≡ Err failure.Disk) (let r : Result (Unit {0}) Failure = Err f in IsOk r)
-    (let a : Answer = Err f in a ≡ Err failure.Disk) (EndsBegun (Err f)) _ _ _ _ (from_answer f) (as_answer f) (λ is. absurd (not_begun f none is)) c.in_err-begin.ensures.begins)
+    (let a : Answer = Err f in a ≡ Err failure.Disk) (EndsBegun (Err f)) _ _ _ _ (from_answer f) (as_answer f) (λ is. absurd (not_begun f none is)) (λ is. absurd (false≢true is)) c.in_err-begin.ensures.begins)
 
 pub returns-in_err-begin-clause-refuses : goal.returns-in_err-begin-clause-refuses
 returns-in_err-begin-clause-refuses g c =
@@ -53,7 +54,7 @@ returns-in_err-put_text-clause-over g c =
     let u = c.in_ok-begin.field-0 in
     rw (err_with c.from_residual-in_err-put_text.result failure.Output c.from_residual-in_err-put_text.ensures.1)
     (over_as g.D.Disk.reveals c.args.mirror.now.on (let r : Result (Unit {0}) Failure = Ok u in r ≡ Err failure.Disk) (let r : Result (Unit {0}) Failure = Ok u in IsOk r)
-    (let a : Answer = Err failure.Output in a ≡ Err failure.Disk) (EndsBegun (Err failure.Output)) _ _ _ _ (λ e. absurd (output_not e)) (λ e. absurd (ok_not u e)) (λ is. refl) c.in_ok-begin.ensures.begins)
+    (let a : Answer = Err failure.Output in a ≡ Err failure.Disk) (EndsBegun (Err failure.Output)) _ _ _ _ (λ e. absurd (output_not e)) (λ e. absurd (ok_not u e)) (λ is. refl) (λ is. tt) c.in_ok-begin.ensures.begins)
 
 pub returns-in_err-put_text-clause-refuses : goal.returns-in_err-put_text-clause-refuses
 returns-in_err-put_text-clause-refuses g c =
@@ -70,7 +71,7 @@ pub returns-clause-over : goal.returns-clause-over
 returns-clause-over g c =
     let u = c.in_ok-begin.field-0 in
     over_as g.D.Disk.reveals c.args.mirror.now.on (let r : Result (Unit {0}) Failure = Ok u in r ≡ Err failure.Disk) (let r : Result (Unit {0}) Failure = Ok u in IsOk r)
-    (let a : Answer = Ok Done in a ≡ Err failure.Disk) (EndsBegun (Ok Done)) _ _ _ _ (λ e. absurd (done_not e)) (λ e. absurd (ok_not u e)) (λ is. refl) c.in_ok-begin.ensures.begins
+    (let a : Answer = Ok Done in a ≡ Err failure.Disk) (EndsBegun (Ok Done)) _ _ _ _ (λ e. absurd (done_not e)) (λ e. absurd (ok_not u e)) (λ is. refl) (λ is. tt) c.in_ok-begin.ensures.begins
 
 pub returns-clause-refuses : goal.returns-clause-refuses
 returns-clause-refuses g c =

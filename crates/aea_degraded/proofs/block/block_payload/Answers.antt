@@ -11,6 +11,7 @@ use Rattle.aea_envelope.specs.Cells.{block_digest}
 use Rattle.aea_restore.specs.Drawn.{IsDrawn}
 use Rattle.aea_restore.proofs.Drawing.{drawn_alone}
 use Rattle.aea_degraded.specs.Summed.{is_summand, sum_at}
+use Rattle.aea_degraded.proofs.Readings.{read_alone, read_summed}
 use Rattle.aea_degraded.proofs.Summing.{listed_sums}
 use Rattle.aea_degraded.proofs.Survivors.{none_past, some_item, there, listed_there, known_intact, sum_drawn, sum_clash}
 use Rattle.aea_degraded.proofs.block.block_payload.Goals as goal
@@ -123,3 +124,21 @@ returns-clause-summed_clash g c d revealed computed is_clash reveals known found
     (c.payload.ensures.computed d revealed computed is_clash reveals all).1
     ∙ ap (λ (b : BlockId). block_digest b (sum_at v.lattice v.shape files f)) is.block
     ∙ ap (λ (x : Fate). block_digest c.args.b (sum_at v.lattice v.shape files x)) (some_item (slice_get fates c.args.at) f fate c.in-Some.ensures here)
+
+pub returns-then-not-get-clause-readings : goal.returns-then-not-get-clause-readings
+returns-then-not-get-clause-readings g c =
+    on_ok_weaker c.read_own.result
+    (λ judged. read_alone g.D.Disk.reveals c.args.ledger.now (g.D.Disk.state c.args.disk.now).files c.args.b c.read_own.new.sum c.requires.block judged)
+    c.read_own.ensures.judged
+
+pub returns-clause-readings : goal.returns-clause-readings
+returns-clause-readings g c =
+    let v = c.args.ledger.now in
+    let open' : BlockId → Bool = λ d. not (is_marked c.args.damaged.now d) in
+    let fates = c.args.fates.now in
+    let f = c.in-Some.fate.now in
+    let is = there v.lattice fates c.args.b c.args.at f c.requires.block (c.requires.found (sym c.get.ensures ∙ c.if-not-get.false)) c.in-Some.ensures in
+    let sum = (listed_sums v.lattice open' f is.has (listed_there v.lattice open' fates c.args.b c.args.at f is c.requires.fates c.in-Some.ensures)).0 in
+    on_ok_weaker c.payload.result
+    (λ summed. read_summed g.D.Disk.reveals v (g.D.Disk.state c.args.disk.now).files c.args.b f c.payload.new.sum is.block sum summed)
+    c.payload.ensures.judged

@@ -1,4 +1,5 @@
-use Rattle.std.proofs.Common.{le_trans}
+use Rattle.std.proofs.Common.{le_trans, arith}
+use Rattle.aea_disk.specs.Spaces.{room_of}
 use Rattle.aea_rehearse.proofs.rehearsing.rehearse.Goals as goal
 
 pub rehearse_on-requires-clause-room : goal.rehearse_on-requires-clause-room
@@ -11,3 +12,6 @@ rehearse_on-requires-clause-room c = record {
   };
   ledger = λ n small. le_trans small c.requires.ledger_room;
 }
+
+pub returns-clause-rooms : goal.returns-clause-rooms
+returns-clause-rooms c f = c.rehearse_on.ensures.time.room f (room_of c.args.disk.now.spaces f) (omega arith)

@@ -1,3 +1,4 @@
+use Rattle.aea_disk.proofs.Moments.{passes_none, passes_both}
 use Rattle.aea_rehearse.proofs.Homes.{cells_room_stays, cells_willing}
 use Rattle.aea_rehearse.proofs.Ending.{altered_in, altered_some, is_ready, small_outcome, is_rehearsed}
 use Rattle.aea_rehearse.proofs.rehearsing.rehearse_on.Goals as goal
@@ -27,3 +28,15 @@ pub returns-clause-rehearsed : goal.returns-clause-rehearsed
 returns-clause-rehearsed g c =
     is_rehearsed c.cells_have_lengths.ensures c.cells_have_parts.ensures c.ledgers_have_one_reading.ensures c.args.number c.args.nodes c.args.permille
     (g.D.Disk.state c.damage.new.disk).files (g.D.Disk.state c.restore.new.disk).files c.in_ok-outcome.outcome c.numbers.result c.in_ok-damage.ensures.altered c.in_ok-outcome.ensures.restored c.numbers.ensures
+
+pub returns-in_err-report-clause-time : goal.returns-in_err-report-clause-time
+returns-in_err-report-clause-time g c = passes_none (g.D.Disk.state c.args.disk.now)
+
+pub returns-in_err-damage-clause-time : goal.returns-in_err-damage-clause-time
+returns-in_err-damage-clause-time g c = c.damage.ensures.time
+
+pub returns-in_err-outcome-clause-time : goal.returns-in_err-outcome-clause-time
+returns-in_err-outcome-clause-time g c = passes_both (g.D.Disk.state c.args.disk.now) (g.D.Disk.state c.damage.new.disk) (g.D.Disk.state c.restore.new.disk) c.damage.ensures.time c.restore.ensures.time
+
+pub returns-clause-time : goal.returns-clause-time
+returns-clause-time g c = passes_both (g.D.Disk.state c.args.disk.now) (g.D.Disk.state c.damage.new.disk) (g.D.Disk.state c.restore.new.disk) c.damage.ensures.time c.restore.ensures.time

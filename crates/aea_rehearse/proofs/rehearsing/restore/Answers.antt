@@ -1,5 +1,6 @@
 use Rattle.std.proofs.Common.{ℕ, List, sym, ◌∙◌, subst}
 use Rattle.aea_disk.specs.Files.{Files}
+use Rattle.aea_disk.proofs.Moments.{passes_both}
 use Rattle.aea_report.specs.Grammar.{IsReport}
 use Rattle.aea_rehearse.specs.Altered.{IsMended}
 use Rattle.aea_rehearse.proofs.Homes.{willing_after}
@@ -52,3 +53,19 @@ returns-in_err-check-clause-steady g c = c.check.ensures.reads.still (λ none. n
 
 pub returns-clause-steady : goal.returns-clause-steady
 returns-clause-steady g c = c.check.ensures.reads.still (λ none. none) ∙ c.mend.ensures.steady ∙ c.open.ensures.reads.still (λ none. none)
+
+pub returns-in_err-ledger-clause-time : goal.returns-in_err-ledger-clause-time
+returns-in_err-ledger-clause-time g c = c.open.ensures.reads.time
+
+pub returns-in_err-outcome-clause-time : goal.returns-in_err-outcome-clause-time
+returns-in_err-outcome-clause-time g c = passes_both (g.D.Disk.state c.args.disk.now) (g.D.Disk.state c.open.new.disk) (g.D.Disk.state c.mend.new.disk) c.open.ensures.reads.time c.mend.ensures.time
+
+pub returns-in_err-check-clause-time : goal.returns-in_err-check-clause-time
+returns-in_err-check-clause-time g c =
+    passes_both (g.D.Disk.state c.args.disk.now) (g.D.Disk.state c.mend.new.disk) (g.D.Disk.state c.check.new.disk)
+    (passes_both (g.D.Disk.state c.args.disk.now) (g.D.Disk.state c.open.new.disk) (g.D.Disk.state c.mend.new.disk) c.open.ensures.reads.time c.mend.ensures.time) c.check.ensures.reads.time
+
+pub returns-clause-time : goal.returns-clause-time
+returns-clause-time g c =
+    passes_both (g.D.Disk.state c.args.disk.now) (g.D.Disk.state c.mend.new.disk) (g.D.Disk.state c.check.new.disk)
+    (passes_both (g.D.Disk.state c.args.disk.now) (g.D.Disk.state c.open.new.disk) (g.D.Disk.state c.mend.new.disk) c.open.ensures.reads.time c.mend.ensures.time) c.check.ensures.reads.time

@@ -7,7 +7,7 @@ use Rattle.aea_disk.proofs.Frames.{reads_as}
 use Rattle.aea_degraded.specs.declared.fault.PayloadFault.{PayloadFault}
 use Rattle.aea_degraded.specs.declared.fault.PayloadFault.TheVariants.{DiskFault}
 use Rattle.aea_degraded.specs.Planned.{AreFatesOf}
-use Rattle.aea_degraded.proofs.Checked.{on_ok_two, planned_at}
+use Rattle.aea_degraded.proofs.Checked.{on_ok_three, planned_at}
 use Rattle.aea_degraded.proofs.Printed.{disk_failed, plan_fault, none_marked, no_other, fetched_also}
 use Rattle.aea_degraded.proofs.reader.PlanReaderPayloadSource.get_one.Goals as goal
 
@@ -44,14 +44,15 @@ returns-clause-wide g c = on_ok_weaker c.block_payload.result (λ digest. c.bloc
 pub returns-clause-had : goal.returns-clause-had
 returns-clause-had g c =
     let files = (g.D.Disk.state c.args.disk.now).files in
-    on_ok_two c.block_payload.result
-    (λ digest drawn f same.
+    on_ok_three c.block_payload.result
+    (λ digest readings drawn f same.
     fetched_also g.D.Disk.reveals c.args.ledger.now files f same c.args.b c.block_payload.new.sum (record {
       wide = c.block_payload.auto.sum ∙ c.requires.ready.2;
       digest = digest;
+      readings = readings;
       drawn = λ revealed known survivors. drawn revealed known (c.requires.ready.0.right revealed known survivors);
     }))
-    c.block_payload.ensures.digest c.block_payload.ensures.drawn
+    c.block_payload.ensures.digest c.block_payload.ensures.readings c.block_payload.ensures.drawn
 
 pub returns-clause-why : goal.returns-clause-why
 returns-clause-why g c =

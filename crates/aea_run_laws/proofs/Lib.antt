@@ -1,0 +1,5 @@
+mod OneBlock
+mod Digests
+mod Memories
+mod Logs
+mod Meeting

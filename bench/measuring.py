@@ -42,6 +42,22 @@ def chosen_program(words):
     return str(TOP / "out/aea")
 
 
+def program_without(room, *edits):
+    """A program that is compiled without proofs from these sources, of which some texts are others: each edit is a file, what stands there
+    once, and what is to stand there. It shows that a script finds what the program would do wrong without that."""
+    copy = Path(tempfile.mkdtemp(dir=room))
+    for part in ("crates", "bin"):
+        shutil.copytree(TOP / part, copy / part, ignore=shutil.ignore_patterns("out"))
+    shutil.copy(TOP / "crates.txt", copy)
+    for name, old, new in edits:
+        text = (copy / name).read_text()
+        if text.count(old) != 1:
+            sys.exit(f"{name} has {text.count(old)} times: {old}")
+        (copy / name).write_text(text.replace(old, new))
+    subprocess.run([copy / "bin/aea", "no", "command"], cwd=room, stdin=subprocess.DEVNULL, stdout=subprocess.DEVNULL, stderr=subprocess.DEVNULL)
+    return str(copy / "out/trial")
+
+
 def number_at(words, place, otherwise):
     """The word at this place as a number, or another number where there are fewer words."""
     return int(words[place]) if len(words) > place else otherwise

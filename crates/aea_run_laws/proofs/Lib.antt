@@ -2,4 +2,13 @@ mod OneBlock
 mod Digests
 mod Memories
 mod Logs
+mod Over
+mod Readings
+mod Texts
+mod Explaining
+mod Repairing
+mod Verifying
+mod Adding
+mod Raised
+mod Serving
 mod Meeting

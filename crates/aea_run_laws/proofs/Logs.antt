@@ -1,5 +1,5 @@
 -- A disk that lists one write for each of the first files, and a sync.
-use Rattle.std.proofs.Common.{◌≡◌, ◌≢◌, ◌<◌, ◌≤◌, ℕ, zero, suc, ◌+◌, List, [], ◌∷◌, ◌++◌, length, take, drop, refl, sym, ◌∙◌, ap, subst, arith, append_assoc, length-append}
+use Rattle.std.proofs.Common.{◌≡◌, ◌≢◌, ◌<◌, ◌≤◌, ℕ, zero, suc, ◌+◌, List, [], ◌∷◌, ◌++◌, length, take, drop, refl, sym, ◌∙◌, ap, arith, append_assoc, length-append}
 use Rattle.std.proofs.lemmas.List.{append-nil, take_at, drop_at}
 use Rattle.std.proofs.Math.Seq.{drop-nil}
 use Rattle.std.specs.Prelude.{slice_index_or}
@@ -7,8 +7,8 @@ use Rattle.aea_disk.specs.declared.mem.Call.{Call}
 use Rattle.aea_disk.specs.declared.mem.Call.TheVariants.{Len, Write, Sync}
 use Rattle.aea_disk.specs.Files.{Files, overwritten}
 use Rattle.aea_disk.specs.Log.{Log}
-use Rattle.aea_disk.specs.Logged.{IsLogged, events_of, log_state, end_of, file_of, end_in_file}
-use Rattle.aea_disk.specs.Spaces.{files_of, room_of}
+use Rattle.aea_disk.specs.Logged.{events_of, end_of, file_of, end_in_file}
+use Rattle.aea_disk.specs.Spaces.{room_of}
 use Rattle.aea_disk.specs.Events.{Wrote, after, reads_at}
 use Rattle.aea_disk.specs.Replays.{after_wrote}
 use Rattle.aea_run_laws.specs.Logs.{HasOneImage}

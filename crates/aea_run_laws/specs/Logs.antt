@@ -1,5 +1,5 @@
 -- These archives on a disk that lists its calls, of which all images are known.
-use Rattle.std.specs.Prelude.{◌≡◌, ◌↔◌, ℕ, List}
+use Rattle.std.specs.Prelude.{◌≡◌, ◌↔◌, ℕ}
 use Rattle.aea_disk.specs.Files.{Files}
 use Rattle.aea_disk.specs.Log.{Log}
 use Rattle.aea_disk.specs.Logged.{IsLogged, log_state}

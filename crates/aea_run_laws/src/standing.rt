@@ -8,6 +8,10 @@ use aea_envelope::{cells_have_lengths, cells_have_parts};
 use aea_records::{
     ledgers_are_archives, ledgers_are_not_bad, ledgers_have_one_reading, objects_are_of_records,
 };
+use aea_report::{
+    printed_are_reports, printed_reports_fit, reports_are_not_bad, reports_have_one_reading,
+};
+use aea_verify::accepted_are_fitting;
 
 /// Of each small object there is an archive that has it, and the same with its first site lost. It is a law alone; nothing is done.
 pub fn damaged_archives_stand()
@@ -30,4 +34,9 @@ pub fn runs_are_met()
     ledgers_are_archives();
     ledgers_are_not_bad();
     objects_are_of_records();
+    reports_have_one_reading();
+    reports_are_not_bad();
+    printed_are_reports();
+    printed_reports_fit();
+    accepted_are_fitting();
 }

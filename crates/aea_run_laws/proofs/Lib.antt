@@ -11,4 +11,5 @@ mod Verifying
 mod Adding
 mod Raised
 mod Serving
+mod Sessions
 mod Meeting

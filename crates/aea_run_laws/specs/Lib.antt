@@ -1,3 +1,4 @@
 pub mod Standing
 pub mod Logs
 pub mod Meeting
+pub mod Sessions

@@ -1,6 +1,7 @@
 //! Archives that stand, whole and with a lost site.
 
 ghost use Rattle.aea_run_laws.specs.Meeting.{RunsAreMet};
+ghost use Rattle.aea_run_laws.specs.Sessions.{SessionsAreMet};
 ghost use Rattle.aea_run_laws.specs.Standing.{DamagedArchivesStand};
 
 use aea_archive::puts_record;
@@ -39,4 +40,17 @@ pub fn runs_are_met()
     printed_are_reports();
     printed_reports_fit();
     accepted_are_fitting();
+}
+
+/// Over such an archive whose limit was raised, a session over an input without messages meets all that is asked. It is a law alone;
+/// nothing is done.
+pub fn sessions_are_met()
+    ensures { SessionsAreMet }
+{
+    cells_have_lengths();
+    cells_have_parts();
+    puts_record();
+    ledgers_have_one_reading();
+    ledgers_are_archives();
+    ledgers_are_not_bad();
 }

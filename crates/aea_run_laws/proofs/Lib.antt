@@ -3,6 +3,7 @@ mod Digests
 mod Memories
 mod Logs
 mod Over
+mod Copying
 mod Readings
 mod Texts
 mod Explaining
@@ -13,3 +14,4 @@ mod Raised
 mod Serving
 mod Sessions
 mod Meeting
+mod Copied

@@ -126,7 +126,7 @@ module _ (lengths : CellsHaveLengths) (parts : CellsHaveParts) (record_law : Put
         (subst (λ (l : List Record). IsIntactBy shape (digests_of l) x (block_of 1 Datum)) (sym f.1.0) intact))
     get_unrefused intact why cause = cause
 
-    get_met : IsIntactBy shape r.digests x (block_of 1 Datum) → (input : List ℕ) (out : SureSink) → HasLeft (length o.bytes) out → IsMet (Get o.name) m input out
+    pub get_met : IsIntactBy shape r.digests x (block_of 1 Datum) → (input : List ℕ) (out : SureSink) → HasLeft (length o.bytes) out → IsMet (Get o.name) m input out
     get_met intact input out left =
         meets x room spare m ground (Get o.name) input out tt
         (λ mid a name adopts. ground.roomy mid a name adopts)
@@ -153,7 +153,7 @@ module _ (lengths : CellsHaveLengths) (parts : CellsHaveParts) (record_law : Put
         datum_of h.shape h.records h.placed (Determines h.lattice h.known) block h.object h.first.first (determined h.lattice h.known lattice_is survivors intact)
     fetch_unrefused intact why cause = cause
 
-    fetch_met : IsIntactBy shape r.digests x (block_of 1 Horiz) → HasHonestSurvivors x → (input : List ℕ) (out : SureSink) → HasLeft (length o.bytes) out → IsMet (Fetch o.name) m input out
+    pub fetch_met : IsIntactBy shape r.digests x (block_of 1 Horiz) → HasHonestSurvivors x → (input : List ℕ) (out : SureSink) → HasLeft (length o.bytes) out → IsMet (Fetch o.name) m input out
     fetch_met intact honest input out left =
         meets x room spare m ground (Fetch o.name) input out tt
         (λ mid a name adopts. ground.roomy mid a name adopts)
@@ -182,7 +182,7 @@ module _ (lengths : CellsHaveLengths) (parts : CellsHaveParts) (record_law : Put
         ∙ ap (λ (b : Bool). long_by false true b (intact (block_of 1 Left))) (whole_one Right (λ e. cc))
         ∙ ap (λ (b : Bool). long_by false true true b) (whole_one Left (λ e. cc)) ∙ lost_is
 
-    scrub_met : (IsIntactBy shape r.digests x (block_of 1 Datum) → ⊥) → ((k : Class) → k ≢ Datum → IsIntactBy shape r.digests x (block_of 1 k)) → (input : List ℕ) (out : SureSink) → HasLeft 29 out → IsMet Scrub m input out
+    pub scrub_met : (IsIntactBy shape r.digests x (block_of 1 Datum) → ⊥) → ((k : Class) → k ≢ Datum → IsIntactBy shape r.digests x (block_of 1 k)) → (input : List ℕ) (out : SureSink) → HasLeft 29 out → IsMet Scrub m input out
     scrub_met gone still input out left =
         meets x room spare m ground Scrub input out tt
         (λ mid a name adopts. ground.roomy mid a name adopts)

@@ -34,9 +34,9 @@ space_past (suc n) first (suc k) c room past = space_past n (suc first) k c room
 pub memory_with : Files → ℕ → Memory
 memory_with c room = record { spaces = spaces_from 67 0 c room; faults = 0 }
 
-pub has_files : (c : Files) (room : ℕ) → ((f : ℕ) → 64 < f → c f ≡ []) → HasFiles c room (memory_with c room)
+pub has_all_files : (c : Files) (room : ℕ) → ((f : ℕ) → 66 < f → c f ≡ []) → HasFiles c room (memory_with c room)
 unfolding memory_with
-has_files c room bare = record {
+has_all_files c room bare = record {
   count = spaces_long 67 0 c room;
   files = λ f.
       ⊎_elim
@@ -46,3 +46,6 @@ has_files c room bare = record {
   rooms = λ f near. ap (λ (e : Extent). e.room) (space_is 67 0 f c room near);
   steady = refl;
 }
+
+pub has_files : (c : Files) (room : ℕ) → ((f : ℕ) → 64 < f → c f ≡ []) → HasFiles c room (memory_with c room)
+has_files c room bare = has_all_files c room (λ f far. bare f (omega (arith, far)))

@@ -1,8 +1,6 @@
 -- That sessions over these archives meet all that is asked of them.
-use Rattle.std.proofs.Common.{◌≡◌, ℕ, ◌<◌, List, [], refl, arith}
-use Rattle.aea_disk.specs.Files.{Files}
+use Rattle.std.proofs.Common.{◌≡◌, ℕ, ◌<◌, [], refl, arith}
 use Rattle.aea_envelope.specs.Facts.{CellsHaveLengths, CellsHaveParts}
-use Rattle.aea_records.specs.Format.{Stored, spelled}
 use Rattle.aea_records.specs.Laws.{HasOneReading, LedgersAreArchives, LedgersAreNotBad}
 use Rattle.aea_archive.specs.Laws.{PutsRecord}
 use Rattle.aea_run_laws.specs.Sessions.{SessionsAreMet}

@@ -8,4 +8,4 @@
 
 mod standing;
 
-pub use standing::{damaged_archives_stand, runs_are_met, sessions_are_met};
+pub use standing::{copies_are_met, damaged_archives_stand, runs_are_met, sessions_are_met};

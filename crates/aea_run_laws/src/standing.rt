@@ -1,5 +1,6 @@
 //! Archives that stand, whole and with a lost site.
 
+ghost use Rattle.aea_run_laws.specs.Copies.{CopiesAreMet};
 ghost use Rattle.aea_run_laws.specs.Meeting.{RunsAreMet};
 ghost use Rattle.aea_run_laws.specs.Sessions.{SessionsAreMet};
 ghost use Rattle.aea_run_laws.specs.Standing.{DamagedArchivesStand};
@@ -53,4 +54,23 @@ pub fn sessions_are_met()
     ledgers_have_one_reading();
     ledgers_are_archives();
     ledgers_are_not_bad();
+}
+
+/// Over such archives with two whole copies of the ledger, which are adopted as they are, the same runs meet all that is asked. It is a law
+/// alone; nothing is done.
+pub fn copies_are_met()
+    ensures { CopiesAreMet }
+{
+    cells_have_lengths();
+    cells_have_parts();
+    puts_record();
+    ledgers_have_one_reading();
+    ledgers_are_archives();
+    ledgers_are_not_bad();
+    objects_are_of_records();
+    reports_have_one_reading();
+    reports_are_not_bad();
+    printed_are_reports();
+    printed_reports_fit();
+    accepted_are_fitting();
 }

@@ -1,9 +1,9 @@
 # What bin/package and bin/install share: the files that an installed aea has. Not run by itself; who reads it has read
 # bin/program.bash, and has a function `sums`, which prints what doc/aea/sums is to have.
 
-# The tools beside the program, and the modules of Python that some of them use.
+# The tools beside the program, and the packages of Python that some of them use, each a folder of modules.
 tools=(frames guard look salvage scrub session)
-modules=(aea_formats.py aea_looks.py aea_picture.py)
+modules=(aea_formats aea_looks aea_sessions)
 
 # Places a file: its rights, its path, and its bytes, which are the input.
 place() {
@@ -29,8 +29,10 @@ lay_out() {
     for name in "${tools[@]}"; do
         tool "$3" "$top/bin/$name" | place 755 "$1/bin/aea-$name"
     done
-    for name in "${modules[@]}"; do
-        tool "$3" "$top/bin/$name" | place 644 "$1/lib/python3/dist-packages/$name"
+    for page in "${modules[@]/%//*.py}"; do
+        for name in "$top"/bin/$page; do
+            tool "$3" "$name" | place 644 "$1/lib/python3/dist-packages/${page%%/*}/${name##*/}"
+        done
     done
     for page in "$top"/docs/aea.1 "$top"/package/*.[18]; do
         if [ "$4" = gzip ]; then

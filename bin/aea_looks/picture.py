@@ -1,11 +1,11 @@
-"""The picture of `bin/look map --svg`: one file that refers to no other. No program by itself.
+"""The picture of `look map --svg`: one file that refers to no other.
 
 A row for each site, with the cells of its file across; above them the objects, whose names a browser shows under the pointer. Damage has
 a colour and a mark too: a cross where all cells of a strip are named, and a stroke where some are."""
 
 from xml.sax.saxutils import escape
 
-import aea_looks as looks
+from .maps import Strips
 
 LEFT, TOP, WIDE, ROW, GAP, STRIPS = 84, 58, 896, 16, 4, 128
 
@@ -44,7 +44,7 @@ def mark(left, top, width, is_all):
 
 def picture(ledger, word, found):
     """The text of the picture of these blocks, which are named by this word."""
-    strips = looks.Strips(ledger, found, STRIPS)
+    strips = Strips(ledger, found, STRIPS)
     scale = WIDE / strips.rows
     height = TOP + ledger.sites * (ROW + GAP) + 60
     lines = [f'<svg xmlns="http://www.w3.org/2000/svg" viewBox="0 0 {LEFT + WIDE + 110} {height}" width="{LEFT + WIDE + 110}" height="{height}" role="img">',

@@ -93,7 +93,7 @@ class Kept:
         return {
             "script": self.name, "words": sys.argv[1:], "began": self.day, "seconds": round(time.monotonic() - self.began, 1),
             "machine": platform.platform(), "processor": processor(), "processors": os.cpu_count(),
-            "commit": said("git", "rev-parse", "HEAD"), "differs": bool(said("git", "status", "--porcelain", "--", "crates", "bin", "bench/*")),
+            "commit": said("git", "rev-parse", "HEAD"), "differs": bool(said("git", "status", "--porcelain", "--", "crates", "bin", "bench", ":!bench/results")),
             "program": digest_of_file(self.program) if self.program else None,
             "failures": self.failures, "lines": self.lines,
         }

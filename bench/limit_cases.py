@@ -354,9 +354,9 @@ def chunked(slot, piece):
 
 @case("session", "chunks of 65,536 bytes")
 def greatest_chunks(it):
-    it.create((1, 1, 0, 65536, 1), raised=True)
+    it.create((1, 1, 0, 16, 1), raised=True)
     piece = it.source(65536).read_bytes()
-    stored = bytes([CLOSE, 0]) + number(4, 1) + number(8, 65536) + hashlib.sha256(piece).digest()
+    stored = bytes([CLOSE, 0]) + number(4, 4096) + number(8, 65536) + hashlib.sha256(piece).digest()
     begun = opened(0, b"a") + chunked(0, piece)
     it.run(["session"], (0, bytes([OPEN, 0, CHUNK, 0]) + stored, b""), begun + bytes([CLOSE, 0]))
     it.run(["get", "a"], (0, piece, b""))

@@ -21,6 +21,8 @@ from plain_archive import COPIES, LEDGER, LIMIT, home_of, site_file
 
 TOP = Path(__file__).resolve().parent.parent
 SEED = 20181
+# an edit of the sources by which the cells of blocks stand on other sites than the formats say, for `program_without`
+OTHER_SITES = "crates/aea_place/src/homes.rt", "    let column = k % count;", "    let column = (k + 1) % count;"
 
 
 # what is tried, and what it takes

@@ -183,7 +183,7 @@ def settings(is_long):
 def fetched(program, measure, room):
     """An object of which more than 512 blocks are lost and determined, and a small archive all of whose blocks are lost."""
     place = begun(program, measure, room, (1, 1, 0, 16, 4))
-    place.put("a", place.source(16 * 1200))
+    place.put("a", place.source(16 * 4800))
     place.site(2).unlink()
     yield Call(["fetch", "a"], place.folder)
 
@@ -194,7 +194,7 @@ def drilled(program, measure, room):
 
 def lost(program, measure, room):
     place = begun(program, measure, room, (1, 1, 0, 16, 4))
-    place.put("a", place.source(16 * 400))
+    place.put("a", place.source(16 * 2000))
     for site in range(1, 5):
         place.site(site).unlink()
     yield Call(["repair"], place.folder)

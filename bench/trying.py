@@ -64,6 +64,7 @@ class Room:
             it.mkdir()
         for name in (*TOOLS, "layout.bash", "install"):
             shutil.copy2(TOP / "bin" / name, self.tools / name)
+        shutil.copy2(TOP / "package" / "aea.bash", self.tools)
         for name in MODULES:
             shutil.copytree(TOP / "bin" / name, self.tools / name, ignore=shutil.ignore_patterns("__pycache__"))
         for name in TOOLS:

@@ -95,7 +95,7 @@ def formats_reports(room):
 
 
 @case(("aea_formats/log.py", "if record.kind == OBJECT_IN_PARTS:", "if False:"), ("aea_formats/log.py", 'yield b"%s %d" % (record[0].encode(), record[1])', "pass"),
-      ("aea_formats/log.py", "or name in self.names or not is_whole", ""), ("aea_formats/log.py", "parts, self.next = self.next, None", "parts = self.next"))
+      ("aea_formats/log.py", "or name in self.names or not is_whole", ""), ("aea_formats/log.py", "parts, self.next, self.is_whole = self.next, None, False", "parts, self.is_whole = self.next, False"))
 def formats_log(room):
     room.create(3, 2, 5, 16, 4)
     said = [b"created 3 2 5 16 4"]
@@ -109,11 +109,12 @@ def formats_log(room):
     said += [b"parts 0 6 1", b"stored 1 16 %s e" % hashlib.sha256(b"q" * 16).hexdigest().encode()]
     formats = room.formats()
     ledger = formats.Archive(str(room.here)).ledger
-    same(list(formats.lines_of(ledger)), said)
+    same(list(formats.lines_of(ledger)), [*said, b"nodes %d" % ledger.nodes])
     log = formats.Log(b"\n".join(said))
-    same((log.shape, log.passed_over, log.fences, log.nodes), ((3, 2, 5, 16, 4), [], [1], ledger.nodes))
+    same((log.shape, log.passed_over, log.fences, log.nodes, log.is_whole), ((3, 2, 5, 16, 4), [], [1], ledger.nodes, False))
+    holds(formats.Log(b"\n".join([*said, b"nodes 8"])).is_whole)
     same([vars(it) for it in log.objects if it.parts], [vars(it) for it in ledger.objects[3:]])
-    for more in (b"stored 1 16 %s e" % hashlib.sha256(b"q" * 16).hexdigest().encode(), b"parts 1 2", b"upgraded 5", b"created 3 2 5 16 5", b"stored 2 16 " + b"0" * 64 + b" g",
+    for more in (b"nodes 7", b"stored 1 16 %s e" % hashlib.sha256(b"q" * 16).hexdigest().encode(), b"parts 1 2", b"upgraded 5", b"created 3 2 5 16 5", b"stored 2 16 " + b"0" * 64 + b" g",
                  b"stored 1 16 " + b"0" * 64 + b" a\x7f", b"parts 1 1 2\nstored 1 16 " + b"0" * 64 + b" g"):
         same(len(formats.Log(b"\n".join([*said, more])).passed_over), 1)
     same(formats.Log(b"\n".join([*said, b"parts 2 1 1", b"end 3", b"stored 1 16 " + b"0" * 64 + b" g"])).objects[-1].parts, None)

@@ -10,7 +10,7 @@ def state_of(room):
     return next((room.top / "state").iterdir())
 
 
-@case(("guard", 'has_not_gone_back "$1"\ntrap', "trap"), ("guard", "status=$?\n# the mark", "status=0\n# the mark"), ("guard", '[ "$1" != create ] && return 0', "return 0"),
+@case(("guard", 'has_not_gone_back "$1"\ntrap', "trap"), ("guard", "status=$?\n# the mark", "status=0\n# the mark"), 
       ("guard", 'flock -w "$wait" 9 ||', "true ||"), ("guard", '[ "$status" -eq 2 ] && exit 77', ":"), ("guard", 'if [ "$owner" != "$(id -u)" ]', "if false"))
 def guard(room):
     room.run("aea-guard", status=2)
@@ -25,7 +25,7 @@ def guard(room):
     same(room.run("aea-guard", "get", "a b"), b"abc")
     room.run("aea-guard", "drill", "3", "2", "5", "1")
     state = state_of(room)
-    same((state / "log").read_bytes(), b"created 3 2 5 64 4\n" + line)
+    same((state / "log").read_bytes(), b"created 3 2 5 64 4\n" + line + b"nodes 1\n")
     holds((state / "mark").read_text().endswith("nodes 1 objects 1 copies 0\n"))
     same(sorted(it.name for it in state.iterdir()), ["log", "mark"])
     mark = (state / "mark").read_bytes()
@@ -46,7 +46,7 @@ def guard(room):
 
 
 @case(("guard", 'has_not_gone_back "$1"\ntrap', "trap"), ("guard", '"$look" since "$state/mark" >/dev/null 2>&1 9>&- || return 1', "true"),
-      ("aea_looks/ledgers.py", "if not there and copies:", "if False:"), ("guard", '[ "$status" -eq 3 ] && [', '['))
+      ("aea_looks/ledgers.py", "if not there and copies:", "if False:"), ("guard", '[ "$1" != create ] && return 0', "return 0"))
 def guard_refuses_each_rollback(room):
     room.run("aea-guard", "create", "3", "2", "5", "64", "4")
     room.run("aea-guard", "put", "a", input=b"abc")
@@ -137,7 +137,7 @@ def guard_log(room):
     same((state / "log").read_bytes(), log)
     (room.path / "real").rename(room.path / "aea")
     room.run("aea-guard", "list")
-    holds((state / "log").read_bytes().endswith(b" killed\n"))
+    holds((state / "log").read_bytes().endswith(b" killed\nnodes 6\n"), (state / "log").read_bytes())
     # a put that is interrupted while it waits for its input
     read, write = os.pipe()
     ready = room.top / "ready"
@@ -153,4 +153,4 @@ def guard_log(room):
     (state / "mark").unlink()
     room.create(3, 2, 5, 16, 3)
     room.run("aea-guard", "list")
-    same(((state / "log").read_bytes(), (state / "log.old").read_bytes()), (b"created 3 2 5 16 3\n", log))
+    same(((state / "log").read_bytes(), (state / "log.old").read_bytes()), (b"created 3 2 5 16 3\nnodes 0\n", log))

@@ -1,4 +1,4 @@
-"""Cases of the list of files that bin/install and bin/package have, and of install."""
+"""Cases of the list of files that bin/install and bin/package have, of the pages and the completion, and of install."""
 
 import re
 import shutil
@@ -59,3 +59,38 @@ def install(room):
     room.run(call, "--remove", "/opt/aea")
     same([str(it.relative_to(to)) for it in to.rglob("*") if it.is_file()], ["bin/mine"])
     same([it for it in to.rglob("*") if it.name.startswith("aea")], [])
+
+
+@case(("aea.bash", "<(aea-look names", "<(aea list"), ("aea.bash", "files log names", "files names"), ("aea.bash", "_aea_session 3", "_aea_session 1"), ("aea.bash", "printf -v name %q", "printf -v name %s"))
+def completion(room):
+    """What bash completes: each word that a tool's own help names; names of objects by look, which changes nothing."""
+    room.create(3, 2, 5, 16, 4, objects=[("notes", b"1"), ("no te", b"2"), ("other", b"")])
+    room.run("aea", "copies")
+    # a list would mend this copy
+    room.change("ledger-2.aea", 40, b"xyz")
+    kept = room.files()
+
+    def words(*given):
+        call = 'words() { COMP_WORDS=("$@"); COMP_CWORD=$(($# - 1)); _aea 2>/dev/null; printf "%s\\n" "${COMPREPLY[@]}"; }; words "$@"'
+        return [it for it in room.run("bash", "-c", f"source {room.tools}/aea.bash; {call}", "", *given).decode().splitlines() if it]
+
+    help = {it: room.run(f"aea-{it}", "--help").decode() + room.told for it in TOOLS}
+    named = dict.fromkeys(re.findall(r"bin/look (\w+)", help["look"]))
+    same(sorted(words("aea-look", "")), sorted([*named, "--help"]))
+    commands = words("aea", "")
+    same(commands, re.findall(r"(?m)^\.Cm ([a-z]+)", re.search(r"(?s)SYNOPSIS.*?DESCRIPTION", (TOP / "docs" / "aea.1").read_text())[0]))
+    same(words("aea-guard", ""), ["-w", "--help", *commands])
+    same(words("aea-guard", "-w", "5", "sc"), ["scrub"])
+    for given in (["aea", "get", "no"], ["aea-guard", "fetch", "no"], ["aea-guard", "-w", "5", "get", "no"], ["aea-session", "get", "back", "no"], ["aea-session", "--program", "aea", "get", "back", "no"]):
+        same(words(*given), ["no\\ te", "notes"])
+    same((words("aea-session", "p"), words("aea-session", "--program", "aea", "")), (["put"], ["put", "get"]))
+    same((words("aea-frames", "--"), words("aea-look", "map", "")), (["--keep-going", "--from", "--help"], ["--svg"]))
+    same((words("aea-scrub", "-"), sorted(words("aea-salvage", "ledger-"))), (["--help"], ["ledger-2.aea", "ledger-3.aea"]))
+    same(room.files(), kept)
+    # the pages name the same words
+    page = (TOP / "package" / "aea-look.1").read_text()
+    same(re.findall(r"(?m)^\.It Cm (\w+)", page), list(named))
+    for name in TOOLS:
+        for status in sorted({int(it) for it in re.findall(r"(?:Status|\.) (\d+): ", " ".join(help[name].split()))}):
+            section = next((TOP / "package").glob(f"aea-{name}.[18]")).read_text()
+            holds(re.search(rf"(?m)^\.It {status}\b", section), f"the page of {name} has no status {status}")

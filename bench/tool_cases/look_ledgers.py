@@ -104,4 +104,4 @@ def look_log(room):
         lines += [] if input is None else [said]
     (room.here / "ledger.aea").unlink()
     room.keep()
-    same(room.run("aea-look", "log"), b"".join(lines))
+    same(room.run("aea-look", "log"), b"".join([*lines, b"nodes 5\n"]))

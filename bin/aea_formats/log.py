@@ -1,5 +1,6 @@
 """The log of an archive: the lines that its commands printed, oldest first. Before that of an object in parts, which is not of new nodes
-alone, a line `parts NEW FIRST COUNT ..` tells how many nodes its record added, and the first node and the number of nodes of each part."""
+alone, a line `parts NEW FIRST COUNT ..` tells how many nodes its record added, and the first node and the number of nodes of each part. The
+last line of a log that was made of a ledger is `nodes N`, with the number of all nodes: so it tells of each record."""
 
 import re
 
@@ -19,15 +20,16 @@ def lines_of(ledger):
         if record.kind == OBJECT_IN_PARTS:
             yield b" ".join([b"parts %d" % record.new, *(b"%d %d" % part for part in record.parts)])
         yield b"stored %d %d %s " % (record.count, record.length, record.digest.hex().encode()) + record.name
+    yield b"nodes %d" % ledger.nodes
 
 
 class Log:
     """What the bytes of a log tell: `shape`, that of its line `created`; `records`, as those of a ledger; and `passed_over`, the numbers of
-    lines that are none of a log, or whose object is there already. Of an object without a line `parts` it is not known whether it has parts:
-    its `parts` are None, and its `new` nodes as many as it has."""
+    lines that are none of a log, or whose object is there already. `is_whole` says that it ends with a fitting line `nodes`. Of an object without
+    a line `parts` its `parts` are None, and its `new` nodes as many as it has; if the log is not whole, it may be one in parts all the same."""
 
     def __init__(self, bytes):
-        self.shape, self.records, self.passed_over, self.names, self.next = None, [], [], set(), None
+        self.shape, self.records, self.passed_over, self.names, self.next, self.is_whole = None, [], [], set(), None, False
         for at, line in enumerate(bytes.split(b"\n"), 1):
             if line and not self.read(line):
                 self.passed_over.append(at)
@@ -47,7 +49,11 @@ class Log:
 
     def read(self, line):
         """Whether the line is one of a log."""
-        parts, self.next = self.next, None
+        parts, self.next, self.is_whole = self.next, None, False
+        match = re.fullmatch(rb"nodes (\d{1,9})", line)
+        if match:
+            self.is_whole = int(match[1]) == self.nodes
+            return self.is_whole
         match = re.fullmatch(rb"created( \d{1,9}){5}", line)
         if match:
             return self.read_shape(tuple(int(it) for it in line.split()[1:]))

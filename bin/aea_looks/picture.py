@@ -1,13 +1,14 @@
 """The picture of `look map --svg`: one file that refers to no other.
 
 A row for each site, with the cells of its file across; above them the objects, whose names a browser shows under the pointer. Damage has
-a colour and a mark too: a cross where all cells of a strip are named, and a stroke where some are."""
+a colour and a mark too: a cross where all cells of a strip are named, and a stroke where some are. What is to be read stands at the left, so
+that it shows in a narrow window too."""
 
 from xml.sax.saxutils import escape
 
 from .maps import Strips
 
-LEFT, TOP, WIDE, ROW, GAP, STRIPS = 84, 58, 896, 16, 4, 128
+LEFT, TOP, WIDE, ROW, GAP, STRIPS, LEGEND = 190, 58, 896, 16, 4, 128, 22
 
 STYLE = """
 svg { color-scheme: light dark; font: 12px system-ui, sans-serif; }
@@ -35,7 +36,7 @@ def rect(left, top, width, height, kind, title):
 
 
 def mark(left, top, width, is_all):
-    middle, half = left + width / 2, min(4, width / 2)
+    middle, half = left + width / 2, min(4, max(width / 2 - 1, width / 4))
     strokes = f"M{middle - half:.2f} {top + 12}L{middle + half:.2f} {top + 4}"
     if is_all:
         strokes += f"M{middle - half:.2f} {top + 4}L{middle + half:.2f} {top + 12}"
@@ -46,16 +47,17 @@ def picture(ledger, word, found):
     """The text of the picture of these blocks, which are named by this word."""
     strips = Strips(ledger, found, STRIPS)
     scale = WIDE / strips.rows
-    height = TOP + ledger.sites * (ROW + GAP) + 60
-    lines = [f'<svg xmlns="http://www.w3.org/2000/svg" viewBox="0 0 {LEFT + WIDE + 110} {height}" width="{LEFT + WIDE + 110}" height="{height}" role="img">',
+    width, below = LEFT + WIDE + 12, TOP + ledger.sites * (ROW + GAP) + 14
+    height = below + 4 * LEGEND
+    lines = [f'<svg xmlns="http://www.w3.org/2000/svg" viewBox="0 0 {width} {height}" width="{width}" height="{height}" role="img">',
              f"<title>{len(found)} of {ledger.blocks} blocks {word}</title>", f"<style>{STYLE}</style>",
              '<rect class="ground" width="100%" height="100%"/>',
-             f'<text x="{LEFT}" y="18">{len(found)} of {ledger.blocks} blocks {word}: AE({ledger.alpha},{ledger.s},{ledger.p}), '
+             f'<text x="4" y="18">{len(found)} of {ledger.blocks} blocks {word}: AE({ledger.alpha},{ledger.s},{ledger.p}), '
              f'{ledger.nodes} nodes, {len(ledger.objects)} objects</text>', f'<text class="quiet" x="4" y="{TOP - 12}">objects</text>']
     lines += objects_of(ledger, found, scale)
     for site in range(1, ledger.sites + 1):
         lines += row_of(ledger, strips, site, word, scale)
-    lines += legend(TOP + ledger.sites * (ROW + GAP) + 14, word)
+    lines += legend(below, word)
     return "\n".join([*lines, "</svg>", ""])
 
 
@@ -91,13 +93,13 @@ def row_of(ledger, strips, site, word, scale):
         yield rect(left, top, width, ROW, kind, title)
         if bad:
             yield mark(left, top, width, bad == of)
-    yield f'<text class="quiet" x="{LEFT + WIDE + 8}" y="{top + 12}">{strips.damaged(site)} of {ledger.homes.cells_of(site)}</text>'
+    yield f'<text class="quiet" x="60" y="{top + 12}">{strips.damaged(site)} of {ledger.homes.cells_of(site)}</text>'
 
 
 def legend(top, word):
-    for at, (kind, text) in enumerate((("whole", "not " + word), ("some", "some cells " + word), ("all", "all cells " + word))):
-        left = LEFT + at * 190
-        yield f'<rect x="{left}" y="{top}" width="16" height="{ROW}" class="{kind}"/>'
+    for at, (kind, text) in enumerate((("whole", "not " + word), ("some", "some cells " + word), ("all", "all cells " + word), ("hurt", "an object with " + word + " data"))):
+        y = top + at * LEGEND
+        yield f'<rect x="4" y="{y}" width="16" height="{ROW}" class="{kind}"/>'
         if at:
-            yield mark(left, top, 16, at == 2)
-        yield f'<text x="{left + 22}" y="{top + 12}">{text}</text>'
+            yield mark(4, y, 16, kind != "some")
+        yield f'<text x="26" y="{y + 12}">{text}</text>'

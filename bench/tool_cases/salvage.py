@@ -8,7 +8,7 @@ from trying import PHOTOS, case, content, holds, same, unchanged
 
 @case(("salvage", "waiting.discard(number)", "pass"), ("salvage", "return b\"\".join(writer.out) + b\"\\0\", 1 if unknown or writer.wrong or log and log.passed_over else 0", "return b\"\".join(writer.out) + b\"\\0\", 0"),
       ("salvage", "formats.FENCE if what", "formats.RAISE if what"), ("salvage", "if is_at_home((site, row, node, kind), alpha, sites)", ""), ("salvage", "if is_open else log.nodes", "if is_open else max(shown, log.nodes)"),
-      ("salvage", "if len(best) != 1 or 2 * most <= len(cells):", "if False:"))
+      ("salvage", "if many > 1 or best[0]", "if best[0]"))
 @unchanged
 def salvage(room):
     log = room.top / "the log"
@@ -34,6 +34,7 @@ def salvage(room):
     shutil.rmtree(room.here / "site-02")
     shutil.copy(room.here / "site-05" / "blocks.aea", room.here / "site-06" / "blocks.aea")
     room.change("site-01/blocks.aea", 70, b"xyz")
+    room.change("site-10/blocks.aea", 0, room.formats().cell_of(1, 0, b"\1" * 16))
     room.keep()
     same(room.run("aea-salvage", str(log)), ledger)
     # what a put left that was cut off lies behind the end
@@ -69,6 +70,7 @@ def salvage(room):
     for site in (4, 5, 6, 7, 8, 9):
         shutil.rmtree(room.here / f"site-{site:02}")
     room.keep()
+    room.run("aea-salvage", status=3)
     room.run("aea-salvage", str(log), status=1)
     holds("0 blocks are not known" not in room.told, room.told)
     # a node or two show no one shape, and the log does

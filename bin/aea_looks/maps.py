@@ -51,7 +51,8 @@ def show_marks(ledger, found):
     """A line for each site, of at most 64 marks."""
     strips = Strips(ledger, found, 64)
     cells = strips.most
-    print(f"each mark is at most {cells} cells, {cells * ledger.homes.cell} bytes: . intact, 1 to 9 tenths damaged, # all damaged")
+    size = "one cell" if cells == 1 else f"at most {cells} cells"
+    print(f"each mark is {size}, {cells * ledger.homes.cell} bytes: . intact, 1 to 9 tenths damaged, # all damaged")
     for site in range(1, ledger.sites + 1):
         marks = "".join(mark_of(bad, of) for _, _, bad, of in strips.of_site(site))
         print(f"{site:2} |{marks}| {strips.damaged(site)} of {ledger.homes.cells_of(site)}")
